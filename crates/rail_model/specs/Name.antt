@@ -1,0 +1,43 @@
+-- Names of blocks, signals, routes, runs and sections.
+use Rattle.std.specs.Prelude.{◌≡◌, ◌≢◌, ℕ, ◌-◌, ◌<◌, ◌≤◌, Bool, false, ◌||◌, List, [], ◌∷◌, ◌++◌, length, replicate, All, AllPairs}
+use Rattle.std.specs.List.{list_any}
+use Rattle.std.specs.Cmp.Lexicographic.{slice_cmp}
+use Rattle.std.specs.Ordering.{nat_cmp, is_lt}
+use Rattle.std.specs.declared.cmp.Ordering.TheVariants.{Less}
+use Rattle.std.specs.Str.{IsUtf8, bytes_eq}
+use Rattle.rail_model.specs.declared.name.TheConstants.{NAME_BYTES}
+
+-- a byte of a name: no control character of ASCII
+abbrev pub IsNameByte : ℕ → Type 0
+IsNameByte b = (32 ≤ b) × (b ≢ 127)
+
+-- 1 to 64 bytes of UTF-8 without a control character of ASCII
+pub record IsName (bytes : List ℕ) : Type 0 where
+  pub some : 0 < length bytes
+  pub short : length bytes ≤ NAME_BYTES
+  pub plain : All IsNameByte bytes
+  pub text : IsUtf8 bytes
+
+-- the bytes, filled up with zeros to the room of a name
+abbrev pub padded : List ℕ → List ℕ
+padded bytes = bytes ++ replicate (NAME_BYTES - length bytes) 0
+
+-- names are ordered by their bytes
+abbrev pub IsBefore : List ℕ → List ℕ → Type 0
+IsBefore a b = slice_cmp nat_cmp a b ≡ Less
+
+-- the same as tests
+abbrev pub is_before : List ℕ → List ℕ → Bool
+is_before a b = is_lt (slice_cmp nat_cmp a b)
+
+abbrev pub is_same : List ℕ → List ℕ → Bool
+is_same a b = bytes_eq a b
+
+-- the names of the items rise, so no two are the same
+abbrev pub NamesRise : {X : Type 0} → (X → List ℕ) → List X → Type 0
+NamesRise name items = AllPairs (λ a b. IsBefore (name a) (name b)) items
+
+-- whether a name stands twice
+abbrev pub has_repeat : List (List ℕ) → Bool
+has_repeat [] = false
+has_repeat (a ∷ names) = list_any (is_same a) names || has_repeat names

@@ -1,0 +1,97 @@
+use crate::{List, Name};
+
+/// A stretch of track that one train may block at a time.
+#[derive(Clone, Copy)]
+pub struct Block {
+    pub name: Name,
+    /// Metres.
+    pub length_m: u32,
+}
+
+/// The signal at the entry of a block.
+#[derive(Clone, Copy)]
+pub struct Signal {
+    pub name: Name,
+    /// The block behind the signal.
+    pub block: Name,
+    /// How far before the signal the driver must already see it clear: metres.
+    pub approach_m: u32,
+    /// How long before the approach point it must be clear: seconds.
+    pub watch_s: u32,
+    /// How long the interlocking takes to form the route: seconds.
+    pub form_s: u32,
+    /// How far past the block's end the train's rear must be: metres.
+    pub overlap_m: u32,
+    /// How long the interlocking takes to release the block: seconds.
+    pub release_s: u32,
+}
+
+/// The signals that a run passes, in order.
+#[derive(Drop)]
+pub struct Route {
+    pub name: Name,
+    pub signals: List<Name>,
+}
+
+/// A run's time for one block of its route.
+#[derive(Clone, Copy)]
+pub struct Leg {
+    /// From the block's entry to its end: seconds.
+    pub running_s: u32,
+    /// The stop at the block's end: seconds, 0 where the train doesn't stop.
+    pub dwell_s: u32,
+}
+
+/// A train's timed run over a route: one leg for each of the route's signals.
+#[derive(Drop)]
+pub struct Run {
+    pub name: Name,
+    pub route: Name,
+    /// The train's length: metres.
+    pub length_m: u32,
+    /// How long the train takes to clear the end of its path after its last arrival: seconds.
+    pub tail_s: u32,
+    /// When the head passes the first signal: seconds from the timetable's origin.
+    pub start_s: u32,
+    pub legs: List<Leg>,
+}
+
+/// A part of the line whose capacity is asked for, with the time window that is looked at.
+#[derive(Drop)]
+pub struct Section {
+    pub name: Name,
+    /// The window's begin: seconds from the timetable's origin.
+    pub from_s: u32,
+    /// The window's end: seconds from the timetable's origin.
+    pub to_s: u32,
+    /// The additional time rate: per cent of the occupancy time.
+    pub add_percent: u32,
+    pub blocks: List<Name>,
+}
+
+/// One item of a planner's tables.
+#[derive(Drop)]
+pub enum Item {
+    Block(Block),
+    Signal(Signal),
+    Route(Route),
+    Run(Run),
+    Section(Section),
+}
+
+/// Why an edit is refused.
+#[derive(Clone, Copy, Debug, PartialEq, Eq)]
+pub enum Rule {
+    /// A number, or the length of a list, is outside its limit.
+    Range,
+    /// The name is there, or a block stands twice in a route or a section.
+    Twice,
+    /// A name isn't there.
+    Unknown,
+    /// The kind has its greatest number of items.
+    Limit,
+    /// A run hasn't one leg for each signal of its route.
+    Count,
+    /// Another item names the one that is dropped.
+    InUse,
+}

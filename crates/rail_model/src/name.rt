@@ -1,0 +1,140 @@
+ghost use Rattle.std.specs.Prelude.{◌≡◌, ◌↔◌, IsOk, IfOk, nat_eq, Some};
+ghost use Rattle.std.specs.Ordering.{nat_cmp};
+ghost use Rattle.std.specs.Cmp.Lexicographic.{slice_cmp, pointwise, nat_list_eq_equiv, nat_list_cmp_total, texts_ties, texts_po};
+ghost use Rattle.std.specs.Cmp;
+ghost use Rattle.std.specs.Hash as fed;
+ghost use Rattle.std.proofs.Common.{rules, refl};
+
+use std::cmp::Ordering;
+use std::hash::{Hash, Hasher};
+use std::marker::Model;
+use std::str;
+
+/// The greatest number of bytes of a name.
+pub const NAME_BYTES: usize = 64;
+
+/// The bytes are no name.
+#[derive(Clone, Copy, Debug, PartialEq, Eq)]
+pub struct BadName;
+
+/// The name of a block, signal, route, run or section: 1 to 64 bytes of UTF-8 without a control
+/// character of ASCII. Contracts see its bytes, and names are ordered by their bytes.
+#[derive(Clone, Copy)]
+pub struct Name {
+    len: usize,
+    bytes: [u8; 64],
+}
+
+impl Model for Name {
+    ghost use Rattle.std.specs.Prelude.{◌≡◌, ◌≤◌, ℕ, List, length, take};
+    ghost use Rattle.std.specs.Coded.{coded_list, coded_ℕ};
+
+    ghost Value = { List ℕ };
+
+    ghost coded = { coded_list coded_ℕ };
+
+    ghost use Rattle.rail_model.specs.Name.{IsName, padded};
+
+    ghost view = { λ n. take n.len n.bytes };
+
+    ghost invariant = { λ n. (n.len ≤ length n.bytes) × (n.bytes ≡ padded (take n.len n.bytes)) × ∥ IsName (take n.len n.bytes) ∥₁ };
+
+    ghost inverse = { λ bytes. record { len = length bytes; bytes = padded bytes } };
+}
+
+impl Name {
+    ghost use Rattle.rail_model.specs.Name.{IsName};
+
+    /// The name with these bytes.
+    pub fn read(bytes: &[u8]) -> Result<Name, BadName>
+        ensures named { IsOk result ↔ IsName bytes.now }
+        ensures same { IfOk result (λ name. name ≡ bytes.now) }
+    {
+        if bytes.is_empty() || bytes.len() > NAME_BYTES {
+            return Err(BadName);
+        }
+        if !is_plain(bytes) || str::from_utf8(bytes).is_err() {
+            return Err(BadName);
+        }
+        Ok(Name {
+            len: bytes.len(),
+            bytes: padded(bytes),
+        })
+    }
+
+    /// The name's bytes.
+    pub fn bytes(&self) -> &[u8]
+        ensures same { result.now ≡ self.now }
+        ensures named { ∥ IsName self.now ∥₁ }
+    {
+        &self.bytes[..self.len]
+    }
+}
+
+ghost use Rattle.std.specs.Prelude.{IsTrue, ◌≤◌, All, length};
+ghost use Rattle.rail_model.specs.Name.{IsNameByte, padded as padded_of};
+
+// Whether no byte is a control character of ASCII.
+fn is_plain(bytes: &[u8]) -> bool
+    ensures { IsTrue result ↔ All IsNameByte bytes.now }
+{
+    bytes.iter().all(|b| *b >= 32 && *b != 127)
+}
+
+fn padded(bytes: &[u8]) -> [u8; 64]
+    requires { length bytes.now ≤ NAME_BYTES }
+    ensures { result ≡ padded_of bytes.now }
+{
+    let mut room = [0u8; 64];
+    room[..bytes.len()].copy_from_slice(bytes);
+    room
+}
+
+impl PartialEq for Name {
+    ghost eq = { pointwise nat_eq };
+
+    ghost laws = { Cmp.partial_equiv_from_equiv nat_list_eq_equiv };
+
+    fn eq(&self, other: &Name) -> bool {
+        self.bytes() == other.bytes()
+    }
+}
+
+impl Eq for Name {
+    ghost laws = { nat_list_eq_equiv };
+}
+
+impl PartialOrd for Name {
+    ghost partial_cmp = { λ a b. Some (slice_cmp nat_cmp a b) };
+
+    ghost laws = { texts_po };
+
+    fn partial_cmp(&self, other: &Name) -> Option<Ordering> {
+        Some(self.cmp(other))
+    }
+}
+
+impl Ord for Name {
+    ghost cmp = { slice_cmp nat_cmp };
+
+    ghost total = { nat_list_cmp_total };
+
+    ghost matches_partial_cmp = { λ a b. refl };
+
+    ghost matches_eq = { texts_ties };
+
+    fn cmp(&self, other: &Name) -> Ordering {
+        self.bytes().cmp(other.bytes())
+    }
+}
+
+impl Hash for Name {
+    ghost hash_input = { fed.str };
+
+    ghost respects_eq = { Prim.search rules };
+
+    fn hash<H: Hasher>(&self, state: &mut H) {
+        state.write(self.bytes());
+        state.write_u8(0xff);
+    }
+}
