@@ -1,10 +1,10 @@
 -- Names of blocks, signals, routes, runs and sections.
-use Rattle.std.specs.Prelude.{◌≡◌, ◌≢◌, ℕ, ◌-◌, ◌<◌, ◌≤◌, Bool, false, ◌||◌, List, [], ◌∷◌, ◌++◌, length, replicate, All, AllPairs}
-use Rattle.std.specs.List.{list_any}
+use Rattle.std.specs.Prelude.{◌≡◌, ◌≢◌, ℕ, ◌-◌, ◌<◌, ◌≤◌, Bool, false, not, ◌==◌, ◌&&◌, ◌||◌, nat_lt, nat_le, if◌then◌else◌, Option, Some, None, List, [], ◌∷◌, ◌++◌, length, replicate, All, AllPairs}
+use Rattle.std.specs.List.{list_any, list_all}
 use Rattle.std.specs.Cmp.Lexicographic.{slice_cmp}
 use Rattle.std.specs.Ordering.{nat_cmp, is_lt}
 use Rattle.std.specs.declared.cmp.Ordering.TheVariants.{Less}
-use Rattle.std.specs.Str.{IsUtf8, bytes_eq}
+use Rattle.std.specs.Str.{IsUtf8, bytes_eq, is_utf8}
 use Rattle.rail_model.specs.declared.name.TheConstants.{NAME_BYTES}
 
 -- a byte of a name: no control character of ASCII
@@ -41,3 +41,15 @@ NamesRise name items = AllPairs (λ a b. IsBefore (name a) (name b)) items
 abbrev pub has_repeat : List (List ℕ) → Bool
 has_repeat [] = false
 has_repeat (a ∷ names) = list_any (is_same a) names || has_repeat names
+
+-- the test for a name
+abbrev pub is_name_byte : ℕ → Bool
+is_name_byte b = nat_le 32 b && not (b == 127)
+
+abbrev pub is_name : List ℕ → Bool
+is_name bytes =
+    nat_lt 0 (length bytes) && nat_le (length bytes) NAME_BYTES && list_all is_name_byte bytes && is_utf8 bytes
+
+-- the name that the bytes are, if they are one
+abbrev pub name_of : List ℕ → Option (List ℕ)
+name_of bytes = if is_name bytes then Some bytes else None

@@ -43,17 +43,17 @@ impl Model for Name {
 }
 
 impl Name {
-    ghost use Rattle.rail_model.specs.Name.{IsName};
+    ghost use Rattle.std.specs.Result.{result_ok};
+    ghost use Rattle.rail_model.specs.Name.{name_of};
 
     /// The name with these bytes.
     pub fn read(bytes: &[u8]) -> Result<Name, BadName>
         ensures named { IsOk result ↔ IsName bytes.now }
         ensures same { IfOk result (λ name. name ≡ bytes.now) }
+        // The same as a function of the bytes.
+        ensures exact { result_ok result ≡ name_of bytes.now }
     {
-        if bytes.is_empty() || bytes.len() > NAME_BYTES {
-            return Err(BadName);
-        }
-        if !is_plain(bytes) || str::from_utf8(bytes).is_err() {
+        if !is_name(bytes) {
             return Err(BadName);
         }
         Ok(Name {
@@ -71,14 +71,29 @@ impl Name {
     }
 }
 
-ghost use Rattle.std.specs.Prelude.{IsTrue, ◌≤◌, All, length};
-ghost use Rattle.rail_model.specs.Name.{IsNameByte, padded as padded_of};
+ghost use Rattle.std.specs.Prelude.{IsTrue, ◌≤◌, length, true};
+ghost use Rattle.std.specs.List.{list_all};
+ghost use Rattle.std.specs.Str.{is_utf8};
+ghost use Rattle.rail_model.specs.Name.{IsName, is_name, is_name_byte, padded as padded_of};
+
+// Whether the bytes are a name.
+fn is_name(bytes: &[u8]) -> bool
+    ensures { result ≡ is_name bytes.now }
+{
+    !bytes.is_empty() && bytes.len() <= NAME_BYTES && is_plain(bytes) && is_text(bytes)
+}
 
 // Whether no byte is a control character of ASCII.
 fn is_plain(bytes: &[u8]) -> bool
-    ensures { IsTrue result ↔ All IsNameByte bytes.now }
+    ensures { result ≡ list_all is_name_byte bytes.now }
 {
     bytes.iter().all(|b| *b >= 32 && *b != 127)
+}
+
+fn is_text(bytes: &[u8]) -> bool
+    ensures { result ≡ is_utf8 bytes.now }
+{
+    str::from_utf8(bytes).is_ok()
 }
 
 fn padded(bytes: &[u8]) -> [u8; 64]
