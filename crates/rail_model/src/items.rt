@@ -95,3 +95,16 @@ pub enum Rule {
     /// Another item names the one that is dropped.
     InUse,
 }
+
+/// What is wrong with the form of a row.
+#[derive(Clone, Copy, Debug, PartialEq, Eq)]
+pub enum Form {
+    /// The first field is no kind of row.
+    Kind,
+    /// A row of this kind has another number of fields.
+    Fields,
+    /// A field is no number of one to nine digits.
+    Number,
+    /// A field is no name.
+    BadName,
+}

@@ -13,7 +13,7 @@ mod path;
 mod stair;
 mod tables;
 
-pub use items::{Block, Item, Leg, Route, Rule, Run, Section, Signal};
+pub use items::{Block, Form, Item, Leg, Route, Rule, Run, Section, Signal};
 pub use limits::{
     BLOCKS, GREATEST_LENGTH_M, GREATEST_MOMENT_S, GREATEST_RATE, GREATEST_START_S, GREATEST_TIME_S,
     GREATEST_WINDOW_END_S, PATH_HOPS, ROUTES, RUNS, SECTIONS, SIGNALS,

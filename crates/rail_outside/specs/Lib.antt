@@ -1,0 +1,5 @@
+pub mod Faults
+pub mod Sink
+pub mod MemorySource
+pub mod MemorySink
+pub mod StdStreams
