@@ -1,1 +1,3 @@
 mod Examples
+pub mod NameOrder
+pub mod Places

@@ -10,6 +10,7 @@ mod list;
 mod memory;
 mod name;
 mod path;
+mod search;
 mod stair;
 mod tables;
 
