@@ -1,3 +1,4 @@
 mod Examples
 pub mod NameOrder
 pub mod Places
+pub mod Repeats

@@ -109,6 +109,13 @@ module _ {X : Type 0} (name : X → List ℕ) where
       (λ k lt. is_same-before _ n (subst (λ m. IsBefore (name (get_or (x ∷ items) k x)) m) (e x) (rise k i x lt l)))
       (λ _. is_same-from _ n (e x))
 
+  -- a name that isn't there has the number after the last
+  pub number_of-missing : (items : List X) (n : List ℕ) → is_named name items n ≡ false → number_of name items n ≡ length items
+  number_of-missing [] n out = refl
+  number_of-missing (x ∷ items) n out =
+      let apart = or_parts (is_same (name x) n) (is_named name items n) out in
+      rw (apart.0, number_of-missing items n apart.1) (omega arith)
+
   -- before the place, and from it on
   name_below : (items : List X) (n : List ℕ) (i : ℕ) → IsPlace name items n i → (k : ℕ) (d : X) → k < i → IsBefore (name (get_or items k d)) n
   name_below items n i p k d lt =

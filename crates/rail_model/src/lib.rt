@@ -10,6 +10,8 @@ mod list;
 mod memory;
 mod name;
 mod path;
+mod range;
+mod rules;
 mod search;
 mod stair;
 mod tables;

@@ -1,5 +1,6 @@
 //! Looking names up in lists that are in the order of their items' names.
-ghost use Rattle.std.specs.Prelude.{◌≡◌, ℕ, ◌<◌, ◌≤◌, false, true, List, length, insert, slice_index_or, IfOk, IfErr, IfSome, is_some};
+ghost use Rattle.std.specs.Prelude.{◌≡◌, ℕ, ◌<◌, ◌≤◌, false, true, List, length, insert, slice_index_or, IfOk, IfErr, is_some, unwrap_or};
+ghost use Rattle.std.specs.Option.{option_copied};
 ghost use Rattle.rail_model.specs.Name.{NamesRise};
 ghost use Rattle.rail_model.specs.Tables.{number_of};
 ghost use Rattle.rail_model.specs.Puts as puts;
@@ -71,7 +72,7 @@ pub(crate) fn place_of<T: Named>(items: &[T], name: &Name) -> Result<usize, usiz
 pub(crate) fn find<'a, T: Named>(items: &'a [T], name: &Name) -> Option<&'a T>
     requires { NamesRise T.label items.now }
     ensures there { is_some result ≡ puts.is_named T.label items.now name.now }
-    ensures item { IfSome result (λ x. (d : T) → slice_index_or items.now (number_of T.label items.now name.now) d ≡ x.now) }
+    ensures item { (d : T) → unwrap_or (option_copied result) d ≡ slice_index_or items.now (number_of T.label items.now name.now) d }
 {
     match place_of(items, name) {
         Ok(number) => Some(&items[number]),
