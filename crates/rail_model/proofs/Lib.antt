@@ -2,3 +2,4 @@ mod Examples
 pub mod NameOrder
 pub mod Places
 pub mod Repeats
+pub mod Sound

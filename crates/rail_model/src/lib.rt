@@ -7,9 +7,11 @@
 mod items;
 mod limits;
 mod list;
+mod lookup;
 mod memory;
 mod name;
 mod path;
+mod put;
 mod range;
 mod rules;
 mod search;

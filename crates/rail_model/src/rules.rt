@@ -48,9 +48,9 @@ fn is_taken(tables: &Tables, item: &Item) -> bool
     ensures { result ≡ puts.is_taken tables.now item.now }
 {
     match item {
-        Item::Block(block) => find(tables.blocks.slice(), &block.name).is_some(),
-        Item::Signal(signal) => find(tables.signals.slice(), &signal.name).is_some(),
-        Item::Route(route) => find(tables.routes.slice(), &route.name).is_some(),
+        Item::Block(block) => tables.block_number(&block.name).is_some(),
+        Item::Signal(signal) => tables.signal_named(&signal.name).is_some(),
+        Item::Route(route) => tables.route_named(&route.name).is_some(),
         Item::Run(run) => find(tables.runs.slice(), &run.name).is_some(),
         Item::Section(section) => find(tables.sections.slice(), &section.name).is_some(),
     }
@@ -74,9 +74,9 @@ fn refers_to_known(tables: &Tables, item: &Item) -> bool
 {
     match item {
         Item::Block(_) => true,
-        Item::Signal(signal) => find(tables.blocks.slice(), &signal.block).is_some(),
+        Item::Signal(signal) => tables.block_number(&signal.block).is_some(),
         Item::Route(route) => are_named(tables.signals.slice(), route.signals.slice()),
-        Item::Run(run) => find(tables.routes.slice(), &run.route).is_some(),
+        Item::Run(run) => tables.route_named(&run.route).is_some(),
         Item::Section(section) => are_named(tables.blocks.slice(), section.blocks.slice()),
     }
 }
@@ -126,7 +126,7 @@ fn block_behind(tables: &Tables, signal: &Name) -> Name
     requires known { IsTrue (puts.has_signal tables.now signal.now) }
     ensures { result ≡ (signal_named tables.now signal.now).block }
 {
-    find(tables.signals.slice(), signal).unwrap().block
+    tables.signal_named(signal).unwrap().block
 }
 
 // Whether a name stands twice. A set tells it without comparing all pairs.
@@ -157,5 +157,7 @@ fn signal_count(tables: &Tables, route: &Name) -> usize
     requires { puts.IsSound tables.now }
     ensures { result ≡ length (route_named tables.now route.now).signals }
 {
-    find(tables.routes.slice(), route).map_or(0, |route| route.signals.len())
+    tables
+        .route_named(route)
+        .map_or(0, |route| route.signals.len())
 }
