@@ -1,2 +1,6 @@
 mod Examples
 mod NameTests
+pub mod NameOrder
+pub mod Places
+pub mod Repeats
+pub mod Sound

@@ -7,9 +7,14 @@
 mod items;
 mod limits;
 mod list;
+mod lookup;
 mod memory;
 mod name;
 mod path;
+mod put;
+mod range;
+mod rules;
+mod search;
 mod stair;
 mod tables;
 
