@@ -1,7 +1,7 @@
 //! The program's outside: where bytes come from, where they go, and a gate that threads pass.
 //!
-//! Each fault that a source or a sink answers has its cause in a count of faults that rose. Sources and
-//! sinks in memory fail at the calls that they are told to.
+//! A source or a sink that answers a fault raises its count of faults. Those in memory fail at exactly
+//! the calls that they are told to; those of the standard streams tell nothing of their bytes.
 #![tactic(auto)]
 
 mod faults;

@@ -1,4 +1,4 @@
-ghost use Rattle.std.specs.Prelude.{◌≡◌, ◌⊎◌, ◌+◌, ◌^◌, ◌<◌, ◌≤◌, ◌↔◌, ◌++◌, [], ℕ, length, take, min, max, Some, IsErr, IfOk, OnOk, OnErr, Contains, vec_len, vec_capacity};
+ghost use Rattle.std.specs.Prelude.{◌≡◌, ◌⊎◌, ◌+◌, ◌^◌, ◌<◌, ◌≤◌, ◌↔◌, ◌++◌, [], ℕ, length, take, min, max, Some, IsOk, IsErr, IfOk, OnOk, OnErr, Contains, vec_len, vec_capacity};
 ghost use Rattle.std.specs.Io.KnownBytes.{Appends};
 ghost use Rattle.rail_outside.specs.Faults.{Rose, raised};
 ghost use Rattle.rail_outside.specs.Sink.{IsFlushed};
@@ -49,10 +49,12 @@ impl MemorySink {
         }
     }
 
-    /// Makes room for `n` more bytes than are written. Without memory the room stays as it was.
+    /// Makes room for `n` more bytes than are written. Where there is no memory for them, or their number
+    /// doesn't fit, the room stays as it was.
     pub fn reserve(&mut self, n: usize) -> Result<(), OutOfMemory>
         ensures room { OnOk result (sink_room self.new ≡ max (sink_room self.old) (length (sink_bytes self.old) + n)) }
         ensures same_room { OnErr result (sink_room self.new ≡ sink_room self.old) }
+        ensures has_room { length (sink_bytes self.old) + n ≤ sink_room self.old → IsOk result }
         ensures too_much { 2 ^ 64 ≤ length (sink_bytes self.old) + n → IsErr result }
         ensures bytes { sink_bytes self.new ≡ sink_bytes self.old }
         ensures same_piece { sink_piece self.new ≡ sink_piece self.old }

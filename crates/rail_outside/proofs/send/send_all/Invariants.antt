@@ -1,3 +1,4 @@
+-- So far the front of the text is written, up to what is sent.
 use Rattle.std.proofs.Common.{◌-◌, ◌≤◌, length, take}
 use Rattle.std.specs.Io.KnownBytes.{Appends}
 use Rattle.rail_outside.proofs.send.send_all.Given as goal

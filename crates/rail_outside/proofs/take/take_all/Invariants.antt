@@ -1,3 +1,4 @@
+-- So far the bytes are what the source has given, and at most one more than the limit.
 use Rattle.std.proofs.Common.{◌+◌, ◌-◌, ◌≤◌, length}
 use Rattle.std.specs.Io.KnownBytes.{Consumes}
 use Rattle.rail_outside.proofs.take.take_all.Given as goal

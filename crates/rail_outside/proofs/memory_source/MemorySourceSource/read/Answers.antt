@@ -1,4 +1,4 @@
-use Rattle.std.proofs.Common.{rules, sym}
+use Rattle.std.proofs.Common.{rules}
 use Rattle.rail_outside.proofs.Pieces.{left-split, take_rest}
 use Rattle.rail_outside.proofs.memory_source.MemorySourceSource.read.Goals as goal
 
