@@ -1,0 +1,8 @@
+pub mod Counts
+pub mod Places
+pub mod Stops
+pub mod Clearing
+pub mod Bounds
+pub mod Uses
+pub mod Names
+pub mod Sound

@@ -1,0 +1,84 @@
+//! The blockings of a whole run, in one walk along its path.
+
+ghost use Rattle.std.specs.Prelude.{◌≡◌, ◌≢◌, ◌≤◌, ◌<◌, ◌+◌, ◌-◌, ◌<ℤ◌, IfOk, map, All, AllPairs};
+ghost use Rattle.std.specs.List.{range_with_len};
+ghost use Rattle.rail_model.specs.Path.{hop, hop_count, Fits};
+ghost use Rattle.rail_model.specs.Blocking.{stairway as stairway_of, stair_of};
+ghost use Rattle.blocking_time.specs.Mark.{marks_of, stop_mark};
+ghost use Rattle.blocking_time.specs.Blocking.{blocking_of, IsUseBounded};
+
+use crate::motion::{self, Mark};
+use crate::{approach, course, moments};
+use rail_model::{List, OutOfMemory, Path, Stair, Use};
+use std::alloc::Global;
+
+/// A run's blocking of one block.
+#[derive(Clone, Copy)]
+pub struct Blocking {
+    pub used: Use,
+    /// Form, watch, approach, running, clearing, release: seconds.
+    pub parts: [i64; 6],
+}
+
+/// The blockings of a run, one for each hop, in the order of its path.
+pub fn blockings(alloc: Global, path: &Path) -> Result<List<Blocking>, OutOfMemory>
+    requires { Fits path.now }
+    ensures each { IfOk result
+        (λ all. all ≡ map (blocking_of path.now) (range_with_len 1 (hop_count path.now))) }
+    ensures not_empty { IfOk result (All (λ b. b.used.start <ℤ b.used.«end»)) }
+    ensures bounded { IfOk result (All (λ b. IsUseBounded b.used)) }
+{
+    let marks = course::marks(alloc, path)?;
+    let mut stop = approach::no_stop_yet();
+    let mut all = List::new(alloc);
+    for i in 0..path.hops.len() {
+        all.push(blocking_in(path, &marks, i + 1, stop))?;
+        stop = course::next_stop(path, &marks, i + 1, stop);
+    }
+    Ok(all)
+}
+
+// The blocking of the k-th block, from 1, by the last stop before it.
+fn blocking_in(path: &Path, marks: &[Mark], k: usize, stop: Mark) -> Blocking
+    requires fits { Fits path.now }
+    requires table { marks.now ≡ marks_of path.now }
+    requires some { 1 ≤ k }
+    requires on_path { k ≤ hop_count path.now }
+    requires stop { stop ≡ stop_mark path.now (k - 1) }
+    ensures { result ≡ blocking_of path.now k }
+{
+    let hop = motion::hop_at(path, k);
+    let at = course::moments_in(path, marks, k, stop);
+    Blocking {
+        used: moments::use_at(at, &hop),
+        parts: moments::parts_at(at, &hop),
+    }
+}
+
+/// A run's stair: its name, and its uses of blocks in the order of its path.
+pub fn stairs(alloc: Global, path: &Path) -> Result<Stair, OutOfMemory>
+    requires { Fits path.now }
+    ensures same { IfOk result (λ s. s ≡ stair_of path.now) }
+    ensures not_empty { IfOk result (λ s. All (λ u. u.start <ℤ u.«end») s.uses) }
+    ensures bounded { IfOk result (λ s. All IsUseBounded s.uses) }
+    ensures blocks_differ { IfOk result (λ s. AllPairs (λ a b. a ≢ b) (map (λ u. u.block) s.uses)) }
+{
+    let uses = stairway(alloc, path)?;
+    Ok(Stair {
+        run: path.run,
+        uses,
+    })
+}
+
+// The blockings without their parts.
+fn stairway(alloc: Global, path: &Path) -> Result<List<Use>, OutOfMemory>
+    requires { Fits path.now }
+    ensures { IfOk result (λ uses. uses ≡ stairway_of path.now) }
+{
+    let all = blockings(alloc, path)?;
+    let mut uses = List::new(alloc);
+    for blocking in all.slice() {
+        uses.push(blocking.used)?;
+    }
+    Ok(uses)
+}

@@ -1,0 +1,12 @@
+-- Tables while rows are put into them.
+use Rattle.std.specs.Prelude.{ℕ, Option, Some, None, Result, Ok, Err}
+use Rattle.rail_model.specs.declared.tables.Tables.{Tables}
+use Rattle.capacity_cmd.specs.declared.input.Putting.{Putting}
+
+-- the tables so far, or the first row whose put a rule refused
+abbrev pub unless_refused : Option ℕ → Tables → Result Tables ℕ
+unless_refused None tables = Ok tables
+unless_refused (Some row) tables = Err row
+
+abbrev pub made_so_far : Putting → Result Tables ℕ
+made_so_far putting = unless_refused putting.refused putting.tables

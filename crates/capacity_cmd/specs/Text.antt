@@ -1,0 +1,40 @@
+-- The texts that commands write.
+use Rattle.std.specs.Prelude.{ℕ, ℤ, List, ◌∷◌, map, codes, slice_index_or}
+use Rattle.std.specs.List.{flat_map, range_with_len}
+use Rattle.std.specs.Fmt.{signed_decimal}
+use Rattle.csv.specs.Writing.{default_writer, row_text}
+use Rattle.rail_model.specs.declared.tables.Tables.{Tables}
+use Rattle.rail_model.specs.declared.path.Path.{Path}
+use Rattle.rail_model.specs.Path.{hop, hop_count}
+use Rattle.rail_model.specs.Blocking.{blocking_start, blocking_end, parts}
+use Rattle.rail_model.specs.Tables.{no_block, path_in}
+use Rattle.capacity_cmd.specs.Rows.{Row}
+
+-- the text of a row as CSV writes it: commas, quotes only where needed, and a line feed
+unfoldable pub text_of_row : Row → List ℕ
+text_of_row row = row_text default_writer row
+
+-- the text of rows, one after the other
+abbrev pub text_of_rows : List Row → List ℕ
+text_of_rows rows = flat_map text_of_row rows
+
+-- the name of the block with a number
+abbrev pub block_name : Tables → ℕ → List ℕ
+block_name tables number = (slice_index_or tables.blocks number no_block).name
+
+-- use,RUN,BLOCK,START,END,FORM,WATCH,APPROACH,RUNNING,CLEARING,RELEASE
+abbrev pub use_row : List ℕ → List ℕ → List ℤ → Row
+use_row run block times = codes "use" ∷ run ∷ block ∷ map signed_decimal times
+
+-- the row of the k-th block of a run's path: the block's use, and its six parts
+abbrev pub hop_row : Tables → Path → ℕ → Row
+hop_row tables path k =
+    use_row path.run (block_name tables (hop path k).block) (blocking_start path k ∷ blocking_end path k ∷ parts path k)
+
+-- a run's rows, one for each block in the order of its path
+abbrev pub run_rows : Tables → Path → List Row
+run_rows tables path = map (hop_row tables path) (range_with_len 1 (hop_count path))
+
+-- the text of `stairs`: each run's rows, in the order of the runs' names
+abbrev pub stairs_text : Tables → List ℕ
+stairs_text tables = text_of_rows (flat_map (λ run. run_rows tables (path_in tables run)) tables.runs)

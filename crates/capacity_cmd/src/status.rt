@@ -1,0 +1,62 @@
+ghost use Rattle.std.specs.Prelude.{◌≡◌};
+
+use rail_model::{Form, Rule};
+use thiserror::Error;
+
+/// Why an input is refused. Of these only `Early` and `TooLong` come today.
+#[derive(Clone, Copy, Debug, PartialEq, Eq, Error)]
+pub enum Cause {
+    /// What is wrong with the form of the row.
+    #[error("the row has a wrong form")]
+    Form(Form),
+    /// The rule that refuses the row's edit.
+    #[error("the row breaks a rule of the tables")]
+    Rule(Rule),
+    /// The input has more bytes than are read.
+    #[error("the input is longer than 16,777,216 bytes")]
+    TooLong,
+    /// The named section isn't in the tables.
+    #[error("no section has that name")]
+    NoSection,
+    /// The row may not stand at its place in the input.
+    #[error("the row may not stand there")]
+    Script,
+    /// The row puts no item, or the tables can't take its item.
+    #[error("the row puts no block, signal, route, run or section that the tables can take")]
+    Early,
+}
+
+/// How a call of the program ends.
+#[derive(Clone, Copy, Debug, PartialEq, Eq)]
+pub enum Status {
+    /// The whole text of the command is written.
+    Done,
+    /// The input is refused at a row, counted from 1, or as a whole, with row 0. The row of the refusal is written.
+    Refused { row: u64, cause: Cause },
+    /// The words are none of the forms. Nothing is read, and nothing is written.
+    BadWords,
+    /// A read failed. Nothing is written.
+    ReadFault,
+    /// A write failed. A front of the text or of the refusal's row is written.
+    WriteFault,
+    /// Memory ran out. Nothing is written.
+    OutOfMemory,
+}
+
+impl Status {
+    ghost use Rattle.capacity_cmd.specs.Outcome.{status_number};
+
+    /// The number with which the program ends.
+    pub fn number(self) -> u8
+        ensures { result ≡ status_number self }
+    {
+        match self {
+            Status::Done => 0,
+            Status::Refused { .. } => 1,
+            Status::BadWords => 2,
+            Status::ReadFault => 3,
+            Status::WriteFault => 4,
+            Status::OutOfMemory => 5,
+        }
+    }
+}
