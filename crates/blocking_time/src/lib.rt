@@ -1,7 +1,8 @@
 //! The motion of a train's head along its path, and the blocking times of a run.
 //!
-//! `motion` says when the head reaches a place; `approach` and `stairs` say how long each block is
-//! kept; `lookup` makes a run's path from the tables.
+//! `lookup` makes a run's path from the tables. `motion` says when the head reaches a place of a path,
+//! `approach` and `moments` say when a block is kept, and `walk` gives the blockings of all hops at once,
+//! by the table of marks in `course`.
 #![tactic(auto)]
 
 mod approach;
@@ -16,3 +17,6 @@ pub use lookup::path_of;
 pub use moments::parts;
 pub use motion::{constant_speed_law, reach, reach_down};
 pub use walk::{Blocking, blockings, stairs};
+
+#[cfg(test)]
+mod tests;

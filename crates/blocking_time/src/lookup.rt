@@ -2,7 +2,7 @@
 
 ghost use Rattle.std.specs.Prelude.{◌≡◌, ◌<◌, ℕ, List as Items, IsTrue, IfOk, length, slice_get, Some, map, All};
 ghost use Rattle.std.specs.List.{list_all};
-ghost use Rattle.rail_model.specs.declared.items.Run.{Run as Timed};
+ghost use Rattle.rail_model.specs.declared.items.Run.{Run};
 ghost use Rattle.rail_model.specs.Name.{NamesRise};
 ghost use Rattle.rail_model.specs.Path.{Fits};
 ghost use Rattle.rail_model.specs.Tables.{number_of, block_number, signal_named, route_named, hop_behind, path_in};
@@ -140,7 +140,7 @@ pub fn path_of(alloc: Global, tables: &Tables, run: u32) -> Result<Path, OutOfMe
     requires sound { IsSound tables.now }
     requires there { run < length tables.now.runs }
     ensures same { IfOk result
-        (λ path. (r : Timed) → slice_get tables.now.runs run ≡ Some r → path ≡ path_in tables.now r) }
+        (λ path. (r : Run) → slice_get tables.now.runs run ≡ Some r → path ≡ path_in tables.now r) }
     ensures fits { IfOk result Fits }
     ensures numbered { IfOk result (λ path. All (λ h. h.block < length tables.now.blocks) path.hops) }
 {

@@ -1,4 +1,4 @@
-use Rattle.std.proofs.Common.{◌∙◌, ap}
+use Rattle.std.proofs.Common.{◌∙◌, ap, arith}
 use Rattle.rail_model.specs.declared.path.Hop.{Hop}
 use Rattle.blocking_time.specs.Mark.{mark_of}
 use Rattle.blocking_time.proofs.Clearing.{clearing_reached, clearing_ended}
@@ -10,7 +10,7 @@ returns-then-place_m-last-clause-moment c =
     c.seconds_at.ensures.moment
     ∙ clearing_reached path c.args.k c.clearing_place-place_m.result c.mark_in-mark.result c.mark_in-last.result c.hop_at-hop.result.overlap_m
     c.mark_in-mark.ensures.mark (c.mark_in-last.ensures.mark ∙ ap (mark_of path) c.len.ensures.count)
-    (ap (λ (h : Hop). h.overlap_m) c.hop_at-hop.ensures.hop) c.clearing_place-place_m.ensures c.if-place_m-last.true
+    (ap (λ (h : Hop). h.overlap_m) c.hop_at-hop.ensures.hop) c.clearing_place-place_m.ensures (omega (arith, c.if-place_m-last.true))
 
 pub returns-else-place_m-last-clause-moment : goal.returns-else-place_m-last-clause-moment
 returns-else-place_m-last-clause-moment c =
@@ -18,4 +18,4 @@ returns-else-place_m-last-clause-moment c =
     c.tail_end.ensures.moment
     ∙ clearing_ended path c.requires.fits c.args.k c.clearing_place-place_m.result c.mark_in-mark.result c.mark_in-last.result c.hop_at-hop.result.overlap_m
     c.mark_in-mark.ensures.mark (c.mark_in-last.ensures.mark ∙ ap (mark_of path) c.len.ensures.count)
-    (ap (λ (h : Hop). h.overlap_m) c.hop_at-hop.ensures.hop) c.clearing_place-place_m.ensures c.if-place_m-last.false
+    (ap (λ (h : Hop). h.overlap_m) c.hop_at-hop.ensures.hop) c.clearing_place-place_m.ensures (omega (arith, c.if-place_m-last.false))
