@@ -33,7 +33,7 @@ pub record IsGrown {X : Type 0} (name : X → List ℕ) (items more : List X) : 
 other_name : {X : Type 0} (name : X → List ℕ) (items : List X) (m n : List ℕ) → is_named name items m ≡ false → is_named name items n ≡ true → is_same m n ≡ false
 other_name name items m n new known =
     elim (cases_Bool (is_same m n)) [
-      inl e ↦ absurd (both_ways (is_named name items m) new (ap (is_named name items) (same_name m n e) ∙ known))
+      | inl e ↦ absurd (both_ways (is_named name items m) new (ap (is_named name items) (same_name m n e) ∙ known))
       | inr e ↦ e
     ]
 
@@ -83,7 +83,7 @@ Stands-kept t u k (item.Block b) s = record { within = s.within; known = s.known
 Stands-kept t u k (item.Signal g) s = record { within = s.within; known = k.blocks g.block s.known; no_repeat = s.no_repeat; count = s.count }
 Stands-kept t u k (item.Route r) s =
     let same : map (λ n. (signal_named u n).block) r.signals ≡ map (λ n. (signal_named t n).block) r.signals =
-      map_kept_by (has_signal t) (λ n. (signal_named u n).block) (λ n. (signal_named t n).block) (λ n h. ap (λ x. x.block) (k.signal n h)) r.signals s.known in
+    map_kept_by (has_signal t) (λ n. (signal_named u n).block) (λ n. (signal_named t n).block) (λ n h. ap (λ x. x.block) (k.signal n h)) r.signals s.known in
     record {
       within = s.within;
       known = list_all_kept_by (has_signal t) (has_signal u) k.signals r.signals s.known;

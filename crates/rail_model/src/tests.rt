@@ -1,9 +1,7 @@
 //! Each public call once, with ample memory.
 ghost use Rattle.rail_model.specs.Puts.{IsSound};
 
-use crate::{
-    Block, Item, Leg, List, Name, Route, Rule, Run, Section, Signal, Tables,
-};
+use crate::{Block, Item, Leg, List, Name, Route, Rule, Run, Section, Signal, Tables};
 use std::alloc::Global;
 use std::cmp::Ordering;
 use std::collections::HashSet;
@@ -30,7 +28,13 @@ fn lists(rt: HostRuntime) -> Result<(), Fail> {
 
 #[test]
 fn names(rt: HostRuntime) -> Result<(), Fail> {
-    let accepted = [(" ", true), ("Zürich 1", true), ("", false), ("\n", false), ("\x7f", false)];
+    let accepted = [
+        (" ", true),
+        ("Zürich 1", true),
+        ("", false),
+        ("\n", false),
+        ("\x7f", false),
+    ];
     for (text, is_name) in accepted {
         assert_eq!(rt; Name::read(text.as_bytes()).is_ok(), is_name, "{text:?}");
     }
@@ -114,34 +118,81 @@ fn put(
     Ok(())
 }
 
-#[test]
-fn tables(rt: HostRuntime) -> Result<(), Fail> {
-    let alloc = rt.alloc();
+fn put_blocks(rt: &impl Abort, alloc: Global, line: &mut Tables) -> Result<(), Fail>
+    requires { IsSound line.old }
+    ensures { IsSound line.new }
+{
+    put(rt, alloc, line, block(b"B", 500)?, Ok(()))?;
+    put(rt, alloc, line, block(b"A", 0)?, Err(Rule::Range))?;
+    put(rt, alloc, line, block(b"A", 1_000)?, Ok(()))?;
+    put(rt, alloc, line, block(b"B", 500)?, Err(Rule::Twice))
+}
+
+fn put_signals(rt: &impl Abort, alloc: Global, line: &mut Tables) -> Result<(), Fail>
+    requires { IsSound line.old }
+    ensures { IsSound line.new }
+{
+    put(rt, alloc, line, signal(b"1", b"C")?, Err(Rule::Unknown))?;
+    put(rt, alloc, line, signal(b"1", b"A")?, Ok(()))?;
+    put(rt, alloc, line, signal(b"2", b"B")?, Ok(()))
+}
+
+fn put_route_and_section(rt: &impl Abort, alloc: Global, line: &mut Tables) -> Result<(), Fail>
+    requires { IsSound line.old }
+    ensures { IsSound line.new }
+{
+    put(rt, alloc, line, route(alloc, b"2", b"2")?, Err(Rule::Twice))?;
+    put(rt, alloc, line, route(alloc, b"1", b"2")?, Ok(()))?;
+    put(rt, alloc, line, section(alloc, b"B", b"A")?, Ok(()))
+}
+
+fn put_run(rt: &impl Abort, alloc: Global, line: &mut Tables) -> Result<(), Fail>
+    requires { IsSound line.old }
+    ensures { IsSound line.new }
+{
     let leg = Leg {
         running_s: 60,
         dwell_s: 0,
     };
-    let mut line = Tables::new(alloc);
-    put(&rt, alloc, &mut line, block(b"B", 500)?, Ok(()))?;
-    put(&rt, alloc, &mut line, block(b"A", 0)?, Err(Rule::Range))?;
-    put(&rt, alloc, &mut line, block(b"A", 1_000)?, Ok(()))?;
-    put(&rt, alloc, &mut line, block(b"B", 500)?, Err(Rule::Twice))?;
-    put(&rt, alloc, &mut line, signal(b"1", b"C")?, Err(Rule::Unknown))?;
-    put(&rt, alloc, &mut line, signal(b"1", b"A")?, Ok(()))?;
-    put(&rt, alloc, &mut line, signal(b"2", b"B")?, Ok(()))?;
-    put(&rt, alloc, &mut line, route(alloc, b"2", b"2")?, Err(Rule::Twice))?;
-    put(&rt, alloc, &mut line, route(alloc, b"1", b"2")?, Ok(()))?;
-    put(&rt, alloc, &mut line, run(alloc, &[leg])?, Err(Rule::Count))?;
-    put(&rt, alloc, &mut line, run(alloc, &[leg, leg])?, Ok(()))?;
-    put(&rt, alloc, &mut line, section(alloc, b"B", b"A")?, Ok(()))?;
-    let name = Name::read(b"A")?;
-    assert_eq!(rt; line.block_number(&name), Some(0));
-    assert_eq!(rt; line.block_named(&name).map(|block| block.length_m), Some(1_000));
-    assert_eq!(rt; line.blocks.len(), 2);
-    let name = Name::read(b"2")?;
-    assert!(rt; line.signal_named(&name).is_some_and(|signal| signal.block.bytes() == b"B".as_slice()));
-    let name = Name::read(b"west")?;
-    assert_eq!(rt; line.route_named(&name).map(|route| route.signals.len()), Some(2));
-    assert_eq!(rt; line.runs.len() + line.sections.len(), 2);
+    put(rt, alloc, line, run(alloc, &[leg])?, Err(Rule::Count))?;
+    put(rt, alloc, line, run(alloc, &[leg, leg])?, Ok(()))
+}
+
+fn find_block(rt: &impl Abort, line: &Tables) -> Result<(), Fail>
+    requires { IsSound line.now }
+{
+    let name = Name::read(b"B")?;
+    assert_eq!(rt; line.block_number(&name), Some(1));
+    assert_eq!(rt;
+        line.block_named(&name).map(|block| block.length_m),
+        Some(500)
+    );
     Ok(())
+}
+
+fn find_signal_and_route(rt: &impl Abort, line: &Tables) -> Result<(), Fail>
+    requires { IsSound line.now }
+{
+    let name = Name::read(b"2")?;
+    assert_eq!(rt;
+        line.signal_named(&name).map(|signal| signal.watch_s),
+        Some(10)
+    );
+    let name = Name::read(b"west")?;
+    assert_eq!(rt;
+        line.route_named(&name).map(|route| route.signals.len()),
+        Some(2)
+    );
+    Ok(())
+}
+
+#[test]
+fn tables(rt: HostRuntime) -> Result<(), Fail> {
+    let mut line = Tables::new(rt.alloc());
+    put_blocks(&rt, rt.alloc(), &mut line)?;
+    put_signals(&rt, rt.alloc(), &mut line)?;
+    put_route_and_section(&rt, rt.alloc(), &mut line)?;
+    put_run(&rt, rt.alloc(), &mut line)?;
+    find_block(&rt, &line)?;
+    find_signal_and_route(&rt, &line)
 }
