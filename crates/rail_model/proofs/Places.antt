@@ -1,6 +1,6 @@
 -- The place of a name in a list whose names rise: what stands there, and what an item put there changes.
-use Rattle.std.proofs.Common.{◌≡◌, ℕ, suc, zero, ◌+◌, ◌-◌, ◌<◌, ◌≤◌, Bool, true, false, cond, ◌||◌, List, [], ◌∷◌, ◌++◌, length, get_or, take, drop, insert, Some, refl, sym, ap, ◌∙◌, subst, inl, inr, arith, rules}
-use Rattle.std.specs.List.{list_any, list_all, find, slice_get, filter, All, AllPairs, position_or_len}
+use Rattle.std.proofs.Common.{◌≡◌, ℕ, suc, ◌+◌, ◌-◌, ◌<◌, ◌≤◌, Bool, true, false, cond, ◌||◌, List, [], ◌∷◌, ◌++◌, length, get_or, take, drop, insert, Some, refl, sym, ap, ◌∙◌, subst, inl, inr, arith}
+use Rattle.std.specs.List.{list_any, find, filter, All, position_or_len}
 use Rattle.std.specs.Prelude.{◌⊎◌, unwrap_or, IfOk, IfErr, Result, Ok, Err}
 use Rattle.std.specs.List.Sorted.{IsBinarySearchResult, IsSearchInRange}
 use Rattle.std.proofs.lemmas.List.Sorted.{searchable_from_sorted}

@@ -1,4 +1,4 @@
-use Rattle.std.proofs.Common.{◌≡◌, true, false, sym, ◌∙◌, rules, arith}
+use Rattle.std.proofs.Common.{sym, ◌∙◌}
 use Rattle.std.proofs.lemmas.Bool.{not-true, not-false, or_from}
 use Rattle.rail_model.proofs.Repeats.{has_repeat_more, has_repeat_found, seen_more}
 use Rattle.rail_model.proofs.rules.has_repeat.Goals as goal
