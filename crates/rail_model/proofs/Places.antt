@@ -1,6 +1,6 @@
 -- The place of a name in a list whose names rise: what stands there, and what an item put there changes.
-use Rattle.std.proofs.Common.{◌≡◌, ℕ, suc, zero, ◌+◌, ◌-◌, ◌<◌, ◌≤◌, Bool, true, false, cond, ◌||◌, List, [], ◌∷◌, ◌++◌, length, get_or, take, drop, insert, Some, refl, sym, ap, ◌∙◌, subst, inl, inr, arith, rules}
-use Rattle.std.specs.List.{list_any, list_all, find, slice_get, filter, All, AllPairs, position_or_len}
+use Rattle.std.proofs.Common.{◌≡◌, ℕ, suc, ◌+◌, ◌-◌, ◌<◌, ◌≤◌, Bool, true, false, cond, ◌||◌, List, [], ◌∷◌, ◌++◌, length, get_or, take, drop, insert, Some, refl, sym, ap, ◌∙◌, subst, inl, inr, arith}
+use Rattle.std.specs.List.{list_any, find, filter, All, position_or_len}
 use Rattle.std.specs.Prelude.{◌⊎◌, unwrap_or, IfOk, IfErr, Result, Ok, Err}
 use Rattle.std.specs.List.Sorted.{IsBinarySearchResult, IsSearchInRange}
 use Rattle.std.proofs.lemmas.List.Sorted.{searchable_from_sorted}
@@ -41,11 +41,14 @@ pub record IsPlace {X : Type 0} (name : X → List ℕ) (items : List X) (n : Li
 insert_at : {X : Type 0} (xs : List X) (i : ℕ) (x : X) (k : ℕ) (d : X) → i ≤ length xs → ((k < i) × (get_or (insert xs i x) k d ≡ get_or xs k d)) ⊎ (((k ≡ i) × (get_or (insert xs i x) k d ≡ x)) ⊎ ((i < k) × (get_or (insert xs i x) k d ≡ get_or xs (k - 1) d)))
 insert_at xs i x k d le =
     elim (cases_order k i) [
-      inl e ↦ inr (inl (e, rw e (get_or-insert_at xs i x d le)))
+      | inl e ↦ inr (inl (e, rw e (get_or-insert_at xs i x d le)))
       | inr o ↦ elim o [
-        inl lt ↦ inl (lt, get_or-insert_below xs i x d k lt le)
-        | inr gt ↦ inr (inr (gt, (let e : (k - 1) + 1 ≡ k = omega arith in
-        subst (λ m. get_or (insert xs i x) m d ≡ get_or xs (k - 1) d) e (get_or-insert_above xs i x d (k - 1) (omega arith) le))))
+        | inl lt ↦ inl (lt, get_or-insert_below xs i x d k lt le)
+        | inr gt ↦ inr (inr (
+          gt,
+          (let e : (k - 1) + 1 ≡ k = omega arith in
+              subst (λ m. get_or (insert xs i x) m d ≡ get_or xs (k - 1) d) e (get_or-insert_above xs i x d (k - 1) (omega arith) le)),
+        ))
       ]
     ]
 
@@ -56,23 +59,27 @@ module _ {X : Type 0} (name : X → List ℕ) where
   place (x ∷ items) n rise out =
       let apart = or_parts (is_same (name x) n) (is_named name items n) out in
       let order : (o : Ordering) → slice_cmp nat_cmp (name x) n ≡ o → (i : ℕ) × IsPlace name (x ∷ items) n i = λ o.
-        elim o as (λ o. slice_cmp nat_cmp (name x) n ≡ o → (i : ℕ) × IsPlace name (x ∷ items) n i) [
-          Less ↦ λ e.
-            let rest = place items n (λ i j d l m. rise (suc i) (suc j) d (omega arith) (omega arith)) apart.1 in
-            (suc rest.0, record {
-              within = omega (arith, rest.1.within);
-              below = All-cons (λ y. IsBefore (name y) n) x (take rest.0 items) e rest.1.below;
-              above = rest.1.above;
-            })
-          | Equal ↦ λ e. absurd (both_ways (is_same (name x) n) apart.0 (is_same-equal (name x) n e))
-          | Greater ↦ λ e.
-            let first : IsBefore n (name x) = IsBefore-flip (name x) n e in
-            (0, record {
-              within = omega arith;
-              below = λ k d l. absurd (omega arith);
-              above = All-cons (λ y. IsBefore n (name y)) x items first (λ k d l. IsBefore-trans n (name x) (name (get_or items k d)) first (rise 0 (suc k) d (omega arith) (omega arith)));
-            })
-        ] in
+      elim o as (λ o. slice_cmp nat_cmp (name x) n ≡ o → (i : ℕ) × IsPlace name (x ∷ items) n i) [
+        | Less ↦ λ e.
+            let rest = place items n (λ i j d l m. rise (suc i) (suc j) d (omega arith) (omega arith)) apart.1 in (
+              suc rest.0,
+              record {
+                within = omega (arith, rest.1.within);
+                below = All-cons (λ y. IsBefore (name y) n) x (take rest.0 items) e rest.1.below;
+                above = rest.1.above;
+              },
+            )
+        | Equal ↦ λ e. absurd (both_ways (is_same (name x) n) apart.0 (is_same-equal (name x) n e))
+        | Greater ↦ λ e.
+            let first : IsBefore n (name x) = IsBefore-flip (name x) n e in (
+              0,
+              record {
+                within = omega arith;
+                below = λ k d l. absurd (omega arith);
+                above = All-cons (λ y. IsBefore n (name y)) x items first (λ k d l. IsBefore-trans n (name x) (name (get_or items k d)) first (rise 0 (suc k) d (omega arith) (omega arith)));
+              },
+            )
+      ] in
       order (slice_cmp nat_cmp (name x) n) refl
 
   -- an item put in at the place of its name
@@ -84,11 +91,11 @@ module _ {X : Type 0} (name : X → List ℕ) where
       let is_front : X → Bool = λ y. is_before (name y) n in
       let is_back : X → Bool = λ y. is_before n (name y) in
       let fronts : filter is_front items ≡ front =
-        ap (filter is_front) (sym whole) ∙ filter-append is_front front back
-        ∙ rw (filter_all is_front front (λ k d l. is_before-from (name (get_or front k d)) n (p.below k d l)), filter_none is_front back (λ k d l. is_before-back n (name (get_or back k d)) (p.above k d l))) (append-nil front) in
+      ap (filter is_front) (sym whole) ∙ filter-append is_front front back
+      ∙ rw (filter_all is_front front (λ k d l. is_before-from (name (get_or front k d)) n (p.below k d l)), filter_none is_front back (λ k d l. is_before-back n (name (get_or back k d)) (p.above k d l))) (append-nil front) in
       let backs : filter is_back items ≡ back =
-        ap (filter is_back) (sym whole) ∙ filter-append is_back front back
-        ∙ rw (filter_none is_back front (λ k d l. is_before-back (name (get_or front k d)) n (p.below k d l)), filter_all is_back back (λ k d l. is_before-from n (name (get_or back k d)) (p.above k d l))) refl in
+      ap (filter is_back) (sym whole) ∙ filter-append is_back front back
+      ∙ rw (filter_none is_back front (λ k d l. is_before-back (name (get_or front k d)) n (p.below k d l)), filter_all is_back back (λ k d l. is_before-from n (name (get_or back k d)) (p.above k d l))) refl in
       rw (e, fronts, backs) refl
 
   pub is_named-place : (items : List X) (n : List ℕ) (i : ℕ) → IsPlace name items n i → is_named name items n ≡ false
@@ -96,9 +103,9 @@ module _ {X : Type 0} (name : X → List ℕ) where
       let front = take i items in
       let back = drop i items in
       let apart : All (λ x. is_same (name x) n ≡ false) (front ++ back) =
-        All-append (λ x. is_same (name x) n ≡ false) front back
-        (λ k d l. is_same-before (name (get_or front k d)) n (p.below k d l))
-        (λ k d l. is_same-after n (name (get_or back k d)) (p.above k d l)) in
+      All-append (λ x. is_same (name x) n ≡ false) front back
+      (λ k d l. is_same-before (name (get_or front k d)) n (p.below k d l))
+      (λ k d l. is_same-after n (name (get_or back k d)) (p.above k d l)) in
       rw (← take-append-drop i items) (list_any_none (λ x. is_same (name x) n) (front ++ back) apart)
 
   -- a name that stands at i has the number i
@@ -134,25 +141,25 @@ module _ {X : Type 0} (name : X → List ℕ) where
       let below = name_below items (name x) i p in
       let above = name_above items (name x) i p in
       elim (insert_at items i x a d p.within) [
-        inl u ↦ elim (insert_at items i x b d p.within) [
-          inl v ↦ rw (u.1, v.1) (rise a b d lt (omega (arith, p.within)))
+        | inl u ↦ elim (insert_at items i x b d p.within) [
+          | inl v ↦ rw (u.1, v.1) (rise a b d lt (omega (arith, p.within)))
           | inr o ↦ elim o [
-            inl v ↦ rw (u.1, v.1) (below a d u.0)
+            | inl v ↦ rw (u.1, v.1) (below a d u.0)
             | inr v ↦ rw (u.1, v.1) (rise a (b - 1) d (omega arith) (omega arith))
           ]
         ]
         | inr o ↦ elim o [
-          inl u ↦ elim (insert_at items i x b d p.within) [
-            inl v ↦ absurd (omega arith)
+          | inl u ↦ elim (insert_at items i x b d p.within) [
+            | inl v ↦ absurd (omega arith)
             | inr o ↦ elim o [
-              inl v ↦ absurd (omega arith)
+              | inl v ↦ absurd (omega arith)
               | inr v ↦ rw (u.1, v.1) (above (b - 1) d (omega arith) (omega arith))
             ]
           ]
           | inr u ↦ elim (insert_at items i x b d p.within) [
-            inl v ↦ absurd (omega arith)
+            | inl v ↦ absurd (omega arith)
             | inr o ↦ elim o [
-              inl v ↦ absurd (omega arith)
+              | inl v ↦ absurd (omega arith)
               | inr v ↦ rw (u.1, v.1) (rise (a - 1) (b - 1) d (omega arith) (omega arith))
             ]
           ]
@@ -176,16 +183,16 @@ module _ {X : Type 0} (name : X → List ℕ) where
   place_searched : (items : List X) (n : List ℕ) (i : ℕ) → NamesRise name items → i ≤ length items → IsBinarySearchResult (λ y. slice_cmp nat_cmp (name y) n) items (Err i) → IsPlace name items n i
   place_searched items n i rise l h =
       let unsorted : (k : ℕ) (d : X) → 0 ≤ k → k + 1 < length items → is_before (name (get_or items (k + 1) d)) (name (get_or items k d)) ≡ false =
-        λ k d le lt. is_before-back (name (get_or items k d)) (name (get_or items (k + 1) d)) (rise k (k + 1) d (omega arith) lt) in
+      λ k d le lt. is_before-back (name (get_or items k d)) (name (get_or items (k + 1) d)) (rise k (k + 1) d (omega arith) lt) in
       let point = h (searchable_from_sorted nat_list_cmp_total name items n unsorted) in
       record {
         within = l;
         below = λ k d lt.
-          let early : k < i = omega (arith, length-take-le i items l) in
-          rw (get_or-take i items k d early) (point.0 k d (omega arith) early);
+            let early : k < i = omega (arith, length-take-le i items l) in
+            rw (get_or-take i items k d early) (point.0 k d (omega arith) early);
         above = λ k d lt.
-          let late : i + k < length items = omega (arith, length-drop i items) in
-          rw (get_or-drop i items k d) (IsBefore-flip (name (get_or items (i + k) d)) n (point.1 (i + k) d (omega arith) late));
+            let late : i + k < length items = omega (arith, length-drop i items) in
+            rw (get_or-drop i items k d) (IsBefore-flip (name (get_or items (i + k) d)) n (point.1 (i + k) d (omega arith) late));
       }
 
   pub searched : (items : List X) (n : List ℕ) (r : Result ℕ ℕ) → NamesRise name items → IsSearchInRange r (length items) → IsBinarySearchResult (λ y. slice_cmp nat_cmp (name y) n) items r → IsFound name items n r
@@ -214,10 +221,10 @@ module _ {X : Type 0} (name : X → List ℕ) where
 pub list_any-insert : {X : Type 0} (p : X → Bool) (xs : List X) (i : ℕ) (x : X) → list_any p xs ≡ true → list_any p (insert xs i x) ≡ true
 list_any-insert p xs i x h =
     let split : list_any p xs ≡ (list_any p (take i xs) || list_any p (drop i xs)) =
-      ap (list_any p) (sym (take-append-drop i xs)) ∙ list_any-append p (take i xs) (drop i xs) in
+    ap (list_any p) (sym (take-append-drop i xs)) ∙ list_any-append p (take i xs) (drop i xs) in
     list_any-append p (take i xs) (x ∷ drop i xs)
     ∙ elim (or_cases (list_any p (take i xs)) (list_any p (drop i xs)) (sym split ∙ h)) [
-      inl e ↦ or_left (list_any p (take i xs)) (p x || list_any p (drop i xs)) e
+      | inl e ↦ or_left (list_any p (take i xs)) (p x || list_any p (drop i xs)) e
       | inr e ↦ or_right (list_any p (take i xs)) (p x || list_any p (drop i xs)) (or_right (p x) (list_any p (drop i xs)) e)
     ]
 
@@ -228,7 +235,7 @@ find-skip p (y ∷ xs) ys x h = ap (λ o. cond (p y) (Some y) o) (find-skip p xs
 pub first-insert : {X : Type 0} (p : X → Bool) (xs : List X) (i : ℕ) (x d : X) → p x ≡ false → get_or (insert xs i x) (position_or_len p (insert xs i x)) d ≡ get_or xs (position_or_len p xs) d
 first-insert p xs i x d h =
     let kept : find p (insert xs i x) ≡ find p xs =
-      find-skip p (take i xs) (drop i xs) x h ∙ ap (find p) (take-append-drop i xs) in
+    find-skip p (take i xs) (drop i xs) x h ∙ ap (find p) (take-append-drop i xs) in
     sym (unwrap_or-slice_get (insert xs i x) (position_or_len p (insert xs i x)) d)
     ∙ ap (λ o. unwrap_or o d) (sym (find_at p (insert xs i x)) ∙ kept ∙ find_at p xs)
     ∙ unwrap_or-slice_get xs (position_or_len p xs) d

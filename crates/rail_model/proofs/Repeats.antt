@@ -32,7 +32,7 @@ has_repeat-front : (xs ys : List (List ℕ)) → has_repeat xs ≡ true → has_
 has_repeat-front [] ys h = absurd (cc)
 has_repeat-front (x ∷ xs) ys h =
     elim (or_cases (list_any (is_same x) xs) (has_repeat xs) h) [
-      inl e ↦ or_left (list_any (is_same x) (xs ++ ys)) (has_repeat (xs ++ ys)) (list_any-append (is_same x) xs ys ∙ or_left (list_any (is_same x) xs) (list_any (is_same x) ys) e)
+      | inl e ↦ or_left (list_any (is_same x) (xs ++ ys)) (has_repeat (xs ++ ys)) (list_any-append (is_same x) xs ys ∙ or_left (list_any (is_same x) xs) (list_any (is_same x) ys) e)
       | inr e ↦ or_right (list_any (is_same x) (xs ++ ys)) (has_repeat (xs ++ ys)) (has_repeat-front xs ys e)
     ]
 
@@ -51,5 +51,5 @@ module _ (names : List (List ℕ)) (i : ℕ) (y : List ℕ) (lt : i < length nam
   seen_more q before after b a =
       let here : is_eq (slice_cmp nat_cmp y q) ≡ is_same q y = is_eq-slice_cmp y q ∙ is_same-sym y q in
       let more : list_any (is_same q) (take (i + 1) names) ≡ (list_any (is_same q) (take i names) || is_same q y) =
-        list_any_more (is_same q) names i y lt ∙ ap (λ x. list_any (is_same q) (take i names) || is_same q x) (sym read) in
+      list_any_more (is_same q) names i y lt ∙ ap (λ x. list_any (is_same q) (take i names) || is_same q x) (sym read) in
       a ∙ rw (here, b, more) (cond_or (is_same q y) (list_any (is_same q) (take i names)))

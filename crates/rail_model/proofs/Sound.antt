@@ -1,6 +1,6 @@
 -- A put that no rule refuses keeps tables sound.
-use Rattle.std.proofs.Common.{◌≡◌, ℕ, ◌+◌, ◌<◌, ◌≤◌, Bool, true, false, not, ◌&&◌, eqb, List, [], ◌∷◌, ◌++◌, length, map, get_or, Option, Some, None, if◌then◌else◌, refl, sym, ap, ◌∙◌, subst, inl, inr, arith, rules}
-use Rattle.std.specs.List.{list_any, list_all, All, filter, insert, position_or_len}
+use Rattle.std.proofs.Common.{◌≡◌, ℕ, ◌+◌, Bool, true, false, not, eqb, List, [], ◌∷◌, length, map, get_or, Some, None, if◌then◌else◌, refl, sym, ap, ◌∙◌, subst, inl, inr, arith}
+use Rattle.std.specs.List.{list_all, All, filter}
 use Rattle.std.proofs.lemmas.Bool.{both_ways, and_parts, and_from, cases_Bool, leb-false}
 use Rattle.std.proofs.lemmas.List.Edits.{length-insert}
 use Rattle.std.proofs.lemmas.List.Elements.{All-append, All-cons, All-filter, All-weaker}
@@ -11,7 +11,6 @@ use Rattle.rail_model.specs.declared.items.Run.{Run}
 use Rattle.rail_model.specs.declared.items.Section.{Section}
 use Rattle.rail_model.specs.declared.items.Item.{Item}
 use Rattle.rail_model.specs.declared.items.Item.TheVariants as item
-use Rattle.rail_model.specs.declared.items.Rule.{Rule}
 use Rattle.rail_model.specs.declared.items.Rule.TheVariants.{Range, Twice, Unknown, Limit, Count}
 use Rattle.rail_model.specs.declared.tables.Tables.{Tables}
 use Rattle.rail_model.specs.declared.limits.TheConstants.{BLOCKS, SIGNALS, ROUTES, RUNS, SECTIONS}
@@ -33,7 +32,7 @@ pub record IsGrown {X : Type 0} (name : X → List ℕ) (items more : List X) : 
 other_name : {X : Type 0} (name : X → List ℕ) (items : List X) (m n : List ℕ) → is_named name items m ≡ false → is_named name items n ≡ true → is_same m n ≡ false
 other_name name items m n new known =
     elim (cases_Bool (is_same m n)) [
-      inl e ↦ absurd (both_ways (is_named name items m) new (ap (is_named name items) (same_name m n e) ∙ known))
+      | inl e ↦ absurd (both_ways (is_named name items m) new (ap (is_named name items) (same_name m n e) ∙ known))
       | inr e ↦ e
     ]
 
@@ -83,7 +82,7 @@ Stands-kept t u k (item.Block b) s = record { within = s.within; known = s.known
 Stands-kept t u k (item.Signal g) s = record { within = s.within; known = k.blocks g.block s.known; no_repeat = s.no_repeat; count = s.count }
 Stands-kept t u k (item.Route r) s =
     let same : map (λ n. (signal_named u n).block) r.signals ≡ map (λ n. (signal_named t n).block) r.signals =
-      map_kept_by (has_signal t) (λ n. (signal_named u n).block) (λ n. (signal_named t n).block) (λ n h. ap (λ x. x.block) (k.signal n h)) r.signals s.known in
+    map_kept_by (has_signal t) (λ n. (signal_named u n).block) (λ n. (signal_named t n).block) (λ n h. ap (λ x. x.block) (k.signal n h)) r.signals s.known in
     record {
       within = s.within;
       known = list_all_kept_by (has_signal t) (has_signal u) k.signals r.signals s.known;

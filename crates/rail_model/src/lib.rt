@@ -29,3 +29,6 @@ pub use name::{BadName, NAME_BYTES, Name};
 pub use path::{Hop, Path};
 pub use stair::{Stair, Use};
 pub use tables::Tables;
+
+#[cfg(test)]
+mod tests;

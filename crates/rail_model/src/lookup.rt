@@ -16,10 +16,7 @@ impl Tables {
         ensures number { IfSome result (λ i. i ≡ lookup.block_number self.now name.now) }
         ensures in_range { IfSome result (λ i. i < length self.now.blocks) }
     {
-        match place_of(self.blocks.slice(), name) {
-            Ok(number) => Some(number),
-            Err(_) => None,
-        }
+        place_of(self.blocks.slice(), name).ok()
     }
 
     /// The block of a name, if there is one.

@@ -25,11 +25,7 @@ impl Tables {
 
     /// Puts an item into the tables, or says which rule refuses it. The tables stay as they were where a
     /// rule refuses the item or memory runs out.
-    pub fn put(
-        &mut self,
-        alloc: Global,
-        item: Item,
-    ) -> Result<Result<(), Rule>, OutOfMemory>
+    pub fn put(&mut self, alloc: Global, item: Item) -> Result<Result<(), Rule>, OutOfMemory>
         requires sound { puts.IsSound self.old }
         ensures refused { IfOk result (λ answer. IfErr answer (λ rule. puts.rule_of_put self.old item ≡ Some rule)) }
         ensures accepted { IfOk result (λ answer. OnOk answer (puts.rule_of_put self.old item ≡ None)) }

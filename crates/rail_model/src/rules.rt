@@ -7,9 +7,7 @@ ghost use Rattle.rail_model.specs.Puts as puts;
 
 use crate::range::is_within;
 use crate::search::{Named, find};
-use crate::{
-    BLOCKS, Item, Name, OutOfMemory, ROUTES, RUNS, Rule, SECTIONS, SIGNALS, Tables,
-};
+use crate::{BLOCKS, Item, Name, OutOfMemory, ROUTES, RUNS, Rule, SECTIONS, SIGNALS, Tables};
 use std::alloc::Global;
 use std::collections::BTreeSet;
 
@@ -105,11 +103,7 @@ fn repeats_block(tables: &Tables, alloc: Global, item: &Item) -> Result<bool, Ou
 }
 
 // The blocks behind signals, in the signals' order.
-fn blocks_behind(
-    tables: &Tables,
-    alloc: Global,
-    signals: &[Name],
-) -> Result<Vec<Name>, OutOfMemory>
+fn blocks_behind(tables: &Tables, alloc: Global, signals: &[Name]) -> Result<Vec<Name>, OutOfMemory>
     requires sound { puts.IsSound tables.now }
     requires known { IsTrue (list_all (puts.has_signal tables.now) signals.now) }
     ensures { IfOk result (λ blocks. blocks.items ≡ map (λ n. (signal_named tables.now n).block) signals.now) }

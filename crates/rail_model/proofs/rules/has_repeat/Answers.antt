@@ -1,4 +1,4 @@
-use Rattle.std.proofs.Common.{◌≡◌, true, false, sym, ◌∙◌, rules, arith}
+use Rattle.std.proofs.Common.{sym, ◌∙◌}
 use Rattle.std.proofs.lemmas.Bool.{not-true, not-false, or_from}
 use Rattle.rail_model.proofs.Repeats.{has_repeat_more, has_repeat_found, seen_more}
 use Rattle.rail_model.proofs.rules.has_repeat.Goals as goal
@@ -16,6 +16,6 @@ loop-name-preserved c =
     let i = c.loop-name.name-index in
     record {
       no_repeat = has_repeat_more names i name c.loop-name-test.true c.name-item.is
-        ∙ or_from _ _ c.loop-name.invariant.no_repeat (sym (c.loop-name.invariant.seen name) ∙ not-true _ (sym c.in_ok-insert.ensures.added ∙ c.if-not-branch.false));
+          ∙ or_from _ _ c.loop-name.invariant.no_repeat (sym (c.loop-name.invariant.seen name) ∙ not-true _ (sym c.in_ok-insert.ensures.added ∙ c.if-not-branch.false));
       seen = λ q. seen_more names i name c.loop-name-test.true c.name-item.is q _ _ (c.loop-name.invariant.seen q) (c.in_ok-insert.ensures.updates.0 q);
     }

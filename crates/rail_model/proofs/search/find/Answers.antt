@@ -1,4 +1,4 @@
-use Rattle.std.proofs.Common.{length, sym, arith}
+use Rattle.std.proofs.Common.{sym, arith}
 use Rattle.std.proofs.lemmas.List.{get_or_past}
 use Rattle.rail_model.proofs.Places.{number_of-missing}
 use Rattle.rail_model.proofs.search.find.Goals as goal

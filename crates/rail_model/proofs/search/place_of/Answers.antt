@@ -11,7 +11,7 @@ returns g c =
     let label = g.T.Named.label in
     let n = c.args.name.now in
     let found = searched label c.args.items.now n c.binary_search_by.result c.requires c.binary_search_by.ensures.bound
-      (c.binary_search_by.ensures.position (λ x. slice_cmp nat_cmp (label x) n) (always_returns_same _ _ _ (λ a r q k. search rules))) in
+    (c.binary_search_by.ensures.position (λ x. slice_cmp nat_cmp (label x) n) (always_returns_same _ _ _ (λ a r q k. search rules))) in
     record {
       there = found.there;
       number = found.number;
