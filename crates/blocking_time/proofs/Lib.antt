@@ -4,5 +4,4 @@ pub mod Stops
 pub mod Clearing
 pub mod Bounds
 pub mod Uses
-pub mod Names
 pub mod Sound

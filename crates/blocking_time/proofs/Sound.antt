@@ -1,5 +1,5 @@
 -- The path of a sound table's run fits.
-use Rattle.std.proofs.Common.{◌≡◌, ◌≢◌, ℕ, zero, suc, ◌+◌, ◌-◌, ◌<◌, ◌≤◌, min, Bool, true, false, not, ◌&&◌, ◌||◌, eqb, ltb, leb, List, [], ◌∷◌, ◌++◌, map, length, take, get_or, All, AllPairs, refl, ap, sym, subst, ◌∙◌, arith}
+use Rattle.std.proofs.Common.{◌≡◌, ◌≢◌, ℕ, zero, suc, ◌+◌, ◌-◌, ◌<◌, ◌≤◌, min, Bool, true, false, cond, not, ◌&&◌, ◌||◌, eqb, ltb, leb, List, [], ◌∷◌, ◌++◌, map, length, take, get_or, All, AllPairs, refl, ap, sym, subst, ◌∙◌, arith}
 use Rattle.std.specs.List.{zip, list_all, list_any, position_or_len}
 use Rattle.std.specs.Str.{bytes_eq}
 use Rattle.std.specs.Cmp.Lexicographic.{nat_list_eq_equiv}
@@ -10,6 +10,7 @@ use Rattle.std.proofs.lemmas.List.Folds.{list_any_at}
 use Rattle.std.proofs.lemmas.Slice.Zip.{length-zip, get_or-zip}
 use Rattle.rail_model.specs.declared.items.Block.{Block}
 use Rattle.rail_model.specs.declared.items.Signal.{Signal}
+use Rattle.rail_model.specs.declared.items.Route.{Route}
 use Rattle.rail_model.specs.declared.items.Leg.{Leg}
 use Rattle.rail_model.specs.declared.items.Run.{Run}
 use Rattle.rail_model.specs.declared.items.Item.TheVariants as item
@@ -17,12 +18,33 @@ use Rattle.rail_model.specs.declared.tables.Tables.{Tables}
 use Rattle.rail_model.specs.declared.path.Hop.{Hop}
 use Rattle.rail_model.specs.Path.{no_hop, Fits, IsHopWithin}
 use Rattle.rail_model.specs.Name.{has_repeat}
-use Rattle.rail_model.specs.Tables.{block_number, block_named, signal_named, route_named, no_block, no_signal, hop_behind, path_in}
-use Rattle.rail_model.specs.Puts.{is_leg_within, is_signal_within, is_run_within, last_dwell, no_leg, has_block, has_signal, Stands, IsSound}
-use Rattle.blocking_time.specs.Lookup.{hops_in}
-use Rattle.blocking_time.proofs.Names.{place_within}
+use Rattle.rail_model.specs.Tables.{block_number, block_named, signal_named, route_named, no_block, no_signal, no_route, hop_behind, path_in}
+use Rattle.rail_model.specs.Puts.{is_leg_within, is_signal_within, is_run_within, last_dwell, no_leg, has_block, has_signal, has_route, Stands, IsSound}
+use Rattle.blocking_time.specs.Lookup.{untimed_hop, with_leg, with_legs}
 
 -- ---- the hops of a run
+
+-- the legs behind the signals of these names, one for each signal
+abbrev pub hops_in : Tables → List (List ℕ) → List Leg → List Hop
+hops_in tables names legs = map (λ p. hop_behind tables (signal_named tables p.0) p.1) (zip names legs)
+
+-- hops that are looked up first and timed then
+pub looked_up_first : (tables : Tables) (names : List (List ℕ)) (legs : List Leg) → with_legs (map (untimed_hop tables) names) legs ≡ hops_in tables names legs
+looked_up_first tables [] legs = refl
+looked_up_first tables (n ∷ names) [] = refl
+looked_up_first tables (n ∷ names) (leg ∷ legs) = ap (λ hops. hop_behind tables (signal_named tables n) leg ∷ hops) (looked_up_first tables names legs)
+
+-- one hop more that is timed
+pub with_legs_more : (hops : List Hop) (legs : List Leg) (k : ℕ) → k < length hops → k < length legs → take (k + 1) (with_legs hops legs) ≡ take k (with_legs hops legs) ++ with_leg (get_or hops k no_hop) (get_or legs k no_leg) ∷ []
+with_legs_more hops legs k here timed =
+    let within : k < length (zip hops legs) = omega (arith, length-zip hops legs) in
+    let f : Hop × Leg → Hop = λ p. with_leg p.0 p.1 in
+    take_more (with_legs hops legs) k no_hop (omega (arith, length-map (zip hops legs) f))
+    ∙ ap (λ h. take k (with_legs hops legs) ++ h ∷ [])
+    (get_or-map f (zip hops legs) k (no_hop, no_leg) no_hop within ∙ ap f (get_or-zip hops legs k (no_hop, no_leg) here timed))
+
+pub length-with_legs : (hops : List Hop) (legs : List Leg) → length (with_legs hops legs) ≡ min (length hops) (length legs)
+length-with_legs hops legs = length-map (zip hops legs) (λ (p : Hop × Leg). with_leg p.0 p.1) ∙ length-zip hops legs
 
 -- the k-th hop, from 0
 pub hop_in_at : (tables : Tables) (names : List (List ℕ)) (legs : List Leg) (k : ℕ) (d : Hop) → k < length names → k < length legs → get_or (hops_in tables names legs) k d ≡ hop_behind tables (signal_named tables (get_or names k [])) (get_or legs k no_leg)
@@ -33,12 +55,6 @@ hop_in_at tables names legs k d named timed =
 
 pub length-hops_in : (tables : Tables) (names : List (List ℕ)) (legs : List Leg) → length (hops_in tables names legs) ≡ min (length names) (length legs)
 length-hops_in tables names legs = length-map (zip names legs) (λ (p : List ℕ × Leg). hop_behind tables (signal_named tables p.0) p.1) ∙ length-zip names legs
-
--- one hop more
-pub hops_more : (tables : Tables) (names : List (List ℕ)) (legs : List Leg) (k : ℕ) → k < length names → k < length legs → take (k + 1) (hops_in tables names legs) ≡ take k (hops_in tables names legs) ++ hop_behind tables (signal_named tables (get_or names k [])) (get_or legs k no_leg) ∷ []
-hops_more tables names legs k named timed =
-    let within : k < length (hops_in tables names legs) = omega (arith, length-hops_in tables names legs) in
-    take_more (hops_in tables names legs) k no_hop within ∙ ap (λ h. take k (hops_in tables names legs) ++ h ∷ []) (hop_in_at tables names legs k no_hop named timed)
 
 -- ---- the rules of puts, as facts
 
@@ -125,6 +141,15 @@ leg_facts leg h =
 
 -- ---- names that differ have different numbers
 
+one_less : (b rest : Bool) (at n : ℕ) → (b || rest) ≡ true → (rest ≡ true → at < n) → cond (not b) (1 + at) 0 < suc n
+one_less true rest at n there more = omega arith
+one_less false rest at n there more = omega (arith, more there)
+
+-- the place of an item that passes, if one does
+place_within : {X : Type 0} (p : X → Bool) (xs : List X) → list_any p xs ≡ true → position_or_len p xs < length xs
+place_within p [] there = absurd (false≢true there)
+place_within p (x ∷ xs) there = one_less (p x) (list_any p xs) (position_or_len p xs) (length xs) there (place_within p xs)
+
 fails : (b whole : Bool) → (b ≡ true → whole ≡ true) → whole ≡ false → b ≡ false
 fails true whole h none = absurd (false≢true (sym none ∙ h refl))
 fails false whole h none = refl
@@ -156,10 +181,16 @@ numbers_differ tables a b at_a at_b differ same =
 -- ---- the path
 
 -- a signal that is there stands
-signal_stands : (tables : Tables) → IsSound tables → (n : List ℕ) → has_signal tables n ≡ true → Stands tables (item.Signal (signal_named tables n))
+pub signal_stands : (tables : Tables) → IsSound tables → (n : List ℕ) → has_signal tables n ≡ true → Stands tables (item.Signal (signal_named tables n))
 signal_stands tables sound n there =
     let p : Signal → Bool = λ x. bytes_eq x.name n in
     sound.each_signal (position_or_len p tables.signals) no_signal (place_within p tables.signals there)
+
+-- so does a route
+pub route_stands : (tables : Tables) → IsSound tables → (n : List ℕ) → has_route tables n ≡ true → Stands tables (item.Route (route_named tables n))
+route_stands tables sound n there =
+    let p : Route → Bool = λ x. bytes_eq x.name n in
+    sound.each_route (position_or_len p tables.routes) no_route (place_within p tables.routes there)
 
 -- the numbers of a hop behind a signal that is there are within the limits
 hop_fits : (tables : Tables) → IsSound tables → (n : List ℕ) (leg : Leg) → has_signal tables n ≡ true → is_leg_within leg ≡ true → IsHopWithin (hop_behind tables (signal_named tables n) leg)
@@ -209,8 +240,9 @@ hops_differ tables sound names legs there none i j d before below =
     λ same. numbers_differ tables (f (get_or names i [])) (f (get_or names j [])) (at i (omega arith)) (at j (omega arith)) differ (sym (number i (omega arith)) ∙ same ∙ number j (omega arith))
 
 -- the path of a run that stands fits
-pub path_fits : (tables : Tables) → IsSound tables → (r : Run) → Stands tables (item.Run r) → Stands tables (item.Route (route_named tables r.route)) → Fits (path_in tables r)
-path_fits tables sound r run route =
+pub path_fits : (tables : Tables) → IsSound tables → (r : Run) → Stands tables (item.Run r) → Fits (path_in tables r)
+path_fits tables sound r run =
+    let route = route_stands tables sound r.route run.known in
     let names = (route_named tables r.route).signals in
     let hops = hops_in tables names r.legs in
     let facts = run_facts r run.within in

@@ -13,7 +13,7 @@ mod motion;
 mod walk;
 
 pub use approach::approach_moment;
-pub use lookup::path_of;
+pub use lookup::{path_of, route_hops, run_path};
 pub use moments::parts;
 pub use motion::{constant_speed_law, reach, reach_down};
 pub use walk::{Blocking, blockings, stairs};

@@ -1,8 +1,7 @@
 // The text of `stairs`.
-ghost use Rattle.std.specs.Prelude.{◌≡◌, ◌<◌, ◌++◌, [], length, map, All, OnOk, IfOk, Some, slice_get};
-ghost use Rattle.rail_model.specs.declared.items.Run.{Run};
+ghost use Rattle.std.specs.Prelude.{◌≡◌, ◌<◌, ◌++◌, [], length, map, All, OnOk, IfOk};
 ghost use Rattle.rail_model.specs.Puts.{IsSound};
-ghost use Rattle.rail_model.specs.Tables.{path_in};
+ghost use Rattle.rail_model.specs.Path.{Fits};
 ghost use Rattle.std.specs.Fmt.{signed_decimal};
 ghost use Rattle.csv.specs.Records.{fields_of, partial_of};
 ghost use Rattle.capacity_cmd.specs.Text.{text_of_row, text_of_rows, run_rows, stairs_text};
@@ -10,9 +9,9 @@ ghost use Rattle.capacity_cmd.specs.Sheet.{Adds};
 ghost use Rattle.capacity_cmd.specs.StairsRows.{blocking_row, named_row};
 
 use crate::sheet::{Sheet, push_number};
-use blocking_time::{Blocking, blockings, path_of};
+use blocking_time::{Blocking, blockings, route_hops, run_path};
 use csv::ByteRecord;
-use rail_model::{Name, OutOfMemory, Tables};
+use rail_model::{Name, OutOfMemory, Path, Tables};
 use std::alloc::Global;
 
 // The text of `stairs`: for each run, in the order of their names, a row for each block of its path.
@@ -29,27 +28,28 @@ fn write_runs(sheet: &mut Sheet, alloc: Global, tables: &Tables) -> Result<(), O
     requires { IsSound tables.now }
     ensures { OnOk result (Adds sheet.old sheet.new (stairs_text tables.now)) }
 {
+    let routes = route_hops(alloc, tables)?;
     let mut row = ByteRecord::new(alloc);
     for number in 0..tables.runs.len() {
-        write_run(sheet, &mut row, alloc, tables, number as u32)?;
+        let path = run_path(alloc, tables, routes.slice(), number as u32)?;
+        write_run(sheet, &mut row, alloc, tables, &path)?;
     }
     Ok(())
 }
 
-// Writes the rows of the run of a number.
+// Writes the rows of the run of a path.
 fn write_run(
     sheet: &mut Sheet,
     row: &mut ByteRecord,
     alloc: Global,
     tables: &Tables,
-    number: u32,
+    path: &Path,
 ) -> Result<(), OutOfMemory>
-    requires sound { IsSound tables.now }
-    requires there { number < length tables.now.runs }
-    ensures { OnOk result ((run : Run) → slice_get tables.now.runs number ≡ Some run → Adds sheet.old sheet.new (text_of_rows (run_rows tables.now (path_in tables.now run)))) }
+    requires fits { Fits path.now }
+    requires there { All (λ h. h.block < length tables.now.blocks) path.now.hops }
+    ensures { OnOk result (Adds sheet.old sheet.new (text_of_rows (run_rows tables.now path.now))) }
 {
-    let path = path_of(alloc, tables, number)?;
-    let all = blockings(alloc, &path)?;
+    let all = blockings(alloc, path)?;
     write_blockings(sheet, row, tables, &path.run, all.slice())
 }
 

@@ -25,9 +25,12 @@ no_signal = record { name = []; block = []; approach_m = 0; watch_s = 0; form_s 
 abbrev pub no_route : Route
 no_route = record { name = []; signals = [] }
 
--- a block's number
+-- the number of a block, and of a route
 abbrev pub block_number : Tables → List ℕ → ℕ
 block_number tables name = number_of (λ b. b.name) tables.blocks name
+
+abbrev pub route_number : Tables → List ℕ → ℕ
+route_number tables name = number_of (λ r. r.name) tables.routes name
 
 -- the items of these names
 abbrev pub block_named : Tables → List ℕ → Block
@@ -37,7 +40,7 @@ abbrev pub signal_named : Tables → List ℕ → Signal
 signal_named tables name = slice_index_or tables.signals (number_of (λ s. s.name) tables.signals name) no_signal
 
 abbrev pub route_named : Tables → List ℕ → Route
-route_named tables name = slice_index_or tables.routes (number_of (λ r. r.name) tables.routes name) no_route
+route_named tables name = slice_index_or tables.routes (route_number tables name) no_route
 
 -- a leg behind a signal as a hop
 abbrev pub hop_behind : Tables → Signal → Leg → Hop

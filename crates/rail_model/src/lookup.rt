@@ -37,6 +37,16 @@ impl Tables {
         find(self.signals.slice(), name)
     }
 
+    /// The number of the route of a name, if there is one.
+    pub fn route_number(&self, name: &Name) -> Option<usize>
+        requires { NamesRise (λ r. r.name) self.now.routes }
+        ensures there { is_some result ≡ has_route self.now name.now }
+        ensures number { IfSome result (λ i. i ≡ lookup.route_number self.now name.now) }
+        ensures in_range { IfSome result (λ i. i < length self.now.routes) }
+    {
+        place_of(self.routes.slice(), name).ok()
+    }
+
     /// The route of a name, if there is one.
     pub fn route_named(&self, name: &Name) -> Option<&Route>
         requires { NamesRise (λ r. r.name) self.now.routes }
