@@ -6,7 +6,8 @@ ghost use Rattle.rail_model.specs.Motion.{place};
 ghost use Rattle.rail_model.specs.Puts.{IsSound};
 
 use crate::{
-    approach_moment, blockings, constant_speed_law, parts, path_of, reach, reach_down, stairs,
+    approach_moment, blockings, constant_speed_law, parts, path_of, reach, reach_down, route_hops,
+    run_path, stairs,
 };
 use rail_model::{Block, Hop, Leg, List, Name, Path, Route, Run, Signal, Tables};
 use std::alloc::Global;
@@ -208,5 +209,17 @@ fn path_of_a_run(rt: HostRuntime) -> Result<(), Fail> {
     );
     assert_eq!(rt; (hop.approach_m, hop.watch_s, hop.form_s), (400, 10, 5));
     assert_eq!(rt; (hop.overlap_m, hop.release_s), (50, 6));
+    Ok(())
+}
+
+#[test]
+fn path_by_the_hops_of_routes(rt: HostRuntime) -> Result<(), Fail> {
+    let alloc = rt.alloc();
+    let tables = one_run(alloc)?;
+    let routes = route_hops(alloc, &tables)?;
+    let path = run_path(alloc, &tables, routes.slice(), 0)?;
+    assert_eq!(rt; (path.length_m, path.hops.len()), (100, 1));
+    let hop = path.hops.slice()[0];
+    assert_eq!(rt; (hop.block_m, hop.running_s, hop.dwell_s), (1_000, 60, 0));
     Ok(())
 }
