@@ -179,6 +179,7 @@ fn find_signal_and_route(rt: &impl Abort, line: &Tables) -> Result<(), Fail>
         Some(10)
     );
     let name = Name::read(b"west")?;
+    assert_eq!(rt; line.route_number(&name), Some(0));
     assert_eq!(rt;
         line.route_named(&name).map(|route| route.signals.len()),
         Some(2)

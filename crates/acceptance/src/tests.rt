@@ -1,0 +1,123 @@
+// What the tests share: the rows of a small line, and a call of the program over bytes in memory.
+mod faults;
+mod refusals;
+mod statuses;
+mod texts;
+
+use capacity_cmd::{Status, run};
+use rail_model::{List, OutOfMemory};
+use rail_outside::{MemorySink, MemorySource, OpenGate};
+use std::alloc::Global;
+use std::process::Abort;
+use std::sync::Wait;
+use std::test::Fail;
+use std::thread::Threads;
+
+// Two blocks with their signals, and a route over both.
+const LINE: &str = "block,A,1000\n\
+    block,B,1000\n\
+    signal,SA,A,1000,10,5,0,5\n\
+    signal,SB,B,1000,10,5,0,5\n\
+    route,R,SA,SB\n";
+
+// The line's first run, then its second and a section.
+const FIRST_RUN: &str = "run,T1,R,100,10,100,60,0,60\n";
+
+const REST: &str = "run,T2,R,100,10,400,60,0,60\n\
+    section,S,0,3600,33,A,B\n";
+
+// The blocking times of the runs.
+const FIRST_USES: &str = "use,T1,A,85,171,5,10,0,60,6,5\n\
+    use,T1,B,85,235,5,10,60,60,10,5\n";
+
+const REST_USES: &str = "use,T2,A,385,471,5,10,0,60,6,5\n\
+    use,T2,B,385,535,5,10,60,60,10,5\n";
+
+// How the outside of a call behaves.
+#[derive(Clone, Copy)]
+struct Outside {
+    // The most bytes of one read and of one write.
+    source_piece: usize,
+    sink_piece: usize,
+    // The bytes that the sink has room for.
+    room: usize,
+    // The number of the read that fails, and of the write or flush, from 1. 0 for none.
+    failing_read: u64,
+    failing_write: u64,
+}
+
+// An outside that works.
+const WORKING: Outside = Outside {
+    source_piece: 16,
+    sink_piece: 10,
+    room: 4_096,
+    failing_read: 0,
+    failing_write: 0,
+};
+
+// Calls the program with the word `stairs`, and compares its status and the bytes that it wrote.
+fn assert_ends<R: Abort + AllocGlobal + Threads + Wait>(
+    rt: &R,
+    input: &str,
+    outside: Outside,
+    status: Status,
+    text: &[u8],
+) -> Result<(), Fail> {
+    let (ended, sink) = stairs(rt, input.as_bytes(), outside)?;
+    assert_eq!(rt; ended, status, "{input}");
+    assert_eq!(rt; sink.bytes(), text, "{input}");
+    Ok(())
+}
+
+// Calls the program with the word `stairs`. Gives its status, and the sink with the bytes written.
+fn stairs<R: AllocGlobal + Threads + Wait>(
+    rt: &R,
+    input: &[u8],
+    outside: Outside,
+) -> Result<(Status, MemorySink), Fail> {
+    let alloc = rt.alloc();
+    let words = words_of(alloc, &["stairs"])?;
+    let mut source = source_of(alloc, input, outside.source_piece, outside.failing_read)?;
+    let mut sink = MemorySink::new(
+        alloc,
+        outside.sink_piece.max(1),
+        only(alloc, outside.failing_write)?,
+    );
+    sink.reserve(outside.room)?;
+    let status = run(rt, &words, &mut source, &mut sink, &OpenGate);
+    Ok((status, sink))
+}
+
+fn source_of(
+    alloc: Global,
+    bytes: &[u8],
+    piece: usize,
+    failing_read: u64,
+) -> Result<MemorySource, Fail> {
+    let bytes = List::from_vec(Vec::from_slice(alloc, bytes)?);
+    Ok(MemorySource::new(bytes, piece.max(1), only(alloc, failing_read)?))
+}
+
+// The list of one call's number.
+fn only(alloc: Global, call: u64) -> Result<List<u64>, OutOfMemory> {
+    let mut calls = List::new(alloc);
+    calls.push(call)?;
+    Ok(calls)
+}
+
+fn words_of(alloc: Global, words: &[&str]) -> Result<Vec<String>, Fail> {
+    let mut owned = Vec::new(alloc);
+    for word in words {
+        owned.push(String::from_str(alloc, word)?)?;
+    }
+    Ok(owned)
+}
+
+// The texts, one after the other.
+fn joined(alloc: Global, texts: &[&str]) -> Result<String, Fail> {
+    let mut joined = String::new(alloc);
+    for text in texts {
+        joined.push_str(text)?;
+    }
+    Ok(joined)
+}

@@ -1,0 +1,88 @@
+// Words that are no form, and what is said of statuses.
+use super::{FIRST_RUN, FIRST_USES, LINE, REST, REST_USES, joined, only, source_of, words_of};
+use capacity_cmd::{Cause, Status, alone, run, run_alone};
+use rail_model::{Form, List, Rule};
+use rail_outside::{Failed, MemorySink, OpenGate, Source};
+use std::test::Fail;
+
+const NO_FORMS: [&[&str]; 6] = [
+    &[],
+    &["compress"],
+    &["stairs", "x"],
+    &["check"],
+    &["Stairs"],
+    &["--help"],
+];
+
+#[test]
+fn other_words_read_nothing(rt: HostRuntime) -> Result<(), Fail> {
+    for words in NO_FORMS {
+        let words = words_of(rt.alloc(), words)?;
+        // Its first read fails, whoever makes it.
+        let mut source = source_of(rt.alloc(), b"block,A,5\n", 16, 1)?;
+        let mut sink = MemorySink::new(rt.alloc(), 10, List::new(rt.alloc()));
+        let status = run(&rt, &words, &mut source, &mut sink, &OpenGate);
+        assert_eq!(rt; status, Status::BadWords, "{words:?}");
+        assert!(rt; sink.bytes().is_empty(), "{words:?}");
+        let mut piece = [0u8; 16];
+        assert_eq!(rt; source.read(&mut piece), Err(Failed), "{words:?}");
+        assert_eq!(rt; source.read(&mut piece), Ok(10), "{words:?}");
+    }
+    Ok(())
+}
+
+#[test]
+fn stairs_runs_alone(rt: HostRuntime) -> Result<(), Fail> {
+    let words = words_of(rt.alloc(), &["stairs"])?;
+    let input = joined(rt.alloc(), &[LINE, FIRST_RUN, REST])?;
+    let text = joined(rt.alloc(), &[FIRST_USES, REST_USES])?;
+    let mut source = source_of(rt.alloc(), input.as_bytes(), 16, 0)?;
+    let mut sink = MemorySink::new(rt.alloc(), 10, only(rt.alloc(), 0)?);
+    sink.reserve(text.len())?;
+    assert!(rt; alone(&words));
+    assert!(rt; alone(&[]));
+    let status = run_alone(&rt, &words, &mut source, &mut sink);
+    assert_eq!(rt; status, Status::Done);
+    assert_eq!(rt; sink.bytes(), text.as_bytes());
+    Ok(())
+}
+
+#[test]
+fn statuses_have_numbers(rt: HostRuntime) {
+    let refused = Status::Refused {
+        row: 7,
+        cause: Cause::Early,
+    };
+    for (status, number) in [
+        (Status::Done, 0),
+        (refused, 1),
+        (Status::BadWords, 2),
+        (Status::ReadFault, 3),
+        (Status::WriteFault, 4),
+        (Status::OutOfMemory, 5),
+    ] {
+        assert_eq!(rt; status.number(), number, "{status:?}");
+    }
+}
+
+#[test]
+fn causes_have_texts(rt: HostRuntime) -> Result<(), Fail> {
+    for (cause, text) in [
+        (Cause::Form(Form::Number), "the row has a wrong form"),
+        (
+            Cause::Rule(Rule::Twice),
+            "the row breaks a rule of the tables",
+        ),
+        (Cause::TooLong, "the input is longer than 16,777,216 bytes"),
+        (Cause::NoSection, "no section has that name"),
+        (Cause::Script, "the row may not stand there"),
+        (
+            Cause::Early,
+            "the row puts no block, signal, route, run or section that the tables can take",
+        ),
+    ] {
+        let said = format!(in rt.alloc(); "{cause}")?;
+        assert_eq!(rt; said.as_str(), text);
+    }
+    Ok(())
+}
