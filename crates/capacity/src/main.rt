@@ -2,8 +2,14 @@
 //! doesn't end with status 0.
 #![tactic(auto)]
 
+ghost use Rattle.std.specs.Prelude.{◌≡◌, ◌≢◌};
+ghost use Rattle.std.specs.IoError.{error_kind};
+ghost use Rattle.std.specs.declared.io.ErrorKind.TheVariants as kind;
+ghost use Rattle.capacity_cmd.specs.declared.status.Status.TheVariants as status;
+ghost use Rattle.capacity.specs.Call.{IsCall};
+
 use capacity_cmd::{Status, run};
-use rail_outside::{OpenGate, StdSink, StdSource};
+use rail_outside::{OpenGate, Sink, Source, StdSink, StdSource};
 use std::io::ErrorKind;
 use std::process::{Abort, ExitCode};
 use std::rt::Env;
@@ -14,13 +20,24 @@ use std::{env, io};
 fn main(rt: HostRuntime) -> ExitCode {
     let mut source = StdSource::of(rt.stdin());
     let mut sink = StdSink::of(rt.stdout());
-    let status = match words(&rt) {
-        Ok(words) => run(&rt, &words, &mut source, &mut sink, &OpenGate),
-        Err(error) => without_words(&error),
-    };
+    let status = call(&rt, &mut source, &mut sink);
     // What can't be said on standard error is said by the status.
     let _ = explain(&rt, status);
     ExitCode::from(status.number())
+}
+
+// A call with the words of the runtime, of which no contract tells which they are.
+fn call<R: AllocGlobal + Env + Threads + Wait, S: Source, K: Sink>(
+    rt: &R,
+    source: &mut S,
+    sink: &mut K,
+) -> Status
+    ensures { IsCall S.left S.faults K.written K.flushed K.faults result source.old source.new sink.old sink.new }
+{
+    match words(rt) {
+        Ok(words) => run(rt, &words, source, sink, &OpenGate),
+        Err(error) => without_words(&error),
+    }
 }
 
 // The words after the program's name.
@@ -33,7 +50,10 @@ fn words(rt: &(impl Env + AllocGlobal)) -> io::Result<Vec<String>> {
 }
 
 // A word that isn't UTF-8 is no word of a form.
-fn without_words(error: &io::Error) -> Status {
+fn without_words(error: &io::Error) -> Status
+    ensures no_memory { error_kind error.now ≡ kind.OutOfMemory → result ≡ status.OutOfMemory }
+    ensures no_word { error_kind error.now ≢ kind.OutOfMemory → result ≡ status.BadWords }
+{
     if error.kind() == ErrorKind::OutOfMemory {
         Status::OutOfMemory
     } else {
