@@ -26,7 +26,7 @@ fn main(rt: HostRuntime) -> ExitCode {
     ExitCode::from(status.number())
 }
 
-// A call with the words of the runtime, of which no contract tells which they are.
+// A call with the runtime's words. No contract tells which they are.
 fn call<R: AllocGlobal + Env + Threads + Wait, S: Source, K: Sink>(
     rt: &R,
     source: &mut S,
