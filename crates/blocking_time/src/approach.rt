@@ -55,8 +55,9 @@ pub fn after_stop(reached_s: u64, point_m: u64, stop: Mark) -> u64
     }
 }
 
-/// The approach moment of the k-th block, from 1: when the head comes to the approach point or, later,
-/// leaves the last stop behind it. Seconds from the timetable's origin, rounded down.
+/// The approach moment of the k-th block, from 1, at which Pachl's approach time begins: when the head
+/// comes to the approach point or, later, leaves the last stop behind it. Seconds from the timetable's
+/// origin, rounded down.
 pub fn approach_moment(path: &Path, k: u32) -> i64
     requires fits { Fits path.now }
     requires some { 1 ≤ k }

@@ -1,4 +1,5 @@
-//! The motion of a train's head along its path, and the blocking times of a run.
+//! The motion of a train's head along its path, and the blocking times of a run, after Pachl's theory of
+//! blocking times.
 //!
 //! `lookup` makes a run's path from the tables. `motion` says when the head reaches a place of a path,
 //! `approach` and `moments` say when a block is kept, and `walk` gives the blockings of all hops at once,

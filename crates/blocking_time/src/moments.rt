@@ -110,8 +110,8 @@ pub fn moments_at(path: &Path, k: usize) -> Moments
     }
 }
 
-/// The six parts of the run's blocking of the k-th block, from 1, in seconds: the forming of the route,
-/// the driver's watching, the approach, the running with its dwell, the clearing and the release.
+/// The six parts of the run's blocking of the k-th block, from 1, in seconds: Pachl's route formation,
+/// signal watching, approach, running (here with the dwell), clearing and release.
 pub fn parts(path: &Path, k: u32) -> [i64; 6]
     requires fits { Fits path.now }
     requires some { 1 ≤ k }

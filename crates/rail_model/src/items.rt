@@ -26,10 +26,11 @@ pub struct Signal {
     pub release_s: u32,
 }
 
-/// The signals that a run passes, in order.
+/// The signals that a run passes.
 #[derive(Drop)]
 pub struct Route {
     pub name: Name,
+    /// In the order in which they are passed: 1 to 256, each of another block.
     pub signals: List<Name>,
 }
 
@@ -53,6 +54,7 @@ pub struct Run {
     pub tail_s: u32,
     /// When the head passes the first signal: seconds from the timetable's origin.
     pub start_s: u32,
+    /// In the route's order: one for each of its signals, the last without a dwell.
     pub legs: List<Leg>,
 }
 
@@ -64,8 +66,9 @@ pub struct Section {
     pub from_s: u32,
     /// The window's end: seconds from the timetable's origin.
     pub to_s: u32,
-    /// The additional time rate: per cent of the occupancy time.
+    /// The additional time rate of UIC Code 406: per cent of the occupancy time.
     pub add_percent: u32,
+    /// In the planner's order: 1 to 256, each once.
     pub blocks: List<Name>,
 }
 

@@ -7,11 +7,13 @@ pub struct Hop {
     pub block: u32,
     /// The block's length: metres.
     pub block_m: u32,
+    /// Of the signal: metres for the approach and the overlap, seconds for the others.
     pub approach_m: u32,
     pub watch_s: u32,
     pub form_s: u32,
     pub overlap_m: u32,
     pub release_s: u32,
+    /// Of the run's leg: seconds.
     pub running_s: u32,
     pub dwell_s: u32,
 }
@@ -26,5 +28,6 @@ pub struct Path {
     pub tail_s: u32,
     /// When the head passes the first signal: seconds from the timetable's origin.
     pub start_s: u32,
+    /// 1 to 256 where the path fits, each over another block.
     pub hops: List<Hop>,
 }

@@ -1,7 +1,7 @@
 use crate::{List, Name};
 
-/// A run's blocking of one block: the half-open interval from `start` to `end`, in seconds from the
-/// timetable's origin.
+/// A run's blocking of one block, which is Pachl's blocking time: the half-open interval from `start` to
+/// `end`, in seconds from the timetable's origin.
 #[derive(Clone, Copy)]
 pub struct Use {
     /// In a stairway the block's number; in a cut its place in the section's list of blocks.
@@ -10,9 +10,10 @@ pub struct Use {
     pub end: i64,
 }
 
-/// A run's stairway: its uses of blocks, in the order of its path.
+/// A run's stairway, which is Pachl's blocking time stairway.
 #[derive(Drop)]
 pub struct Stair {
     pub run: Name,
+    /// In the order of the run's path: one for each hop.
     pub uses: List<Use>,
 }
