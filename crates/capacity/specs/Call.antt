@@ -1,4 +1,4 @@
--- A call of the program, whose words come from the runtime.
+-- A call of the program. The runtime tells nothing of its words.
 use Rattle.std.specs.Prelude.{◌≡◌, ◌⊎◌, ℕ, List, Option}
 use Rattle.capacity_cmd.specs.declared.status.Status.{Status}
 use Rattle.capacity_cmd.specs.declared.status.Status.TheVariants.{BadWords, OutOfMemory}
@@ -10,7 +10,7 @@ module _ {S K : Type 0} (left : S → Option (List ℕ)) (read_faults : S → �
     pub why : (status ≡ BadWords) ⊎ (status ≡ OutOfMemory)
     pub untouched : (source' ≡ source) × (sink' ≡ sink)
 
-  -- the program's promise is kept for some words, which are those of the runtime, or there are none
+  -- the program's promise is kept for some words, or there are none
   abbrev pub IsCall : Status → S → S → K → K → Type 0
   IsCall status source source' sink sink' =
       ((words : List (List ℕ)) × Answers left read_faults written flushed write_faults words status source source' sink sink')

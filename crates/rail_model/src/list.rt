@@ -77,7 +77,6 @@ impl<T> List<T> {
         ensures count { result ≡ length self.now }
         ensures most { result < 2 ^ 63 }
     {
-        let _items = &self.items;
         self.items.len()
     }
 

@@ -6,7 +6,7 @@ ghost use Rattle.rail_model.specs.Tables as lookup;
 ghost use Rattle.rail_model.specs.Puts.{has_block, has_signal, has_route};
 
 use crate::search::{find, place_of};
-use crate::{Block, Name, Route, Signal, Tables};
+use crate::{Name, Route, Signal, Tables};
 
 impl Tables {
     /// The number of the block of a name, if there is one.
@@ -17,15 +17,6 @@ impl Tables {
         ensures in_range { IfSome result (λ i. i < length self.now.blocks) }
     {
         place_of(self.blocks.slice(), name).ok()
-    }
-
-    /// The block of a name, if there is one.
-    pub fn block_named(&self, name: &Name) -> Option<&Block>
-        requires { NamesRise (λ b. b.name) self.now.blocks }
-        ensures there { is_some result ≡ has_block self.now name.now }
-        ensures block { unwrap_or (option_copied result) lookup.no_block ≡ lookup.block_named self.now name.now }
-    {
-        find(self.blocks.slice(), name)
     }
 
     /// The signal of a name, if there is one.

@@ -163,10 +163,6 @@ fn find_block(rt: &impl Abort, line: &Tables) -> Result<(), Fail>
 {
     let name = Name::read(b"B")?;
     assert_eq!(rt; line.block_number(&name), Some(1));
-    assert_eq!(rt;
-        line.block_named(&name).map(|block| block.length_m),
-        Some(500)
-    );
     Ok(())
 }
 
