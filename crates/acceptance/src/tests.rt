@@ -1,13 +1,13 @@
 // What the tests share: the rows of a small line, and a call of the program over bytes in memory.
 mod faults;
-mod rail_outside;
+mod outside;
 mod refusals;
 mod statuses;
 mod texts;
 
 use capacity_cmd::{Status, run};
 use rail_model::{List, OutOfMemory};
-use ::rail_outside::{MemorySink, MemorySource, OpenGate};
+use rail_outside::{MemorySink, MemorySource, OpenGate};
 use std::alloc::Global;
 use std::process::Abort;
 use std::sync::Wait;

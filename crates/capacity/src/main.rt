@@ -1,12 +1,12 @@
-//! The program: its words, standard input and standard output, and one line on standard error where it
-//! doesn't end with status 0.
+//! The program: its words, standard input and standard output, and one line on standard error where
+//! it doesn't end with status 0.
 #![tactic(auto)]
 
 ghost use Rattle.std.specs.Prelude.{◌≡◌, ◌≢◌};
 ghost use Rattle.std.specs.IoError.{error_kind};
 ghost use Rattle.std.specs.declared.io.ErrorKind.TheVariants as kind;
 ghost use Rattle.capacity_cmd.specs.declared.status.Status.TheVariants as status;
-ghost use Rattle.capacity.specs.Call.{IsCall};
+ghost use Rattle.capacity.specs.Call.{IsCall, EndsAsCall};
 
 use capacity_cmd::{Status, run};
 use rail_outside::{OpenGate, Sink, Source, StdSink, StdSource};
@@ -20,9 +20,29 @@ use std::{env, io};
 fn main(rt: HostRuntime) -> ExitCode {
     let mut source = StdSource::of(rt.stdin());
     let mut sink = StdSink::of(rt.stdout());
-    let status = call(&rt, &mut source, &mut sink);
-    // What can't be said on standard error is said by the status.
-    let _ = explain(&rt, status);
+    exit_code(&rt, &mut source, &mut sink)
+}
+
+// Makes a call, says on standard error why it isn't done, and gives the number of its status.
+fn exit_code<R: AllocGlobal + Env + Eprint + Threads + Wait, S: Source, K: Sink>(
+    rt: &R,
+    source: &mut S,
+    sink: &mut K,
+) -> ExitCode
+    ensures { EndsAsCall
+        result
+        (record { left = S.left; faults = S.faults; before = source.old; after = source.new })
+        (record {
+          written = K.written;
+          flushed = K.flushed;
+          faults = K.faults;
+          before = sink.old;
+          after = sink.new;
+        }) }
+{
+    let status = call(rt, source, sink);
+    // What can't be said on standard error is said by the exit code.
+    let _ = explain(rt, status);
     ExitCode::from(status.number())
 }
 
@@ -32,7 +52,16 @@ fn call<R: AllocGlobal + Env + Threads + Wait, S: Source, K: Sink>(
     source: &mut S,
     sink: &mut K,
 ) -> Status
-    ensures { IsCall S.left S.faults K.written K.flushed K.faults result source.old source.new sink.old sink.new }
+    ensures { IsCall
+        result
+        (record { left = S.left; faults = S.faults; before = source.old; after = source.new })
+        (record {
+          written = K.written;
+          flushed = K.flushed;
+          faults = K.faults;
+          before = sink.old;
+          after = sink.new;
+        }) }
 {
     match words(rt) {
         Ok(words) => run(rt, &words, source, sink, &OpenGate),

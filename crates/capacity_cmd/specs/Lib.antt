@@ -4,5 +4,6 @@ pub mod Putting
 pub mod Text
 pub mod Sheet
 pub mod StairsRows
+pub mod Command
 pub mod Outcome
 pub mod Promise
