@@ -11,16 +11,18 @@ ghost use Rattle.capacity.specs.Call.{IsCall, EndsAsCall};
 use capacity_cmd::{Status, run};
 use rail_outside::{OpenGate, Sink, Source, StdSink, StdSource};
 use std::io::ErrorKind;
-use std::process::{Abort, ExitCode};
+use std::process::ExitCode;
 use std::rt::Env;
 use std::sync::Wait;
 use std::thread::Threads;
 use std::{env, io};
 
 fn main(rt: HostRuntime) -> ExitCode {
-    let mut source = StdSource::of(rt.stdin());
-    let mut sink = StdSink::of(rt.stdout());
-    exit_code(&rt, &mut source, &mut sink)
+    exit_code(
+        &rt,
+        &mut StdSource::of(rt.stdin()),
+        &mut StdSink::of(rt.stdout()),
+    )
 }
 
 // Makes a call, says on standard error why it isn't done, and gives the number of its status.
