@@ -1,8 +1,8 @@
-// What the tests share: the rows of a small line, and a call of the program over bytes in memory.
+//! What the tests share: the rows of a small line, and a call of the program over bytes in memory.
 mod faults;
-mod outside;
 mod refusals;
 mod statuses;
+mod streams;
 mod texts;
 
 use capacity_cmd::{Status, run};

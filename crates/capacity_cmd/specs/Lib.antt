@@ -1,4 +1,5 @@
 pub mod Rows
+pub mod Fields
 pub mod Input
 pub mod Putting
 pub mod Text

@@ -1,5 +1,5 @@
 //! A call of the program: its words, its source and its sink.
-ghost use Rattle.std.specs.Prelude.{◌≡◌, ◌≢◌, ◌⊎◌, ◌↔◌, map, IsTrue, IfOk, IfErr, OnOk};
+ghost use Rattle.std.specs.Prelude.{◌≡◌, ◌≢◌, ◌⊎◌, ◌↔◌, map, IsTrue, IfOk, IfErr};
 ghost use Rattle.std.specs.String.{string_bytes};
 ghost use Rattle.std.specs.Io.KnownBytes.{IsAtEnd};
 ghost use Rattle.rail_outside.specs.Faults.{Rose};
@@ -12,7 +12,6 @@ use crate::command::command_of;
 use crate::reply::{Reply, refusal, reply_to};
 use crate::send::send;
 use crate::{Cause, Command, Status};
-use rail_model::OutOfMemory;
 use rail_outside::{Gate, Sink, Source, Taken, take_all};
 use std::alloc::Global;
 use std::sync::Wait;
@@ -91,12 +90,9 @@ fn reply_from<S: Source>(alloc: Global, command: Command, source: &mut S) -> Res
     ensures fault { result ≡ Err status.ReadFault → Rose (S.faults source.old) (S.faults source.new) }
     ensures no_fault { result ≢ Err status.ReadFault → S.faults source.new ≡ S.faults source.old }
 {
-    match take_all(alloc, source, INPUT_BYTES) {
-        Ok(Ok(input)) => reply_to(alloc, command, input.slice()).map_err(|_| Status::OutOfMemory),
-        Ok(Err(Taken::TooLong)) => {
-            refusal(alloc, 0, Cause::TooLong).map_err(|_| Status::OutOfMemory)
-        }
-        Ok(Err(Taken::Failed)) => Err(Status::ReadFault),
-        Err(OutOfMemory) => Err(Status::OutOfMemory),
+    match take_all(alloc, source, INPUT_BYTES)? {
+        Ok(input) => Ok(reply_to(alloc, command, input.slice())?),
+        Err(Taken::TooLong) => Ok(refusal(alloc, 0, Cause::TooLong)?),
+        Err(Taken::Failed) => Err(Status::ReadFault),
     }
 }
