@@ -7,4 +7,5 @@ pub mod Sheet
 pub mod StairsRows
 pub mod Command
 pub mod Outcome
+pub mod Reply
 pub mod Promise

@@ -1,6 +1,5 @@
 -- What a command ends with, by its input.
-use Rattle.std.specs.Prelude.{◌≡◌, ◌⊎◌, ℕ, nat_lt, if◌then◌else◌, List, [], ◌∷◌, length, codes, decimal, Option, Result, Ok, Err, IfSome}
-use Rattle.rail_outside.specs.InCall.{SinkInCall, IsWritten, IsBrokenOff, WriteFailed, NoWriteFailed}
+use Rattle.std.specs.Prelude.{◌≡◌, ℕ, nat_lt, if◌then◌else◌, List, [], ◌∷◌, length, codes, decimal, Option, Result, Ok, Err, IfSome}
 use Rattle.rail_model.specs.declared.tables.Tables.{Tables}
 use Rattle.rail_model.specs.declared.items.Form.{Form}
 use Rattle.rail_model.specs.declared.items.Form.TheVariants as form
@@ -83,20 +82,3 @@ outcome_of command.Stairs input = within_limit input (stairs_of (tables_of (rows
 pub record IsOutcome (command : Command) (told : Option (List ℕ)) (outcome : Outcome) : Type 0 where
   pub of_some : (input : List ℕ) × (outcome_of command input ≡ outcome)
   pub of_told : IfSome told (λ input. outcome_of command input ≡ outcome)
-
--- a text and a status are those of an outcome
-pub record RepliesWith (outcome : Outcome) (text : List ℕ) (status : Status) : Type 0 where
-  pub text_is : text ≡ outcome_text outcome
-  pub status_is : status ≡ outcome_status outcome
-
--- a text and a status are those of an outcome of the command on the bytes of a source
-pub record RepliesTo (command : Command) (told : Option (List ℕ)) (text : List ℕ) (status : Status) : Type 0 where
-  pub outcome : Outcome
-  pub ends : IsOutcome command told outcome
-  pub replies : RepliesWith outcome text status
-
--- a text is sent: it is written and flushed whole, and the status is the one that was to be said, or a write failed
-abbrev pub Sends : {K : Type 0} → SinkInCall K → List ℕ → Status → Status → Type 0
-Sends sink text said ended =
-    ((ended ≡ said) × IsWritten sink text × NoWriteFailed sink)
-    ⊎ ((ended ≡ status.WriteFault) × IsBrokenOff sink text × WriteFailed sink)

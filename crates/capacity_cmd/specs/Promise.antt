@@ -14,11 +14,12 @@ pub record RejectsWords {S K : Type 0} (status : Status) (source : SourceInCall 
   pub unread : IsUnread source
   pub unwritten : IsUnwritten sink
 
--- a command is run: `IsEnd outcome` says that the outcome is one of the command on the source's bytes
 module _ {S K : Type 0} (command : Command) (status : Status) (source : SourceInCall S) (sink : SinkInCall K) where
+  -- the outcome is that of the command on the source's bytes
   abbrev pub IsEnd : Outcome → Type 0
   IsEnd outcome = IsOutcome command (source.left source.before) outcome
 
+  -- the command is run
   pub record RunsCommand : Type 0 where
     pub good_words : status ≢ BadWords
     -- `Done`: the outcome is a text, which is written and flushed, and the input is read to its end

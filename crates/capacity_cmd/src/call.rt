@@ -5,7 +5,7 @@ ghost use Rattle.std.specs.Io.KnownBytes.{IsAtEnd};
 ghost use Rattle.rail_outside.specs.Faults.{Rose};
 ghost use Rattle.capacity_cmd.specs.declared.status.Status.TheVariants as status;
 ghost use Rattle.capacity_cmd.specs.Command.{IsAlone};
-ghost use Rattle.capacity_cmd.specs.Outcome.{RepliesTo};
+ghost use Rattle.capacity_cmd.specs.Reply.{IsReply};
 ghost use Rattle.capacity_cmd.specs.Promise.{Answers};
 
 use crate::command::command_of;
@@ -82,8 +82,7 @@ pub fn run_alone<R: AllocGlobal, S: Source, K: Sink>(
 
 // Reads the input and makes the reply to it, or says why there is none.
 fn reply_from<S: Source>(alloc: Global, command: Command, source: &mut S) -> Result<Reply, Status>
-    ensures replies { IfOk result (λ reply.
-        RepliesTo command (S.left source.old) reply.text.items reply.status) }
+    ensures replies { IfOk result (IsReply command (S.left source.old)) }
     ensures whole_input { IfOk result (λ reply.
         reply.status ≡ status.Done → IsAtEnd (S.left source.new)) }
     ensures why { IfErr result (λ why. (why ≡ status.ReadFault) ⊎ (why ≡ status.OutOfMemory)) }

@@ -3,7 +3,8 @@ ghost use Rattle.std.specs.Prelude.{◌≡◌, ◌≤◌, ◌∷◌, [], length,
 ghost use Rattle.csv.specs.Records.{fields_of};
 ghost use Rattle.capacity_cmd.specs.Text.{text_of_row};
 ghost use Rattle.capacity_cmd.specs.Input.{rows_of, tables_of};
-ghost use Rattle.capacity_cmd.specs.Outcome.{Refuses, stairs_of, outcome_of, cause_text, form_text, rule_text, RepliesWith};
+ghost use Rattle.capacity_cmd.specs.Outcome.{Refuses, stairs_of, outcome_of, cause_text, form_text, rule_text};
+ghost use Rattle.capacity_cmd.specs.Reply.{Says};
 
 use crate::call::INPUT_BYTES;
 use crate::input::tables_of_text;
@@ -23,8 +24,7 @@ pub(crate) struct Reply {
 // The reply of a command to an input that isn't too long.
 pub(crate) fn reply_to(alloc: Global, command: Command, input: &[u8]) -> Result<Reply, OutOfMemory>
     requires { length input.now ≤ INPUT_BYTES }
-    ensures { IfOk result (λ reply.
-        RepliesWith (outcome_of command input.now) reply.text.items reply.status) }
+    ensures { IfOk result (Says (outcome_of command input.now)) }
 {
     match command {
         Command::Stairs => stairs_reply(alloc, input),
@@ -33,8 +33,7 @@ pub(crate) fn reply_to(alloc: Global, command: Command, input: &[u8]) -> Result<
 
 fn stairs_reply(alloc: Global, input: &[u8]) -> Result<Reply, OutOfMemory>
     requires { length input.now ≤ INPUT_BYTES }
-    ensures { IfOk result (λ reply.
-        RepliesWith (stairs_of (tables_of (rows_of input.now))) reply.text.items reply.status) }
+    ensures { IfOk result (Says (stairs_of (tables_of (rows_of input.now)))) }
 {
     match tables_of_text(alloc, input)? {
         Ok(tables) => Ok(Reply {
@@ -47,8 +46,7 @@ fn stairs_reply(alloc: Global, input: &[u8]) -> Result<Reply, OutOfMemory>
 
 // The refusal of a row.
 pub(crate) fn refusal(alloc: Global, row: u64, cause: Cause) -> Result<Reply, OutOfMemory>
-    ensures { IfOk result (λ reply.
-        RepliesWith (Refuses row cause) reply.text.items reply.status) }
+    ensures { IfOk result (Says (Refuses row cause)) }
 {
     let fields = refusal_fields(alloc, row, cause)?;
     let text = text_of_row(alloc, &fields)?;

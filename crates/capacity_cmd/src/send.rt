@@ -1,5 +1,5 @@
 //! Writing a reply.
-ghost use Rattle.capacity_cmd.specs.Outcome.{Sends};
+ghost use Rattle.capacity_cmd.specs.Reply.{IsSent};
 
 use crate::Status;
 use crate::reply::Reply;
@@ -7,7 +7,7 @@ use rail_outside::{Sink, send_all};
 
 // Writes the whole text of a reply and flushes it, and says its status, unless a write fails.
 pub(crate) fn send<K: Sink>(sink: &mut K, reply: Reply) -> Status
-    ensures { Sends
+    ensures { IsSent
         (record {
           written = K.written;
           flushed = K.flushed;
@@ -15,8 +15,7 @@ pub(crate) fn send<K: Sink>(sink: &mut K, reply: Reply) -> Status
           before = sink.old;
           after = sink.new;
         })
-        reply.text.items
-        reply.status
+        reply
         result }
 {
     match send_all(sink, &reply.text) {

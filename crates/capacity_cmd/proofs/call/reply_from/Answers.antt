@@ -12,5 +12,5 @@ returns-in_ok-refusal-in-Err-TooLong-clause-replies g c =
     record {
       outcome = Refuses 0 cause.TooLong;
       ends = IsOutcome-too_long c.args.command _ _ many.0 many.2 many.1;
-      replies = c.in_ok-refusal-in-Err-TooLong.ensures;
+      said = c.in_ok-refusal-in-Err-TooLong.ensures;
     }
