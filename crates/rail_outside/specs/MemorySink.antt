@@ -39,7 +39,7 @@ pub record SameSetting (sink sink' : MemorySink) : Type 0 where
   pub fails : sink_fails sink' ≡ sink_fails sink
 
 -- a write from a piece
-pub record Writes (sink sink' : MemorySink) (piece : List ℕ) (answer : Result ℕ Failed) : Type 0 where
+pub record IsWrite (sink sink' : MemorySink) (piece : List ℕ) (answer : Result ℕ Failed) : Type 0 where
   -- exactly the writes that are listed or find no room fail, and write nothing
   pub fails : IsErr answer ↔ (Contains (sink_fails sink) (sink_calls sink')
       ⊎ (sink_room sink < length (sink_bytes sink) + min (sink_piece sink) (length piece)))
@@ -55,7 +55,7 @@ pub record Writes (sink sink' : MemorySink) (piece : List ℕ) (answer : Result 
   pub setting : SameSetting sink sink'
 
 -- a flush
-pub record Flushes (sink sink' : MemorySink) (answer : Result ⊤ Failed) : Type 0 where
+pub record IsFlush (sink sink' : MemorySink) (answer : Result ⊤ Failed) : Type 0 where
   -- exactly the flushes that are listed fail, and flush nothing
   pub fails : IsErr answer ↔ Contains (sink_fails sink) (sink_calls sink')
   pub kept : OnErr answer (sink_flushed sink' ≡ sink_flushed sink)

@@ -25,7 +25,7 @@ abbrev pub source_faults : MemorySource → ℕ
 source_faults s = s.faults
 
 -- a read into a piece, which held `piece` before and holds `piece'` after it
-pub record Reads (source source' : MemorySource) (piece piece' : List ℕ) (answer : Result ℕ Failed) : Type 0 where
+pub record IsRead (source source' : MemorySource) (piece piece' : List ℕ) (answer : Result ℕ Failed) : Type 0 where
   -- exactly the reads that are listed fail, and give nothing
   pub fails : IsErr answer ↔ Contains (source_fails source) (source_reads source')
   pub kept : OnErr answer (source_left source' ≡ source_left source)

@@ -76,7 +76,7 @@ impl MemorySink {
 }
 
 impl Sink for MemorySink {
-    ghost use Rattle.rail_outside.specs.MemorySink.{sink_bytes, sink_faults, sink_flushed, Writes, Flushes};
+    ghost use Rattle.rail_outside.specs.MemorySink.{sink_bytes, sink_faults, sink_flushed, IsWrite, IsFlush};
 
     ghost written = { λ s. Some (sink_bytes s) };
 
@@ -85,7 +85,7 @@ impl Sink for MemorySink {
     ghost faults = { λ s. sink_faults s };
 
     fn write(&mut self, from: &[u8]) -> Result<usize, Failed>
-        ensures { Writes self.old self.new from.now result }
+        ensures { IsWrite self.old self.new from.now result }
     {
         self.calls = one_more(self.calls);
         let count = self.piece.min(from.len());
@@ -99,7 +99,7 @@ impl Sink for MemorySink {
     }
 
     fn flush(&mut self) -> Result<(), Failed>
-        ensures { Flushes self.old self.new result }
+        ensures { IsFlush self.old self.new result }
     {
         self.calls = one_more(self.calls);
         if is_listed(&self.fails, self.calls) {

@@ -44,14 +44,14 @@ impl MemorySource {
 }
 
 impl Source for MemorySource {
-    ghost use Rattle.rail_outside.specs.MemorySource.{source_left, source_faults, Reads};
+    ghost use Rattle.rail_outside.specs.MemorySource.{source_left, source_faults, IsRead};
 
     ghost left = { λ s. Some (source_left s) };
 
     ghost faults = { λ s. source_faults s };
 
     fn read(&mut self, into: &mut [u8]) -> Result<usize, Failed>
-        ensures { Reads self.old self.new into.old into.new result }
+        ensures { IsRead self.old self.new into.old into.new result }
     {
         self.reads = one_more(self.reads);
         if is_listed(&self.fails, self.reads) {
