@@ -1,5 +1,5 @@
-//! Whole texts of the program, as a planner's files would hold them: each test calls it on bytes in memory,
-//! and compares its status and the bytes that it wrote.
+//! Tests that cross crates: whole texts of the program on bytes in memory, as a planner's files would
+//! hold them, and the public calls of the crates below.
 #![tactic(auto)]
 
 #[cfg(test)]

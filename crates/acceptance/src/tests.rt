@@ -1,7 +1,8 @@
-// What the tests share: the rows of a small line, and a call of the program over bytes in memory.
+//! What the tests share: the rows of a small line, and a call of the program over bytes in memory.
 mod faults;
 mod refusals;
 mod statuses;
+mod streams;
 mod texts;
 
 use capacity_cmd::{Status, run};

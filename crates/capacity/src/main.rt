@@ -1,74 +1,16 @@
-//! The program: its words, standard input and standard output, and one line on standard error where it
-//! doesn't end with status 0.
+//! The program: its words, standard input and standard output, and one line on standard error where
+//! it doesn't end with status 0.
 #![tactic(auto)]
 
-ghost use Rattle.std.specs.Prelude.{◌≡◌, ◌≢◌};
-ghost use Rattle.std.specs.IoError.{error_kind};
-ghost use Rattle.std.specs.declared.io.ErrorKind.TheVariants as kind;
-ghost use Rattle.capacity_cmd.specs.declared.status.Status.TheVariants as status;
-ghost use Rattle.capacity.specs.Call.{IsCall};
+mod program;
 
-use capacity_cmd::{Status, run};
-use rail_outside::{OpenGate, Sink, Source, StdSink, StdSource};
-use std::io::ErrorKind;
-use std::process::{Abort, ExitCode};
-use std::rt::Env;
-use std::sync::Wait;
-use std::thread::Threads;
-use std::{env, io};
+use program::{Ended, end_of_call};
+use rail_outside::{StdSink, StdSource};
 
-fn main(rt: HostRuntime) -> ExitCode {
-    let mut source = StdSource::of(rt.stdin());
-    let mut sink = StdSink::of(rt.stdout());
-    let status = call(&rt, &mut source, &mut sink);
-    // What can't be said on standard error is said by the status.
-    let _ = explain(&rt, status);
-    ExitCode::from(status.number())
-}
-
-// A call with the runtime's words. No contract tells which they are.
-fn call<R: AllocGlobal + Env + Threads + Wait, S: Source, K: Sink>(
-    rt: &R,
-    source: &mut S,
-    sink: &mut K,
-) -> Status
-    ensures { IsCall S.left S.faults K.written K.flushed K.faults result source.old source.new sink.old sink.new }
-{
-    match words(rt) {
-        Ok(words) => run(rt, &words, source, sink, &OpenGate),
-        Err(error) => without_words(&error),
-    }
-}
-
-// The words after the program's name.
-fn words(rt: &(impl Env + AllocGlobal)) -> io::Result<Vec<String>> {
-    let mut words = Vec::new(rt.alloc());
-    for word in env::args(rt)?.skip(1) {
-        words.push(word)?;
-    }
-    Ok(words)
-}
-
-// A word that isn't UTF-8 is no word of a form.
-fn without_words(error: &io::Error) -> Status
-    ensures no_memory { error_kind error.now ≡ kind.OutOfMemory → result ≡ status.OutOfMemory }
-    ensures no_word { error_kind error.now ≢ kind.OutOfMemory → result ≡ status.BadWords }
-{
-    if error.kind() == ErrorKind::OutOfMemory {
-        Status::OutOfMemory
-    } else {
-        Status::BadWords
-    }
-}
-
-fn explain(rt: &impl Eprint, status: Status) -> io::Result<()> {
-    match status {
-        Status::Done => Ok(()),
-        Status::Refused { row: 0, cause } => eprintln!(rt; "{cause}"),
-        Status::Refused { row, cause } => eprintln!(rt; "row {row}: {cause}"),
-        Status::BadWords => eprintln!(rt; "usage: capacity stairs < LINE.csv > STAIRS.csv"),
-        Status::ReadFault => eprintln!(rt; "the input could not be read"),
-        Status::WriteFault => eprintln!(rt; "the output could not be written"),
-        Status::OutOfMemory => eprintln!(rt; "memory ran out"),
-    }
+fn main(rt: HostRuntime) -> Ended {
+    end_of_call(
+        &rt,
+        &mut StdSource::of(rt.stdin()),
+        &mut StdSink::of(rt.stdout()),
+    )
 }

@@ -1,4 +1,4 @@
-pub mod Fronts
+pub mod Prefixes
 pub mod Records
 pub mod Puts
 pub mod Sheets

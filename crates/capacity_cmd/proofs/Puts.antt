@@ -11,7 +11,8 @@ use Rattle.rail_model.specs.declared.items.Rule.{Rule}
 use Rattle.rail_model.specs.declared.tables.Tables.{Tables}
 use Rattle.rail_model.specs.Puts.{rule_of_put, after_put, no_tables}
 use Rattle.capacity_cmd.specs.Rows.{Row, item_of}
-use Rattle.capacity_cmd.specs.Input.{if_some, tables_after, first_unspelled, refused_at, tables_of, put_next}
+use Rattle.capacity_cmd.specs.Input.{if_some, tables_after, first_unspelled, refused_at, tables_of}
+use Rattle.capacity_cmd.specs.Putting.{put_next}
 
 -- each of the rows spells an item
 abbrev pub Spelled : List Row → Type 0
@@ -40,12 +41,12 @@ first_unspelled-none rows all =
 
 pub first_unspelled-some : (rows : List Row) (row : Row) (more : List Row) → Spelled rows → item_of row ≡ None → first_unspelled ((rows ++ row ∷ []) ++ more) ≡ Some (length rows)
 first_unspelled-some rows row more all none =
-    let front = prefix-spelled rows (row ∷ more) all in
-    let place = rw (none, add-zero) at front in
+    let before = prefix-spelled rows (row ∷ more) all in
+    let place = rw (none, add-zero) at before in
     let within : nat_lt (length rows) (length (rows ++ row ∷ more)) ≡ true = lt-ltb _ _ (omega (arith, length-append {A = Row})) in
     rw (append_assoc, place, within) refl
 
--- one more put, behind the first of some puts
+-- one more put, after the first of some puts
 if_some-put_next : (rule : Option Rule) (n m : ℕ) (made later : Result Tables ℕ) (x : Item) → later ≡ put_next m made x → if_some rule (Err n) later ≡ put_next m (if_some rule (Err n) made) x
 if_some-put_next None n m made later x e = e
 if_some-put_next (Some rule) n m made later x e = refl

@@ -22,5 +22,5 @@ text_of_rows-more row_of xs i d lt = rw (take_more xs i d lt, map-append, flat_m
 -- the rows of one item more
 pub Adds-row : {X : Type 0} (row_of : X → Row) (a b c : Sheet) (xs : List X) (i : ℕ) (d : X) → i < length xs
     → Adds a b (text_of_rows (map row_of (take i xs))) → Adds b c (text_of_row (row_of (get_or xs i d))) → Adds a c (text_of_rows (map row_of (take (i + 1) xs)))
-Adds-row row_of a b c xs i d lt front row =
-    rw (text_of_rows-more row_of xs i d lt) (Adds-trans a b c _ _ front row)
+Adds-row row_of a b c xs i d lt prefix row =
+    rw (text_of_rows-more row_of xs i d lt) (Adds-trans a b c _ _ prefix row)

@@ -4,6 +4,7 @@ use Rattle.std.specs.Prelude.{slice_get}
 use Rattle.std.specs.List.{flat_map, range_with_len}
 use Rattle.std.proofs.lemmas.Grind.{flat_map-append}
 use Rattle.std.proofs.lemmas.List.{append-nil}
+use Rattle.std.proofs.lemmas.Simd.{map-map}
 use Rattle.blocking_time.specs.declared.walk.Blocking.{Blocking}
 use Rattle.blocking_time.specs.Blocking.{blocking_of}
 use Rattle.blocking_time.proofs.Uses.{All-from_one}
@@ -23,10 +24,6 @@ pub blockings_numbered : (count : ℕ) (path : Path) (all : List Blocking) → a
 blockings_numbered count path all each hops =
     rw each (All-from_one (λ (b : Blocking). b.used.block < count) (blocking_of path) (hop_count path) (λ k low high. hops (k - 1) no_hop (omega arith)))
 
-map-map : {X Y Z : Type 0} (f : Y → Z) (g : X → Y) (xs : List X) → map f (map g xs) ≡ map (λ x. f (g x)) xs
-map-map f g [] = refl
-map-map f g (x ∷ xs) = ap (λ zs. f (g x) ∷ zs) (map-map f g xs)
-
 -- the rows of a path's blockings are its rows
 pub rows_of_blockings : (tables : Tables) (path : Path) (all : List Blocking) → all ≡ map (blocking_of path) (range_with_len 1 (hop_count path)) → map (named_row tables path.run) all ≡ run_rows tables path
 rows_of_blockings tables path all each = rw each (map-map (named_row tables path.run) (blocking_of path) (range_with_len 1 (hop_count path)))
@@ -40,6 +37,6 @@ take-item (x ∷ xs) (suc i) lt = let at = take-item xs i (omega arith) in (at.0
 -- the rows of one item more
 pub Adds-item : {X : Type 0} (rows_of : X → List Row) (a b c : Sheet) (xs : List X) (i : ℕ) → i < length xs
     → Adds a b (text_of_rows (flat_map rows_of (take i xs))) → ((x : X) → slice_get xs i ≡ Some x → Adds b c (text_of_rows (rows_of x))) → Adds a c (text_of_rows (flat_map rows_of (take (i + 1) xs)))
-Adds-item rows_of a b c xs i lt front next =
+Adds-item rows_of a b c xs i lt prefix next =
     let at = take-item xs i lt in
-    rw (add-one, at.2, flat_map-append, append-nil, flat_map-append) (Adds-trans a b c _ _ front (next at.0 at.1))
+    rw (add-one, at.2, flat_map-append, append-nil, flat_map-append) (Adds-trans a b c _ _ prefix (next at.0 at.1))

@@ -7,7 +7,7 @@ use Rattle.rail_model.specs.declared.tables.Tables.{Tables}
 use Rattle.rail_model.specs.Puts.{rule_of_put, after_put, no_tables}
 use Rattle.capacity_cmd.specs.Rows.{Row, item_of}
 
--- the rows of a text: those of CSV with commas and double quotes, without a byte order mark at the text's begin
+-- the rows of a text: those of CSV with commas and double quotes, without a byte order mark at the text's start
 abbrev pub rows_of : List ℕ → List Row
 rows_of text = records default_config (strip_bom text)
 
@@ -33,8 +33,3 @@ refused_at None made = made
 
 abbrev pub tables_of : List Row → Result Tables ℕ
 tables_of rows = refused_at (first_unspelled rows) (tables_after 1 no_tables (filter_map item_of rows))
-
--- what is made after one more put, in this row
-abbrev pub put_next : ℕ → Result Tables ℕ → Item → Result Tables ℕ
-put_next row (Ok tables) x = if_some (rule_of_put tables x) (Err row) (Ok (after_put tables x))
-put_next row (Err refused) x = Err refused

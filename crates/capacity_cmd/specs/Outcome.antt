@@ -1,12 +1,12 @@
--- What a call of the program ends with, by its words and its input.
-use Rattle.std.specs.Prelude.{◌≡◌, ℕ, ◌-◌, ◌^◌, ◌<◌, ◌≤◌, ⊤, nat_lt, if◌then◌else◌, List, [], ◌∷◌, length, take, codes, decimal, Option, Result, Ok, Err, IfSome}
-use Rattle.std.specs.Io.KnownBytes.{Appends}
-use Rattle.rail_outside.specs.Sink.{IsFlushed}
+-- What a command ends with, by its input.
+use Rattle.std.specs.Prelude.{◌≡◌, ℕ, nat_lt, if◌then◌else◌, List, [], ◌∷◌, length, codes, decimal, Option, Result, Ok, Err, IfSome}
 use Rattle.rail_model.specs.declared.tables.Tables.{Tables}
 use Rattle.rail_model.specs.declared.items.Form.{Form}
 use Rattle.rail_model.specs.declared.items.Form.TheVariants as form
 use Rattle.rail_model.specs.declared.items.Rule.{Rule}
 use Rattle.rail_model.specs.declared.items.Rule.TheVariants as rule
+use Rattle.capacity_cmd.specs.declared.command.Command.{Command}
+use Rattle.capacity_cmd.specs.declared.command.Command.TheVariants as command
 use Rattle.capacity_cmd.specs.declared.status.Status.{Status}
 use Rattle.capacity_cmd.specs.declared.status.Status.TheVariants as status
 use Rattle.capacity_cmd.specs.declared.status.Cause.{Cause}
@@ -65,42 +65,20 @@ status_number status.ReadFault = 3
 status_number status.WriteFault = 4
 status_number status.OutOfMemory = 5
 
--- the words of a call that is built
-abbrev pub IsForm : List (List ℕ) → Type 0
-IsForm words = words ≡ codes "stairs" ∷ []
-
--- the outcome of `stairs` on an input: the stairways of the tables that the input makes, or its refusal
+-- the outcome of `stairs` on the tables that rows make: their text, or the refusal of a row
 abbrev pub stairs_of : Result Tables ℕ → Outcome
 stairs_of (Ok tables) = Writes (stairs_text tables)
 stairs_of (Err row) = Refuses row cause.Early
 
-unfoldable pub outcome_of : List ℕ → Outcome
-outcome_of input =
-    if nat_lt INPUT_BYTES (length input) then Refuses 0 cause.TooLong else stairs_of (tables_of (rows_of input))
+-- the outcome of an input, which may have no more bytes than are read
+abbrev pub within_limit : List ℕ → Outcome → Outcome
+within_limit input outcome = if nat_lt INPUT_BYTES (length input) then Refuses 0 cause.TooLong else outcome
 
--- a call with these words runs on its caller's thread alone: no form that is built starts a thread
-abbrev pub IsAlone : List (List ℕ) → Type 0
-IsAlone words = ⊤
+-- the outcome of each command on an input
+unfoldable pub outcome_of : Command → List ℕ → Outcome
+outcome_of command.Stairs input = within_limit input (stairs_of (tables_of (rows_of input)))
 
--- the outcome is that of the input, where the source tells it, and else of some input
-pub record IsOutcome (told : Option (List ℕ)) (outcome : Outcome) : Type 0 where
-  pub of_some : (input : List ℕ) × (outcome_of input ≡ outcome)
-  pub of_told : IfSome told (λ input. outcome_of input ≡ outcome)
-
--- a whole text is written and flushed
-pub record IsSent (before after : Option (List ℕ)) (flushed : ℕ) (text : List ℕ) : Type 0 where
-  pub written : Appends before after text
-  pub all_flushed : IsFlushed after flushed
-
--- a front of a text is written
-abbrev pub BrokeOff : Option (List ℕ) → Option (List ℕ) → List ℕ → Type 0
-BrokeOff before after text = (n : ℕ) × (n ≤ length text) × Appends before after (take n text)
-
--- no call failed: the count of faults stands, below its last value
-abbrev pub NoFault : ℕ → ℕ → Type 0
-NoFault before now = (now ≡ before) × (now < 2 ^ 64 - 1)
-
--- a text and a status are those of an outcome
-pub record RepliesWith (outcome : Outcome) (text : List ℕ) (status : Status) : Type 0 where
-  pub text_is : text ≡ outcome_text outcome
-  pub status_is : status ≡ outcome_status outcome
+-- the outcome is that of the command on the bytes of a source, where it tells them, and else on some bytes
+pub record IsOutcome (command : Command) (told : Option (List ℕ)) (outcome : Outcome) : Type 0 where
+  pub of_some : (input : List ℕ) × (outcome_of command input ≡ outcome)
+  pub of_told : IfSome told (λ input. outcome_of command input ≡ outcome)

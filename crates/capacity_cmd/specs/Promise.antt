@@ -1,31 +1,49 @@
--- What a call of the program promises, by its words, its status, and its source and sink before and after it.
-use Rattle.std.specs.Prelude.{◌≡◌, ◌⊎◌, ℕ, List, Option, Some}
-use Rattle.std.specs.Io.KnownBytes.{IsAtEnd}
-use Rattle.rail_outside.specs.Faults.{Rose}
-use Rattle.rail_model.specs.declared.tables.Tables.{Tables}
-use Rattle.capacity_cmd.specs.Text.{stairs_text}
+-- What a call of the program promises: by its words and its status, and by its source and its sink.
+use Rattle.std.specs.Prelude.{◌≡◌, ◌≢◌, ◌⊎◌, ℕ, List, MatchOption}
+use Rattle.rail_outside.specs.InCall.{SourceInCall, SinkInCall, IsUnread, IsReadToEnd, ReadFailed, NoReadFailed, ShowsNoReadFailed, IsUnwritten, IsWritten, IsBrokenOff, WriteFailed, NoWriteFailed, ShowsNoWriteFailed}
+use Rattle.capacity_cmd.specs.declared.command.Command.{Command}
 use Rattle.capacity_cmd.specs.declared.status.Cause.{Cause}
 use Rattle.capacity_cmd.specs.declared.status.Status.{Status}
 use Rattle.capacity_cmd.specs.declared.status.Status.TheVariants.{Done, Refused, BadWords, ReadFault, WriteFault, OutOfMemory}
-use Rattle.capacity_cmd.specs.Outcome.{IsForm, Outcome, Writes, Refuses, IsOutcome, IsSent, BrokeOff, NoFault, outcome_of, outcome_text, outcome_status, refusal_text}
+use Rattle.capacity_cmd.specs.Command.{command_of}
+use Rattle.capacity_cmd.specs.Outcome.{Outcome, Writes, Refuses, IsOutcome, outcome_text, outcome_status}
 
-module _ {S K : Type 0} (left : S → Option (List ℕ)) (read_faults : S → ℕ) (written : K → Option (List ℕ)) (flushed write_faults : K → ℕ) where
-  pub record Answers (words : List (List ℕ)) (status : Status) (source source' : S) (sink sink' : K) : Type 0 where
-    -- the words decide whether anything is read; where they are no form, nothing is read and nothing written
-    pub form : IsForm words ⊎ (status ≡ BadWords)
-    pub bad_words : status ≡ BadWords → IsForm words → ⊥
-    pub untouched : status ≡ BadWords → (source' ≡ source) × (sink' ≡ sink)
-    -- `Done`: the input is read to its end, and the text of `stairs` for the tables that it makes is written and flushed
-    pub done : status ≡ Done → (tables : Tables) × IsOutcome (left source) (Writes (stairs_text tables)) × IsSent (written sink) (written sink') (flushed sink') (stairs_text tables)
-    pub whole_input : status ≡ Done → IsAtEnd (left source')
-    -- `Refused`: the row of the refusal, which is the input's outcome, is written and flushed
-    pub refused : (row : ℕ) (why : Cause) → status ≡ Refused row why → IsOutcome (left source) (Refuses row why) × IsSent (written sink) (written sink') (flushed sink') (refusal_text row why)
-    -- a fault comes only where the count of faults rose
-    pub read_fault : status ≡ ReadFault → Rose (read_faults source) (read_faults source')
-    pub write_fault : status ≡ WriteFault → Rose (write_faults sink) (write_faults sink')
-    -- what is written where a call fails or memory runs out: nothing, or a front of the outcome's text
-    pub nothing_read : status ≡ ReadFault → sink' ≡ sink
-    pub no_memory : status ≡ OutOfMemory → sink' ≡ sink
-    pub broke_off : status ≡ WriteFault → (outcome : Outcome) × IsOutcome (left source) outcome × BrokeOff (written sink) (written sink') (outcome_text outcome)
-    -- where the words are a form, and the source tells its bytes, and no call fails, the status is that of the input's outcome
-    pub complete : (input : List ℕ) → IsForm words → left source ≡ Some input → NoFault (read_faults source) (read_faults source') → NoFault (write_faults sink) (write_faults sink') → (status ≡ outcome_status (outcome_of input)) ⊎ (status ≡ OutOfMemory)
+-- `BadWords`: nothing is read, and nothing is written
+pub record RejectsWords {S K : Type 0} (status : Status) (source : SourceInCall S) (sink : SinkInCall K) : Type 0 where
+  pub bad_words : status ≡ BadWords
+  pub unread : IsUnread source
+  pub unwritten : IsUnwritten sink
+
+module _ {S K : Type 0} (command : Command) (status : Status) (source : SourceInCall S) (sink : SinkInCall K) where
+  -- the outcome is that of the command on the source's bytes
+  abbrev pub IsEnd : Outcome → Type 0
+  IsEnd outcome = IsOutcome command (source.left source.before) outcome
+
+  -- the command is run
+  pub record RunsCommand : Type 0 where
+    pub good_words : status ≢ BadWords
+    -- `Done`: the outcome is a text, which is written and flushed, and the input is read to its end
+    pub done : status ≡ Done → (text : List ℕ) × IsEnd (Writes text) × IsWritten sink text
+    pub whole_input : status ≡ Done → IsReadToEnd source
+    -- `Refused`: the outcome is the refusal, whose row is written and flushed
+    pub refused : (row : ℕ) (why : Cause) → status ≡ Refused row why
+        → IsEnd (Refuses row why) × IsWritten sink (outcome_text (Refuses row why))
+    -- `ReadFault`: a read failed, and nothing is written; any other status says that no read failed
+    pub read_fault : status ≡ ReadFault → ReadFailed source
+    pub nothing_written : status ≡ ReadFault → IsUnwritten sink
+    pub no_read_fault : status ≢ ReadFault → NoReadFailed source
+    -- `WriteFault`: a write or a flush failed, and a prefix of the outcome's text is written; any other status says
+    -- that none failed
+    pub write_fault : status ≡ WriteFault → WriteFailed sink
+    pub broke_off : status ≡ WriteFault → (outcome : Outcome) × IsEnd outcome × IsBrokenOff sink (outcome_text outcome)
+    pub no_write_fault : status ≢ WriteFault → NoWriteFailed sink
+    -- `OutOfMemory`: nothing is written
+    pub no_memory : status ≡ OutOfMemory → IsUnwritten sink
+    -- where the counts show that no call failed, the status is that of the outcome, or memory ran out
+    pub complete : ShowsNoReadFailed source → ShowsNoWriteFailed sink
+        → ((outcome : Outcome) × IsEnd outcome × (status ≡ outcome_status outcome)) ⊎ (status ≡ OutOfMemory)
+
+-- the promise: the command that the words spell is run, and where they spell none, they are rejected
+abbrev pub Answers : {S K : Type 0} → List (List ℕ) → Status → SourceInCall S → SinkInCall K → Type 0
+Answers words status source sink =
+    MatchOption (command_of words) (RejectsWords status source sink) (λ command. RunsCommand command status source sink)

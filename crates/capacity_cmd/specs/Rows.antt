@@ -32,15 +32,15 @@ value_of digits = fold (λ value digit. value * 10 + (digit - 48)) 0 digits
 abbrev pub is_number : List ℕ → Bool
 is_number field = nat_lt 0 (length field) && nat_le (length field) NUMBER_DIGITS && list_all is_ascii_digit field
 
-abbrev pub number_of : List ℕ → Option ℕ
-number_of field = if is_number field then Some (value_of field) else None
+abbrev pub number_in : List ℕ → Option ℕ
+number_in field = if is_number field then Some (value_of field) else None
 
 -- the name and the number in the field at a place, from 0 for the row's kind
 abbrev pub name_at : Row → ℕ → Option (List ℕ)
 name_at row i = option_and_then name_of (field_at row i)
 
 abbrev pub number_at : Row → ℕ → Option ℕ
-number_at row i = option_and_then number_of (field_at row i)
+number_at row i = option_and_then number_in (field_at row i)
 
 -- the fields as names
 abbrev pub names_of : Row → Option (List (List ℕ))
@@ -50,24 +50,18 @@ names_of (field ∷ fields) = do
   names ← names_of fields
   Some (name ∷ names)
 
--- a running and a dwell time as a leg, in two fields or in those at a place and after it
+-- a running and a dwell time as a leg
 abbrev pub leg_of : List ℕ → List ℕ → Option Leg
 leg_of running dwell = do
-  running_s ← number_of running
-  dwell_s ← number_of dwell
+  running_s ← number_in running
+  dwell_s ← number_in dwell
   Some (record { running_s = running_s; dwell_s = dwell_s })
-
-abbrev pub leg_at : Row → ℕ → Option Leg
-leg_at row i = do
-  running ← field_at row i
-  dwell ← field_at row (i + 1)
-  leg_of running dwell
 
 -- the fields as legs: a running and a dwell time each, the last leg with no dwell field and no dwell
 abbrev pub legs_of : Row → Option (List Leg)
 legs_of [] = None
 legs_of (running ∷ []) = do
-  running_s ← number_of running
+  running_s ← number_in running
   Some (record { running_s = running_s; dwell_s = 0 } ∷ [])
 legs_of (running ∷ dwell ∷ fields) = do
   leg ← leg_of running dwell

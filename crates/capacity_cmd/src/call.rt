@@ -1,16 +1,17 @@
-ghost use Rattle.std.specs.Prelude.{◌≡◌, ◌⊎◌, ◌↔◌, map, IsTrue, IfOk, IfErr};
+//! A call of the program: its words, its source and its sink.
+ghost use Rattle.std.specs.Prelude.{◌≡◌, ◌≢◌, ◌⊎◌, ◌↔◌, map, IsTrue, IfOk, IfErr};
 ghost use Rattle.std.specs.String.{string_bytes};
 ghost use Rattle.std.specs.Io.KnownBytes.{IsAtEnd};
 ghost use Rattle.rail_outside.specs.Faults.{Rose};
 ghost use Rattle.capacity_cmd.specs.declared.status.Status.TheVariants as status;
-ghost use Rattle.capacity_cmd.specs.Outcome.{IsAlone, Outcome, IsOutcome, RepliesWith};
+ghost use Rattle.capacity_cmd.specs.Command.{IsAlone};
+ghost use Rattle.capacity_cmd.specs.Reply.{IsReply};
 ghost use Rattle.capacity_cmd.specs.Promise.{Answers};
 
+use crate::command::command_of;
 use crate::reply::{Reply, refusal, reply_to};
 use crate::send::send;
-use crate::words::is_form;
-use crate::{Cause, Status};
-use rail_model::OutOfMemory;
+use crate::{Cause, Command, Status};
 use rail_outside::{Gate, Sink, Source, Taken, take_all};
 use std::alloc::Global;
 use std::sync::Wait;
@@ -19,7 +20,8 @@ use std::thread::Threads;
 /// The greatest number of bytes of an input.
 pub const INPUT_BYTES: usize = 16_777_216;
 
-/// Whether a call with these words runs on its caller's thread alone and waits for nobody. Today all do.
+/// Whether a call with these words runs on its caller's thread alone and waits for nobody. Today all
+/// do.
 pub fn alone(words: &[String]) -> bool
     ensures { IsTrue result ↔ IsAlone (map string_bytes words.now) }
 {
@@ -34,7 +36,17 @@ pub fn run<R: AllocGlobal + Threads + Wait, S: Source, K: Sink, G: Gate>(
     sink: &mut K,
     _gate: &G,
 ) -> Status
-    ensures { Answers S.left S.faults K.written K.flushed K.faults (map string_bytes words.now) result source.old source.new sink.old sink.new }
+    ensures { Answers
+        (map string_bytes words.now)
+        result
+        (record { left = S.left; faults = S.faults; before = source.old; after = source.new })
+        (record {
+          written = K.written;
+          flushed = K.flushed;
+          faults = K.faults;
+          before = sink.old;
+          after = sink.new;
+        }) }
 {
     run_alone(rt, words, source, sink)
 }
@@ -47,29 +59,39 @@ pub fn run_alone<R: AllocGlobal, S: Source, K: Sink>(
     sink: &mut K,
 ) -> Status
     requires { IsAlone (map string_bytes words.now) }
-    ensures { Answers S.left S.faults K.written K.flushed K.faults (map string_bytes words.now) result source.old source.new sink.old sink.new }
+    ensures { Answers
+        (map string_bytes words.now)
+        result
+        (record { left = S.left; faults = S.faults; before = source.old; after = source.new })
+        (record {
+          written = K.written;
+          flushed = K.flushed;
+          faults = K.faults;
+          before = sink.old;
+          after = sink.new;
+        }) }
 {
-    if !is_form(words) {
+    let Some(command) = command_of(words) else {
         return Status::BadWords;
-    }
-    match reply_from(rt.alloc(), source) {
+    };
+    match reply_from(rt.alloc(), command, source) {
         Ok(reply) => send(sink, reply),
         Err(status) => status,
     }
 }
 
 // Reads the input and makes the reply to it, or says why there is none.
-fn reply_from<S: Source>(alloc: Global, source: &mut S) -> Result<Reply, Status>
-    ensures replies { IfOk result (λ reply. (outcome : Outcome) × IsOutcome (S.left source.old) outcome × RepliesWith outcome reply.text.items reply.status) }
-    ensures whole_input { IfOk result (λ reply. reply.status ≡ status.Done → IsAtEnd (S.left source.new)) }
-    ensures fault { IfErr result (λ why. ((why ≡ status.ReadFault) × Rose (S.faults source.old) (S.faults source.new)) ⊎ (why ≡ status.OutOfMemory)) }
+fn reply_from<S: Source>(alloc: Global, command: Command, source: &mut S) -> Result<Reply, Status>
+    ensures replies { IfOk result (IsReply command (S.left source.old)) }
+    ensures whole_input { IfOk result (λ reply.
+        reply.status ≡ status.Done → IsAtEnd (S.left source.new)) }
+    ensures why { IfErr result (λ why. (why ≡ status.ReadFault) ⊎ (why ≡ status.OutOfMemory)) }
+    ensures fault { result ≡ Err status.ReadFault → Rose (S.faults source.old) (S.faults source.new) }
+    ensures no_fault { result ≢ Err status.ReadFault → S.faults source.new ≡ S.faults source.old }
 {
-    match take_all(alloc, source, INPUT_BYTES) {
-        Ok(Ok(input)) => reply_to(alloc, input.slice()).map_err(|_| Status::OutOfMemory),
-        Ok(Err(Taken::TooLong)) => {
-            refusal(alloc, 0, Cause::TooLong).map_err(|_| Status::OutOfMemory)
-        }
-        Ok(Err(Taken::Failed)) => Err(Status::ReadFault),
-        Err(OutOfMemory) => Err(Status::OutOfMemory),
+    match take_all(alloc, source, INPUT_BYTES)? {
+        Ok(input) => Ok(reply_to(alloc, command, input.slice())?),
+        Err(Taken::TooLong) => Ok(refusal(alloc, 0, Cause::TooLong)?),
+        Err(Taken::Failed) => Err(Status::ReadFault),
     }
 }

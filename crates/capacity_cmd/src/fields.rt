@@ -1,7 +1,8 @@
-// The fields of a row as names, numbers and lists of them.
+//! The fields of a row as names, numbers and lists of them.
 ghost use Rattle.std.specs.Prelude.{◌≡◌, ◌+◌, ◌<◌, ◌^◌, drop, length, IfOk};
 ghost use Rattle.csv.specs.Records.{fields_of};
-ghost use Rattle.capacity_cmd.specs.Rows.{name_at, number_at, names_of, leg_of, leg_at, legs_of};
+ghost use Rattle.capacity_cmd.specs.Rows.{name_at, number_at, names_of, leg_of, legs_of};
+ghost use Rattle.capacity_cmd.specs.Fields.{leg_at};
 
 use crate::number::number;
 use csv::ByteRecord;

@@ -1,7 +1,7 @@
-// From the bytes of an input to tables, or to the row at which it is refused.
+//! From the bytes of an input to tables, or to the row at which it is refused.
 ghost use Rattle.std.specs.Prelude.{◌≡◌, ◌+◌, ◌<◌, ◌≤◌, ◌^◌, length, IfOk, OnOk};
 ghost use Rattle.rail_model.specs.Puts.{IsSound};
-ghost use Rattle.capacity_cmd.specs.Input.{rows_of, tables_of, put_next};
+ghost use Rattle.capacity_cmd.specs.Input.{rows_of, tables_of};
 
 use crate::call::INPUT_BYTES;
 use crate::item_row::item_of;
@@ -46,7 +46,7 @@ struct Putting {
 }
 
 impl Putting {
-    ghost use Rattle.capacity_cmd.specs.Putting.{made_so_far};
+    ghost use Rattle.capacity_cmd.specs.Putting.{made_so_far, put_next};
 
     fn take(&mut self, alloc: Global, item: Item) -> Result<(), OutOfMemory>
         requires room { self.old.rows + 1 < 2 ^ 64 }

@@ -1,4 +1,4 @@
-// The rows that put items.
+//! The rows that put items.
 ghost use Rattle.std.specs.Prelude.{◌≡◌, IfOk};
 ghost use Rattle.csv.specs.Records.{fields_of};
 ghost use Rattle.capacity_cmd.specs.Rows.{block_of, signal_of, route_of, run_of, section_of, item_of, item_of_kind};

@@ -1,7 +1,9 @@
-//! The program's commands, from bytes to bytes: rows are read, items put into tables, and texts written.
+//! The program's commands, from bytes to bytes: rows are read, items put into tables, and texts
+//! written.
 #![tactic(auto)]
 
 mod call;
+mod command;
 mod fields;
 mod input;
 mod item_row;
@@ -11,7 +13,7 @@ mod send;
 mod sheet;
 mod stairs_text;
 mod status;
-mod words;
 
 pub use call::{INPUT_BYTES, alone, run, run_alone};
+pub use command::Command;
 pub use status::{Cause, Status};

@@ -1,14 +1,16 @@
-// The reply to an input: the text to write, and the status that says so.
+//! The reply to an input: the text to write, and the status that says so.
 ghost use Rattle.std.specs.Prelude.{◌≡◌, ◌≤◌, ◌∷◌, [], length, IfOk, codes, decimal};
 ghost use Rattle.csv.specs.Records.{fields_of};
 ghost use Rattle.capacity_cmd.specs.Text.{text_of_row};
-ghost use Rattle.capacity_cmd.specs.Outcome.{Refuses, outcome_of, cause_text, form_text, rule_text, RepliesWith};
+ghost use Rattle.capacity_cmd.specs.Input.{rows_of, tables_of};
+ghost use Rattle.capacity_cmd.specs.Outcome.{Refuses, stairs_of, outcome_of, cause_text, form_text, rule_text};
+ghost use Rattle.capacity_cmd.specs.Reply.{Says};
 
 use crate::call::INPUT_BYTES;
 use crate::input::tables_of_text;
 use crate::sheet::{Sheet, push_number};
 use crate::stairs_text::stairs_text;
-use crate::{Cause, Status};
+use crate::{Cause, Command, Status};
 use csv::ByteRecord;
 use rail_model::{Form, OutOfMemory, Rule};
 use std::alloc::Global;
@@ -19,10 +21,19 @@ pub(crate) struct Reply {
     pub(crate) status: Status,
 }
 
-// The reply to an input that isn't too long.
-pub(crate) fn reply_to(alloc: Global, input: &[u8]) -> Result<Reply, OutOfMemory>
+// The reply of a command to an input that isn't too long.
+pub(crate) fn reply_to(alloc: Global, command: Command, input: &[u8]) -> Result<Reply, OutOfMemory>
     requires { length input.now ≤ INPUT_BYTES }
-    ensures { IfOk result (λ reply. RepliesWith (outcome_of input.now) reply.text.items reply.status) }
+    ensures { IfOk result (Says (outcome_of command input.now)) }
+{
+    match command {
+        Command::Stairs => stairs_reply(alloc, input),
+    }
+}
+
+fn stairs_reply(alloc: Global, input: &[u8]) -> Result<Reply, OutOfMemory>
+    requires { length input.now ≤ INPUT_BYTES }
+    ensures { IfOk result (Says (stairs_of (tables_of (rows_of input.now)))) }
 {
     match tables_of_text(alloc, input)? {
         Ok(tables) => Ok(Reply {
@@ -35,7 +46,7 @@ pub(crate) fn reply_to(alloc: Global, input: &[u8]) -> Result<Reply, OutOfMemory
 
 // The refusal of a row.
 pub(crate) fn refusal(alloc: Global, row: u64, cause: Cause) -> Result<Reply, OutOfMemory>
-    ensures { IfOk result (λ reply. RepliesWith (Refuses row cause) reply.text.items reply.status) }
+    ensures { IfOk result (Says (Refuses row cause)) }
 {
     let fields = refusal_fields(alloc, row, cause)?;
     let text = text_of_row(alloc, &fields)?;
@@ -46,7 +57,8 @@ pub(crate) fn refusal(alloc: Global, row: u64, cause: Cause) -> Result<Reply, Ou
 }
 
 fn refusal_fields(alloc: Global, row: u64, cause: Cause) -> Result<ByteRecord, OutOfMemory>
-    ensures { IfOk result (λ fields. fields_of fields ≡ codes "refused" ∷ decimal row ∷ cause_text cause ∷ []) }
+    ensures { IfOk result (λ fields.
+        fields_of fields ≡ codes "refused" ∷ decimal row ∷ cause_text cause ∷ []) }
 {
     let mut fields = ByteRecord::new(alloc);
     fields.push_field(b"refused")?;

@@ -1,4 +1,4 @@
-// A text of rows.
+//! A text of rows.
 ghost use Rattle.std.specs.Prelude.{◌≡◌, ◌∷◌, [], ◌++◌, List, ℕ, IfOk, OnOk, map};
 ghost use Rattle.csv.specs.Records.{fields_of, partial_of};
 ghost use Rattle.capacity_cmd.specs.Text.{text_of_row};
@@ -25,7 +25,8 @@ impl Sheet {
         }
     }
 
-    // Adds a row. Any error of the writer over memory is want of memory, and the sheet is then of no use.
+    // Adds a row. A writer over memory fails only where memory runs out, and the sheet is then of no
+    // use.
     #[tactic(auto, unfolding(crate::specs::Text::text_of_row))]
     pub(crate) fn write_row(&mut self, row: &ByteRecord) -> Result<(), OutOfMemory>
         ensures { OnOk result (Adds self.old self.new (text_of_row (fields_of row.now))) }

@@ -1,4 +1,4 @@
-// The text of `stairs`.
+//! The text of `stairs`.
 ghost use Rattle.std.specs.Prelude.{◌≡◌, ◌<◌, ◌++◌, [], length, map, All, OnOk, IfOk};
 ghost use Rattle.rail_model.specs.Puts.{IsSound};
 ghost use Rattle.rail_model.specs.Path.{Fits};

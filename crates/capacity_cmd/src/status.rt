@@ -1,6 +1,8 @@
+//! How a call ends, and why an input is refused.
 ghost use Rattle.std.specs.Prelude.{◌≡◌};
+ghost use Rattle.capacity_cmd.specs.declared.status.Status.TheVariants as status;
 
-use rail_model::{Form, Rule};
+use rail_model::{Form, OutOfMemory, Rule};
 use thiserror::Error;
 
 /// Why an input is refused. Of these only `Early` and `TooLong` come today.
@@ -31,16 +33,25 @@ pub enum Cause {
 pub enum Status {
     /// The whole text of the command is written.
     Done,
-    /// The input is refused at a row, counted from 1, or as a whole, with row 0. The row of the refusal is written.
+    /// The input is refused at a row, counted from 1, or as a whole, with row 0. The row of the
+    /// refusal is written.
     Refused { row: u64, cause: Cause },
-    /// The words are none of the forms. Nothing is read, and nothing is written.
+    /// The words spell no command. Nothing is read, and nothing is written.
     BadWords,
     /// A read failed. Nothing is written.
     ReadFault,
-    /// A write failed. A front of the text or of the refusal's row is written.
+    /// A write or a flush failed. A prefix of the text or of the refusal's row is written.
     WriteFault,
     /// Memory ran out. Nothing is written.
     OutOfMemory,
+}
+
+impl From<OutOfMemory> for Status {
+    ghost from_gives = { λ _ ended. ended ≡ status.OutOfMemory };
+
+    fn from(_: OutOfMemory) -> Self {
+        Status::OutOfMemory
+    }
 }
 
 impl Status {

@@ -3,3 +3,4 @@ pub mod Sink
 pub mod MemorySource
 pub mod MemorySink
 pub mod StdStreams
+pub mod InCall

@@ -1,5 +1,7 @@
--- What a source in memory holds.
-use Rattle.std.specs.Prelude.{ℕ, List, drop}
+-- What a source in memory holds, and what a read makes of it.
+use Rattle.std.specs.Prelude.{◌≡◌, ◌≤◌, ◌↔◌, ◌++◌, ℕ, List, length, take, drop, min, Result, IsErr, IfOk, OnErr, Contains}
+use Rattle.rail_outside.specs.Faults.{raised, CountsFaults}
+use Rattle.rail_outside.specs.declared.faults.Failed.{Failed}
 use Rattle.rail_outside.specs.declared.memory_source.MemorySource.{MemorySource}
 
 -- the bytes that no read has given yet
@@ -21,3 +23,20 @@ source_reads s = s.reads
 -- how many of them have failed
 abbrev pub source_faults : MemorySource → ℕ
 source_faults s = s.faults
+
+-- a read into a piece, which held `piece` before and holds `piece'` after it
+pub record IsRead (source source' : MemorySource) (piece piece' : List ℕ) (answer : Result ℕ Failed) : Type 0 where
+  -- exactly the reads that are listed fail, and give nothing
+  pub fails : IsErr answer ↔ Contains (source_fails source) (source_reads source')
+  pub kept : OnErr answer (source_left source' ≡ source_left source)
+  pub piece_kept : OnErr answer (piece' ≡ piece)
+  -- the others give as many bytes as a read may give, the piece has room for, and are left
+  pub count : IfOk answer (λ n. n ≡ min (min (source_piece source) (length piece)) (length (source_left source)))
+  pub given : IfOk answer (λ n. piece' ≡ take n (source_left source) ++ drop n piece)
+  pub left : IfOk answer (λ n. source_left source' ≡ drop n (source_left source))
+  -- reads and faults are counted, and nothing else changes
+  pub reads : source_reads source' ≡ raised (source_reads source)
+  pub faults : CountsFaults answer (source_faults source) (source_faults source')
+  pub later : source_faults source ≤ source_faults source'
+  pub same_piece : source_piece source' ≡ source_piece source
+  pub same_fails : source_fails source' ≡ source_fails source

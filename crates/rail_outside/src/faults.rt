@@ -1,3 +1,4 @@
+//! A failed call, and the counts of them.
 ghost use Rattle.std.specs.Prelude.{◌≡◌, ◌↔◌, IsTrue, Contains};
 ghost use Rattle.rail_outside.specs.Faults.{raised};
 

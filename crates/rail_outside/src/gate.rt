@@ -1,3 +1,4 @@
+//! A gate that threads pass at the points of their work.
 use std::sync::Wait;
 
 /// Where in its work a thread passes the gate.
@@ -11,8 +12,8 @@ pub enum Point {
     BeforePublication,
 }
 
-/// A gate that threads pass at the points of their work. It has no meaning, and may wait: by it a test
-/// puts the steps of threads in an order.
+/// A gate that threads pass at the points of their work. It has no meaning, and may wait: by it a
+/// test puts the steps of threads in an order.
 pub trait Gate: Sync {
     /// Passes the gate. Planner p is actor p, and worker w, from 1, is actor 100 + w.
     fn pass<R: Wait>(&self, rt: &R, actor: u32, point: Point);

@@ -1,3 +1,4 @@
+//! Writing a whole text.
 ghost use Rattle.std.specs.Prelude.{◌≡◌, ◌≤◌, ℕ, length, take, OnOk, OnErr};
 ghost use Rattle.std.specs.Io.KnownBytes.{Appends};
 ghost use Rattle.rail_outside.specs.Faults.{Rose};
@@ -5,12 +6,14 @@ ghost use Rattle.rail_outside.specs.Sink.{IsFlushed};
 
 use crate::{Failed, Sink};
 
-/// Writes a text and flushes it. Takes no memory. Where a call fails, some front of the text is written.
+/// Writes a text and flushes it. Takes no memory. Where a call fails, a prefix of the text is
+/// written.
 pub fn send_all<K: Sink>(sink: &mut K, text: &[u8]) -> Result<(), Failed>
     ensures sent { OnOk result (Appends (K.written sink.old) (K.written sink.new) text.now) }
     ensures flushed { OnOk result (IsFlushed (K.written sink.new) (K.flushed sink.new)) }
     ensures prefix { OnErr result ((n : ℕ) × (n ≤ length text.now)
         × Appends (K.written sink.old) (K.written sink.new) (take n text.now)) }
+    ensures no_fault { OnOk result (K.faults sink.new ≡ K.faults sink.old) }
     ensures failed { OnErr result (Rose (K.faults sink.old) (K.faults sink.new)) }
     ensures later { K.faults sink.old ≤ K.faults sink.new }
 {

@@ -1,3 +1,4 @@
+//! Where bytes go.
 ghost use Rattle.std.specs.Prelude.{◌≡◌, ◌<◌, ◌≤◌, ℕ, List, Option, length, take, IfOk, OnOk, OnErr};
 ghost use Rattle.std.specs.Io.KnownBytes.{Appends};
 ghost use Rattle.rail_outside.specs.Faults.{Rose};
@@ -13,17 +14,20 @@ pub trait Sink {
     /// How many of the bytes written are flushed. A failed flush may leave any number.
     ghost flushed: { Self → ℕ };
 
-    /// How many calls have failed. The count never falls, and stands still at its type's end (2^64 - 1).
+    /// How many calls have failed. The count never falls, and stands still at its type's end
+    /// (2^64 - 1).
     ghost faults: { Self → ℕ };
 
-    /// Writes from the front of a piece. `Ok(n)`: the first n bytes of the piece are written, at least one
-    /// where it isn't empty. A write that fails writes nothing.
+    /// Writes the first bytes of a piece. `Ok(n)`: the first n bytes are written, at least one where
+    /// the piece isn't empty. A write that fails writes nothing.
     fn write(&mut self, from: &[u8]) -> Result<usize, Failed>
         ensures within { IfOk result (λ n. n ≤ length from.now) }
         ensures some { IfOk result (λ n. 0 < length from.now → 0 < n) }
-        ensures appended { IfOk result (λ n. Appends (written self.old) (written self.new) (take n from.now)) }
+        ensures appended { IfOk result (λ n.
+            Appends (written self.old) (written self.new) (take n from.now)) }
         ensures flushed_stay { flushed self.new ≡ flushed self.old }
         ensures nothing { OnErr result (written self.new ≡ written self.old) }
+        ensures no_fault { OnOk result (faults self.new ≡ faults self.old) }
         ensures later { faults self.old ≤ faults self.new }
         ensures failed { OnErr result (Rose (faults self.old) (faults self.new)) };
 
@@ -31,6 +35,7 @@ pub trait Sink {
     fn flush(&mut self) -> Result<(), Failed>
         ensures nothing { written self.new ≡ written self.old }
         ensures all { OnOk result (IsFlushed (written self.new) (flushed self.new)) }
+        ensures no_fault { OnOk result (faults self.new ≡ faults self.old) }
         ensures later { faults self.old ≤ faults self.new }
         ensures failed { OnErr result (Rose (faults self.old) (faults self.new)) };
 }

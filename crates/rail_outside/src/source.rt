@@ -1,4 +1,5 @@
-ghost use Rattle.std.specs.Prelude.{◌≡◌, ◌<◌, ◌≤◌, ℕ, List, Option, length, take, IfOk, OnErr};
+//! Where bytes come from.
+ghost use Rattle.std.specs.Prelude.{◌≡◌, ◌<◌, ◌≤◌, ℕ, List, Option, length, take, IfOk, OnOk, OnErr};
 ghost use Rattle.std.specs.Io.KnownBytes.{Consumes, IsAtEnd};
 ghost use Rattle.rail_outside.specs.Faults.{Rose};
 
@@ -9,15 +10,18 @@ pub trait Source {
     /// The bytes that are left, where the source tells them.
     ghost left: { Self → Option (List ℕ) };
 
-    /// How many reads have failed. The count never falls, and stands still at its type's end (2^64 - 1).
+    /// How many reads have failed. The count never falls, and stands still at its type's end
+    /// (2^64 - 1).
     ghost faults: { Self → ℕ };
 
-    /// Reads into a piece. `Ok(n)`: the first n bytes of the piece are the next ones. `Ok(0)` for a piece
-    /// that isn't empty is the end.
+    /// Reads into a piece. `Ok(n)`: the first n bytes of the piece are the next ones. `Ok(0)` for a
+    /// piece that isn't empty is the end.
     fn read(&mut self, into: &mut [u8]) -> Result<usize, Failed>
         ensures within { IfOk result (λ n. n ≤ length into.old) }
-        ensures next { IfOk result (λ n. Consumes (left self.old) (left self.new) (take n into.new)) }
+        ensures next { IfOk result (λ n.
+            Consumes (left self.old) (left self.new) (take n into.new)) }
         ensures end { result ≡ Ok 0 → 0 < length into.old → IsAtEnd (left self.new) }
+        ensures no_fault { OnOk result (faults self.new ≡ faults self.old) }
         ensures later { faults self.old ≤ faults self.new }
         ensures failed { OnErr result (Rose (faults self.old) (faults self.new)) };
 }

@@ -1,3 +1,4 @@
+//! Standard input and standard output.
 ghost use Rattle.std.specs.Prelude.{◌≡◌, ◌≤◌, None, IsErr, OnOk, OnErr, MatchResult};
 ghost use Rattle.rail_outside.specs.Faults.{Rose};
 

@@ -1,4 +1,5 @@
-ghost use Rattle.std.specs.Prelude.{◌≡◌, ◌+◌, ◌-◌, ◌^◌, ◌<◌, ◌≤◌, ◌++◌, ℕ, List, length, IfOk, IsErrOf};
+//! Reading a whole input.
+ghost use Rattle.std.specs.Prelude.{◌≡◌, ◌≢◌, ◌+◌, ◌-◌, ◌^◌, ◌<◌, ◌≤◌, ◌++◌, ℕ, List, length, IfOk, IsErrOf};
 ghost use Rattle.std.specs.Io.KnownBytes.{Consumes, IsAtEnd};
 ghost use Rattle.rail_outside.specs.Faults.{Rose};
 
@@ -18,9 +19,9 @@ pub enum Taken {
 /// The greatest number of bytes that one read is asked for.
 const PIECE_BYTES: usize = 8_192;
 
-/// Takes all bytes that a source has left, at most `limit`. It stops at the end of the source, at a read
-/// that fails, and at `limit + 1` bytes: a read that would come later is never made. Without memory, what
-/// was taken is lost.
+/// Takes all bytes that a source has left, at most `limit`. It stops at the end of the source, at a
+/// read that fails, and at the first byte past the limit: a read that would come later is never made.
+/// Where memory runs out, what was taken is lost.
 pub fn take_all<S: Source>(
     alloc: Global,
     source: &mut S,
@@ -35,9 +36,13 @@ pub fn take_all<S: Source>(
     ensures end { IfOk result (λ taken. IfOk taken (λ bytes. IsAtEnd (S.left source.new))) }
 
     ensures too_long { IfOk result (λ taken. IsErrOf taken Taken.TooLong →
-        ((bytes : List ℕ) × (length bytes ≡ limit + 1) × Consumes (S.left source.old) (S.left source.new) bytes)) }
+        ((bytes : List ℕ) × (length bytes ≡ limit + 1)
+        × Consumes (S.left source.old) (S.left source.new) bytes)) }
+
+    // Unless it says that a read failed, no read did.
     ensures failed { IfOk result (λ taken. IsErrOf taken Taken.Failed →
         Rose (S.faults source.old) (S.faults source.new)) }
+    ensures no_fault { result ≢ Ok (Err Taken.Failed) → S.faults source.new ≡ S.faults source.old }
     ensures later { S.faults source.old ≤ S.faults source.new }
 {
     let mut bytes = Vec::new(alloc);

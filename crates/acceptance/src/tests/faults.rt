@@ -1,4 +1,4 @@
-// Calls of the outside that fail.
+//! Calls of the outside that fail.
 use super::{FIRST_RUN, FIRST_USES, LINE, Outside, REST, REST_USES, WORKING, assert_ends, joined};
 use capacity_cmd::Status;
 use std::test::Fail;
@@ -16,7 +16,13 @@ fn each_read_fails_once(rt: HostRuntime) -> Result<(), Fail> {
         };
         assert_ends(&rt, &input, outside, Status::ReadFault, b"")?;
     }
-    Ok(())
+    // A read after the end was found would fail, and is not made.
+    let outside = Outside {
+        failing_read: reads + 1,
+        ..WORKING
+    };
+    let text = joined(rt.alloc(), &[FIRST_USES, REST_USES])?;
+    assert_ends(&rt, &input, outside, Status::Done, text.as_bytes())
 }
 
 #[test]

@@ -1,4 +1,4 @@
-// Inputs that are refused.
+//! Inputs that are refused.
 use super::{FIRST_RUN, LINE, Outside, REST, WORKING, assert_ends, joined, stairs};
 use capacity_cmd::{Cause, INPUT_BYTES, Status};
 use std::test::Fail;
@@ -72,6 +72,11 @@ fn one_byte_too_many_is_too_long(rt: HostRuntime) -> Result<(), Fail> {
     let (status, sink) = stairs(&rt, &longest, outside)?;
     assert_eq!(rt; status, Status::Done);
     assert_eq!(rt; sink.bytes(), b"".as_slice());
+    // The read after the first byte past the limit would fail, and is not made.
+    let outside = Outside {
+        failing_read: 2_050,
+        ..outside
+    };
     let longer = vec![in rt.alloc(); b'\n'; INPUT_BYTES + 1]?;
     let (status, sink) = stairs(&rt, &longer, outside)?;
     let cause = Cause::TooLong;

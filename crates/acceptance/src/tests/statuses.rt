@@ -1,11 +1,13 @@
-// Words that are no form, and what is said of statuses.
+//! Words that spell no command, and what is said of statuses.
 use super::{FIRST_RUN, FIRST_USES, LINE, REST, REST_USES, joined, only, source_of, words_of};
 use capacity_cmd::{Cause, Status, alone, run, run_alone};
 use rail_model::{Form, List, Rule};
 use rail_outside::{Failed, MemorySink, OpenGate, Source};
+use std::sync::Wait;
 use std::test::Fail;
+use std::thread::Threads;
 
-const NO_FORMS: [&[&str]; 6] = [
+const NO_COMMANDS: [&[&str]; 6] = [
     &[],
     &["compress"],
     &["stairs", "x"],
@@ -16,19 +18,30 @@ const NO_FORMS: [&[&str]; 6] = [
 
 #[test]
 fn other_words_read_nothing(rt: HostRuntime) -> Result<(), Fail> {
-    for words in NO_FORMS {
-        let words = words_of(rt.alloc(), words)?;
-        // Its first read fails, whoever makes it.
-        let mut source = source_of(rt.alloc(), b"block,A,5\n", 16, 1)?;
-        let mut sink = MemorySink::new(rt.alloc(), 10, List::new(rt.alloc()));
-        let status = run(&rt, &words, &mut source, &mut sink, &OpenGate);
-        assert_eq!(rt; status, Status::BadWords, "{words:?}");
-        assert!(rt; sink.bytes().is_empty(), "{words:?}");
-        let mut piece = [0u8; 16];
-        assert_eq!(rt; source.read(&mut piece), Err(Failed), "{words:?}");
-        assert_eq!(rt; source.read(&mut piece), Ok(10), "{words:?}");
+    for words in NO_COMMANDS {
+        let ended = call_and_read(&rt, words)?;
+        assert_eq!(rt;
+            ended,
+            (Status::BadWords, 0, Err(Failed), Ok(10)),
+            "{words:?}"
+        );
     }
     Ok(())
+}
+
+// A call's status, how many bytes it wrote, and what two more reads answer.
+type Ended = (Status, usize, Result<usize, Failed>, Result<usize, Failed>);
+
+// Calls the program on a source that fails at its first read, whoever makes it.
+fn call_and_read<R: AllocGlobal + Threads + Wait>(rt: &R, words: &[&str]) -> Result<Ended, Fail> {
+    let words = words_of(rt.alloc(), words)?;
+    let mut source = source_of(rt.alloc(), b"block,A,5\n", 16, 1)?;
+    let mut sink = MemorySink::new(rt.alloc(), 10, List::new(rt.alloc()));
+    let status = run(rt, &words, &mut source, &mut sink, &OpenGate);
+    let mut piece = [0u8; 16];
+    let first = source.read(&mut piece);
+    let second = source.read(&mut piece);
+    Ok((status, sink.bytes().len(), first, second))
 }
 
 #[test]

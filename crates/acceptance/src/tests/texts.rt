@@ -1,4 +1,4 @@
-// Texts of `stairs`.
+//! Texts of `stairs`.
 use super::{FIRST_RUN, FIRST_USES, LINE, Outside, REST, REST_USES, WORKING, assert_ends, joined};
 use capacity_cmd::Status;
 use std::test::Fail;

@@ -6,7 +6,8 @@ use Rattle.csv.specs.declared.parser.State.{State}
 use Rattle.csv.specs.declared.parser.State.TheVariants as st
 use Rattle.csv.proofs.ReadFacts.{rows-end, rows-more}
 use Rattle.capacity_cmd.specs.Rows.{Row}
-use Rattle.capacity_cmd.specs.Input.{rows_of, tables_of, put_next}
+use Rattle.capacity_cmd.specs.Input.{rows_of, tables_of}
+use Rattle.capacity_cmd.specs.Putting.{put_next}
 use Rattle.capacity_cmd.proofs.Records.{Reached-length, records_from-Reached, records_from-end, length-strip_bom}
 use Rattle.capacity_cmd.proofs.Puts.{Spelled-push, tables_after-row, tables_of-unspelled, tables_of-spelled}
 use Rattle.capacity_cmd.proofs.input.tables_of_text.Goals as goal
@@ -85,7 +86,7 @@ returns-in_default-2-clause-made c =
     let m = rows-more (λ (s : Bor (List ℕ)). Some s.now) c.loop-row.row-iterator.rdr c.next.new.self.rdr f default_config st.StartRecord (strip_bom c.args.text.now) inv.5 inv.7 inv.3 inv.6 inv.8 s.0 in
     let all = rows_then (inv.7 ++ f ∷ []) c.args.text.now _ _ m.2 in
     let unspelled = sym c.in_ok-item.ensures ∙ c.in_default-2.is in
-    ap (λ n. Err (n + 1)) inv.10 ∙ sym (ap tables_of all.1 ∙ tables_of-unspelled inv.7 f _ inv.9 unspelled)
+    ap (λ n. Err (n + 1)) inv.10 ∙ sym (ap tables_of all.1 ∙ tables_of-unspelled inv.7 f (records_from default_config all.0 c.next.new.self.rdr.state m.0) inv.9 unspelled)
 
 pub returns-clause-made : goal.returns-clause-made
 returns-clause-made c =

@@ -1,4 +1,4 @@
-use Rattle.std.proofs.Common.{arith, length-take, length-drop}
+use Rattle.std.proofs.Common.{◌∙◌, arith, length-take, length-drop}
 use Rattle.rail_outside.proofs.Pieces.{Appends-more}
 use Rattle.rail_outside.proofs.send.send_all.Goals as goal
 
@@ -10,6 +10,6 @@ loop-sent-preserved g c =
     let sent = c.loop-sent.sent in
     record {
       in_text = omega (arith, told.within, simp (length-take, length-drop) at told.within);
-      front = Appends-more _ _ _ text sent c.in_ok-sent.field-0 past.front told.appended;
-      later = omega (arith, past.later, told.later);
+      prefix = Appends-more _ _ _ text sent c.in_ok-sent.field-0 past.prefix told.appended;
+      no_fault = told.no_fault ∙ past.no_fault;
     }

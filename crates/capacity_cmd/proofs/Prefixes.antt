@@ -2,28 +2,29 @@
 use Rattle.std.proofs.Common.{◌≡◌, ℕ, zero, suc, ◌+◌, ◌<◌, ◌≤◌, List, [], ◌∷◌, ◌++◌, length, drop, Option, Some, None, refl, sym, ap, ◌∙◌, append_assoc, add-one, arith}
 use Rattle.csv.specs.Records.{field_at}
 use Rattle.rail_model.specs.declared.items.Leg.{Leg}
-use Rattle.capacity_cmd.specs.Rows.{◌>>=◌, Row, name_at, names_of, number_of, number_at, leg_of, leg_at, legs_of}
+use Rattle.capacity_cmd.specs.Rows.{◌>>=◌, Row, name_at, names_of, number_in, number_at, leg_of, legs_of}
+use Rattle.capacity_cmd.specs.Fields.{leg_at}
 
 -- what was read so far before what the rest reads as
-abbrev pub with_front : {X : Type 0} → List X → Option (List X) → Option (List X)
-with_front front rest = rest >>= λ xs. Some (front ++ xs)
+abbrev pub with_prefix : {X : Type 0} → List X → Option (List X) → Option (List X)
+with_prefix prefix rest = rest >>= λ xs. Some (prefix ++ xs)
 
 -- an item before what the rest reads as
 abbrev pub with_first : {X : Type 0} → Option X → Option (List X) → Option (List X)
 with_first found rest = found >>= λ x. rest >>= λ xs. Some (x ∷ xs)
 
-with_front-more : {X : Type 0} (front : List X) (x : X) (rest : Option (List X)) → with_front (front ++ x ∷ []) rest ≡ with_front front (with_first (Some x) rest)
-with_front-more front x None = refl
-with_front-more front x (Some xs) = ap Some (append_assoc front (x ∷ []) xs)
+with_prefix-more : {X : Type 0} (prefix : List X) (x : X) (rest : Option (List X)) → with_prefix (prefix ++ x ∷ []) rest ≡ with_prefix prefix (with_first (Some x) rest)
+with_prefix-more prefix x None = refl
+with_prefix-more prefix x (Some xs) = ap Some (append_assoc prefix (x ∷ []) xs)
 
 -- the whole reads as nothing where the next item does
-pub front-none : {X : Type 0} (front : List X) (found : Option X) (rest later whole : Option (List X)) → rest ≡ with_first found later → with_front front rest ≡ whole → found ≡ None → None ≡ whole
-front-none front found rest later whole e read none = sym (ap (with_front front) (rw none at e)) ∙ read
+pub prefix-none : {X : Type 0} (prefix : List X) (found : Option X) (rest later whole : Option (List X)) → rest ≡ with_first found later → with_prefix prefix rest ≡ whole → found ≡ None → None ≡ whole
+prefix-none prefix found rest later whole e read none = sym (ap (with_prefix prefix) (rw none at e)) ∙ read
 
--- the next item goes to the front
-pub front-some : {X : Type 0} (front : List X) (found : Option X) (x : X) (rest later whole : Option (List X)) → rest ≡ with_first found later → with_front front rest ≡ whole → found ≡ Some x → with_front (front ++ x ∷ []) later ≡ whole
-front-some front found x rest later whole e read some =
-    with_front-more front x later ∙ sym (ap (with_front front) (rw some at e)) ∙ read
+-- the next item goes to the end of the prefix
+pub prefix-some : {X : Type 0} (prefix : List X) (found : Option X) (x : X) (rest later whole : Option (List X)) → rest ≡ with_first found later → with_prefix prefix rest ≡ whole → found ≡ Some x → with_prefix (prefix ++ x ∷ []) later ≡ whole
+prefix-some prefix found x rest later whole e read some =
+    with_prefix-more prefix x later ∙ sym (ap (with_prefix prefix) (rw some at e)) ∙ read
 
 -- the names from a field on: that field's, and those after it
 names_of-suc : (row : Row) (i : ℕ) → i < length row → names_of (drop i row) ≡ with_first (name_at row i) (names_of (drop (suc i) row))
@@ -65,6 +66,6 @@ last_alone (Some n) = refl
 pub legs_of-last : (row : Row) (i : ℕ) → i + 1 ≡ length row → legs_of (drop i row) ≡ with_first (last_leg (number_at row i)) (Some [])
 unfolding field_at
 legs_of-last [] i e = absurd (omega arith)
-legs_of-last (running ∷ []) zero e = last_alone (number_of running)
+legs_of-last (running ∷ []) zero e = last_alone (number_in running)
 legs_of-last (running ∷ dwell ∷ row) zero e = absurd (omega arith)
 legs_of-last (field ∷ row) (suc i) e = legs_of-last row i (omega arith)

@@ -1,0 +1,112 @@
+//! A call with the process's words, and how the process ends after it.
+ghost use Rattle.std.specs.Prelude.{◌≡◌, ◌≢◌};
+ghost use Rattle.std.specs.IoError.{error_kind};
+ghost use Rattle.std.specs.declared.io.ErrorKind.TheVariants as kind;
+ghost use Rattle.capacity_cmd.specs.declared.status.Status.TheVariants as status;
+ghost use Rattle.capacity.specs.Call.{IsCall, EndsAsCall};
+
+use capacity_cmd::{Status, run};
+use rail_outside::{OpenGate, Sink, Source};
+use std::io::ErrorKind;
+use std::process::{ExitCode, Termination};
+use std::rt::Env;
+use std::sync::Wait;
+use std::thread::Threads;
+use std::{env, io};
+
+// How the process ends. It is made here alone and can't be dropped, so `main` has to end with what a
+// call gave it.
+pub(crate) struct Ended {
+    code: ExitCode,
+}
+
+impl Termination for Ended {
+    fn report<R: Eprint>(self, _rt: &R) -> ExitCode
+        ensures { result ≡ self.code }
+    {
+        match self {
+            Ended { code } => code,
+        }
+    }
+}
+
+// Makes a call, and says on standard error why it isn't done.
+pub(crate) fn end_of_call<R: AllocGlobal + Env + Eprint + Threads + Wait, S: Source, K: Sink>(
+    rt: &R,
+    source: &mut S,
+    sink: &mut K,
+) -> Ended
+    ensures { EndsAsCall
+        result
+        (record { left = S.left; faults = S.faults; before = source.old; after = source.new })
+        (record {
+          written = K.written;
+          flushed = K.flushed;
+          faults = K.faults;
+          before = sink.old;
+          after = sink.new;
+        }) }
+{
+    let status = call(rt, source, sink);
+    // What can't be said on standard error is said by the exit code.
+    let _ = explain(rt, status);
+    Ended {
+        code: ExitCode::from(status.number()),
+    }
+}
+
+// A call with the runtime's words. No contract tells which they are.
+fn call<R: AllocGlobal + Env + Threads + Wait, S: Source, K: Sink>(
+    rt: &R,
+    source: &mut S,
+    sink: &mut K,
+) -> Status
+    ensures { IsCall
+        result
+        (record { left = S.left; faults = S.faults; before = source.old; after = source.new })
+        (record {
+          written = K.written;
+          flushed = K.flushed;
+          faults = K.faults;
+          before = sink.old;
+          after = sink.new;
+        }) }
+{
+    match words(rt) {
+        Ok(words) => run(rt, &words, source, sink, &OpenGate),
+        Err(error) => without_words(&error),
+    }
+}
+
+// The words after the program's name.
+fn words(rt: &(impl Env + AllocGlobal)) -> io::Result<Vec<String>> {
+    let mut words = Vec::new(rt.alloc());
+    for word in env::args(rt)?.skip(1) {
+        words.push(word)?;
+    }
+    Ok(words)
+}
+
+// A word that isn't UTF-8 is no word of a form.
+fn without_words(error: &io::Error) -> Status
+    ensures no_memory { error_kind error.now ≡ kind.OutOfMemory → result ≡ status.OutOfMemory }
+    ensures no_word { error_kind error.now ≢ kind.OutOfMemory → result ≡ status.BadWords }
+{
+    if error.kind() == ErrorKind::OutOfMemory {
+        Status::OutOfMemory
+    } else {
+        Status::BadWords
+    }
+}
+
+fn explain(rt: &impl Eprint, status: Status) -> io::Result<()> {
+    match status {
+        Status::Done => Ok(()),
+        Status::Refused { row: 0, cause } => eprintln!(rt; "{cause}"),
+        Status::Refused { row, cause } => eprintln!(rt; "row {row}: {cause}"),
+        Status::BadWords => eprintln!(rt; "usage: capacity stairs < LINE.csv > STAIRS.csv"),
+        Status::ReadFault => eprintln!(rt; "the input could not be read"),
+        Status::WriteFault => eprintln!(rt; "the output could not be written"),
+        Status::OutOfMemory => eprintln!(rt; "memory ran out"),
+    }
+}

@@ -1,0 +1,68 @@
+-- A source and a sink in a call: what they tell of themselves, and their states before and after it.
+use Rattle.std.specs.Prelude.{◌≡◌, ℕ, ◌-◌, ◌^◌, ◌<◌, ◌≤◌, List, length, take, Option}
+use Rattle.std.specs.Io.KnownBytes.{Appends, IsAtEnd}
+use Rattle.rail_outside.specs.Faults.{Rose}
+use Rattle.rail_outside.specs.Sink.{IsFlushed}
+
+-- a source: the bytes that it has left, where it tells them, and its count of faults
+pub record SourceInCall (S : Type 0) : Type 0 where
+  pub left : S → Option (List ℕ)
+  pub faults : S → ℕ
+  pub before : S
+  pub after : S
+
+-- a sink: the bytes written to it, where it tells them, how many of them are flushed, and its count of faults
+pub record SinkInCall (K : Type 0) : Type 0 where
+  pub written : K → Option (List ℕ)
+  pub flushed : K → ℕ
+  pub faults : K → ℕ
+  pub before : K
+  pub after : K
+
+module _ {S : Type 0} (source : SourceInCall S) where
+  -- nothing was read
+  abbrev pub IsUnread : Type 0
+  IsUnread = source.after ≡ source.before
+
+  -- the source was read to its end
+  abbrev pub IsReadToEnd : Type 0
+  IsReadToEnd = IsAtEnd (source.left source.after)
+
+  -- a read failed: the count of faults rose
+  abbrev pub ReadFailed : Type 0
+  ReadFailed = Rose (source.faults source.before) (source.faults source.after)
+
+  -- no read failed: the count of faults stands
+  abbrev pub NoReadFailed : Type 0
+  NoReadFailed = source.faults source.after ≡ source.faults source.before
+
+  -- the count, which stands below its last value, shows that no read failed
+  abbrev pub ShowsNoReadFailed : Type 0
+  ShowsNoReadFailed = NoReadFailed × (source.faults source.after < 2 ^ 64 - 1)
+
+module _ {K : Type 0} (sink : SinkInCall K) where
+  -- nothing was written
+  abbrev pub IsUnwritten : Type 0
+  IsUnwritten = sink.after ≡ sink.before
+
+  -- a whole text was written, and all bytes written are flushed
+  pub record IsWritten (text : List ℕ) : Type 0 where
+    pub whole : Appends (sink.written sink.before) (sink.written sink.after) text
+    pub flushed : IsFlushed (sink.written sink.after) (sink.flushed sink.after)
+
+  -- a prefix of a text was written
+  abbrev pub IsBrokenOff : List ℕ → Type 0
+  IsBrokenOff text =
+      (n : ℕ) × (n ≤ length text) × Appends (sink.written sink.before) (sink.written sink.after) (take n text)
+
+  -- a write or a flush failed: the count of faults rose
+  abbrev pub WriteFailed : Type 0
+  WriteFailed = Rose (sink.faults sink.before) (sink.faults sink.after)
+
+  -- no write and no flush failed: the count of faults stands
+  abbrev pub NoWriteFailed : Type 0
+  NoWriteFailed = sink.faults sink.after ≡ sink.faults sink.before
+
+  -- the count, which stands below its last value, shows that no write and no flush failed
+  abbrev pub ShowsNoWriteFailed : Type 0
+  ShowsNoWriteFailed = NoWriteFailed × (sink.faults sink.after < 2 ^ 64 - 1)
