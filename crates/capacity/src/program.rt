@@ -14,8 +14,8 @@ use std::sync::Wait;
 use std::thread::Threads;
 use std::{env, io};
 
-// How the process ends. It is made here alone and can't be dropped, so `main` has to end with what a
-// call gave it.
+// How the process ends. It is made here alone and can't be dropped, so `main` has to end with what
+// a call gave it.
 pub(crate) struct Ended {
     code: ExitCode,
 }

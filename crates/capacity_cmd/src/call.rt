@@ -20,8 +20,8 @@ use std::thread::Threads;
 /// The greatest number of bytes of an input.
 pub const INPUT_BYTES: usize = 16_777_216;
 
-/// Whether a call with these words runs on its caller's thread alone and waits for nobody. Today all
-/// do.
+/// Whether a call with these words runs on its caller's thread alone and waits for nobody. Today
+/// all do.
 pub fn alone(words: &[String]) -> bool
     ensures { IsTrue result ↔ IsAlone (map string_bytes words.now) }
 {
@@ -86,7 +86,8 @@ fn reply_from<S: Source>(alloc: Global, command: Command, source: &mut S) -> Res
     ensures whole_input { IfOk result (λ reply.
         reply.status ≡ status.Done → IsAtEnd (S.left source.new)) }
     ensures why { IfErr result (λ why. (why ≡ status.ReadFault) ⊎ (why ≡ status.OutOfMemory)) }
-    ensures fault { result ≡ Err status.ReadFault → Rose (S.faults source.old) (S.faults source.new) }
+    ensures fault { result ≡ Err status.ReadFault →
+        Rose (S.faults source.old) (S.faults source.new) }
     ensures no_fault { result ≢ Err status.ReadFault → S.faults source.new ≡ S.faults source.old }
 {
     match take_all(alloc, source, INPUT_BYTES)? {

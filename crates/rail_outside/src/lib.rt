@@ -1,8 +1,8 @@
 //! The program's outside: where bytes come from, where they go, and a gate that threads pass.
 //!
-//! A source or a sink raises its count of faults where it answers a fault, and nowhere else. Those in
-//! memory fail at exactly the calls that they are told to; those of the standard streams tell nothing
-//! of their bytes.
+//! A source or a sink raises its count of faults where it answers a fault, and nowhere else. Those
+//! in memory fail at exactly the calls that they are told to; those of the standard streams tell
+//! nothing of their bytes.
 #![tactic(auto)]
 
 mod faults;

@@ -18,8 +18,8 @@ pub trait Sink {
     /// (2^64 - 1).
     ghost faults: { Self → ℕ };
 
-    /// Writes the first bytes of a piece. `Ok(n)`: the first n bytes are written, at least one where
-    /// the piece isn't empty. A write that fails writes nothing.
+    /// Writes the first bytes of a piece. `Ok(n)`: the first n bytes are written, at least one
+    /// where the piece isn't empty. A write that fails writes nothing.
     fn write(&mut self, from: &[u8]) -> Result<usize, Failed>
         ensures within { IfOk result (λ n. n ≤ length from.now) }
         ensures some { IfOk result (λ n. 0 < length from.now → 0 < n) }

@@ -19,8 +19,8 @@ fn a_source_in_memory_fails_at_the_listed_read(rt: HostRuntime) -> Result<(), Fa
     Ok(())
 }
 
-// Whether all five bytes of a source are taken, by the piece of its reads, the number of the read that
-// fails, and the limit.
+// Whether all five bytes of a source are taken, by the piece of its reads, the number of the read
+// that fails, and the limit.
 const TAKEN: [(usize, u64, usize, Result<bool, Taken>); 7] = [
     (1, 0, 5, Ok(true)),
     (8, 0, 5, Ok(true)),
