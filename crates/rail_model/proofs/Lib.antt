@@ -6,3 +6,5 @@ pub mod Numbers
 pub mod Repeats
 pub mod Members
 pub mod Sound
+pub mod Facts
+pub mod Paths

@@ -25,6 +25,13 @@ no_signal = record { name = []; block = []; approach_m = 0; watch_s = 0; form_s 
 abbrev pub no_route : Route
 no_route = record { name = []; signals = [] }
 
+abbrev pub no_run : Run
+no_run = record { name = []; route = []; length_m = 0; tail_s = 0; start_s = 0; legs = [] }
+
+-- the run with a number
+abbrev pub run_at : Tables → ℕ → Run
+run_at tables n = slice_index_or tables.runs n no_run
+
 -- the number of a block, and of a route
 abbrev pub block_number : Tables → List ℕ → ℕ
 block_number tables name = number_of (λ b. b.name) tables.blocks name

@@ -4,7 +4,8 @@ use Rattle.rail_model.specs.declared.path.Hop.{Hop}
 use Rattle.rail_model.specs.Path.{Fits}
 use Rattle.rail_model.specs.Tables.{route_named, path_in}
 use Rattle.blocking_time.specs.Lookup.{with_legs}
-use Rattle.blocking_time.proofs.Sound.{looked_up_first, path_fits, route_stands, hops_numbered}
+use Rattle.rail_model.proofs.Paths.{path_fits, route_stands, hops_numbered}
+use Rattle.blocking_time.proofs.Sound.{looked_up_first}
 use Rattle.blocking_time.proofs.lookup.path_over.Goals as goal
 
 looked_up : (c : goal.After-result-1) → c.in_ok-timed.timed ≡ (path_in c.args.tables.now c.args.run.now).hops
