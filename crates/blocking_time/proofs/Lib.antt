@@ -4,4 +4,3 @@ pub mod Stops
 pub mod Clearing
 pub mod Bounds
 pub mod Uses
-pub mod Sound

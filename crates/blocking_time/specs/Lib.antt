@@ -2,5 +2,4 @@ pub mod Moment
 pub mod Mark
 pub mod Moments
 pub mod Blocking
-pub mod Lookup
 pub mod Law

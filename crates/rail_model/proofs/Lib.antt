@@ -1,9 +1,8 @@
 mod Examples
+mod EditExamples
 mod NameTests
 pub mod NameOrder
 pub mod Places
-pub mod Numbers
-pub mod Repeats
 pub mod Members
 pub mod Sound
 pub mod Facts

@@ -10,14 +10,11 @@ mod form;
 mod items;
 mod limits;
 mod list;
-mod lookup;
 mod memory;
 mod name;
+mod named;
 mod path;
-mod put;
 mod range;
-mod rules;
-mod search;
 mod stair;
 mod tables;
 
@@ -31,11 +28,8 @@ pub use limits::{
 pub use list::List;
 pub use memory::OutOfMemory;
 pub use name::{BadName, NAME_BYTES, Name};
+pub use named::Named;
 pub use path::{Hop, Path};
 pub use range::is_within;
-pub use search::Named;
 pub use stair::{Stair, Use};
 pub use tables::Tables;
-
-#[cfg(test)]
-mod tests;

@@ -1,15 +1,13 @@
 //! Lines whose times were worked out by hand.
 
-ghost use Rattle.std.specs.Prelude.{◌≡◌, ◌≢◌, ◌<◌, ◌≤◌, ◌+◌, IfOk, length};
+ghost use Rattle.std.specs.Prelude.{◌≡◌, ◌≢◌, ◌<◌, ◌≤◌, ◌+◌, IfOk};
 ghost use Rattle.rail_model.specs.Path.{hop_count, Fits, IsHopWithin};
 ghost use Rattle.rail_model.specs.Motion.{place};
-ghost use Rattle.rail_model.specs.Sound.{IsSound};
 
-use crate::{
-    approach_moment, blockings, constant_speed_law, parts, path_of, reach, reach_down, route_hops,
-    run_path, stairs,
+use blocking_time::{
+    approach_moment, blockings, constant_speed_law, parts, reach, reach_down, stairs,
 };
-use rail_model::{Block, Hop, Leg, List, Name, Path, Route, Run, Signal, Tables};
+use rail_model::{Hop, List, Name, Path};
 use std::alloc::Global;
 use std::process::Abort;
 use std::test::Fail;
@@ -141,85 +139,5 @@ fn rounded_times(rt: HostRuntime) -> Result<(), Fail> {
     assert_eq!(rt; reach(&uneven, 450), 133);
     assert_eq!(rt; reach_down(&uneven, 450), 132);
     assert_eq!(rt; approach_moment(&uneven, 2), 132);
-    Ok(())
-}
-
-// A line of one block and one run.
-fn one_run(alloc: Global) -> Result<Tables, Fail>
-    ensures sound { IfOk result IsSound }
-    ensures count { IfOk result (λ tables. length tables.runs ≡ 1) }
-{
-    let name = Name::read(b"N")?;
-    let mut blocks = List::new(alloc);
-    blocks.push(Block {
-        name,
-        length_m: 1_000,
-    })?;
-    let mut signals = List::new(alloc);
-    signals.push(Signal {
-        name,
-        block: name,
-        approach_m: 400,
-        watch_s: 10,
-        form_s: 5,
-        overlap_m: 50,
-        release_s: 6,
-    })?;
-    let mut names = List::new(alloc);
-    names.push(name)?;
-    let mut routes = List::new(alloc);
-    routes.push(Route {
-        name,
-        signals: names,
-    })?;
-    let mut legs = List::new(alloc);
-    legs.push(Leg {
-        running_s: 60,
-        dwell_s: 0,
-    })?;
-    let mut runs = List::new(alloc);
-    runs.push(Run {
-        name,
-        route: name,
-        length_m: 100,
-        tail_s: 10,
-        start_s: 200,
-        legs,
-    })?;
-    Ok(Tables {
-        blocks,
-        signals,
-        routes,
-        runs,
-        sections: List::new(alloc),
-    })
-}
-
-#[test]
-fn path_of_a_run(rt: HostRuntime) -> Result<(), Fail> {
-    let alloc = rt.alloc();
-    let tables = one_run(alloc)?;
-    let path = path_of(alloc, &tables, 0)?;
-    assert_eq!(rt; (path.length_m, path.tail_s, path.start_s), (100, 10, 200));
-    assert_eq!(rt; path.hops.len(), 1);
-    let hop = path.hops.slice()[0];
-    assert_eq!(rt;
-        (hop.block, hop.block_m, hop.running_s, hop.dwell_s),
-        (0, 1_000, 60, 0)
-    );
-    assert_eq!(rt; (hop.approach_m, hop.watch_s, hop.form_s), (400, 10, 5));
-    assert_eq!(rt; (hop.overlap_m, hop.release_s), (50, 6));
-    Ok(())
-}
-
-#[test]
-fn path_by_the_hops_of_routes(rt: HostRuntime) -> Result<(), Fail> {
-    let alloc = rt.alloc();
-    let tables = one_run(alloc)?;
-    let routes = route_hops(alloc, &tables)?;
-    let path = run_path(alloc, &tables, routes.slice(), 0)?;
-    assert_eq!(rt; (path.length_m, path.hops.len()), (100, 1));
-    let hop = path.hops.slice()[0];
-    assert_eq!(rt; (hop.block_m, hop.running_s, hop.dwell_s), (1_000, 60, 0));
     Ok(())
 }
