@@ -1,0 +1,5 @@
+pub mod Row
+pub mod Sorts
+pub mod Words
+pub mod Reads
+pub mod Lines
