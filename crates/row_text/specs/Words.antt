@@ -32,7 +32,7 @@ abbrev pub words : List Word
 words = map word.Put kinds ++ map word.Change kinds ++ map word.Drop kinds ++ word.Ask ∷ word.Planner ∷ []
 
 -- the word that a field is, if it is one
-abbrev pub word_of : List ℕ → Option Word
+unfoldable pub word_of : List ℕ → Option Word
 word_of field = find (λ w. is_same field (word_text w)) words
 
 -- the kind of which a field is the word

@@ -1,5 +1,5 @@
 // What the fields of a row say.
-ghost use Rattle.std.specs.Prelude.{◌≡◌, ◌<◌, length};
+ghost use Rattle.std.specs.Prelude.{◌≡◌, ◌<◌, ◌^◌, length, IfSome};
 ghost use Rattle.row_text.specs.Row.{field};
 ghost use Rattle.row_text.specs.Sorts.{name_in, number_in, rate_in, time_in, number_of, class_rate, rate_of, clock_of, time_of};
 
@@ -49,7 +49,8 @@ pub(crate) fn time_at(version: u32, row: &Row<'_>, i: usize) -> Result<u32, Form
 
 // The number that a field of one to nine digits writes.
 pub(crate) fn number(field: &[u8]) -> Option<u32>
-    ensures { result ≡ number_of field.now }
+    ensures value { result ≡ number_of field.now }
+    ensures small { IfSome result (λ value. value < 10 ^ length field.now) }
 {
     if field.is_empty() || field.len() > NUMBER_DIGITS {
         return None;

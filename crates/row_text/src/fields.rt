@@ -1,4 +1,4 @@
-ghost use Rattle.std.specs.Prelude.{◌≡◌, ◌+◌, ◌<◌, ◌≤◌, ◌^◌, ◌↔◌, [], ◌∷◌, ◌++◌, length, take, drop, IsTrue, IfSome, OnOk, OnErr};
+ghost use Rattle.std.specs.Prelude.{◌≡◌, ◌+◌, ◌<◌, ◌≤◌, ◌^◌, ◌↔◌, [], ◌∷◌, ◌++◌, length, slice_range, IsTrue, IfSome, OnOk, OnErr};
 ghost use Rattle.csv.specs.Records.{cut_from, Rising};
 ghost use Rattle.row_text.specs.Row.{field};
 
@@ -65,7 +65,7 @@ impl Fields {
     pub fn is_empty(&self) -> bool
         ensures { IsTrue result ↔ (self.now ≡ []) }
     {
-        self.ends.is_empty()
+        self.len() == 0
     }
 
     /// The field at `i`.
@@ -81,18 +81,20 @@ impl Fields {
     pub fn row(&self) -> Row<'_>
         ensures { result ≡ self.now }
     {
-        self.part(0, self.ends.len())
+        self.part(0, self.len())
     }
 
-    // As many of the fields from one on as a row.
-    pub(crate) fn part(&self, from: usize, len: usize) -> Row<'_>
-        requires { from + len ≤ length self.now }
-        ensures { result ≡ take len (drop from self.now) }
+    // The fields from one on and before another, as a row.
+    #[inline]
+    pub(crate) fn part(&self, from: usize, to: usize) -> Row<'_>
+        requires order { from ≤ to }
+        requires there { to ≤ length self.now }
+        ensures { result ≡ slice_range self.now from to }
     {
         Row {
             fields: self,
             from,
-            len,
+            to,
         }
     }
 }
@@ -102,17 +104,17 @@ impl Fields {
 pub struct Row<'a> {
     fields: &'a Fields,
     from: usize,
-    len: usize,
+    to: usize,
 }
 
 impl<'a> Model for Row<'a> {
-    ghost use Rattle.std.specs.Prelude.{◌+◌, ◌≤◌, List, ℕ, length, take, drop};
+    ghost use Rattle.std.specs.Prelude.{◌<◌, ◌≤◌, ◌^◌, List, ℕ, length, slice_range};
 
     ghost Value = { List (List ℕ) };
 
-    ghost view = { λ r. take r.len (drop r.from r.fields.now) };
+    ghost view = { λ r. slice_range r.fields.now r.from r.to };
 
-    ghost invariant = { λ r. r.from + r.len ≤ length r.fields.now };
+    ghost invariant = { λ r. (r.from ≤ r.to) × (r.to ≤ length r.fields.now) × (r.to < 2 ^ 64) };
 }
 
 impl<'a> Row<'a> {
@@ -121,14 +123,14 @@ impl<'a> Row<'a> {
     pub fn len(&self) -> usize
         ensures { result ≡ length self.now }
     {
-        self.len
+        self.to - self.from
     }
 
     /// Whether there is no field.
     pub fn is_empty(&self) -> bool
         ensures { IsTrue result ↔ (self.now ≡ []) }
     {
-        self.len == 0
+        self.len() == 0
     }
 
     /// The field at `i`.
