@@ -1,5 +1,5 @@
 // The items that rows put and change.
-ghost use Rattle.std.specs.Prelude.{◌≡◌, ◌<◌, length, IsTrue};
+ghost use Rattle.std.specs.Prelude.{◌<◌, length, IsTrue};
 ghost use Rattle.rail_model.specs.declared.edit.Kind.TheVariants as kind;
 ghost use Rattle.row_text.specs.Words.{kind_shape, allows};
 ghost use Rattle.row_text.specs.Lines.{item_in};
@@ -9,7 +9,7 @@ use crate::field::{name_at, number_at, rate_at, time_at};
 use crate::fields::Row;
 use crate::lists::{names_from, run_legs, times_from};
 use crate::unread::Unread;
-use rail_model::{Block, Connection, Form, Item, Kind, Route, Run, Section, Signal};
+use rail_model::{Block, Connection, Item, Kind, Route, Run, Section, Signal};
 use std::alloc::Global;
 
 // The item of a kind that a row spells, or the first fault of its fields.
@@ -23,19 +23,19 @@ pub(crate) fn item_of(
     ensures { Reads result (item_in version kind row.now) }
 {
     match kind {
-        Kind::Block => Ok(block_of(row)?),
-        Kind::Signal => Ok(signal_of(row)?),
+        Kind::Block => block_of(row),
+        Kind::Signal => signal_of(row),
         Kind::Route => route_of(alloc, row),
         Kind::Run => run_of(alloc, version, row),
         Kind::Section => section_of(alloc, version, row),
-        Kind::Connection => Ok(connection_of(row)?),
+        Kind::Connection => connection_of(row),
     }
 }
 
 // block,NAME,LENGTH
-fn block_of(row: &Row<'_>) -> Result<Item, Form>
+fn block_of(row: &Row<'_>) -> Result<Item, Unread>
     requires { 2 < length row.now }
-    ensures { result ≡ item_in 1 kind.Block row.now }
+    ensures { Reads result (item_in 1 kind.Block row.now) }
 {
     let name = name_at(row, 1)?;
     let length_m = number_at(row, 2)?;
@@ -43,9 +43,9 @@ fn block_of(row: &Row<'_>) -> Result<Item, Form>
 }
 
 // signal,NAME,BLOCK,APPROACH,WATCH,FORM,OVERLAP,RELEASE
-fn signal_of(row: &Row<'_>) -> Result<Item, Form>
+fn signal_of(row: &Row<'_>) -> Result<Item, Unread>
     requires { 7 < length row.now }
-    ensures { result ≡ item_in 1 kind.Signal row.now }
+    ensures { Reads result (item_in 1 kind.Signal row.now) }
 {
     let name = name_at(row, 1)?;
     let block = name_at(row, 2)?;
@@ -118,9 +118,9 @@ fn section_of(alloc: Global, version: u32, row: &Row<'_>) -> Result<Item, Unread
 }
 
 // connect,NAME,FIRST,SECOND,MINIMUM
-fn connection_of(row: &Row<'_>) -> Result<Item, Form>
+fn connection_of(row: &Row<'_>) -> Result<Item, Unread>
     requires { 4 < length row.now }
-    ensures { result ≡ item_in 1 kind.Connection row.now }
+    ensures { Reads result (item_in 1 kind.Connection row.now) }
 {
     let name = name_at(row, 1)?;
     let first = name_at(row, 2)?;
