@@ -1,3 +1,6 @@
 pub mod Cuts
+pub mod Pieces
 pub mod Reading
 pub mod Words
+pub mod Records
+pub mod Taken

@@ -1,4 +1,6 @@
 pub mod Row
+pub mod Pieces
+pub mod Rows
 pub mod Sorts
 pub mod Words
 pub mod Reads

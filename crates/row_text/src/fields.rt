@@ -1,5 +1,5 @@
-ghost use Rattle.std.specs.Prelude.{◌≡◌, ◌+◌, ◌<◌, ◌≤◌, ◌^◌, ◌↔◌, [], ◌∷◌, ◌++◌, length, slice_range, IsTrue, IfSome, OnOk, OnErr};
-ghost use Rattle.csv.specs.Records.{cut_from, Rising};
+ghost use Rattle.std.specs.Prelude.{◌≡◌, ◌+◌, ◌<◌, ◌≤◌, ◌^◌, ◌↔◌, [], ◌∷◌, ◌++◌, length, slice_index, slice_range, IsTrue, IfSome, OnOk, OnErr};
+ghost use Rattle.csv.specs.Records.{cut_from, Rising, prev};
 ghost use Rattle.row_text.specs.Row.{field};
 
 use rail_model::OutOfMemory;
@@ -150,12 +150,22 @@ fn field_at<'a>(bytes: &'a [u8], ends: &[u32], i: usize) -> &'a [u8]
     requires rise { Rising 0 ends.now (length bytes.now) }
     ensures { result.now ≡ field (cut_from 0 ends.now bytes.now) i }
 {
+    let (start, end) = span(ends, i);
+    &bytes[start..end]
+}
+
+// Where the piece at `i` starts and ends, of pieces that end at these places.
+#[inline]
+pub(crate) fn span(ends: &[u32], i: usize) -> (usize, usize)
+    requires { i < length ends.now }
+    ensures start { result.0 ≡ prev 0 ends.now i }
+    ensures end { result.1 ≡ slice_index ends.now i }
+{
     let end = ends[i] as usize;
     if i == 0 {
-        return &bytes[..end];
+        return (0, end);
     }
-    let start = ends[i - 1] as usize;
-    &bytes[start..end]
+    (ends[i - 1] as usize, end)
 }
 
 // Where a field of a length ends that stands after as many bytes.
@@ -169,4 +179,4 @@ fn end_after(bytes: usize, field: usize) -> Option<u32>
 }
 
 // The bytes of fields are fewer.
-const MOST_BYTES: usize = 4_294_967_296;
+pub(crate) const MOST_BYTES: usize = 4_294_967_296;
