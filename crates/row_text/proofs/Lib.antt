@@ -1,3 +1,4 @@
+mod Examples
 pub mod Cuts
 pub mod Pieces
 pub mod Reading

@@ -5,3 +5,4 @@ pub mod Sorts
 pub mod Words
 pub mod Reads
 pub mod Lines
+pub mod Versions

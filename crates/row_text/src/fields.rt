@@ -1,4 +1,4 @@
-ghost use Rattle.std.specs.Prelude.{◌≡◌, ◌+◌, ◌<◌, ◌≤◌, ◌^◌, ◌↔◌, [], ◌∷◌, ◌++◌, length, slice_index, slice_range, IsTrue, IfSome, OnOk, OnErr};
+ghost use Rattle.std.specs.Prelude.{◌≡◌, ◌+◌, ◌<◌, ◌≤◌, ◌^◌, ◌↔◌, [], ◌∷◌, ◌++◌, length, slice_index, slice_range, IsTrue, IfSome, IfOk, OnOk, OnErr};
 ghost use Rattle.csv.specs.Records.{cut_from, Rising, prev};
 ghost use Rattle.row_text.specs.Row.{field};
 
@@ -131,6 +131,17 @@ impl<'a> Row<'a> {
         ensures { IsTrue result ↔ (self.now ≡ []) }
     {
         self.len() == 0
+    }
+
+    /// A copy of the fields.
+    pub fn to_fields(&self, alloc: Global) -> Result<Fields, OutOfMemory>
+        ensures { IfOk result (λ fields. fields ≡ self.now) }
+    {
+        let mut fields = Fields::new(alloc);
+        for i in 0..self.len() {
+            fields.push(self.get(i))?;
+        }
+        Ok(fields)
     }
 
     /// The field at `i`.

@@ -2,11 +2,15 @@
 ghost use Rattle.std.specs.Prelude.{◌≡◌, ◌<◌, ◌++◌, ◌∷◌, [], length, slice_index_or, IfOk, OnOk, IsTrue, ◌↔◌};
 ghost use Rattle.csv.specs.Records.{fields_of};
 ghost use Rattle.row_text.specs.Row.{Row as TheRow};
+ghost use Rattle.row_text.specs.Lines.{read_in};
+ghost use Rattle.row_text.specs.Versions.{has_version_row, version_of, version_in, first_line};
 ghost use Rattle.std.specs.Prelude.{List};
 
+use crate::field::number_at;
 use crate::fields::{Fields, MOST_BYTES, Row, span};
+use crate::line::{Line, read_line};
 use csv::{ByteRecord, ReaderBuilder};
-use rail_model::OutOfMemory;
+use rail_model::{Form, OutOfMemory};
 use std::alloc::Global;
 use std::marker::Model;
 
@@ -54,6 +58,72 @@ impl RowList {
         let (from, to) = span(&self.ends, i);
         self.fields.part(from, to)
     }
+
+    /// A copy of the row at `i`.
+    pub fn row(&self, alloc: Global, i: usize) -> Result<Fields, OutOfMemory>
+        requires { i < length self.now }
+        ensures { IfOk result (λ row. row ≡ slice_index_or self.now i []) }
+    {
+        self.get(i).to_fields(alloc)
+    }
+
+    /// The line that the row at `i` spells in a version of the rows, or its first form fault.
+    pub fn line(
+        &self,
+        alloc: Global,
+        version: u32,
+        i: usize,
+    ) -> Result<Result<Line, Form>, OutOfMemory>
+        requires { i < length self.now }
+        ensures { IfOk result (λ found. found ≡ read_in version (slice_index_or self.now i [])) }
+    {
+        read_line(alloc, version, &self.get(i))
+    }
+
+    /// The version in which the rows are read, 1 or 2. A first row with the word `version` says it, and an
+    /// error is the fault of that row; without one it is 1.
+    pub fn version(&self) -> Result<u32, Form>
+        ensures { result ≡ version_of self.now }
+    {
+        if self.has_version_row() {
+            version_in(&self.get(0))
+        } else {
+            Ok(1)
+        }
+    }
+
+    /// The place of the first row that is to spell a line: the rows before it say the version.
+    pub fn first_line(&self) -> usize
+        ensures { result ≡ first_line self.now }
+    {
+        if self.has_version_row() { 1 } else { 0 }
+    }
+
+    // Whether the first row says the version of the others.
+    fn has_version_row(&self) -> bool
+        ensures value { result ≡ has_version_row self.now }
+        ensures there { IsTrue result → 0 < length self.now }
+    {
+        if self.is_empty() {
+            return false;
+        }
+        let first = self.get(0);
+        !first.is_empty() && first.get(0) == b"version".as_slice()
+    }
+}
+
+// The version that a row with the word `version` says, or its fault.
+fn version_in(row: &Row<'_>) -> Result<u32, Form>
+    ensures { result ≡ version_in row.now }
+{
+    if row.len() != 2 {
+        return Err(Form::Fields);
+    }
+    let version = number_at(row, 1)?;
+    if version != 1 && version != 2 {
+        return Err(Form::Number);
+    }
+    Ok(version)
 }
 
 // The rows that were read so far: the fields of all, and where those of each end.
