@@ -27,26 +27,26 @@ le_through a b c p q = omega arith
 at_least : (r d q : ℕ) → r ≡ d + q → d ≤ r
 at_least r d q is = omega arith
 
--- when the head reaches a place of the block behind the k-th one
+-- when the head reaches a place of the block beyond the k-th one
 pub reach_law : (path : Path) (k x : ℕ) → k < hop_count path → (k ≡ 0) ⊎ (place path k < x) → x ≤ place path (k + 1) → reach path x ≡ departure path k + div_ceil ((x - place path k) * (get_or path.hops k no_hop).running_s) (get_or path.hops k no_hop).block_m
-reach_law path k x on behind within = reach_is path k x (sym (blocks_before_is path k x on behind within))
+reach_law path k x on beyond within = reach_is path k x (sym (blocks_before_is path k x on beyond within))
 
 -- by then it has not yet left that block
 in_block : (path : Path) → Fits path → (k x : ℕ) → k < hop_count path → (k ≡ 0) ⊎ (place path k < x) → x ≤ place path (k + 1) → reach path x ≤ departure path (k + 1)
-in_block path fits k x on behind within =
+in_block path fits k x on beyond within =
     let h = hop_within path fits k on in
     let inside : x - place path k ≤ (get_or path.hops k no_hop).block_m = omega (arith, place_more path k on) in
     at_most (reach path x) (departure path k) (div_ceil ((x - place path k) * (get_or path.hops k no_hop).running_s) (get_or path.hops k no_hop).block_m) (get_or path.hops k no_hop).running_s (departure path (k + 1))
-    (reach_law path k x on behind within)
+    (reach_law path k x on beyond within)
     (part_of_running (x - place path k) (get_or path.hops k no_hop).running_s (get_or path.hops k no_hop).block_m h.some_length inside)
     (omega (arith, departure_more path k on))
 
--- the head reaches the path's begin at the start
-pub reach_begin : (path : Path) → Fits path → (x : ℕ) → x ≡ 0 → reach path x ≡ path.start_s
-reach_begin path fits x none =
-    let begin : x ≤ place path (0 + 1) = omega arith in
+-- the head reaches the path's start at the start
+pub reach_start : (path : Path) → Fits path → (x : ℕ) → x ≡ 0 → reach path x ≡ path.start_s
+reach_start path fits x none =
+    let entry : x ≤ place path (0 + 1) = omega arith in
     let nothing : x - place path 0 ≡ 0 = omega arith in
-    reach_law path 0 x fits.some (inl refl) begin
+    reach_law path 0 x fits.some (inl refl) entry
     ∙ ap (λ a. departure path 0 + div_ceil (a * (get_or path.hops 0 no_hop).running_s) (get_or path.hops 0 no_hop).block_m) nothing
     ∙ no_part (departure path 0) path.start_s (get_or path.hops 0 no_hop).running_s (get_or path.hops 0 no_hop).block_m (hop_within path fits 0 fits.some).some_length (omega arith)
   where
@@ -58,23 +58,23 @@ reach_begin path fits x none =
 -- the head has reached each place of the first m blocks before it leaves the last of them
 pub reach_before : (path : Path) → Fits path → (m x : ℕ) → m ≤ hop_count path → x ≤ place path m → reach path x ≤ departure path m
 reach_before path fits zero x on within =
-    let begin = reach_begin path fits x (omega arith) in
+    let entry = reach_start path fits x (omega arith) in
     let least : path.start_s ≤ departure path 0 = omega arith in
-    subst (λ t. t ≤ departure path 0) (sym begin) least
+    subst (λ t. t ≤ departure path 0) (sym entry) least
 reach_before path fits (suc m) x on within =
     let e : m + 1 ≡ suc m = omega arith in
     ⊎_elim
-    (λ (behind : place path m < x). subst (λ j. reach path x ≤ departure path j) e (in_block path fits m x (omega arith) (inr behind) (subst (λ j. x ≤ place path j) (sym e) within)))
+    (λ (beyond : place path m < x). subst (λ j. reach path x ≤ departure path j) e (in_block path fits m x (omega arith) (inr beyond) (subst (λ j. x ≤ place path j) (sym e) within)))
     (λ (before : x ≤ place path m). le_through (reach path x) (departure path m) (departure path (suc m)) (reach_before path fits m x (omega arith) before) (departures_rise path m (suc m) (omega arith) on))
     (cases_lt (place path m) x)
 
--- the head reaches a place behind a block's end after it has left that end
+-- the head reaches a place beyond a block's end after it has left that end
 pub reach_after : (path : Path) → (d k x : ℕ) → k + d ≡ hop_count path → place path k < x → x ≤ place path (hop_count path) → departure path k ≤ reach path x
-reach_after path zero k x e behind on = absurd (omega (arith, places_rise path (hop_count path) k (omega arith) (omega arith)))
-reach_after path (suc d) k x e behind on =
+reach_after path zero k x e beyond on = absurd (omega (arith, places_rise path (hop_count path) k (omega arith) (omega arith)))
+reach_after path (suc d) k x e beyond on =
     ⊎_elim
     (λ (further : place path (k + 1) < x). le_through (departure path k) (departure path (k + 1)) (reach path x) (departures_rise path k (k + 1) (omega arith) (omega arith)) (reach_after path d (k + 1) x (omega arith) further on))
-    (λ (here : x ≤ place path (k + 1)). at_least (reach path x) (departure path k) _ (reach_law path k x (omega arith) (inr behind) here))
+    (λ (here : x ≤ place path (k + 1)). at_least (reach path x) (departure path k) _ (reach_law path k x (omega arith) (inr beyond) here))
     (cases_lt (place path (k + 1)) x)
 
 down_below_up : (d a b : ℕ) → d + a / b ≤ d + div_ceil a b
@@ -89,7 +89,7 @@ later_of : (b : Bool) (r s e : ℕ) → r ≤ e → s ≤ e → cond b (max r s)
 later_of true r s e p q = omega arith
 later_of false r s e p q = p
 
--- the approach moment isn't behind the entry
+-- the approach moment isn't after the entry
 pub approach_before_entry : (path : Path) → Fits path → (k : ℕ) → k ≤ hop_count path → approach_moment path k ≤ departure path (k - 1)
 approach_before_entry path fits k on =
     let y = place path (k - 1) - (hop path k).approach_m in
@@ -109,12 +109,12 @@ entry_before_exit path fits k some on =
     let end : departure path (k - 1 + 1) ≡ departure path k = ap (departure path) e in
     omega (arith, departure_more path (k - 1) before, h.some_running, end)
 
--- the clearing moment isn't before the exit, and the tail behind the last departure is not before the clearing moment
+-- the clearing moment isn't before the exit, and the tail after the last departure is not before the clearing moment
 pub clearing_between : (path : Path) → Fits path → (k : ℕ) → k ≤ hop_count path → (departure path k ≤ clearing_moment path k) × (clearing_moment path k ≤ departure path (hop_count path) + path.tail_s)
 clearing_between path fits k on =
     let n = hop_count path in
     let x = clearing_place path k in
-    let behind : place path k < x = beyond (place path k) (hop path k).overlap_m path.length_m fits.some_length in
+    let beyond : place path k < x = beyond (place path k) (hop path k).overlap_m path.length_m fits.some_length in
     ⊎_elim
     (λ (ended : place path n < x).
     let is = clearing_ended path fits k x (mark_of path k) (mark_of path n) (hop path k).overlap_m refl refl refl refl ended in
@@ -123,7 +123,7 @@ clearing_between path fits k on =
     (λ (within : x ≤ place path n).
     let is = clearing_reached path k x (mark_of path k) (mark_of path n) (hop path k).overlap_m refl refl refl refl within in
     subst (λ t. (departure path k ≤ t) × (t ≤ departure path n + path.tail_s)) is (
-      reach_after path (n - k) k x (omega arith) behind within,
+      reach_after path (n - k) k x (omega arith) beyond within,
       le_through (reach path x) (departure path n) (departure path n + path.tail_s) (reach_before path fits n x (omega arith) within) (omega arith),
     ))
     (cases_lt (place path n) x)

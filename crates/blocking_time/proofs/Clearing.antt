@@ -8,7 +8,7 @@ use Rattle.rail_model.specs.Motion.{place, departure, arrival, reach}
 use Rattle.rail_model.specs.Blocking.{clearing_place, clearing_moment}
 use Rattle.blocking_time.specs.declared.motion.Mark.{Mark}
 use Rattle.blocking_time.specs.Mark.{mark_of}
-use Rattle.blocking_time.proofs.Places.{departure_more, hop_behind_is}
+use Rattle.blocking_time.proofs.Places.{departure_more, hop_beyond_is}
 
 -- without a dwell the head leaves as it arrives
 pub arrival_is : (path : Path) (n : ℕ) → 0 < n → n ≤ hop_count path → (hop path n).dwell_s ≡ 0 → arrival path n ≡ departure path n
@@ -17,7 +17,7 @@ arrival_is path (suc k) some on none =
     let more = departure_more path k (omega arith) in
     let e : k + 1 ≡ suc k = omega arith in
     let end : departure path (k + 1) ≡ departure path (suc k) = ap (departure path) e in
-    let same : hop path (suc k) ≡ get_or path.hops k no_hop = ap (hop path) (sym e) ∙ hop_behind_is path k in
+    let same : hop path (suc k) ≡ get_or path.hops k no_hop = ap (hop path) (sym e) ∙ hop_beyond_is path k in
     omega (arith, ap (λ (h : Hop). h.running_s) same, ap (λ (h : Hop). h.dwell_s) same)
 
 -- the clearing place, computed in steps

@@ -12,9 +12,9 @@ use Rattle.blocking_time.specs.declared.motion.Mark.{Mark}
 use Rattle.blocking_time.specs.Mark.{mark_of, marks_of, IsMarkWithin}
 use Rattle.blocking_time.proofs.Counts.{count_below, rising}
 
--- the hop behind the k-th block
-pub hop_behind_is : (path : Path) (k : ℕ) → hop path (k + 1) ≡ get_or path.hops k no_hop
-hop_behind_is path k = let e : k + 1 - 1 ≡ k = omega arith in ap (λ i. get_or path.hops i no_hop) e
+-- the hop beyond the k-th block
+pub hop_beyond_is : (path : Path) (k : ℕ) → hop path (k + 1) ≡ get_or path.hops k no_hop
+hop_beyond_is path k = let e : k + 1 - 1 ≡ k = omega arith in ap (λ i. get_or path.hops i no_hop) e
 
 pub hop_within : (path : Path) → Fits path → (k : ℕ) → k < hop_count path → IsHopWithin (get_or path.hops k no_hop)
 hop_within path fits k on = fits.hops k no_hop on
@@ -33,16 +33,16 @@ places_rise path = rising (place path) (hop_count path) (λ k on. omega (arith, 
 pub departures_rise : (path : Path) (i j : ℕ) → i ≤ j → j ≤ hop_count path → departure path i ≤ departure path j
 departures_rise path = rising (departure path) (hop_count path) (λ k on. omega (arith, departure_more path k on))
 
--- a place inside the block behind the k-th one has k blocks before it
+-- a place inside the block beyond the k-th one has k blocks before it
 pub blocks_before_is : (path : Path) (k x : ℕ) → k < hop_count path → (k ≡ 0) ⊎ (place path k < x) → x ≤ place path (k + 1) → blocks_before path x ≡ k
-blocks_before_is path k x on behind within =
+blocks_before_is path k x on beyond within =
     count_below (place path) x (hop_count path) 1 k (omega arith)
-    (λ i p q. elim behind [ inl none ↦ absurd (omega arith) | inr below ↦ omega (arith, places_rise path i k (omega arith) (omega arith)) ])
+    (λ i p q. elim beyond [ inl none ↦ absurd (omega arith) | inr below ↦ omega (arith, places_rise path i k (omega arith) (omega arith)) ])
     (λ i p q. omega (arith, places_rise path (k + 1) i (omega arith) (omega arith)))
 
--- a place behind the last block has all blocks before it
+-- a place beyond the last block has all blocks before it
 pub blocks_before_all : (path : Path) (x : ℕ) → place path (hop_count path) < x → blocks_before path x ≡ hop_count path
-blocks_before_all path x behind =
+blocks_before_all path x beyond =
     count_below (place path) x (hop_count path) 1 (hop_count path) (omega arith)
     (λ i p q. omega (arith, places_rise path i (hop_count path) (omega arith) (omega arith)))
     (λ i p q. absurd (omega arith))
@@ -66,16 +66,16 @@ place_most path fits k on =
     let hops : length path.hops ≤ 256 = fits.most in
     omega (arith, whole, part, mul-le-mul_right 1000000 hops)
 
--- when the head reaches a place of the block behind the k-th one, by that block alone
+-- when the head reaches a place of the block beyond the k-th one, by that block alone
 pub reach_is : (path : Path) (k x : ℕ) → k ≡ blocks_before path x → reach path x ≡ departure path k + div_ceil ((x - place path k) * (get_or path.hops k no_hop).running_s) (get_or path.hops k no_hop).block_m
 reach_is path k x e =
     ap (λ j. departure path j + div_ceil ((x - place path j) * (hop path (j + 1)).running_s) (hop path (j + 1)).block_m) (sym e)
-    ∙ ap (λ (h : Hop). departure path k + div_ceil ((x - place path k) * h.running_s) h.block_m) (hop_behind_is path k)
+    ∙ ap (λ (h : Hop). departure path k + div_ceil ((x - place path k) * h.running_s) h.block_m) (hop_beyond_is path k)
 
 pub reach_down_is : (path : Path) (k x : ℕ) → k ≡ blocks_before path x → reach_down path x ≡ departure path k + ((x - place path k) * (get_or path.hops k no_hop).running_s) / (get_or path.hops k no_hop).block_m
 reach_down_is path k x e =
     ap (λ j. departure path j + ((x - place path j) * (hop path (j + 1)).running_s) / (hop path (j + 1)).block_m) (sym e)
-    ∙ ap (λ (h : Hop). departure path k + ((x - place path k) * h.running_s) / h.block_m) (hop_behind_is path k)
+    ∙ ap (λ (h : Hop). departure path k + ((x - place path k) * h.running_s) / h.block_m) (hop_beyond_is path k)
 
 pub mark_within : (path : Path) → Fits path → (k : ℕ) → k ≤ hop_count path → IsMarkWithin (mark_of path k)
 mark_within path fits k on = record { place = place_most path fits k on; departure = departure_most path fits k on }

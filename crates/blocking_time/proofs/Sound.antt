@@ -18,21 +18,23 @@ use Rattle.rail_model.specs.declared.tables.Tables.{Tables}
 use Rattle.rail_model.specs.declared.path.Hop.{Hop}
 use Rattle.rail_model.specs.Path.{no_hop, Fits, IsHopWithin}
 use Rattle.rail_model.specs.Name.{has_repeat}
-use Rattle.rail_model.specs.Tables.{block_number, block_named, signal_named, route_named, no_block, no_signal, no_route, hop_behind, path_in}
-use Rattle.rail_model.specs.Puts.{is_leg_within, is_signal_within, is_run_within, last_dwell, no_leg, has_block, has_signal, has_route, Stands, IsSound}
+use Rattle.rail_model.specs.Tables.{block_number, block_named, signal_named, route_named, no_block, no_signal, no_route, hop_beyond, path_in}
+use Rattle.rail_model.specs.Within.{is_leg_within, is_signal_within, is_run_within, last_dwell, no_leg}
+use Rattle.rail_model.specs.Rules.{has_block, has_signal, has_route}
+use Rattle.rail_model.specs.Sound.{Stands, IsSound}
 use Rattle.blocking_time.specs.Lookup.{untimed_hop, with_leg, with_legs}
 
 -- ---- the hops of a run
 
--- the legs behind the signals of these names, one for each signal
+-- the legs beyond the signals of these names, one for each signal
 abbrev pub hops_in : Tables → List (List ℕ) → List Leg → List Hop
-hops_in tables names legs = map (λ p. hop_behind tables (signal_named tables p.0) p.1) (zip names legs)
+hops_in tables names legs = map (λ p. hop_beyond tables (signal_named tables p.0) p.1) (zip names legs)
 
 -- hops that are looked up first and timed then
 pub looked_up_first : (tables : Tables) (names : List (List ℕ)) (legs : List Leg) → with_legs (map (untimed_hop tables) names) legs ≡ hops_in tables names legs
 looked_up_first tables [] legs = refl
 looked_up_first tables (n ∷ names) [] = refl
-looked_up_first tables (n ∷ names) (leg ∷ legs) = ap (λ hops. hop_behind tables (signal_named tables n) leg ∷ hops) (looked_up_first tables names legs)
+looked_up_first tables (n ∷ names) (leg ∷ legs) = ap (λ hops. hop_beyond tables (signal_named tables n) leg ∷ hops) (looked_up_first tables names legs)
 
 -- one hop more that is timed
 pub with_legs_more : (hops : List Hop) (legs : List Leg) (k : ℕ) → k < length hops → k < length legs → take (k + 1) (with_legs hops legs) ≡ take k (with_legs hops legs) ++ with_leg (get_or hops k no_hop) (get_or legs k no_leg) ∷ []
@@ -47,14 +49,14 @@ pub length-with_legs : (hops : List Hop) (legs : List Leg) → length (with_legs
 length-with_legs hops legs = length-map (zip hops legs) (λ (p : Hop × Leg). with_leg p.0 p.1) ∙ length-zip hops legs
 
 -- the k-th hop, from 0
-pub hop_in_at : (tables : Tables) (names : List (List ℕ)) (legs : List Leg) (k : ℕ) (d : Hop) → k < length names → k < length legs → get_or (hops_in tables names legs) k d ≡ hop_behind tables (signal_named tables (get_or names k [])) (get_or legs k no_leg)
+pub hop_in_at : (tables : Tables) (names : List (List ℕ)) (legs : List Leg) (k : ℕ) (d : Hop) → k < length names → k < length legs → get_or (hops_in tables names legs) k d ≡ hop_beyond tables (signal_named tables (get_or names k [])) (get_or legs k no_leg)
 hop_in_at tables names legs k d named timed =
     let within : k < length (zip names legs) = omega (arith, length-zip names legs) in
-    get_or-map (λ (p : List ℕ × Leg). hop_behind tables (signal_named tables p.0) p.1) (zip names legs) k ([], no_leg) d within
-    ∙ ap (λ (p : List ℕ × Leg). hop_behind tables (signal_named tables p.0) p.1) (get_or-zip names legs k ([], no_leg) named timed)
+    get_or-map (λ (p : List ℕ × Leg). hop_beyond tables (signal_named tables p.0) p.1) (zip names legs) k ([], no_leg) d within
+    ∙ ap (λ (p : List ℕ × Leg). hop_beyond tables (signal_named tables p.0) p.1) (get_or-zip names legs k ([], no_leg) named timed)
 
 pub length-hops_in : (tables : Tables) (names : List (List ℕ)) (legs : List Leg) → length (hops_in tables names legs) ≡ min (length names) (length legs)
-length-hops_in tables names legs = length-map (zip names legs) (λ (p : List ℕ × Leg). hop_behind tables (signal_named tables p.0) p.1) ∙ length-zip names legs
+length-hops_in tables names legs = length-map (zip names legs) (λ (p : List ℕ × Leg). hop_beyond tables (signal_named tables p.0) p.1) ∙ length-zip names legs
 
 -- ---- the rules of puts, as facts
 
@@ -184,27 +186,27 @@ numbers_differ tables a b at_a at_b differ same =
 pub signal_stands : (tables : Tables) → IsSound tables → (n : List ℕ) → has_signal tables n ≡ true → Stands tables (item.Signal (signal_named tables n))
 signal_stands tables sound n there =
     let p : Signal → Bool = λ x. bytes_eq x.name n in
-    sound.each_signal (position_or_len p tables.signals) no_signal (place_within p tables.signals there)
+    sound.signals.each (position_or_len p tables.signals) no_signal (place_within p tables.signals there)
 
 -- so does a route
 pub route_stands : (tables : Tables) → IsSound tables → (n : List ℕ) → has_route tables n ≡ true → Stands tables (item.Route (route_named tables n))
 route_stands tables sound n there =
     let p : Route → Bool = λ x. bytes_eq x.name n in
-    sound.each_route (position_or_len p tables.routes) no_route (place_within p tables.routes there)
+    sound.routes.each (position_or_len p tables.routes) no_route (place_within p tables.routes there)
 
--- the numbers of a hop behind a signal that is there are within the limits
-hop_fits : (tables : Tables) → IsSound tables → (n : List ℕ) (leg : Leg) → has_signal tables n ≡ true → is_leg_within leg ≡ true → IsHopWithin (hop_behind tables (signal_named tables n) leg)
+-- the numbers of a hop beyond a signal that is there are within the limits
+hop_fits : (tables : Tables) → IsSound tables → (n : List ℕ) (leg : Leg) → has_signal tables n ≡ true → is_leg_within leg ≡ true → IsHopWithin (hop_beyond tables (signal_named tables n) leg)
 hop_fits tables sound n leg there timed =
     let s = signal_named tables n in
     let stands = signal_stands tables sound n there in
     let numbers = signal_facts s stands.within in
     let p : Block → Bool = λ x. bytes_eq x.name s.block in
     let number = place_within p tables.blocks stands.known in
-    let block = sound.each_block (position_or_len p tables.blocks) no_block number in
+    let block = sound.blocks.each (position_or_len p tables.blocks) no_block number in
     let metres = from_one (block_named tables s.block).length_m 1000000 block.within in
     let times = leg_facts leg timed in
     record {
-      block = omega (arith, number, sound.blocks);
+      block = omega (arith, number, sound.blocks.most);
       some_length = metres.0;
       most_length = metres.1;
       approach = numbers.approach;
@@ -264,7 +266,7 @@ path_fits tables sound r run =
           ∙ ap (λ i. (get_or r.legs i no_leg).dwell_s) last ∙ facts.last;
     }
 
--- the block of each hop behind signals that are there is one of the tables
+-- the block of each hop beyond signals that are there is one of the tables
 pub hops_numbered : (tables : Tables) → IsSound tables → (names : List (List ℕ)) (legs : List Leg) → list_all (has_signal tables) names ≡ true → All (λ (h : Hop). h.block < length tables.blocks) (hops_in tables names legs)
 hops_numbered tables sound names legs there k d below =
     let count = length-hops_in tables names legs in

@@ -12,7 +12,7 @@ use Rattle.rail_model.specs.Motion.{place, departure, reach_down}
 use Rattle.rail_model.specs.Blocking.{approach_moment}
 use Rattle.blocking_time.specs.declared.motion.Mark.{Mark}
 use Rattle.blocking_time.specs.Mark.{mark_of, stop_mark, IsMarkWithin}
-use Rattle.blocking_time.proofs.Places.{hop_behind_is, places_rise, departures_rise, departure_most, place_most}
+use Rattle.blocking_time.proofs.Places.{hop_beyond_is, places_rise, departures_rise, departure_most, place_most}
 
 -- one number more at the end of a range
 range_more : (a n m : ℕ) → a + n ≡ m → range_with_len a (suc n) ≡ range_with_len a n ++ m ∷ []
@@ -49,7 +49,7 @@ stop_step true y a all m s e places departures = later y a all m.place_m m.depar
     later y a all p d q f e places departures = grind (arith, nat_tests)
 stop_step false y a all m s e places departures = e
 
--- the latest departure from a stop at or behind a place is that of the last stop, if that isn't before the place
+-- the latest departure from a stop at or beyond a place is that of the last stop, if that isn't before the place
 pub last_stop_is : (path : Path) (y a k : ℕ) → k ≤ hop_count path → fold max a (map (departure path) (filter (λ m. ltb 0 (hop path m).dwell_s && leb y (place path m)) (range_with_len 1 k))) ≡ cond (leb y (stop_mark path k).place_m) (max a (stop_mark path k).departure_s) a
 last_stop_is path y a zero on = grind (arith, nat_tests)
 last_stop_is path y a (suc k) on =
@@ -67,7 +67,7 @@ pub stop_more : (path : Path) (k : ℕ) → stop_mark path (k + 1) ≡ (if ltb 0
 stop_more path k =
     let e : k + 1 ≡ suc k = omega arith in
     ap (stop_mark path) e ∙ ap (λ j. if ltb 0 (hop path j).dwell_s then mark_of path j else stop_mark path k) (sym e)
-    ∙ ap (λ (h : Hop). if ltb 0 h.dwell_s then mark_of path (k + 1) else stop_mark path k) (hop_behind_is path k)
+    ∙ ap (λ (h : Hop). if ltb 0 h.dwell_s then mark_of path (k + 1) else stop_mark path k) (hop_beyond_is path k)
 
 pub stop_mark_within : (path : Path) → Fits path → (k : ℕ) → k ≤ hop_count path → IsMarkWithin (stop_mark path k)
 stop_mark_within path fits k on =
@@ -79,10 +79,10 @@ pub approach_is : (path : Path) (k : ℕ) → k ≤ hop_count path → approach_
 approach_is path k on = let y = place path (k - 1) - (hop path k).approach_m in last_stop_is path y (reach_down path y) (k - 1) (omega arith)
 
 -- the same for a moment that was computed in steps
-pub approach_by : (path : Path) (k : ℕ) → k ≤ hop_count path → (moment y r : ℕ) (begin stop : Mark) (a : ℕ) → moment ≡ cond (leb y stop.place_m) (max r stop.departure_s) r → y ≡ begin.place_m - a → r ≡ reach_down path y → begin ≡ mark_of path (k - 1) → stop ≡ stop_mark path (k - 1) → a ≡ (hop path k).approach_m → moment ≡ approach_moment path k
-approach_by path k on moment y r begin stop a by point reached at_begin at_stop approach =
+pub approach_by : (path : Path) (k : ℕ) → k ≤ hop_count path → (moment y r : ℕ) (entry stop : Mark) (a : ℕ) → moment ≡ cond (leb y stop.place_m) (max r stop.departure_s) r → y ≡ entry.place_m - a → r ≡ reach_down path y → entry ≡ mark_of path (k - 1) → stop ≡ stop_mark path (k - 1) → a ≡ (hop path k).approach_m → moment ≡ approach_moment path k
+approach_by path k on moment y r entry stop a by point reached at_entry at_stop approach =
     let F : ℕ → ℕ → Mark → ℕ = λ y r s. cond (leb y s.place_m) (max r s.departure_s) r in
-    let here : y ≡ place path (k - 1) - (hop path k).approach_m = point ∙ ap (λ (m : Mark). m.place_m - a) at_begin ∙ ap (λ x. place path (k - 1) - x) approach in
+    let here : y ≡ place path (k - 1) - (hop path k).approach_m = point ∙ ap (λ (m : Mark). m.place_m - a) at_entry ∙ ap (λ x. place path (k - 1) - x) approach in
     by ∙ ap (λ t. F y t stop) reached ∙ ap (λ s. F y (reach_down path y) s) at_stop ∙ ap (λ x. F x (reach_down path x) (stop_mark path (k - 1))) here ∙ sym (approach_is path k on)
 
 -- the last stop among the first k blocks, by that among one block less

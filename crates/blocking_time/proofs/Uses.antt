@@ -16,7 +16,7 @@ use Rattle.blocking_time.specs.Blocking.{IsUseBounded, blocking_of}
 use Rattle.blocking_time.specs.declared.moments.Moments.{Moments}
 use Rattle.blocking_time.specs.declared.walk.Blocking.{Blocking}
 use Rattle.blocking_time.specs.Moments.{moments_of, use_by, parts_by}
-use Rattle.blocking_time.proofs.Places.{hop_behind_is, hop_within, departure_most}
+use Rattle.blocking_time.proofs.Places.{hop_beyond_is, hop_within, departure_most}
 use Rattle.blocking_time.proofs.Bounds.{approach_before_entry, entry_before_exit, clearing_between}
 
 abbrev pub blocking : Use → List ℤ → Blocking
@@ -41,10 +41,10 @@ not_empty path fits k some on =
 near_before : (a w f : ℕ) → a ≤ 44928000 → w ≤ 86400 → f ≤ 86400 → IsMoment (pos a -ℤ pos w -ℤ pos f)
 near_before a w f p q s = record { low = omega (arith, ints); high = omega (arith, ints) }
 
-near_behind : (c r : ℕ) → c ≤ 44928000 → r ≤ 86400 → IsMoment (pos c +ℤ pos r)
-near_behind c r p q = record { low = omega (arith, ints); high = omega (arith, ints) }
+near_after : (c r : ℕ) → c ≤ 44928000 → r ≤ 86400 → IsMoment (pos c +ℤ pos r)
+near_after c r p q = record { low = omega (arith, ints); high = omega (arith, ints) }
 
--- it begins and ends at moments
+-- it starts and ends at moments
 pub bounded : (path : Path) → Fits path → (k : ℕ) → 1 ≤ k → k ≤ hop_count path → IsUseBounded (use_of path k)
 bounded path fits k some on =
     let h = hop_within path fits (k - 1) (omega arith) in
@@ -52,7 +52,7 @@ bounded path fits k some on =
     let last = departure_most path fits (hop_count path) (omega arith) in
     record {
       start = near_before (approach_moment path k) (hop path k).watch_s (hop path k).form_s (at_most (approach_moment path k) (departure path (k - 1)) (approach_before_entry path fits k on) entry) h.watch h.form;
-      «end» = near_behind (clearing_moment path k) (hop path k).release_s (by_tail (clearing_moment path k) (departure path (hop_count path)) path.tail_s (clearing_between path fits k on).1 last fits.tail) h.release;
+      «end» = near_after (clearing_moment path k) (hop path k).release_s (by_tail (clearing_moment path k) (departure path (hop_count path)) path.tail_s (clearing_between path fits k on).1 last fits.tail) h.release;
     }
   where
     at_most : (a d : ℕ) → a ≤ d → d ≤ 44841600 → a ≤ 44928000
@@ -69,7 +69,7 @@ block_at path i d below =
     let e : 1 + i ≡ i + 1 = omega arith in
     get_or-map (λ (u : Use). u.block) (stairway path) i (use_of path 0) d use_within
     ∙ ap (λ (u : Use). u.block) (get_or-map-range_with_len (use_of path) 1 (hop_count path) i (i + 1) (use_of path 0) below e)
-    ∙ ap (λ (h : Hop). h.block) (hop_behind_is path i)
+    ∙ ap (λ (h : Hop). h.block) (hop_beyond_is path i)
     ∙ sym (get_or-map (λ (h : Hop). h.block) path.hops i no_hop d below)
 
 -- no block is used twice

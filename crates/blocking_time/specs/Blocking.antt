@@ -10,7 +10,7 @@ use Rattle.blocking_time.specs.Moment.{IsMoment}
 abbrev pub blocking_of : Path → ℕ → Blocking
 blocking_of path k = record { used = use_of path k; parts = parts path k }
 
--- a use begins and ends at moments
+-- a use starts and ends at moments
 pub record IsUseBounded (u : Use) : Type 0 where
   pub start : IsMoment u.start
   pub «end» : IsMoment u.«end»

@@ -5,10 +5,10 @@ use Rattle.rail_model.specs.declared.path.Path.{Path}
 use Rattle.rail_model.specs.Path.{hop, hop_count}
 use Rattle.rail_model.specs.Motion.{place, departure, reach, reach_down}
 
--- the head passes the path's begin at the start, and inside each block its time grows evenly from the departure at the
--- block's begin: by the running time's share of the metres covered, rounded up or down to a second
+-- the head passes the path's start at the start, and inside each block its time grows evenly from the departure at the
+-- block's start: by the running time's share of the metres covered, rounded up or down to a second
 pub record HasConstantSpeed (path : Path) : Type 0 where
-  pub begin : reach path 0 ≡ path.start_s
+  pub entry : reach path 0 ≡ path.start_s
   pub up : (k x : ℕ) → k < hop_count path → place path k < x → x ≤ place path (k + 1)
       → reach path x ≡ departure path k + div_ceil ((x - place path k) * (hop path (k + 1)).running_s) (hop path (k + 1)).block_m
   pub down : (k x : ℕ) → k < hop_count path → place path k < x → x ≤ place path (k + 1)

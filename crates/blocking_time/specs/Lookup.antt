@@ -5,12 +5,12 @@ use Rattle.rail_model.specs.declared.items.Leg.{Leg}
 use Rattle.rail_model.specs.declared.items.Route.{Route}
 use Rattle.rail_model.specs.declared.path.Hop.{Hop}
 use Rattle.rail_model.specs.declared.tables.Tables.{Tables}
-use Rattle.rail_model.specs.Tables.{signal_named, hop_behind}
-use Rattle.rail_model.specs.Puts.{no_leg}
+use Rattle.rail_model.specs.Tables.{signal_named, hop_beyond}
+use Rattle.rail_model.specs.Within.{no_leg}
 
--- the hop behind the signal of a name, before any run has timed it
+-- the hop beyond the signal of a name, before any run has timed it
 abbrev pub untimed_hop : Tables → List ℕ → Hop
-untimed_hop tables name = hop_behind tables (signal_named tables name) no_leg
+untimed_hop tables name = hop_beyond tables (signal_named tables name) no_leg
 
 -- the hops of a route, one for each of its signals, before any run has timed them
 abbrev pub route_hops : Tables → Route → List Hop

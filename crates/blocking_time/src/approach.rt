@@ -56,7 +56,7 @@ pub fn after_stop(reached_s: u64, point_m: u64, stop: Mark) -> u64
 }
 
 /// The approach moment of the k-th block, from 1, at which Pachl's approach time begins: when the head
-/// comes to the approach point or, later, leaves the last stop behind it. Seconds from the timetable's
+/// comes to the approach point or, later, leaves its last stop beyond it. Seconds from the timetable's
 /// origin, rounded down.
 pub fn approach_moment(path: &Path, k: u32) -> i64
     requires fits { Fits path.now }
@@ -77,8 +77,8 @@ pub fn approach_seconds(path: &Path, k: usize) -> u64
     ensures bounded { result ≤ GREATEST_REACH_S }
 {
     let hop = motion::hop_at(path, k);
-    let begin = motion::mark_at(path, k - 1);
-    let point_m = begin.place_m.saturating_sub(u64::from(hop.approach_m));
+    let entry = motion::mark_at(path, k - 1);
+    let point_m = entry.place_m.saturating_sub(u64::from(hop.approach_m));
     let reached_s = motion::seconds_down_at(path, point_m);
     let stop = last_stop(path, k - 1);
     after_stop(reached_s, point_m, stop)

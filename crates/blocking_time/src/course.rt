@@ -27,7 +27,7 @@ pub fn marks(alloc: Global, path: &Path) -> Result<Vec<Mark>, OutOfMemory>
     Ok(marks)
 }
 
-/// The mark of the end of the k-th block, at 0 of the path's begin.
+/// The mark of the end of the k-th block, at 0 of the path's start.
 pub fn mark_in(path: &Path, marks: &[Mark], k: usize) -> Mark
     requires fits { Fits path.now }
     requires table { marks.now ≡ marks_of path.now }
@@ -42,14 +42,14 @@ pub fn mark_in(path: &Path, marks: &[Mark], k: usize) -> Mark
     }
 }
 
-/// How many blocks end before a place, by halving.
+/// How many blocks end before a place, by binary search.
 pub fn blocks_before(path: &Path, marks: &[Mark], metres: u64) -> usize
     requires fits { Fits path.now }
     requires table { marks.now ≡ marks_of path.now }
     requires on_path { metres ≤ place path.now (hop_count path.now) }
     ensures count { result ≡ count_before path.now metres }
     ensures on_path { result < hop_count path.now }
-    ensures behind { place path.now result ≤ metres }
+    ensures beyond { place path.now result ≤ metres }
     ensures within { metres ≤ place path.now (result + 1) }
 {
     let mut low = 0;
@@ -102,8 +102,8 @@ pub fn approach_seconds(path: &Path, marks: &[Mark], k: usize, stop: Mark) -> u6
     ensures bounded { result ≤ GREATEST_REACH_S }
 {
     let hop = motion::hop_at(path, k);
-    let begin = mark_in(path, marks, k - 1);
-    let point_m = begin.place_m.saturating_sub(u64::from(hop.approach_m));
+    let entry = mark_in(path, marks, k - 1);
+    let point_m = entry.place_m.saturating_sub(u64::from(hop.approach_m));
     let reached_s = seconds_down_at(path, marks, point_m);
     approach::after_stop(reached_s, point_m, stop)
 }

@@ -9,13 +9,14 @@ ghost use Rattle.rail_model.specs.declared.items.Run.{Run};
 ghost use Rattle.rail_model.specs.declared.items.Item.TheVariants as item;
 ghost use Rattle.rail_model.specs.Path.{Fits};
 ghost use Rattle.rail_model.specs.Tables.{route_named, path_in};
-ghost use Rattle.rail_model.specs.Puts.{has_signal, Stands, IsSound};
+ghost use Rattle.rail_model.specs.Rules.{has_signal};
+ghost use Rattle.rail_model.specs.Sound.{Stands, IsSound};
 ghost use Rattle.blocking_time.specs.Lookup as looked_up;
 
 use rail_model::{Hop, Leg, List, Name, OutOfMemory, Path, Run, Tables};
 use std::alloc::Global;
 
-// The hop behind the signal of a name, before any run has timed it.
+// The hop beyond the signal of a name, before any run has timed it.
 fn untimed_hop(tables: &Tables, name: &Name) -> Hop
     requires sound { IsSound tables.now }
     requires there { IsTrue (has_signal tables.now name.now) }
@@ -36,7 +37,7 @@ fn untimed_hop(tables: &Tables, name: &Name) -> Hop
     }
 }
 
-// The hops behind the signals of these names, in their order.
+// The hops beyond the signals of these names, in their order.
 fn untimed_hops(alloc: Global, tables: &Tables, names: &[Name]) -> Result<List<Hop>, OutOfMemory>
     requires sound { IsSound tables.now }
     requires there { IsTrue (list_all (has_signal tables.now) names.now) }

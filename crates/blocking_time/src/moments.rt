@@ -13,7 +13,7 @@ use rail_model::{Hop, Path, Use};
 /// The moments of a run at one block: seconds from the timetable's origin.
 #[derive(Clone, Copy)]
 pub struct Moments {
-    /// When the head comes to the approach point or, later, leaves the last stop behind it.
+    /// When the head comes to the approach point or, later, leaves its last stop beyond it.
     pub approach_s: u64,
     /// When the head passes the block's signal.
     pub entry_s: u64,

@@ -22,7 +22,7 @@ pub const GREATEST_REACH_S: u64 = 44_928_000;
 /// The end of a block.
 #[derive(Clone, Copy)]
 pub struct Mark {
-    /// Metres from the path's begin.
+    /// Metres from the path's start.
     pub place_m: u64,
     /// When the head leaves from there, after the dwell: seconds from the timetable's origin.
     pub departure_s: u64,
@@ -39,7 +39,7 @@ pub fn hop_at(path: &Path, k: usize) -> Hop
     path.hops.slice()[k - 1]
 }
 
-/// The mark of the path's begin.
+/// The mark of the path's start.
 pub fn first_mark(path: &Path) -> Mark
     ensures { result ≡ mark_of path.now 0 }
 {
@@ -49,7 +49,7 @@ pub fn first_mark(path: &Path) -> Mark
     }
 }
 
-/// The mark of the end of the block behind this mark.
+/// The mark of the end of the block beyond this mark.
 pub fn next_mark(mark: Mark, hop: &Hop) -> Mark
     requires { IsMarkWithin mark }
     ensures place { result.place_m ≡ mark.place_m + hop.now.block_m }
@@ -81,7 +81,7 @@ pub fn blocks_before(path: &Path, metres: u64) -> usize
     requires on_path { metres ≤ place path.now (hop_count path.now) }
     ensures count { result ≡ count_before path.now metres }
     ensures on_path { result < hop_count path.now }
-    ensures behind { place path.now result ≤ metres }
+    ensures beyond { place path.now result ≤ metres }
     ensures within { metres ≤ place path.now (result + 1) }
 {
     let mut mark = first_mark(path);
@@ -94,10 +94,10 @@ pub fn blocks_before(path: &Path, metres: u64) -> usize
     unreachable!()
 }
 
-/// When the head reaches a place of the block behind a mark, rounded up to a second.
+/// When the head reaches a place of the block beyond a mark, rounded up to a second.
 pub fn moment_in(mark: Mark, hop: &Hop, metres: u64) -> u64
     requires within { IsHopWithin hop.now }
-    requires behind { mark.place_m ≤ metres }
+    requires beyond { mark.place_m ≤ metres }
     requires inside { metres ≤ mark.place_m + hop.now.block_m }
     requires bounded { IsMarkWithin mark }
     ensures moment { result
@@ -111,7 +111,7 @@ pub fn moment_in(mark: Mark, hop: &Hop, metres: u64) -> u64
 /// The same, rounded down.
 pub fn moment_down_in(mark: Mark, hop: &Hop, metres: u64) -> u64
     requires within { IsHopWithin hop.now }
-    requires behind { mark.place_m ≤ metres }
+    requires beyond { mark.place_m ≤ metres }
     requires inside { metres ≤ mark.place_m + hop.now.block_m }
     requires bounded { IsMarkWithin mark }
     ensures moment { result
@@ -123,7 +123,7 @@ pub fn moment_down_in(mark: Mark, hop: &Hop, metres: u64) -> u64
 }
 
 /// When the head reaches a place: seconds from the timetable's origin, rounded up. The place is in
-/// metres from the path's begin. At place 0 that is the start, and at the end of a block the arrival.
+/// metres from the path's start. At place 0 that is the start, and at the end of a block the arrival.
 pub fn reach(path: &Path, metres: u64) -> i64
     requires fits { Fits path.now }
     requires on_path { metres ≤ place path.now (hop_count path.now) }

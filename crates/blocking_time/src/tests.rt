@@ -3,7 +3,7 @@
 ghost use Rattle.std.specs.Prelude.{◌≡◌, ◌≢◌, ◌<◌, ◌≤◌, ◌+◌, IfOk, length};
 ghost use Rattle.rail_model.specs.Path.{hop_count, Fits, IsHopWithin};
 ghost use Rattle.rail_model.specs.Motion.{place};
-ghost use Rattle.rail_model.specs.Puts.{IsSound};
+ghost use Rattle.rail_model.specs.Sound.{IsSound};
 
 use crate::{
     approach_moment, blockings, constant_speed_law, parts, path_of, reach, reach_down, route_hops,

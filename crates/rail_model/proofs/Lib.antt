@@ -4,4 +4,5 @@ pub mod NameOrder
 pub mod Places
 pub mod Numbers
 pub mod Repeats
+pub mod Members
 pub mod Sound

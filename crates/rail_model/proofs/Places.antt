@@ -19,15 +19,16 @@ use Rattle.std.proofs.lemmas.List.Sums.{position_or_len_is}
 use Rattle.std.proofs.lemmas.Option.{unwrap_or-slice_get}
 use Rattle.rail_model.specs.Name.{IsBefore, is_before, is_same, NamesRise}
 use Rattle.rail_model.specs.Tables.{number_of}
-use Rattle.rail_model.specs.Puts.{is_named, with_item}
+use Rattle.rail_model.specs.Edits.{with_item}
+use Rattle.rail_model.specs.Rules.{is_named}
 use Rattle.rail_model.proofs.NameOrder.{is_before-from, is_before-back, is_same-before, is_same-after, is_same-equal, is_same-from, IsBefore-trans, IsBefore-flip}
 
-filter_all : {X : Type 0} (p : X → Bool) (xs : List X) → All (λ x. p x ≡ true) xs → filter p xs ≡ xs
+pub filter_all : {X : Type 0} (p : X → Bool) (xs : List X) → All (λ x. p x ≡ true) xs → filter p xs ≡ xs
 filter_all p [] h = refl
 filter_all p (x ∷ xs) h =
     rw (All-head (λ x. p x ≡ true) x xs h) (ap (λ ys. x ∷ ys) (filter_all p xs (All-tail (λ x. p x ≡ true) x xs h)))
 
-filter_none : {X : Type 0} (p : X → Bool) (xs : List X) → All (λ x. p x ≡ false) xs → filter p xs ≡ []
+pub filter_none : {X : Type 0} (p : X → Bool) (xs : List X) → All (λ x. p x ≡ false) xs → filter p xs ≡ []
 filter_none p [] h = refl
 filter_none p (x ∷ xs) h =
     rw (All-head (λ x. p x ≡ false) x xs h) (filter_none p xs (All-tail (λ x. p x ≡ false) x xs h))
@@ -180,7 +181,7 @@ module _ {X : Type 0} (name : X → List ℕ) where
   is_named-found [] n i l e = absurd (omega arith)
   is_named-found (x ∷ items) n i l e = list_any_at (λ y. is_same (name y) n) (x ∷ items) i x l (is_same-from _ n (e x))
 
-  place_searched : (items : List X) (n : List ℕ) (i : ℕ) → NamesRise name items → i ≤ length items → IsBinarySearchResult (λ y. slice_cmp nat_cmp (name y) n) items (Err i) → IsPlace name items n i
+  pub place_searched : (items : List X) (n : List ℕ) (i : ℕ) → NamesRise name items → i ≤ length items → IsBinarySearchResult (λ y. slice_cmp nat_cmp (name y) n) items (Err i) → IsPlace name items n i
   place_searched items n i rise l h =
       let unsorted : (k : ℕ) (d : X) → 0 ≤ k → k + 1 < length items → is_before (name (get_or items (k + 1) d)) (name (get_or items k d)) ≡ false =
       λ k d le lt. is_before-back (name (get_or items k d)) (name (get_or items (k + 1) d)) (rise k (k + 1) d (omega arith) lt) in

@@ -7,16 +7,17 @@ use Rattle.rail_model.specs.declared.stair.Stair.{Stair}
 use Rattle.rail_model.specs.Path.{hop, hop_count}
 use Rattle.rail_model.specs.Motion.{place, departure, arrival, reach, reach_down}
 
--- the place from which the driver must see the k-th block's signal clear
+-- the place from which the driver must see the k-th block's signal clear: the approach before the signal, or the start of the
+-- path, since a difference of lengths ends at 0
 abbrev pub approach_point : Path → ℕ → ℕ
 approach_point path k = place path (k - 1) - (hop path k).approach_m
 
--- the ends of blocks before the k-th one at which the train stops, at or behind a place
+-- the ends of blocks before the k-th one at which the train stops, at or beyond a place
 abbrev pub stops_from : Path → ℕ → ℕ → List ℕ
 stops_from path k y =
     filter (λ m. nat_lt 0 (hop path m).dwell_s && nat_le y (place path m)) (range_with_len 1 (k - 1))
 
--- the approach moment: when the head comes to the approach point or, later, leaves the last stop behind it
+-- the approach moment: when the head comes to the approach point or, later, leaves the last stop beyond it
 abbrev pub approach_moment : Path → ℕ → ℕ
 approach_moment path k =
     fold max (reach_down path (approach_point path k)) (map (departure path) (stops_from path k (approach_point path k)))
@@ -31,7 +32,7 @@ clearing_moment path k =
     if nat_le (clearing_place path k) (place path (hop_count path)) then reach path (clearing_place path k)
     else arrival path (hop_count path) + path.tail_s
 
--- the blocking of the k-th block begins with the forming of its route and the driver's watching, before the approach moment
+-- the blocking of the k-th block starts with the forming of its route and the driver's watching, before the approach moment
 abbrev pub blocking_start : Path → ℕ → ℤ
 blocking_start path k = pos (approach_moment path k) -ℤ pos (hop path k).watch_s -ℤ pos (hop path k).form_s
 

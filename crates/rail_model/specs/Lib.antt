@@ -5,4 +5,7 @@ pub mod Motion
 pub mod Blocking
 pub mod Conflict
 pub mod Tables
-pub mod Puts
+pub mod Within
+pub mod Edits
+pub mod Rules
+pub mod Sound

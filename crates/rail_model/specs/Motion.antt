@@ -5,7 +5,7 @@ use Rattle.std.specs.Int.{div_ceil}
 use Rattle.rail_model.specs.declared.path.Path.{Path}
 use Rattle.rail_model.specs.Path.{hop, hop_count}
 
--- the place at which the k-th block ends, in metres from the path's begin: the lengths of the first k blocks
+-- the place at which the k-th block ends, in metres from the path's start: the lengths of the first k blocks
 abbrev pub place : Path → ℕ → ℕ
 place path k = sum_by (λ h. h.block_m) (take k path.hops)
 
@@ -22,7 +22,7 @@ arrival path (suc k) = departure path k + (hop path (suc k)).running_s
 abbrev pub blocks_before : Path → ℕ → ℕ
 blocks_before path x = count_by (λ k. nat_lt (place path k) x) (range_with_len 1 (hop_count path))
 
--- when the head reaches a place, rounded up to a second; at place 0 that is the start
+-- when the head reaches a place of the path, up to its end, rounded up to a second; at place 0 that is the start
 abbrev pub reach : Path → ℕ → ℕ
 reach path x =
     let k = blocks_before path x in

@@ -42,9 +42,9 @@ signal_named tables name = slice_index_or tables.signals (number_of (λ s. s.nam
 abbrev pub route_named : Tables → List ℕ → Route
 route_named tables name = slice_index_or tables.routes (route_number tables name) no_route
 
--- a leg behind a signal as a hop
-abbrev pub hop_behind : Tables → Signal → Leg → Hop
-hop_behind tables s leg = record {
+-- the hop of a run over the block beyond a signal, with the run's leg
+abbrev pub hop_beyond : Tables → Signal → Leg → Hop
+hop_beyond tables s leg = record {
   block = block_number tables s.block;
   block_m = (block_named tables s.block).length_m;
   approach_m = s.approach_m;
@@ -63,5 +63,5 @@ path_in tables run = record {
   length_m = run.length_m;
   tail_s = run.tail_s;
   start_s = run.start_s;
-  hops = map (λ p. hop_behind tables (signal_named tables p.0) p.1) (zip (route_named tables run.route).signals run.legs);
+  hops = map (λ p. hop_beyond tables (signal_named tables p.0) p.1) (zip (route_named tables run.route).signals run.legs);
 }

@@ -12,7 +12,7 @@ pub struct Block {
 #[derive(Clone, Copy)]
 pub struct Signal {
     pub name: Name,
-    /// The block behind the signal.
+    /// The block that the signal protects: the one beyond it.
     pub block: Name,
     /// How far before the signal the driver must already see it clear: metres.
     pub approach_m: u32,
@@ -27,7 +27,7 @@ pub struct Signal {
 }
 
 /// The signals that a run passes.
-#[derive(Drop)]
+#[derive(Clone, Drop)]
 pub struct Route {
     pub name: Name,
     /// In the order in which they are passed: 1 to 256, each of another block.
@@ -44,7 +44,7 @@ pub struct Leg {
 }
 
 /// A train's timed run over a route: one leg for each of the route's signals.
-#[derive(Drop)]
+#[derive(Clone, Drop)]
 pub struct Run {
     pub name: Name,
     pub route: Name,
@@ -59,10 +59,10 @@ pub struct Run {
 }
 
 /// A part of the line whose capacity is asked for, with the time window that is looked at.
-#[derive(Drop)]
+#[derive(Clone, Drop)]
 pub struct Section {
     pub name: Name,
-    /// The window's begin: seconds from the timetable's origin.
+    /// The window's start: seconds from the timetable's origin.
     pub from_s: u32,
     /// The window's end: seconds from the timetable's origin.
     pub to_s: u32,
@@ -70,6 +70,18 @@ pub struct Section {
     pub add_percent: u32,
     /// In the planner's order: 1 to 256, each once.
     pub blocks: List<Name>,
+}
+
+/// Two runs of which the second starts no earlier than a time after the first run's last arrival: rolling
+/// stock that turns, or passengers who change trains.
+#[derive(Clone, Copy)]
+pub struct Connection {
+    /// No block has it.
+    pub name: Name,
+    pub first: Name,
+    pub second: Name,
+    /// From the first run's last arrival to the second run's start, at least: seconds.
+    pub minimum_s: u32,
 }
 
 /// One item of a planner's tables.
@@ -80,34 +92,5 @@ pub enum Item {
     Route(Route),
     Run(Run),
     Section(Section),
-}
-
-/// Why an edit is refused.
-#[derive(Clone, Copy, Debug, PartialEq, Eq)]
-pub enum Rule {
-    /// A number, or the length of a list, is outside its limit.
-    Range,
-    /// The name is there, or a block stands twice in a route or a section.
-    Twice,
-    /// A name isn't there.
-    Unknown,
-    /// The kind has its greatest number of items.
-    Limit,
-    /// A run hasn't one leg for each signal of its route.
-    Count,
-    /// Another item names the one that is dropped.
-    InUse,
-}
-
-/// What is wrong with the form of a row.
-#[derive(Clone, Copy, Debug, PartialEq, Eq)]
-pub enum Form {
-    /// The first field is no kind of row.
-    Kind,
-    /// A row of this kind has another number of fields.
-    Fields,
-    /// A field is no number of one to nine digits.
-    Number,
-    /// A field is no name.
-    BadName,
+    Connection(Connection),
 }

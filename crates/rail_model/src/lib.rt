@@ -4,6 +4,9 @@
 //! The definitions of motion, blocking time, conflict and edits stand in `specs/`, for all crates above.
 #![tactic(auto)]
 
+mod copies;
+mod edit;
+mod form;
 mod items;
 mod limits;
 mod list;
@@ -18,15 +21,19 @@ mod search;
 mod stair;
 mod tables;
 
-pub use items::{Block, Form, Item, Leg, Route, Rule, Run, Section, Signal};
+pub use edit::{Edit, Kind, Rule};
+pub use form::Form;
+pub use items::{Block, Connection, Item, Leg, Route, Run, Section, Signal};
 pub use limits::{
-    BLOCKS, GREATEST_LENGTH_M, GREATEST_MOMENT_S, GREATEST_RATE, GREATEST_START_S, GREATEST_TIME_S,
-    GREATEST_WINDOW_END_S, PATH_HOPS, ROUTES, RUNS, SECTIONS, SIGNALS,
+    BLOCKS, CONNECTIONS, GREATEST_LENGTH_M, GREATEST_MOMENT_S, GREATEST_RATE, GREATEST_START_S,
+    GREATEST_TIME_S, GREATEST_WINDOW_END_S, PATH_HOPS, ROUTES, RUNS, SECTIONS, SIGNALS,
 };
 pub use list::List;
 pub use memory::OutOfMemory;
 pub use name::{BadName, NAME_BYTES, Name};
 pub use path::{Hop, Path};
+pub use range::is_within;
+pub use search::Named;
 pub use stair::{Stair, Use};
 pub use tables::Tables;
 

@@ -3,7 +3,7 @@ ghost use Rattle.std.specs.Option.{option_to_list, option_copied};
 ghost use Rattle.std.specs.Prelude.{slice_get, Some};
 
 use crate::OutOfMemory;
-use std::alloc::Global;
+use std::alloc::{AllocError, Global};
 use std::marker::Model;
 
 /// Items in order. Contracts see the list of the items.
@@ -150,5 +150,16 @@ impl<T: Copy> List<T> {
     {
         let items = Vec::from_slice(alloc, &self.items)?;
         Ok(List { items })
+    }
+}
+
+impl<T: Copy> Clone for List<T> {
+    ghost is_clone = { λ list other. other ≡ list };
+
+    fn clone(&self) -> Result<List<T>, AllocError> {
+        let alloc = self.items.allocator().clone()?;
+        Ok(List {
+            items: Vec::from_slice(alloc, &self.items)?,
+        })
     }
 }

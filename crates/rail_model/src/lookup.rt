@@ -3,7 +3,7 @@ ghost use Rattle.std.specs.Prelude.{◌≡◌, ◌<◌, length, is_some, unwrap_
 ghost use Rattle.std.specs.Option.{option_copied};
 ghost use Rattle.rail_model.specs.Name.{NamesRise};
 ghost use Rattle.rail_model.specs.Tables as lookup;
-ghost use Rattle.rail_model.specs.Puts.{has_block, has_signal, has_route};
+ghost use Rattle.rail_model.specs.Rules.{has_block, has_signal, has_route};
 
 use crate::search::{find, place_of};
 use crate::{Name, Route, Signal, Tables};

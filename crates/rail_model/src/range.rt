@@ -1,15 +1,16 @@
 //! Whether an item's numbers, and the length of its list, are within the limits.
 ghost use Rattle.std.specs.Prelude.{◌≡◌, ◌==◌};
 ghost use Rattle.std.specs.List.{list_all};
-ghost use Rattle.rail_model.specs.Puts as puts;
+ghost use Rattle.rail_model.specs.Within as within;
 
 use crate::{
-    Block, GREATEST_LENGTH_M, GREATEST_RATE, GREATEST_START_S, GREATEST_TIME_S,
+    Block, Connection, GREATEST_LENGTH_M, GREATEST_RATE, GREATEST_START_S, GREATEST_TIME_S,
     GREATEST_WINDOW_END_S, Item, Leg, PATH_HOPS, Route, Run, Section, Signal,
 };
 
-pub(crate) fn is_within(item: &Item) -> bool
-    ensures { result ≡ puts.is_within item.now }
+/// Whether all numbers of an item, and the length of its list, are within the limits.
+pub fn is_within(item: &Item) -> bool
+    ensures { result ≡ within.is_within item.now }
 {
     match item {
         Item::Block(block) => is_block_within(block),
@@ -17,17 +18,18 @@ pub(crate) fn is_within(item: &Item) -> bool
         Item::Route(route) => is_route_within(route),
         Item::Run(run) => is_run_within(run),
         Item::Section(section) => is_section_within(section),
+        Item::Connection(connection) => is_connection_within(connection),
     }
 }
 
 fn is_block_within(block: &Block) -> bool
-    ensures { result ≡ puts.is_block_within block.now }
+    ensures { result ≡ within.is_block_within block.now }
 {
     is_from_one(block.length_m, GREATEST_LENGTH_M)
 }
 
 fn is_signal_within(signal: &Signal) -> bool
-    ensures { result ≡ puts.is_signal_within signal.now }
+    ensures { result ≡ within.is_signal_within signal.now }
 {
     signal.approach_m <= GREATEST_LENGTH_M
         && signal.overlap_m <= GREATEST_LENGTH_M
@@ -37,13 +39,13 @@ fn is_signal_within(signal: &Signal) -> bool
 }
 
 fn is_route_within(route: &Route) -> bool
-    ensures { result ≡ puts.is_route_within route.now }
+    ensures { result ≡ within.is_route_within route.now }
 {
     is_path_len(route.signals.len())
 }
 
 fn is_run_within(run: &Run) -> bool
-    ensures { result ≡ puts.is_run_within run.now }
+    ensures { result ≡ within.is_run_within run.now }
 {
     is_path_len(run.legs.len())
         && is_from_one(run.length_m, GREATEST_LENGTH_M)
@@ -54,7 +56,7 @@ fn is_run_within(run: &Run) -> bool
 }
 
 fn is_section_within(section: &Section) -> bool
-    ensures { result ≡ puts.is_section_within section.now }
+    ensures { result ≡ within.is_section_within section.now }
 {
     is_path_len(section.blocks.len())
         && section.from_s <= GREATEST_START_S
@@ -63,32 +65,38 @@ fn is_section_within(section: &Section) -> bool
         && section.add_percent <= GREATEST_RATE
 }
 
+fn is_connection_within(connection: &Connection) -> bool
+    ensures { result ≡ within.is_connection_within connection.now }
+{
+    connection.minimum_s <= GREATEST_TIME_S
+}
+
 fn are_legs_within(legs: &[Leg]) -> bool
-    ensures { result ≡ list_all puts.is_leg_within legs.now }
+    ensures { result ≡ list_all within.is_leg_within legs.now }
 {
     legs.iter().all(is_leg_within)
 }
 
 fn is_leg_within(leg: &Leg) -> bool
-    ensures { result ≡ puts.is_leg_within leg.now }
+    ensures { result ≡ within.is_leg_within leg.now }
 {
     is_from_one(leg.running_s, GREATEST_TIME_S) && leg.dwell_s <= GREATEST_TIME_S
 }
 
 fn ends_without_dwell(legs: &[Leg]) -> bool
-    ensures { result ≡ (puts.last_dwell legs.now == 0) }
+    ensures { result ≡ (within.last_dwell legs.now == 0) }
 {
     legs.last().is_none_or(|leg| leg.dwell_s == 0)
 }
 
 fn is_from_one(number: u32, most: u32) -> bool
-    ensures { result ≡ puts.is_from_one number most }
+    ensures { result ≡ within.is_from_one number most }
 {
     number > 0 && number <= most
 }
 
 fn is_path_len(len: usize) -> bool
-    ensures { result ≡ puts.is_from_one len PATH_HOPS }
+    ensures { result ≡ within.is_from_one len PATH_HOPS }
 {
     len > 0 && len <= PATH_HOPS
 }

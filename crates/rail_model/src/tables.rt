@@ -1,4 +1,4 @@
-use crate::{Block, List, Route, Run, Section, Signal};
+use crate::{Block, Connection, List, Route, Run, Section, Signal};
 
 /// A line and its timetable. Each list is in the order of its items' names, and the number of an item is
 /// its place in its list, from 0.
@@ -9,4 +9,5 @@ pub struct Tables {
     pub routes: List<Route>,
     pub runs: List<Run>,
     pub sections: List<Section>,
+    pub connections: List<Connection>,
 }

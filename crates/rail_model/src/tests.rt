@@ -1,5 +1,5 @@
 //! Each public call once, with ample memory.
-ghost use Rattle.rail_model.specs.Puts.{IsSound};
+ghost use Rattle.rail_model.specs.Sound.{IsSound};
 
 use crate::{Block, Item, Leg, List, Name, Route, Rule, Run, Section, Signal, Tables};
 use std::alloc::Global;

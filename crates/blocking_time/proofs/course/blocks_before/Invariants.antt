@@ -3,7 +3,7 @@ use Rattle.rail_model.specs.Path.{hop_count}
 use Rattle.rail_model.specs.Motion.{place}
 use Rattle.blocking_time.proofs.course.blocks_before.Given as goal
 
--- the place lies in one of the blocks behind the ends from low to high
+-- the place lies in one of the blocks beyond the ends from low to high
 abbrev pub invariant-loop-low : goal.invariant-loop-low
 invariant-loop-low l =
     (l.low ≤ l.high) × (l.high < hop_count l.path) × ((l.low ≡ 0) ⊎ (place l.path l.low < l.metres)) × (l.metres ≤ place l.path (l.high + 1))

@@ -2,7 +2,7 @@ use Rattle.std.proofs.Common.{◌∙◌, ◌++◌, ◌∷◌, [], length, take, 
 use Rattle.std.proofs.lemmas.List.{length_push, take_all}
 use Rattle.std.proofs.lemmas.Slice.Zip.{zip_turn, zip_end}
 use Rattle.rail_model.specs.Path.{no_hop}
-use Rattle.rail_model.specs.Puts.{no_leg}
+use Rattle.rail_model.specs.Within.{no_leg}
 use Rattle.blocking_time.specs.Lookup.{with_leg, with_legs}
 use Rattle.blocking_time.proofs.Sound.{with_legs_more, length-with_legs}
 use Rattle.blocking_time.proofs.lookup.timed_hops.Goals as goal

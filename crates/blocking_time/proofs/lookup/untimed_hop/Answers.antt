@@ -1,6 +1,6 @@
 use Rattle.std.proofs.Common.{◌∙◌, ap}
 use Rattle.rail_model.specs.declared.items.Signal.{Signal}
-use Rattle.rail_model.specs.Puts.{has_block}
+use Rattle.rail_model.specs.Rules.{has_block}
 use Rattle.blocking_time.proofs.Sound.{signal_stands}
 use Rattle.blocking_time.proofs.lookup.untimed_hop.Goals as goal
 

@@ -1,0 +1,5 @@
+pub mod Lists
+pub mod Ranks
+pub mod Order
+pub mod Whole
+pub mod Room

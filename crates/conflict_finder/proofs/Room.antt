@@ -1,0 +1,57 @@
+-- Listing as long as there is room.
+use Rattle.std.proofs.Common.{◌≡◌, ℕ, zero, suc, ◌+◌, ◌-◌, ◌≤◌, Bool, List, [], ◌∷◌, ◌++◌, length, map, take, drop, refl, ap, ◌∙◌, arith}
+use Rattle.std.specs.List.{take_while}
+use Rattle.std.proofs.lemmas.List.{length-map, length-take, length-drop}
+use Rattle.std.proofs.lemmas.List.Folds.{length-prefix_len}
+use Rattle.std.proofs.lemmas.List.Sums.{prefix_len-le-length}
+use Rattle.rail_model.specs.Conflict as whole
+use Rattle.conflict_finder.specs.declared.blocked.Blocked.{Blocked}
+use Rattle.conflict_finder.specs.declared.found.TheConstants.{LISTED}
+use Rattle.conflict_finder.specs.Found.{listed}
+
+take_both : {X : Type 0} (n : ℕ) (xs ys : List X) → take n (xs ++ ys) ≡ take n xs ++ take (n - length xs) ys
+take_both zero xs ys = let none : zero - length xs ≡ zero = omega arith in rw none refl
+take_both (suc n) [] ys = let whole : suc n - zero ≡ suc n = omega arith in rw whole refl
+take_both (suc n) (x ∷ xs) ys =
+    let less : suc n - suc (length xs) ≡ n - length xs = omega arith in
+    rw less (ap (λ zs. x ∷ zs) (take_both n xs ys))
+
+take_mapped : {X Y : Type 0} (f : X → Y) (n : ℕ) (xs : List X) → take n (map f xs) ≡ map f (take n xs)
+take_mapped f zero xs = refl
+take_mapped f (suc n) [] = refl
+take_mapped f (suc n) (x ∷ xs) = ap (λ zs. f x ∷ zs) (take_mapped f n xs)
+
+map_both : {X Y : Type 0} (f : X → Y) (xs ys : List X) → map f (xs ++ ys) ≡ map f xs ++ map f ys
+map_both f [] ys = refl
+map_both f (x ∷ xs) ys = ap (λ zs. f x ∷ zs) (map_both f xs ys)
+
+map_twice : {X Y Z : Type 0} (g : Y → Z) (f : X → Y) (xs : List X) → map g (map f xs) ≡ map (λ x. g (f x)) xs
+map_twice g f [] = refl
+map_twice g f (x ∷ xs) = ap (λ zs. g (f x) ∷ zs) (map_twice g f xs)
+
+listed_count : (all : List whole.Conflict) → (length (map listed (take LISTED all)) ≤ LISTED) × (length (map listed (take LISTED all)) ≤ length all) × (LISTED - length (map listed (take LISTED all)) ≡ LISTED - length all)
+listed_count all =
+    let count = length-map (take LISTED all) listed ∙ length-take LISTED all in
+    (omega (arith, count), omega (arith, count), omega (arith, count))
+
+pub listed_most : (all : List whole.Conflict) → length (map listed (take LISTED all)) ≤ LISTED
+listed_most all = (listed_count all).0
+
+-- more conflicts are listed as far as there is room
+pub listed_more : (all : List whole.Conflict) (f : Blocked → whole.Conflict) (met : List Blocked) → map listed (take LISTED all) ++ map (λ y. listed (f y)) (take (LISTED - length (map listed (take LISTED all))) met) ≡ map listed (take LISTED (all ++ map f met))
+listed_more all f met =
+    rw ((listed_count all).2, take_both LISTED all (map f met), map_both listed (take LISTED all) (take (LISTED - length all) (map f met)), take_mapped f (LISTED - length all) met, map_twice listed f (take (LISTED - length all) met)) refl
+
+pub listed_count_is : (all : List whole.Conflict) → length all - length (map listed (take LISTED all)) ≡ length all - LISTED
+listed_count_is all =
+    let count = length-map (take LISTED all) listed ∙ length-take LISTED all in
+    omega (arith, count)
+
+pub listed_some : (all : List whole.Conflict) → length (map listed (take LISTED all)) ≤ length all
+listed_some all = (listed_count all).1
+
+-- no more meet one than there are
+pub met_within : (p : Blocked → Bool) (blocked : List Blocked) (i : ℕ) → length (take_while p (drop (i + 1) blocked)) ≤ length blocked
+met_within p blocked i =
+    let rest = drop (i + 1) blocked in
+    omega (arith, length-prefix_len p rest, prefix_len-le-length p rest, length-drop (i + 1) blocked)

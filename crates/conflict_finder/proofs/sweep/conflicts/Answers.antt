@@ -1,0 +1,84 @@
+use Rattle.std.proofs.Common.{◌≡◌, ◌<◌, ◌≤◌, List, length, ap, subst, arith}
+use Rattle.std.specs.Prelude.{Result, Ok, Err, IfOk, ◌-◌, map, take}
+use Rattle.std.specs.List.{All}
+use Rattle.std.specs.List.Sorted.{IsPermutation, IsSortedByKey}
+use Rattle.std.specs.Cmp.Lexicographic.{slice_cmp}
+use Rattle.std.specs.Ordering.{nat_cmp}
+use Rattle.rail_model.specs.declared.stair.Stair.{Stair}
+use Rattle.rail_model.specs.declared.memory.OutOfMemory.{OutOfMemory}
+use Rattle.conflict_finder.specs.declared.found.Conflicts.{Conflicts}
+use Rattle.conflict_finder.specs.declared.found.TheConstants.{LISTED}
+use Rattle.conflict_finder.specs.Found.{IsFound, listed}
+use Rattle.rail_model.specs.Conflict.{AreConflicts}
+use Rattle.conflict_finder.specs.declared.ranked.Ranked.{Ranked}
+use Rattle.conflict_finder.specs.declared.blocked.Blocked.{Blocked}
+use Rattle.conflict_finder.specs.Timetable.{IsTimetable}
+use Rattle.conflict_finder.specs.Runs.{runs_of, all_blocked, key_of, key_cmp}
+use Rattle.conflict_finder.specs.Sweep.{IsSwept, found}
+use Rattle.conflict_finder.proofs.Ranks.{AreRanked, ranked_by}
+use Rattle.conflict_finder.proofs.Order.{swept, few, runs_there}
+use Rattle.conflict_finder.proofs.Whole.{all_found}
+use Rattle.conflict_finder.proofs.sweep.conflicts.Goals as goal
+
+ranked_in : (stairs seen : List Stair) (runs : List Ranked) → IsTimetable stairs → seen ≡ stairs → IsPermutation (runs_of seen) runs → IsSortedByKey (λ r. r.name) (slice_cmp nat_cmp) runs → AreRanked stairs runs
+ranked_in stairs seen runs t here same order =
+    ranked_by stairs runs t (subst (λ s. IsPermutation (runs_of s) runs) here same) order
+
+-- what is known of the blockings when they are in order
+record IsReady (stairs : List Stair) (runs : List Ranked) (blocked : List Blocked) : Type 0 where
+  few : length blocked ≤ 524288
+  there : All (λ b. b.run < length runs) blocked
+  order : IsSwept blocked
+  conflicts : AreConflicts stairs (found runs blocked)
+
+ready : (stairs seen : List Stair) (runs read : List Ranked) (blocked : List Blocked) → IsTimetable stairs → AreRanked stairs runs → seen ≡ stairs → read ≡ runs → IsPermutation (all_blocked seen read) blocked → IsSortedByKey key_of key_cmp blocked → IsReady stairs runs blocked
+ready stairs seen runs read blocked t ranked here this permuted order =
+    let same : IsPermutation (all_blocked stairs runs) blocked = subst (λ r. IsPermutation (all_blocked stairs r) blocked) this (subst (λ s. IsPermutation (all_blocked s read) blocked) here permuted) in
+    let in_order = swept stairs runs t ranked blocked same order in
+    record {
+      few = few stairs runs t ranked blocked same order;
+      there = runs_there stairs runs t ranked blocked same order;
+      order = in_order;
+      conflicts = all_found stairs runs t ranked blocked same order in_order;
+    }
+
+pub blocked_in_order-requires-clause-few : goal.blocked_in_order-requires-clause-few
+blocked_in_order-requires-clause-few c =
+    let ranked = ranked_in c.args.stairs.now c.slice.result.now c.in_ok-runs.runs.items c.requires c.slice.ensures c.in_ok-runs.ensures.same c.in_ok-runs.ensures.order in
+    omega (arith, ranked.count, ap length c.deref.ensures.value, c.requires.most)
+
+pub blocked_in_order-requires-clause-there : goal.blocked_in_order-requires-clause-there
+blocked_in_order-requires-clause-there c =
+    let ranked = ranked_in c.args.stairs.now c.slice.result.now c.in_ok-runs.runs.items c.requires c.slice.ensures c.in_ok-runs.ensures.same c.in_ok-runs.ensures.order in
+    rw (c.slice-2.ensures, c.deref.ensures.value) ranked.there
+
+at_sweep : (c : goal.After-deref-3) → IsReady c.args.stairs.now c.in_ok-runs.runs.items c.in_ok-blocked.blocked.items
+at_sweep c =
+    let ranked = ranked_in c.args.stairs.now c.slice.result.now c.in_ok-runs.runs.items c.requires c.slice.ensures c.in_ok-runs.ensures.same c.in_ok-runs.ensures.order in
+    ready c.args.stairs.now c.slice-2.result.now c.in_ok-runs.runs.items c.deref.result.now c.in_ok-blocked.blocked.items c.requires ranked c.slice-2.ensures c.deref.ensures.value c.in_ok-blocked.ensures.same c.in_ok-blocked.ensures.order
+
+pub sweep-requires-clause-most : goal.sweep-requires-clause-most
+sweep-requires-clause-most c = rw c.deref-3.ensures.value (at_sweep c).few
+
+pub sweep-requires-clause-there : goal.sweep-requires-clause-there
+sweep-requires-clause-there c = rw (c.deref-3.ensures.value, c.deref-2.ensures.value) (at_sweep c).there
+
+pub sweep-requires-clause-order : goal.sweep-requires-clause-order
+sweep-requires-clause-order c = rw c.deref-3.ensures.value (at_sweep c).order
+
+-- what the sweep gives are the conflicts
+found_by : (stairs : List Stair) (runs read : List Ranked) (blocked seen : List Blocked) → IsReady stairs runs blocked → read ≡ runs → seen ≡ blocked → (r : Result Conflicts OutOfMemory) → IfOk r (λ f. f.list ≡ map listed (take LISTED (found read seen))) → IfOk r (λ f. f.more ≡ length (found read seen) - LISTED) → IfOk r (IsFound stairs)
+found_by stairs runs read blocked seen w same swept (Ok f) l m =
+    record {
+      all = found read seen;
+      are = rw (same, swept) w.conflicts;
+      list = l;
+      more = m;
+    }
+found_by stairs runs read blocked seen w same swept (Err e) l m = tt
+
+pub returns : goal.returns
+returns c =
+    let ranked = ranked_in c.args.stairs.now c.slice.result.now c.in_ok-runs.runs.items c.requires c.slice.ensures c.in_ok-runs.ensures.same c.in_ok-runs.ensures.order in
+    let all = ready c.args.stairs.now c.slice-2.result.now c.in_ok-runs.runs.items c.deref.result.now c.in_ok-blocked.blocked.items c.requires ranked c.slice-2.ensures c.deref.ensures.value c.in_ok-blocked.ensures.same c.in_ok-blocked.ensures.order in
+    found_by c.args.stairs.now c.in_ok-runs.runs.items c.deref-2.result.now c.in_ok-blocked.blocked.items c.deref-3.result.now all c.deref-2.ensures.value c.deref-3.ensures.value c.sweep.result c.sweep.ensures.list c.sweep.ensures.more

@@ -1,0 +1,13 @@
+use Rattle.std.proofs.Common.{◌≡◌, ◌≤◌, ◌*◌, length, map, take}
+use Rattle.conflict_finder.specs.declared.found.TheConstants.{LISTED}
+use Rattle.conflict_finder.specs.Found.{listed}
+use Rattle.conflict_finder.specs.Sweep.{found_upto}
+use Rattle.conflict_finder.proofs.sweep.sweep.Given as goal
+
+-- the conflicts that are found so far, and how many they may be
+abbrev pub invariant-loop-i : goal.invariant-loop-i
+invariant-loop-i l = record {
+  list : l.list ≡ map listed (take LISTED (found_upto l.runs l.blocked l.i));
+  count : l.count ≡ length (found_upto l.runs l.blocked l.i);
+  most : l.count ≤ l.i * 524288;
+}

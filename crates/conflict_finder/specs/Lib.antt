@@ -1,0 +1,4 @@
+pub mod Timetable
+pub mod Found
+pub mod Runs
+pub mod Sweep

@@ -1,0 +1,45 @@
+-- Runs in the order of their names, and what they block.
+use Rattle.std.specs.Prelude.{ℕ, ℤ, List, [], map, length, slice_index_or}
+use Rattle.std.specs.List.{flat_map, range_with_len}
+use Rattle.std.specs.declared.cmp.Ordering.{Ordering}
+use Rattle.std.specs.Ordering.{nat_cmp, int_cmp, ordering_then}
+use Rattle.rail_model.specs.declared.stair.Use.{Use}
+use Rattle.rail_model.specs.declared.stair.Stair.{Stair}
+use Rattle.conflict_finder.specs.declared.ranked.Ranked.{Ranked}
+use Rattle.conflict_finder.specs.declared.blocked.Blocked.{Blocked}
+
+-- stand where there is none
+abbrev pub no_stair : Stair
+no_stair = record { run = []; uses = [] }
+
+abbrev pub no_run : Ranked
+no_run = record { name = []; stair = 0 }
+
+-- the run at a place among the stairways
+abbrev pub run_at : List Stair → ℕ → Ranked
+run_at stairs i = record { name = (slice_index_or stairs i no_stair).run; stair = i }
+
+abbrev pub runs_of : List Stair → List Ranked
+runs_of stairs = map (run_at stairs) (range_with_len 0 (length stairs))
+
+-- what the run of a number blocks by a use
+abbrev pub blocked_of : ℕ → Use → Blocked
+blocked_of run u = record { start = u.start; «end» = u.«end»; block = u.block; run = run }
+
+-- the uses of the run of a number
+abbrev pub uses_of : List Stair → List Ranked → ℕ → List Use
+uses_of stairs runs k = (slice_index_or stairs (slice_index_or runs k no_run).stair no_stair).uses
+
+-- what the first n runs block
+abbrev pub blocked_upto : List Stair → List Ranked → ℕ → List Blocked
+blocked_upto stairs runs n = flat_map (λ k. map (blocked_of k) (uses_of stairs runs k)) (range_with_len 0 n)
+
+abbrev pub all_blocked : List Stair → List Ranked → List Blocked
+all_blocked stairs runs = blocked_upto stairs runs (length runs)
+
+-- the order of the sweep: by block, then by start, then by run
+abbrev pub key_of : Blocked → ℕ × ℤ × ℕ
+key_of b = (b.block, b.start, b.run)
+
+abbrev pub key_cmp : ℕ × ℤ × ℕ → ℕ × ℤ × ℕ → Ordering
+key_cmp x y = ordering_then (ordering_then (nat_cmp x.0 y.0) (int_cmp x.1 y.1)) (nat_cmp x.2 y.2)

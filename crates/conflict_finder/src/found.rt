@@ -1,0 +1,28 @@
+//! What is found.
+use rail_model::{List, Name};
+
+/// The greatest number of conflicts that are listed.
+pub const LISTED: usize = 10_000;
+
+/// Two runs that block one block at one time.
+#[derive(Clone, Copy)]
+pub struct Conflict {
+    /// The block's number.
+    pub block: u32,
+    /// The run whose blocking starts earlier or, of two that start at one moment, the one whose name comes first.
+    pub first: Name,
+    pub second: Name,
+    /// The time that both block: from the second run's start to the lesser end, in seconds from the
+    /// timetable's origin.
+    pub from: i64,
+    pub to: i64,
+}
+
+/// The conflicts of a timetable.
+#[derive(Drop)]
+pub struct Conflicts {
+    /// The first of them, by block, then by the first run's start and name, then by the second's.
+    pub list: List<Conflict>,
+    /// How many more there are.
+    pub more: u64,
+}

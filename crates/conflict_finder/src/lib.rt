@@ -1,0 +1,10 @@
+//! The conflicts of a timetable: which runs block one block at one time, and from when until when.
+#![tactic(auto)]
+
+mod blocked;
+mod found;
+mod ranked;
+mod sweep;
+
+pub use found::{Conflict, Conflicts, LISTED};
+pub use sweep::conflicts;
