@@ -6,3 +6,4 @@ pub mod Words
 pub mod Reads
 pub mod Lines
 pub mod Versions
+pub mod Spelling

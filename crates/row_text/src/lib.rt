@@ -5,13 +5,19 @@
 mod field;
 mod fields;
 mod item_row;
+mod leg_times;
 mod line;
+mod line_row;
 mod lists;
 mod row_list;
+
+mod time_text;
 mod unread;
 mod word;
 
 pub use field::{HOUR_DIGITS, NUMBER_DIGITS};
 pub use fields::{Fields, Row};
+pub use line_row::{spell, spell_in};
+pub use time_text::GREATEST_CLOCK_S;
 pub use row_list::{RowList, rows};
 pub use line::{Line, read_line, read_row, read_row_in};

@@ -2,6 +2,8 @@
 ghost use Rattle.std.specs.Prelude.{◌≡◌};
 ghost use Rattle.row_text.specs.Words as words;
 
+ghost use Rattle.row_text.specs.declared.word.Word.TheVariants as word;
+
 use rail_model::{Kind, PATH_HOPS};
 
 // What the first field of a row says that the row does.
@@ -15,7 +17,20 @@ pub(crate) enum Word {
 }
 
 impl Word {
-    ghost use Rattle.row_text.specs.Words.{shape_of, allows};
+    ghost use Rattle.row_text.specs.Words.{shape_of, allows, word_text};
+
+    // The field that a row of this word begins with.
+    pub(crate) fn text(self) -> &'static [u8]
+        ensures { result.now ≡ word_text self }
+    {
+        match self {
+            Word::Put(kind) => put_text(kind),
+            Word::Change(kind) => change_text(kind),
+            Word::Drop(kind) => drop_text(kind),
+            Word::Ask => b"ask",
+            Word::Planner => b"planner",
+        }
+    }
 
     // Whether a row of this word may have as many fields, with the word.
     pub(crate) fn allows(self, fields: usize) -> bool
@@ -84,4 +99,43 @@ fn kind_of(field: &[u8]) -> Option<Kind>
         return Some(Kind::Connection);
     }
     None
+}
+
+fn put_text(kind: Kind) -> &'static [u8]
+    ensures { result.now ≡ words.word_text (word.Put kind) }
+{
+    match kind {
+        Kind::Block => b"block",
+        Kind::Signal => b"signal",
+        Kind::Route => b"route",
+        Kind::Run => b"run",
+        Kind::Section => b"section",
+        Kind::Connection => b"connect",
+    }
+}
+
+fn change_text(kind: Kind) -> &'static [u8]
+    ensures { result.now ≡ words.word_text (word.Change kind) }
+{
+    match kind {
+        Kind::Block => b"change-block",
+        Kind::Signal => b"change-signal",
+        Kind::Route => b"change-route",
+        Kind::Run => b"change-run",
+        Kind::Section => b"change-section",
+        Kind::Connection => b"change-connect",
+    }
+}
+
+fn drop_text(kind: Kind) -> &'static [u8]
+    ensures { result.now ≡ words.word_text (word.Drop kind) }
+{
+    match kind {
+        Kind::Block => b"drop-block",
+        Kind::Signal => b"drop-signal",
+        Kind::Route => b"drop-route",
+        Kind::Run => b"drop-run",
+        Kind::Section => b"drop-section",
+        Kind::Connection => b"drop-connect",
+    }
 }
