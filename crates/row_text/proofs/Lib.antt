@@ -5,3 +5,6 @@ pub mod Reading
 pub mod Words
 pub mod Records
 pub mod Taken
+pub mod Numbers
+pub mod Says
+pub mod Again
