@@ -8,3 +8,5 @@ pub mod Taken
 pub mod Numbers
 pub mod Says
 pub mod Again
+pub mod Digits
+pub mod SheetRows

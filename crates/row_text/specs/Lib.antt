@@ -7,3 +7,7 @@ pub mod Reads
 pub mod Lines
 pub mod Versions
 pub mod Spelling
+pub mod SheetRows
+pub mod Sheet
+pub mod SheetText
+pub mod Put
