@@ -10,3 +10,5 @@ pub mod Says
 pub mod Again
 pub mod Digits
 pub mod SheetRows
+pub mod SheetSteps
+pub mod PlainFields

@@ -26,7 +26,7 @@ value_of-push : (digits : List ℕ) (d : ℕ) → value_of (digits ++ d ∷ []) 
 value_of-push digits d = fold-append (λ value digit. value * 10 + (digit - 48)) 0 digits (d ∷ [])
 
 -- the digits of a number are digits, and their value is the number
-decimal_digits : (n : ℕ) → n < 2 ^ 64 → (list_all is_ascii_digit (decimal n) ≡ true) × (value_of (decimal n) ≡ n)
+pub decimal_digits : (n : ℕ) → n < 2 ^ 64 → (list_all is_ascii_digit (decimal n) ≡ true) × (value_of (decimal n) ≡ n)
 decimal_digits n small = decimal_by_steps (λ n digits. (list_all is_ascii_digit digits ≡ true) × (value_of digits ≡ n)) one more n small
   where
     one : (n : ℕ) → n < 10 → (list_all is_ascii_digit ((48 + n) ∷ []) ≡ true) × (value_of ((48 + n) ∷ []) ≡ n)

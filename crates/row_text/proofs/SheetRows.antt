@@ -16,8 +16,11 @@ use Rattle.row_text.specs.SheetRows.{SheetRows, text_of_row, text_of_rows, has_f
 use Rattle.row_text.specs.Sheet.{ended_text, open_text, ended_row, first_row, sheet_rows}
 use Rattle.row_text.specs.SheetText.{HoldsRows, IsSheet}
 
-IsTrue-true : {b : Bool} → IsTrue b → b ≡ true
+pub IsTrue-true : {b : Bool} → IsTrue b → b ≡ true
 IsTrue-true h = search rules
+
+pub IsTrue-from : {b : Bool} → b ≡ true → IsTrue b
+IsTrue-from h = search rules
 
 no_record : next_record default_config st.StartRecord [] [] [] ≡ None
 unfolding next_record
@@ -52,7 +55,7 @@ records-text : (rows : List Row) → list_all has_fields rows ≡ true → recor
 records-text rows each = records_from-text (length (text_of_rows rows) + 1) rows each (omega (arith, length-rows rows))
 
 -- a row that has fields ends with what its bytes ask for
-ended_row-text : (row : Row) → has_fields row ≡ true → ended_row (row_body default_writer row) ≡ text_of_row row
+pub ended_row-text : (row : Row) → has_fields row ≡ true → ended_row (row_body default_writer row) ≡ text_of_row row
 unfolding text_of_row is_blank fields_text
 ended_row-text [] some = absurd (false≢true some)
 ended_row-text (first ∷ []) some = rw (append-nil (field_text default_writer first)) refl
@@ -69,13 +72,13 @@ first_row-text row some =
     rw (read, read_back-same row some) refl
 
 -- one field more
-row_body-push : (row : Row) (text : List ℕ) → row_body default_writer (row ++ text ∷ []) ≡ row_body default_writer row ++ (separator (has_fields row) ++ field_text default_writer text)
+pub row_body-push : (row : Row) (text : List ℕ) → row_body default_writer (row ++ text ∷ []) ≡ row_body default_writer row ++ (separator (has_fields row) ++ field_text default_writer text)
 unfolding fields_text
 row_body-push [] text = append-nil (field_text default_writer text)
 row_body-push (first ∷ row) text =
     rw (fields-snoc default_writer row text) (sym (append_assoc (field_text default_writer first) (fields_text default_writer row) (44 ∷ field_text default_writer text)))
 
-has_fields-push : (row : Row) (text : List ℕ) → has_fields (row ++ text ∷ []) ≡ true
+pub has_fields-push : (row : Row) (text : List ℕ) → has_fields (row ++ text ∷ []) ≡ true
 has_fields-push [] text = refl
 has_fields-push (first ∷ row) text = refl
 
