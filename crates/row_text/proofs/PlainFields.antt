@@ -3,10 +3,15 @@ use Rattle.std.proofs.Common.{◌≡◌, ℕ, suc, ◌^◌, ◌<◌, ◌≤◌, 
 use Rattle.std.specs.List.{list_any, list_all}
 use Rattle.std.specs.Char.{is_ascii_digit}
 use Rattle.std.specs.Fmt.{signed_decimal}
-use Rattle.std.proofs.lemmas.Bool.{and_parts, leb-true}
+use Rattle.std.proofs.lemmas.Bool.{and_parts, leb-true, ne_eqb}
 use Rattle.std.proofs.lemmas.Bool.Decides.{nat_tests}
 use Rattle.csv.specs.Writing.{default_writer, needs_quotes, needs_byte, field_text}
+use Rattle.std.proofs.Common.{◌+◌, ◌++◌, ◌||◌, ◌==◌, not, map, take, length, get_or}
+use Rattle.std.proofs.lemmas.List.{take_more, map-append}
+use Rattle.row_text.specs.Put.{separator, more_text}
+use Rattle.row_text.specs.SheetRows.{has_fields}
 use Rattle.row_text.proofs.Numbers.{decimal_digits}
+use Rattle.row_text.proofs.SheetRows.{more_text-push, has_fields-append, or_true}
 
 digit-plain : (b : ℕ) → is_ascii_digit b ≡ true → needs_byte default_writer b ≡ false
 digit-plain b digit = grind (arith, nat_tests)
@@ -26,3 +31,17 @@ field_text-signed_decimal (pos n) fits = let small = fits.sfits in field_text-de
 field_text-signed_decimal (negsuc n) fits =
     let small = fits.sfits in
     rw (digits-plain (decimal (suc n)) (decimal_digits (suc n) (omega arith)).0) refl
+
+-- one number more
+pub more_text-numbers : (has_field : Bool) (numbers : List ℤ) (i : ℕ) (d : ℤ) → i < length numbers → FitsSigned w64 (get_or numbers i d)
+    → more_text has_field (map signed_decimal (take (i + 1) numbers))
+    ≡ more_text has_field (map signed_decimal (take i numbers)) ++ (separator (has_field || has_fields (map signed_decimal (take i numbers))) ++ signed_decimal (get_or numbers i d))
+more_text-numbers has_field numbers i d lt fits = rw (take_more numbers i d lt, map-append, more_text-push, field_text-signed_decimal (get_or numbers i d) fits) refl
+
+pub has_fields-numbers : (has_field : Bool) (numbers : List ℤ) (i : ℕ) (d : ℤ) → i < length numbers → (has_field || has_fields (map signed_decimal (take (i + 1) numbers))) ≡ true
+has_fields-numbers has_field numbers i d lt = rw (take_more numbers i d lt, map-append, has_fields-append, or_true, or_true) refl
+
+-- there is a field for each number
+pub has_fields-map : (numbers : List ℤ) → has_fields (map signed_decimal numbers) ≡ not (length numbers == 0)
+has_fields-map [] = refl
+has_fields-map (number ∷ numbers) = rw (ne_eqb (length (number ∷ numbers)) 0 (λ none. omega arith)) refl

@@ -1,5 +1,5 @@
 -- The bytes of a sheet and the rows that they are the text of.
-use Rattle.std.proofs.Common.{◌≡◌, ℕ, zero, suc, ◌+◌, ◌-◌, ◌<◌, ◌≤◌, Bool, true, false, ◌==◌, ◌&&◌, List, [], ◌∷◌, ◌++◌, length, take, drop, slice_range, Some, None, IsTrue, if◌then◌else◌, subst, refl, sym, ap, ◌∙◌, append_assoc, arith, rules, inl, inr}
+use Rattle.std.proofs.Common.{◌≡◌, ℕ, zero, suc, ◌+◌, ◌-◌, ◌<◌, ◌≤◌, Bool, true, false, ◌==◌, ◌&&◌, ◌||◌, List, [], ◌∷◌, ◌++◌, length, take, drop, slice_range, Some, None, IsTrue, if◌then◌else◌, subst, refl, sym, ap, ◌∙◌, append_assoc, arith, rules, inl, inr}
 use Rattle.std.specs.List.{flat_map, list_all}
 use Rattle.std.proofs.lemmas.Bool.{cases_Bool, and_parts, false≢true, and_from, eq-eqb, ne_eqb}
 use Rattle.std.proofs.lemmas.List.{append-nil, length-append, take-append-le}
@@ -8,13 +8,20 @@ use Rattle.csv.specs.Reading.{default_config, records, records_from}
 use Rattle.csv.specs.Writing.{default_writer, row_text, row_body, fields_text, field_text, is_blank, read_back}
 use Rattle.csv.specs.declared.parser.State.TheVariants as st
 use Rattle.csv.proofs.RoundTrip.{read-write}
-use Rattle.csv.proofs.WriteFacts.{fields-snoc}
 use Rattle.row_text.specs.declared.sheet.Sheet.TheInside.{Inside}
 use Rattle.row_text.specs.Row.{Row}
-use Rattle.row_text.specs.Put.{separator}
+use Rattle.row_text.specs.Put.{separator, more_text}
 use Rattle.row_text.specs.SheetRows.{SheetRows, text_of_row, text_of_rows, has_fields}
 use Rattle.row_text.specs.Sheet.{ended_text, open_text, ended_row, first_row, sheet_rows}
 use Rattle.row_text.specs.SheetText.{HoldsRows, IsSheet}
+
+or_false : (b : Bool) → (b || false) ≡ b
+or_false true = refl
+or_false false = refl
+
+pub or_true : (b : Bool) → (b || true) ≡ true
+or_true true = refl
+or_true false = refl
 
 pub IsTrue-true : {b : Bool} → IsTrue b → b ≡ true
 IsTrue-true h = search rules
@@ -71,16 +78,36 @@ first_row-text row some =
     let read = ap (next_record default_config st.StartRecord [] []) (sym (append-nil (row_text default_writer row))) ∙ read-write row [] in
     rw (read, read_back-same row some) refl
 
--- one field more
-pub row_body-push : (row : Row) (text : List ℕ) → row_body default_writer (row ++ text ∷ []) ≡ row_body default_writer row ++ (separator (has_fields row) ++ field_text default_writer text)
+-- more fields
+more_text-fields : (fields : Row) → more_text true fields ≡ fields_text default_writer fields
 unfolding fields_text
-row_body-push [] text = append-nil (field_text default_writer text)
-row_body-push (first ∷ row) text =
-    rw (fields-snoc default_writer row text) (sym (append_assoc (field_text default_writer first) (fields_text default_writer row) (44 ∷ field_text default_writer text)))
+more_text-fields [] = refl
+more_text-fields (first ∷ fields) = ap (λ (rest : List ℕ). 44 ∷ (field_text default_writer first ++ rest)) (more_text-fields fields)
 
-pub has_fields-push : (row : Row) (text : List ℕ) → has_fields (row ++ text ∷ []) ≡ true
-has_fields-push [] text = refl
-has_fields-push (first ∷ row) text = refl
+fields_text-append : (row more : Row) → fields_text default_writer (row ++ more) ≡ fields_text default_writer row ++ fields_text default_writer more
+unfolding fields_text
+fields_text-append [] more = refl
+fields_text-append (first ∷ row) more =
+    rw (fields_text-append row more) (ap (λ (rest : List ℕ). 44 ∷ rest) (sym (append_assoc (field_text default_writer first) (fields_text default_writer row) (fields_text default_writer more))))
+
+pub row_body-append : (row more : Row) → row_body default_writer (row ++ more) ≡ row_body default_writer row ++ more_text (has_fields row) more
+row_body-append [] [] = refl
+row_body-append [] (first ∷ more) = ap (λ (rest : List ℕ). field_text default_writer first ++ rest) (sym (more_text-fields more))
+row_body-append (first ∷ row) more =
+    rw (fields_text-append row more, more_text-fields more) (sym (append_assoc (field_text default_writer first) (fields_text default_writer row) (fields_text default_writer more)))
+
+-- fields whose text was made before
+pub more_text-body : (has_field : Bool) (more : Row) → has_fields more ≡ true → more_text has_field more ≡ separator has_field ++ row_body default_writer more
+more_text-body has_field [] some = absurd (false≢true some)
+more_text-body has_field (first ∷ more) some = rw (more_text-fields more) refl
+
+pub more_text-push : (has_field : Bool) (more : Row) (text : List ℕ) → more_text has_field (more ++ text ∷ []) ≡ more_text has_field more ++ (separator (has_field || has_fields more) ++ field_text default_writer text)
+more_text-push has_field [] text = rw (or_false has_field, append-nil (field_text default_writer text)) refl
+more_text-push has_field (first ∷ more) text = rw (or_true has_field, more_text-push true more text) (simp append_assoc)
+
+pub has_fields-append : (row more : Row) → has_fields (row ++ more) ≡ (has_fields row || has_fields more)
+has_fields-append [] more = refl
+has_fields-append (first ∷ row) more = refl
 
 -- what the bytes of a sheet are the text of is what the sheet is seen as
 open_row-is : (row : Row) (has_field : Bool) (body : List ℕ) → has_field ≡ has_fields row → body ≡ row_body default_writer row → (if has_field then first_row (ended_row body) else []) ≡ row

@@ -1,18 +1,18 @@
 -- What each step of writing leaves a sheet as.
-use Rattle.std.proofs.Common.{◌≡◌, ℕ, ◌+◌, ◌-◌, ◌<◌, ◌≤◌, Bool, true, false, ◌==◌, ◌&&◌, List, [], ◌∷◌, ◌++◌, length, take, drop, slice_range, inl, inr, IsTrue, if◌then◌else◌, refl, sym, ap, ◌∙◌, append_assoc, arith, rules}
+use Rattle.std.proofs.Common.{◌≡◌, ℕ, ◌+◌, ◌-◌, ◌<◌, ◌≤◌, Bool, true, false, ◌==◌, ◌&&◌, ◌||◌, List, [], ◌∷◌, ◌++◌, length, take, drop, slice_range, inl, inr, IsTrue, if◌then◌else◌, refl, sym, ap, ◌∙◌, append_assoc, arith, rules}
 use Rattle.std.specs.List.{list_all}
 use Rattle.std.proofs.lemmas.Bool.{cases_Bool, and_from, eqb-true, eqb-false, ne_eqb, eq-eqb}
 use Rattle.std.proofs.lemmas.List.{append-nil, length-append, length-take-le, length-drop, length-take, take-take, drop-take, take-append-drop, take-append-le, drop-append-le}
 use Rattle.std.proofs.lemmas.List.Folds.{list_all-append}
 use Rattle.std.proofs.lemmas.List.Concat.{flat_map-append}
-use Rattle.csv.specs.Writing.{default_writer, row_body, field_text}
+use Rattle.csv.specs.Writing.{default_writer, row_body}
 use Rattle.row_text.specs.declared.sheet.Sheet.TheInside.{Inside}
 use Rattle.row_text.specs.Row.{Row}
-use Rattle.row_text.specs.Put.{separator}
+use Rattle.row_text.specs.Put.{more_text}
 use Rattle.row_text.specs.SheetRows.{text_of_row, text_of_rows, has_fields}
 use Rattle.row_text.specs.Sheet.{ended_text, open_text, ended_row, sheet_rows}
 use Rattle.row_text.specs.SheetText.{HoldsRows, IsSheet}
-use Rattle.row_text.proofs.SheetRows.{IsTrue-true, IsTrue-from, row_body-push, has_fields-push, ended_row-text}
+use Rattle.row_text.proofs.SheetRows.{IsTrue-true, IsTrue-from, row_body-append, has_fields-append, ended_row-text}
 
 -- the bytes that are used are those of the ended rows, and those of the row that is being written
 open-is : (bytes : List ℕ) (ended used : ℕ) → ended ≤ used → slice_range bytes ended used ≡ drop ended (take used bytes)
@@ -38,33 +38,30 @@ HoldsRows-none sheet text ended used begun = record {
   begun = begun;
 }
 
--- a field is written after a comma, or as the first of its row
-pub HoldsRows-push : (old new : Inside) (rows : List Row) (row : Row) (text : List ℕ) → HoldsRows old rows row → new.ended ≡ old.ended → new.has_field ≡ true → old.used ≤ new.used → new.used ≤ length new.text.items
-    → take new.used new.text.items ≡ take old.used old.text.items ++ (separator old.has_field ++ field_text default_writer text) → HoldsRows new rows (row ++ text ∷ [])
-HoldsRows-push old new rows row text h ended has_field more room written =
+-- fields are written, after room was made
+pub pushed : (old new : Inside) (roomy : List ℕ) (more : Row) → IsSheet old → new.ended ≡ old.ended → new.has_field ≡ (old.has_field || has_fields more) → take old.used roomy ≡ take old.used old.text.items
+    → take new.used new.text.items ≡ take old.used roomy ++ more_text old.has_field more → old.used ≤ new.used → new.used ≤ length new.text.items
+    → HoldsRows new (sheet_rows old).rows ((sheet_rows old).row ++ more)
+pushed old new roomy more h ended has_field kept written grown room =
     let le = h.order in
+    let row = (sheet_rows old).row in
     let size : length (take old.used old.text.items) ≡ old.used = length-take-le old.used old.text.items h.room in
-    let field : List ℕ = separator old.has_field ++ field_text default_writer text in
+    let text : List ℕ = more_text old.has_field more in
+    let written_all : take new.used new.text.items ≡ take old.used old.text.items ++ text = written ∙ rw kept refl in
     let ended_same : take old.ended new.text.items ≡ take old.ended old.text.items =
-      ended-is new.text.items old.ended new.used (omega arith) ∙ ap (take old.ended) written ∙ take-append-le old.ended (take old.used old.text.items) field (omega arith) ∙ sym (ended-is old.text.items old.ended old.used le) in
-    let open_more : slice_range new.text.items old.ended new.used ≡ slice_range old.text.items old.ended old.used ++ field =
-      open-is new.text.items old.ended new.used (omega arith) ∙ ap (drop old.ended) written ∙ drop-append-le old.ended (take old.used old.text.items) field (omega arith)
-      ∙ ap (λ open_bytes. open_bytes ++ field) (sym (open-is old.text.items old.ended old.used le)) in
+      ended-is new.text.items old.ended new.used (omega arith) ∙ ap (take old.ended) written_all ∙ take-append-le old.ended (take old.used old.text.items) text (omega arith) ∙ sym (ended-is old.text.items old.ended old.used le) in
+    let open_more : slice_range new.text.items old.ended new.used ≡ slice_range old.text.items old.ended old.used ++ text =
+      open-is new.text.items old.ended new.used (omega arith) ∙ ap (drop old.ended) written_all ∙ drop-append-le old.ended (take old.used old.text.items) text (omega arith)
+      ∙ ap (λ open_bytes. open_bytes ++ text) (sym (open-is old.text.items old.ended old.used le)) in
+    let begun = h.begun in
     record {
       order = omega arith;
       room = room;
       ended = rw (ended, ended_same) h.ended;
       each = h.each;
-      body = rw (ended, open_more, h.body, row_body-push row text, h.begun) refl;
-      begun = has_field ∙ sym (has_fields-push row text);
+      body = rw ended (open_more ∙ ap (λ open_bytes. open_bytes ++ text) h.body ∙ ap (λ has. row_body default_writer row ++ more_text has more) begun ∙ sym (row_body-append row more));
+      begun = has_field ∙ ap (λ has. has || has_fields more) begun ∙ sym (has_fields-append row more);
     }
-
--- the same, after room was made
-pub pushed : (old new : Inside) (roomy : List ℕ) (text more : List ℕ) → IsSheet old → new.ended ≡ old.ended → new.has_field ≡ true → take old.used roomy ≡ take old.used old.text.items
-    → take new.used new.text.items ≡ take old.used roomy ++ (separator old.has_field ++ more) → field_text default_writer text ≡ more → old.used ≤ new.used → new.used ≤ length new.text.items
-    → HoldsRows new (sheet_rows old).rows ((sheet_rows old).row ++ text ∷ [])
-pushed old new roomy text more h ended has_field kept written is grown room =
-    HoldsRows-push old new _ _ text h ended has_field grown room (written ∙ rw (kept, is) refl)
 
 -- whether the row that is being written shows nothing
 pub is_blank-is : (sheet : Inside) (rows : List Row) (row : Row) → HoldsRows sheet rows row → (sheet.used == sheet.ended) ≡ (length (open_text sheet) == 0)

@@ -1,7 +1,7 @@
 // Writing into the room of a text.
-ghost use Rattle.std.specs.Prelude.{◌≡◌, ◌+◌, ◌≤◌, ◌++◌, ◌∷◌, [], length, take, decimal, if◌then◌else◌, OnOk, OnErr, ◌==◌};
+ghost use Rattle.std.specs.Prelude.{◌≡◌, ◌+◌, ◌*◌, ◌<◌, ◌≤◌, ◌++◌, ◌∷◌, [], length, take, map, decimal, if◌then◌else◌, OnOk, OnErr};
 ghost use Rattle.std.specs.Fmt.{signed_decimal};
-ghost use Rattle.row_text.specs.Put.{separator};
+ghost use Rattle.row_text.specs.Put.{separator, more_text};
 
 use itoa::write_digits;
 use rail_model::OutOfMemory;
@@ -92,6 +92,28 @@ pub(crate) fn put_end(text: &mut [u8], used: usize, is_blank: bool) -> usize
     put_bytes(text, used, b"\n")
 }
 
+// The same of several numbers.
+#[inline]
+pub(crate) fn put_numbers(
+    text: &mut [u8],
+    used: usize,
+    has_field: bool,
+    numbers: &[i64],
+) -> usize
+    requires { used + 22 * length numbers.now ≤ length text.old }
+    ensures written { take result text.new ≡ take used text.old ++ more_text has_field (map signed_decimal numbers.now) }
+    ensures more { used ≤ result }
+    ensures within { result ≤ used + 22 * length numbers.now }
+{
+    let mut at = used;
+    let mut after_field = has_field;
+    for number in numbers {
+        at = put_signed(text, at, after_field, *number);
+        after_field = true;
+    }
+    at
+}
+
 #[inline]
 fn put_comma(text: &mut [u8], used: usize, has_field: bool) -> usize
     requires { used + 1 ≤ length text.old }
@@ -115,7 +137,55 @@ fn put_bytes(text: &mut [u8], used: usize, bytes: &[u8]) -> usize
 }
 
 #[inline]
+fn put_byte(text: &mut [u8], used: usize, byte: u8) -> usize
+    requires { used < length text.old }
+    ensures written { take result text.new ≡ take used text.old ++ byte ∷ [] }
+    ensures end { result ≡ used + 1 }
+{
+    text[used] = byte;
+    used + 1
+}
+
+#[inline]
 fn put_digits(text: &mut [u8], used: usize, number: u64) -> usize
+    requires { used + 20 ≤ length text.old }
+    ensures written { take result text.new ≡ take used text.old ++ decimal number }
+    ensures more { used ≤ result }
+    ensures within { result ≤ used + 20 }
+{
+    if number < 10 {
+        return put_one(text, used, number as u8);
+    }
+    if number < 100 {
+        return put_two(text, used, number as u8);
+    }
+    put_many(text, used, number)
+}
+
+#[inline]
+fn put_one(text: &mut [u8], used: usize, number: u8) -> usize
+    requires small { number < 10 }
+    requires room { used < length text.old }
+    ensures written { take result text.new ≡ take used text.old ++ decimal number }
+    ensures end { result ≡ used + 1 }
+{
+    put_byte(text, used, b'0' + number)
+}
+
+#[inline]
+fn put_two(text: &mut [u8], used: usize, number: u8) -> usize
+    requires more { 10 ≤ number }
+    requires small { number < 100 }
+    requires room { used + 2 ≤ length text.old }
+    ensures written { take result text.new ≡ take used text.old ++ decimal number }
+    ensures end { result ≡ used + 2 }
+{
+    let at = put_byte(text, used, b'0' + number / 10);
+    put_byte(text, at, b'0' + number % 10)
+}
+
+#[inline]
+fn put_many(text: &mut [u8], used: usize, number: u64) -> usize
     requires { used + 20 ≤ length text.old }
     ensures written { take result text.new ≡ take used text.old ++ decimal number }
     ensures more { used ≤ result }

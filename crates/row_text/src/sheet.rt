@@ -1,10 +1,10 @@
 //! The text of rows that are written.
-ghost use Rattle.std.specs.Prelude.{◌≡◌, [], decimal, IsTrue, OnOk, OnErr};
+ghost use Rattle.std.specs.Prelude.{◌≡◌, [], map, decimal, IsTrue, OnOk, OnErr};
 ghost use Rattle.std.specs.Fmt.{signed_decimal};
-ghost use Rattle.row_text.specs.SheetRows.{with_field, with_row, text_of_rows, has_fields};
+ghost use Rattle.row_text.specs.SheetRows.{with_field, with_fields, with_row, text_of_rows, has_fields};
 
 use crate::fields::Fields;
-use crate::put::{make_room, put_end, put_signed, put_text, put_unsigned};
+use crate::put::{make_room, put_end, put_numbers, put_signed, put_text, put_unsigned};
 use crate::written::Written;
 use rail_model::OutOfMemory;
 use std::alloc::Global;
@@ -61,6 +61,18 @@ impl Sheet {
         Ok(())
     }
 
+    /// Adds numbers in plain decimal, each a field.
+    #[inline]
+    pub fn push_numbers(&mut self, numbers: &[i64]) -> Result<(), OutOfMemory>
+        ensures ok { OnOk result (self.new ≡ with_fields self.old (map signed_decimal numbers.now)) }
+        ensures err { OnErr result (self.new ≡ self.old) }
+    {
+        make_room(&mut self.text, self.used, numbers.len().saturating_mul(NUMBER_ROOM))?;
+        self.used = put_numbers(&mut self.text, self.used, self.has_field, numbers);
+        self.has_field |= !numbers.is_empty();
+        Ok(())
+    }
+
     /// Adds a number that is not negative, in plain decimal.
     #[inline]
     pub fn push_count(&mut self, number: u64) -> Result<(), OutOfMemory>
@@ -73,13 +85,13 @@ impl Sheet {
         Ok(())
     }
 
-    /// Adds a field whose text was made before.
+    /// Adds fields whose text was made before.
     #[inline]
-    pub fn push_written(&mut self, field: &Written) -> Result<(), OutOfMemory>
-        ensures ok { OnOk result (self.new ≡ with_field self.old field.now) }
+    pub fn push_written(&mut self, fields: &Written) -> Result<(), OutOfMemory>
+        ensures ok { OnOk result (self.new ≡ with_fields self.old fields.now) }
         ensures err { OnErr result (self.new ≡ self.old) }
     {
-        let text = field.text();
+        let text = fields.text();
         make_room(&mut self.text, self.used, text.len() + 1)?;
         self.used = put_text(&mut self.text, self.used, self.has_field, text);
         self.has_field = true;

@@ -1,44 +1,61 @@
 //! Fields as the text of a row has them.
-ghost use Rattle.std.specs.Prelude.{◌≡◌, IfOk};
+ghost use Rattle.std.specs.Prelude.{◌≡◌, ◌++◌, ◌∷◌, [], true, IfOk};
+ghost use Rattle.row_text.specs.SheetRows.{has_fields};
 ghost use Rattle.csv.specs.Writing as writing;
 
+use crate::fields::Fields;
 use csv::WriterBuilder;
 use rail_model::OutOfMemory;
 use std::alloc::Global;
 use std::marker::Model;
 
-/// A field with its text in a row, made once for many rows. Contracts see the field.
+/// Fields with their text in a row, made once for many rows. Contracts see the fields, of which there is one
+/// at least.
 #[derive(Drop)]
 pub struct Written {
-    field: Vec<u8>,
+    fields: Fields,
     text: Vec<u8>,
 }
 
 impl Model for Written {
-    ghost use Rattle.std.specs.Prelude.{◌≡◌, List, ℕ};
-    ghost use Rattle.csv.specs.Writing.{default_writer, field_text};
+    ghost use Rattle.std.specs.Prelude.{◌≡◌, List, ℕ, true};
+    ghost use Rattle.csv.specs.Writing.{default_writer, row_body};
+    ghost use Rattle.row_text.specs.SheetRows.{has_fields};
 
-    ghost Value = { List ℕ };
+    ghost Value = { List (List ℕ) };
 
-    ghost view = { λ w. w.field.items };
+    ghost view = { λ w. w.fields };
 
-    ghost invariant = { λ w. w.text.items ≡ field_text default_writer w.field.items };
+    ghost invariant = { λ w. (w.text.items ≡ row_body default_writer w.fields) × (has_fields w.fields ≡ true) };
 }
 
 impl Written {
-    /// The field with its text.
+    /// A field with its text.
     pub fn new(alloc: Global, field: &[u8]) -> Result<Written, OutOfMemory>
-        ensures { IfOk result (λ written. written ≡ field.now) }
+        ensures { IfOk result (λ written. written ≡ field.now ∷ []) }
     {
-        Ok(Written {
-            field: Vec::from_slice(alloc, field)?,
-            text: field_text(alloc, field)?,
-        })
+        let mut fields = Fields::new(alloc);
+        fields.push(field)?;
+        let text = field_text(alloc, field)?;
+        Ok(Written { fields, text })
+    }
+
+    /// The same fields and one more.
+    pub fn with(self, alloc: Global, field: &[u8]) -> Result<Written, OutOfMemory>
+        ensures { IfOk result (λ written. written ≡ self ++ field.now ∷ []) }
+    {
+        let mut fields = self.fields;
+        let mut text = self.text;
+        fields.push(field)?;
+        text.push(b',')?;
+        text.extend_from_slice(&field_text(alloc, field)?)?;
+        Ok(Written { fields, text })
     }
 
     // The text.
     pub(crate) fn text(&self) -> &[u8]
-        ensures { result.now ≡ writing.field_text writing.default_writer self.now }
+        ensures text { result.now ≡ writing.row_body writing.default_writer self.now }
+        ensures some { has_fields self.now ≡ true }
     {
         &self.text
     }
