@@ -1,0 +1,31 @@
+-- How many digits a number has.
+use Rattle.std.proofs.Common.{◌≡◌, ℕ, zero, suc, ◌+◌, ◌*◌, ◌/◌, ◌^◌, ◌<◌, ◌≤◌, length, decimal, max, [], ◌∷◌, ◌%◌, refl, ap, ◌∙◌, arith}
+use Rattle.std.proofs.Math.Nat.{pow-suc, pow-le-pow_right}
+use Rattle.std.proofs.lemmas.List.{length-append}
+use Rattle.std.proofs.lemmas.Fmt.{decimal_digit, decimal_step, decimal_nonempty, length-decimal-le}
+
+digits_least : (k n : ℕ) → n < 2 ^ 64 → 10 ^ k ≤ n → k < length (decimal n)
+digits_least zero n small le = decimal_nonempty n small
+digits_least (suc k) n small le =
+    let power = pow-suc 10 k in
+    let one = pow-le-pow_right {n = 10} (omega arith) {i = 0} {j = k} (omega arith) in
+    let more : length (decimal n) ≡ length (decimal (n / 10)) + 1 = ap length (decimal_step n (omega (arith, power, one)) small) ∙ length-append (decimal (n / 10)) _ in
+    omega (arith, more, digits_least k (n / 10) (omega arith) (omega (arith, power)))
+
+-- a number between two powers of ten has one digit more than the lower has zeros
+pub length-decimal : (k n : ℕ) → n < 2 ^ 64 → 10 ^ k ≤ n → n < 10 * 10 ^ k → length (decimal n) ≡ k + 1
+length-decimal k n small le lt =
+    let power = pow-suc 10 k in
+    omega (arith, digits_least k n small le, length-decimal-le (suc k) n (omega arith) (omega (arith, power)) small)
+
+-- the same at 0, which is taken for 1
+pub length-decimal-max : (k n : ℕ) → n < 2 ^ 64 → 10 ^ k ≤ max n 1 → max n 1 < 10 * 10 ^ k → length (decimal n) ≡ k + 1
+length-decimal-max zero zero small le lt = ap length (decimal_digit 0 (omega arith))
+length-decimal-max (suc k) zero small le lt =
+    let power = pow-suc 10 k in
+    let one = pow-le-pow_right {n = 10} (omega arith) {i = 0} {j = k} (omega arith) in
+    absurd (omega (arith, power, one))
+length-decimal-max k (suc n) small le lt = length-decimal k (suc n) small (omega arith) (omega arith)
+
+pub decimal_two : (n : ℕ) → 10 ≤ n → n < 100 → decimal n ≡ (48 + n / 10) ∷ (48 + n % 10) ∷ []
+decimal_two n le lt = rw (decimal_step n le (omega arith), decimal_digit (n / 10) (omega arith)) refl

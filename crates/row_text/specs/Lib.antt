@@ -1,0 +1,13 @@
+pub mod Row
+pub mod Pieces
+pub mod Rows
+pub mod Sorts
+pub mod Words
+pub mod Reads
+pub mod Lines
+pub mod Versions
+pub mod Spelling
+pub mod SheetRows
+pub mod Sheet
+pub mod SheetText
+pub mod Put

@@ -1,0 +1,35 @@
+-- What a sheet is seen as.
+use Rattle.std.specs.Prelude.{◌≡◌, ℕ, Bool, true, false, List, [], ◌∷◌, ◌++◌}
+use Rattle.std.specs.List.{flat_map}
+use Rattle.csv.specs.Writing.{default_writer, row_text}
+use Rattle.row_text.specs.Row.{Row}
+
+-- the rows that were ended, and the fields so far of the row that is being written
+pub record SheetRows : Type 0 where
+  pub rows : List Row
+  pub row : Row
+
+-- a sheet with one field more, with several, with its row ended, and with several rows more
+abbrev pub with_field : SheetRows → List ℕ → SheetRows
+with_field sheet text = record sheet { row = sheet.row ++ text ∷ [] }
+
+abbrev pub with_fields : SheetRows → Row → SheetRows
+with_fields sheet fields = record sheet { row = sheet.row ++ fields }
+
+abbrev pub with_row : SheetRows → Row → SheetRows
+with_row sheet row = record { rows = sheet.rows ++ row ∷ []; row = [] }
+
+abbrev pub with_rows : SheetRows → List Row → SheetRows
+with_rows sheet rows = record sheet { rows = sheet.rows ++ rows }
+
+-- the text of a row as CSV writes it: commas, quotes only where needed, and a line feed
+unfoldable pub text_of_row : Row → List ℕ
+text_of_row row = row_text default_writer row
+
+-- the text of rows, one after the other
+abbrev pub text_of_rows : List Row → List ℕ
+text_of_rows rows = flat_map text_of_row rows
+
+abbrev pub has_fields : Row → Bool
+has_fields [] = false
+has_fields (first ∷ fields) = true

@@ -1,0 +1,104 @@
+-- The sorts of fields, and what a field of each sort says.
+use Rattle.std.specs.Prelude.{◌≡◌, ℕ, ◌+◌, ◌-◌, ◌*◌, Bool, ◌&&◌, ◌==◌, nat_lt, nat_le, if◌then◌else◌, List, [], ◌∷◌, length, take, fold, codes, slice_range, slice_index, Option, Some, None, Result, Ok, Err, option_and_then, find, option_map}
+use Rattle.std.specs.List.{list_all}
+use Rattle.std.specs.Char.{is_ascii_digit}
+use Rattle.rail_model.specs.Name.{is_same, name_of}
+use Rattle.rail_model.specs.declared.form.Form.{Form}
+use Rattle.rail_model.specs.declared.form.Form.TheVariants as form
+use Rattle.row_text.specs.declared.field.TheConstants.{NUMBER_DIGITS, HOUR_DIGITS}
+
+-- what a field may be: a name; a number; a rate in per cent; a time in seconds
+pub data Sort : Type 0 where
+  Name : Sort
+  Number : Sort
+  Rate : Sort
+  Time : Sort
+
+-- what a field of a sort is read as: a name as its bytes, all others as a number
+abbrev pub Read : Sort → Type 0
+Read Name = List ℕ
+Read Number = ℕ
+Read Rate = ℕ
+Read Time = ℕ
+
+-- the value where there is one, else a fault
+abbrev pub or_fault : {A : Type 0} → Form → Option A → Result A Form
+or_fault fault None = Err fault
+or_fault fault (Some x) = Ok x
+
+-- the number that digits write in decimal
+abbrev pub value_of : List ℕ → ℕ
+value_of digits = fold (λ value digit. value * 10 + (digit - 48)) 0 digits
+
+-- one to nine digits are a number
+abbrev pub is_number : List ℕ → Bool
+is_number field = nat_lt 0 (length field) && nat_le (length field) NUMBER_DIGITS && list_all is_ascii_digit field
+
+abbrev pub number_of : List ℕ → Option ℕ
+number_of field = if is_number field then Some (value_of field) else None
+
+-- the first where there is something, else the second
+abbrev pub else_some : {A : Type 0} → Option A → Option A → Option A
+else_some None other = other
+else_some (Some x) other = Some x
+
+-- the class names of rates, with their per cent
+abbrev pub classes : List (List ℕ × ℕ)
+classes =
+    (codes "suburban-peak", 18)
+    ∷ (codes "suburban-day", 43)
+    ∷ (codes "highspeed-peak", 33)
+    ∷ (codes "highspeed-day", 67)
+    ∷ (codes "mixed-peak", 33)
+    ∷ (codes "mixed-day", 67)
+    ∷ []
+
+abbrev pub class_rate : List ℕ → Option ℕ
+class_rate field = option_map (λ c. c.1) (find (λ c. is_same field c.0) classes)
+
+-- a rate is a number of per cent or a class name
+abbrev pub rate_of : List ℕ → Option ℕ
+rate_of field = else_some (number_of field) (class_rate field)
+
+-- HOURS:MM:SS in seconds, where the hours have this many digits: minutes and seconds have two, and are below 60
+abbrev pub clock_after : ℕ → List ℕ → Option ℕ
+clock_after digits field =
+    option_and_then (λ hours.
+      option_and_then (λ minutes.
+        option_and_then (λ seconds.
+          if nat_lt minutes 60 && nat_lt seconds 60 then Some (hours * 3600 + minutes * 60 + seconds) else None)
+        (number_of (slice_range field (digits + 4) (digits + 6))))
+      (number_of (slice_range field (digits + 1) (digits + 3))))
+    (number_of (take digits field))
+
+-- a time of day: one to five digits of hours, and colons before the minutes and the seconds
+abbrev pub has_clock_form : List ℕ → Bool
+has_clock_form field =
+    nat_le 7 (length field) && nat_le (length field) (HOUR_DIGITS + 6)
+    && (slice_index field (length field - 6) == 58) && (slice_index field (length field - 3) == 58)
+
+abbrev pub clock_of : List ℕ → Option ℕ
+clock_of field = if has_clock_form field then clock_after (length field - 6) field else None
+
+-- a time is a number of seconds, and in version 2 of the rows it may be a time of day
+abbrev pub time_of : ℕ → List ℕ → Option ℕ
+time_of version field = if version == 2 then else_some (number_of field) (clock_of field) else number_of field
+
+-- what a field says as a field of a sort, or its fault
+abbrev pub name_in : List ℕ → Result (List ℕ) Form
+name_in field = or_fault form.BadName (name_of field)
+
+abbrev pub number_in : List ℕ → Result ℕ Form
+number_in field = or_fault form.Number (number_of field)
+
+abbrev pub rate_in : List ℕ → Result ℕ Form
+rate_in field = or_fault form.Number (rate_of field)
+
+abbrev pub time_in : ℕ → List ℕ → Result ℕ Form
+time_in version field = or_fault form.Number (time_of version field)
+
+abbrev pub read : ℕ → (sort : Sort) → List ℕ → Result (Read sort) Form
+read version Name field = name_in field
+read version Number field = number_in field
+read version Rate field = rate_in field
+read version Time field = time_in version field

@@ -1,0 +1,78 @@
+-- The words that rows begin with, and the fields that follow each.
+use Rattle.std.specs.Prelude.{ℕ, ◌+◌, ◌*◌, ◌-◌, ◌%◌, Bool, ◌&&◌, ◌==◌, nat_lt, nat_le, List, [], ◌∷◌, ◌++◌, length, map, find, codes, Option}
+use Rattle.rail_model.specs.Name.{is_same}
+use Rattle.rail_model.specs.declared.edit.Kind.{Kind}
+use Rattle.rail_model.specs.declared.edit.Kind.TheVariants as kind
+use Rattle.rail_model.specs.declared.limits.TheConstants.{PATH_HOPS}
+use Rattle.row_text.specs.declared.word.Word.{Word}
+use Rattle.row_text.specs.declared.word.Word.TheVariants as word
+use Rattle.row_text.specs.Sorts.{Sort, Name, Number, Rate, Time}
+
+-- the word of a kind of items
+abbrev pub kind_text : Kind → List ℕ
+kind_text kind.Block = codes "block"
+kind_text kind.Signal = codes "signal"
+kind_text kind.Route = codes "route"
+kind_text kind.Run = codes "run"
+kind_text kind.Section = codes "section"
+kind_text kind.Connection = codes "connect"
+
+abbrev pub kinds : List Kind
+kinds = kind.Block ∷ kind.Signal ∷ kind.Route ∷ kind.Run ∷ kind.Section ∷ kind.Connection ∷ []
+
+-- the first field of a row
+abbrev pub word_text : Word → List ℕ
+word_text (word.Put k) = kind_text k
+word_text (word.Change k) = codes "change-" ++ kind_text k
+word_text (word.Drop k) = codes "drop-" ++ kind_text k
+word_text word.Ask = codes "ask"
+word_text word.Planner = codes "planner"
+
+abbrev pub words : List Word
+words = map word.Put kinds ++ map word.Change kinds ++ map word.Drop kinds ++ word.Ask ∷ word.Planner ∷ []
+
+-- the word that a field is, if it is one
+unfoldable pub word_of : List ℕ → Option Word
+word_of field = find (λ w. is_same field (word_text w)) words
+
+-- the kind of which a field is the word
+abbrev pub kind_of : List ℕ → Option Kind
+kind_of field = find (λ k. is_same field (kind_text k)) kinds
+
+-- what may follow the fields that each row of a word has: nothing; 1 to 256 names; or the times of 1 to 256 legs,
+-- which are a running and a dwell time each, but for the last, which has no dwell time
+pub data More : Type 0 where
+  Nothing : More
+  Names : More
+  Times : More
+
+-- the sorts of the fields after the word, and what may follow them
+pub record Shape : Type 0 where
+  pub sorts : List Sort
+  pub more : More
+
+abbrev pub kind_shape : Kind → Shape
+kind_shape kind.Block = record { sorts = Name ∷ Number ∷ []; more = Nothing }
+kind_shape kind.Signal = record { sorts = Name ∷ Name ∷ Number ∷ Number ∷ Number ∷ Number ∷ Number ∷ []; more = Nothing }
+kind_shape kind.Route = record { sorts = Name ∷ []; more = Names }
+kind_shape kind.Run = record { sorts = Name ∷ Name ∷ Number ∷ Number ∷ Time ∷ []; more = Times }
+kind_shape kind.Section = record { sorts = Name ∷ Time ∷ Time ∷ Rate ∷ []; more = Names }
+kind_shape kind.Connection = record { sorts = Name ∷ Name ∷ Name ∷ Number ∷ []; more = Nothing }
+
+-- a `change-` row has the fields of the row that puts the item
+abbrev pub shape_of : Word → Shape
+shape_of (word.Put k) = kind_shape k
+shape_of (word.Change k) = kind_shape k
+shape_of (word.Drop k) = record { sorts = Name ∷ []; more = Nothing }
+shape_of word.Ask = record { sorts = Name ∷ []; more = Nothing }
+shape_of word.Planner = record { sorts = Number ∷ []; more = Nothing }
+
+-- how many further fields there may be
+abbrev pub may_follow : More → ℕ → Bool
+may_follow Nothing n = n == 0
+may_follow Names n = nat_lt 0 n && nat_le n PATH_HOPS
+may_follow Times n = (n % 2 == 1) && nat_lt n (2 * PATH_HOPS)
+
+-- whether a row of a word may have this many fields, with the word
+abbrev pub allows : Shape → ℕ → Bool
+allows shape fields = nat_lt (length shape.sorts) fields && may_follow shape.more (fields - length shape.sorts - 1)

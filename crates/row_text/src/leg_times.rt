@@ -1,0 +1,40 @@
+// The times of a run's legs as the row has them.
+ghost use Rattle.std.specs.Prelude.{◌≡◌, ◌≤◌, nat_le, IfOk, IsTrue};
+ghost use Rattle.std.specs.List.{list_all};
+ghost use Rattle.row_text.specs.Spelling as spelling;
+
+use crate::time_text::GREATEST_CLOCK_S;
+use rail_model::{Leg, List, OutOfMemory};
+use std::alloc::Global;
+
+// A running and a dwell time for each leg, but no dwell time for the last.
+pub(crate) fn leg_times(alloc: Global, legs: &[Leg]) -> Result<List<u32>, OutOfMemory>
+    ensures { IfOk result (λ times. times ≡ spelling.leg_times legs.now) }
+{
+    let mut times = List::new(alloc);
+    for i in 0..legs.len() {
+        times.push(legs[i].running_s)?;
+        if i + 1 < legs.len() {
+            times.push(legs[i].dwell_s)?;
+        }
+    }
+    Ok(times)
+}
+
+// The times at which steps end that begin at a time.
+pub(crate) fn sums(
+    alloc: Global,
+    start_s: u32,
+    steps: &[u32],
+) -> Result<List<u32>, OutOfMemory>
+    requires { IsTrue (list_all (λ time. nat_le time GREATEST_CLOCK_S) (spelling.sums start_s steps.now)) }
+    ensures { IfOk result (λ times. times ≡ spelling.sums start_s steps.now) }
+{
+    let mut times = List::new(alloc);
+    let mut before = start_s;
+    for step in steps {
+        before += *step;
+        times.push(before)?;
+    }
+    Ok(times)
+}

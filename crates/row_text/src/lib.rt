@@ -1,0 +1,28 @@
+//! Rows of a planner's text to lines and back: what a row spells, or its first fault; the row that spells a
+//! line; and the text of rows that are written.
+#![tactic(auto)]
+
+mod field;
+mod fields;
+mod item_row;
+mod leg_times;
+mod line;
+mod line_row;
+mod lists;
+mod put;
+mod row_list;
+mod sheet;
+
+mod time_text;
+mod unread;
+mod word;
+mod written;
+
+pub use field::{HOUR_DIGITS, NUMBER_DIGITS};
+pub use fields::{Fields, Row};
+pub use sheet::Sheet;
+pub use written::Written;
+pub use line_row::{spell, spell_in};
+pub use time_text::GREATEST_CLOCK_S;
+pub use row_list::{RowList, rows};
+pub use line::{Line, read_line, read_row, read_row_in};

@@ -1,0 +1,94 @@
+//! Rows to lines.
+ghost use Rattle.std.specs.Prelude.{◌≡◌, ◌<◌, length, IfOk, IsTrue};
+ghost use Rattle.row_text.specs.Row.{field};
+ghost use Rattle.row_text.specs.Words as words;
+ghost use Rattle.row_text.specs.Lines as lines;
+ghost use Rattle.row_text.specs.Reads.{Reads};
+
+use crate::field::{name_at, number_at};
+use crate::fields::{Fields, Row};
+use crate::item_row::item_of;
+use crate::unread::Unread;
+use crate::word::{Word, word_of};
+use rail_model::{Edit, Form, Name, OutOfMemory};
+use std::alloc::Global;
+
+/// What a row of a planner's text says.
+#[derive(Drop)]
+pub enum Line {
+    /// An edit of the tables.
+    Edit(Edit),
+    /// A question for the answer of a section.
+    Ask(Name),
+    /// The start of a planner's script.
+    Planner(u32),
+}
+
+/// The line that a row spells in version 1 of the rows, or its first form fault.
+pub fn read_row(alloc: Global, fields: &Fields) -> Result<Result<Line, Form>, OutOfMemory>
+    ensures { IfOk result (λ found. found ≡ lines.read_in 1 fields.now) }
+{
+    read_line(alloc, 1, &fields.row())
+}
+
+/// The same in a version of the rows: 1 or 2. Any other is read as version 1.
+pub fn read_row_in(
+    alloc: Global,
+    version: u32,
+    fields: &Fields,
+) -> Result<Result<Line, Form>, OutOfMemory>
+    ensures { IfOk result (λ found. found ≡ lines.read_in version fields.now) }
+{
+    read_line(alloc, version, &fields.row())
+}
+
+/// The same of a row that lies somewhere else: it is read there.
+pub fn read_line(
+    alloc: Global,
+    version: u32,
+    row: &Row<'_>,
+) -> Result<Result<Line, Form>, OutOfMemory>
+    ensures { IfOk result (λ found. found ≡ lines.read_in version row.now) }
+{
+    match line_in(alloc, version, row) {
+        Ok(line) => Ok(Ok(line)),
+        Err(Unread::Fault(fault)) => Ok(Err(fault)),
+        Err(Unread::OutOfMemory) => Err(OutOfMemory),
+    }
+}
+
+fn line_in(alloc: Global, version: u32, row: &Row<'_>) -> Result<Line, Unread>
+    ensures { Reads result (lines.read_in version row.now) }
+{
+    let Some(word) = row_word(row) else {
+        return Err(Unread::Fault(Form::Kind));
+    };
+    if !word.allows(row.len()) {
+        return Err(Unread::Fault(Form::Fields));
+    }
+    line_of(alloc, version, word, row)
+}
+
+// The word of a row.
+fn row_word(row: &Row<'_>) -> Option<Word>
+    ensures { result ≡ words.word_of (field row.now 0) }
+{
+    if row.is_empty() {
+        return None;
+    }
+    word_of(row.get(0))
+}
+
+// The line of a row of a word.
+fn line_of(alloc: Global, version: u32, word: Word, row: &Row<'_>) -> Result<Line, Unread>
+    requires { IsTrue (words.allows (words.shape_of word) (length row.now)) }
+    ensures { Reads result (lines.line_of version word row.now) }
+{
+    match word {
+        Word::Put(kind) => Ok(Line::Edit(Edit::Put(item_of(alloc, version, kind, row)?))),
+        Word::Change(kind) => Ok(Line::Edit(Edit::Change(item_of(alloc, version, kind, row)?))),
+        Word::Drop(kind) => Ok(Line::Edit(Edit::Drop(kind, name_at(row, 1)?))),
+        Word::Ask => Ok(Line::Ask(name_at(row, 1)?)),
+        Word::Planner => Ok(Line::Planner(number_at(row, 1)?)),
+    }
+}

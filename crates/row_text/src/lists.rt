@@ -1,0 +1,110 @@
+// The fields that stand at the end of a row: names, or the times of a run.
+ghost use Rattle.std.specs.Prelude.{◌≡◌, ◌+◌, ◌<◌, ◌≤◌, ◌^◌, length, drop, IfOk};
+ghost use Rattle.row_text.specs.Reads.{Reads};
+ghost use Rattle.row_text.specs.Sorts.{name_in, time_in};
+ghost use Rattle.row_text.specs.Lines as lines;
+
+use crate::field::{name_at, time_at};
+use crate::fields::Row;
+use crate::unread::Unread;
+use rail_model::{Form, Leg, List, Name, OutOfMemory};
+use std::alloc::Global;
+
+// The names in the fields from one on.
+pub(crate) fn names_from(alloc: Global, row: &Row<'_>, from: usize) -> Result<List<Name>, Unread>
+    requires there { from ≤ length row.now }
+    requires few { length row.now < 2 ^ 63 }
+    ensures { Reads result (lines.read_each name_in (drop from row.now)) }
+{
+    let mut names = Vec::with_capacity(alloc, row.len() - from)?;
+    for i in from..row.len() {
+        names.push(name_at(row, i)?)?;
+    }
+    Ok(List::from_vec(names))
+}
+
+// The times in the fields from one on.
+pub(crate) fn times_from(
+    alloc: Global,
+    version: u32,
+    row: &Row<'_>,
+    from: usize,
+) -> Result<List<u32>, Unread>
+    requires there { from ≤ length row.now }
+    requires few { length row.now < 2 ^ 63 }
+    ensures { Reads result (lines.read_each (time_in version) (drop from row.now)) }
+{
+    let mut times = Vec::with_capacity(alloc, row.len() - from)?;
+    for i in from..row.len() {
+        times.push(time_at(version, row, i)?)?;
+    }
+    Ok(List::from_vec(times))
+}
+
+// The legs of a run's times.
+pub(crate) fn run_legs(
+    alloc: Global,
+    version: u32,
+    start_s: u32,
+    times: &[u32],
+) -> Result<List<Leg>, Unread>
+    ensures { Reads result (lines.run_legs version start_s times.now) }
+{
+    if version != 2 {
+        return Ok(legs_of(alloc, times)?);
+    }
+    if falls(start_s, times) {
+        return Err(Unread::Fault(Form::Order));
+    }
+    let steps = differences(alloc, start_s, times)?;
+    Ok(legs_of(alloc, steps.slice())?)
+}
+
+// The legs of running and dwell times.
+fn legs_of(alloc: Global, times: &[u32]) -> Result<List<Leg>, OutOfMemory>
+    ensures { IfOk result (λ legs. legs ≡ lines.legs_of times.now) }
+{
+    let mut legs = List::new(alloc);
+    let mut i = 0;
+    while times.len() - i >= 2 {
+        legs.push(Leg {
+            running_s: times[i],
+            dwell_s: times[i + 1],
+        })?;
+        i += 2;
+    }
+    if i < times.len() {
+        legs.push(Leg {
+            running_s: times[i],
+            dwell_s: 0,
+        })?;
+    }
+    Ok(legs)
+}
+
+// How long after the one before it each time comes.
+fn differences(alloc: Global, start_s: u32, times: &[u32]) -> Result<List<u32>, OutOfMemory>
+    ensures { IfOk result (λ steps. steps ≡ lines.differences start_s times.now) }
+{
+    let mut steps = List::new(alloc);
+    let mut before = start_s;
+    for time in times {
+        steps.push(time.saturating_sub(before))?;
+        before = *time;
+    }
+    Ok(steps)
+}
+
+// Whether a time is less than the time before it.
+fn falls(start_s: u32, times: &[u32]) -> bool
+    ensures { result ≡ lines.falls start_s times.now }
+{
+    let mut before = start_s;
+    for time in times {
+        if *time < before {
+            return true;
+        }
+        before = *time;
+    }
+    false
+}

@@ -1,0 +1,206 @@
+// Writing into the room of a text.
+ghost use Rattle.std.specs.Prelude.{◌≡◌, ◌+◌, ◌*◌, ◌<◌, ◌≤◌, ◌++◌, ◌∷◌, [], length, take, map, decimal, if◌then◌else◌, OnOk, OnErr};
+ghost use Rattle.std.specs.Fmt.{signed_decimal};
+ghost use Rattle.row_text.specs.Put.{separator, more_text};
+
+use itoa::write_digits;
+use rail_model::OutOfMemory;
+
+// Sees that there is room after the bytes that are used.
+#[inline]
+pub(crate) fn make_room(text: &mut Vec<u8>, used: usize, room: usize) -> Result<(), OutOfMemory>
+    requires { used ≤ length text.old.items }
+    ensures ok { OnOk result (used + room ≤ length text.new.items) }
+    ensures kept { take used text.new.items ≡ take used text.old.items }
+    ensures err { OnErr result (text.new.items ≡ text.old.items) }
+{
+    if text.len() - used >= room {
+        return Ok(());
+    }
+    grow(text, used, room)
+}
+
+// At least twice the length, so that growing costs little for each byte.
+#[inline(never)]
+fn grow(text: &mut Vec<u8>, used: usize, room: usize) -> Result<(), OutOfMemory>
+    requires { used ≤ length text.old.items }
+    ensures ok { OnOk result (used + room ≤ length text.new.items) }
+    ensures kept { take used text.new.items ≡ take used text.old.items }
+    ensures err { OnErr result (text.new.items ≡ text.old.items) }
+{
+    let Some(least) = used.checked_add(room) else {
+        return Err(OutOfMemory);
+    };
+    let size = least.max(text.len().saturating_mul(2)).max(LEAST_ROOM);
+    text.resize(size, 0)?;
+    Ok(())
+}
+
+// The bytes that a text begins with.
+const LEAST_ROOM: usize = 256;
+
+// Writes a number after the bytes that are used, and a comma before it unless it is a row's first field.
+// Gives how many bytes are used then.
+#[inline]
+pub(crate) fn put_signed(text: &mut [u8], used: usize, has_field: bool, number: i64) -> usize
+    requires { used + 22 ≤ length text.old }
+    ensures written { take result text.new ≡ take used text.old ++ (separator has_field ++ signed_decimal number) }
+    ensures more { used ≤ result }
+    ensures within { result ≤ used + 22 }
+{
+    let at = put_comma(text, used, has_field);
+    if number >= 0 {
+        return put_digits(text, at, number.unsigned_abs());
+    }
+    text[at] = b'-';
+    put_digits(text, at + 1, number.unsigned_abs())
+}
+
+#[inline]
+pub(crate) fn put_unsigned(text: &mut [u8], used: usize, has_field: bool, number: u64) -> usize
+    requires { used + 22 ≤ length text.old }
+    ensures written { take result text.new ≡ take used text.old ++ (separator has_field ++ decimal number) }
+    ensures more { used ≤ result }
+    ensures within { result ≤ used + 22 }
+{
+    let at = put_comma(text, used, has_field);
+    put_digits(text, at, number)
+}
+
+// The same of a field's text.
+#[inline]
+pub(crate) fn put_text(text: &mut [u8], used: usize, has_field: bool, bytes: &[u8]) -> usize
+    requires { used + length bytes.now + 1 ≤ length text.old }
+    ensures written { take result text.new ≡ take used text.old ++ (separator has_field ++ bytes.now) }
+    ensures more { used ≤ result }
+    ensures within { result ≤ used + length bytes.now + 1 }
+{
+    let at = put_comma(text, used, has_field);
+    put_bytes(text, at, bytes)
+}
+
+// Writes what ends a row of so many bytes: two quotes for one empty field, and a line feed.
+pub(crate) fn put_end(text: &mut [u8], used: usize, is_blank: bool) -> usize
+    requires { used + 3 ≤ length text.old }
+    ensures written { take result text.new ≡ take used text.old ++ ((if is_blank then 34 ∷ 34 ∷ [] else []) ++ 10 ∷ []) }
+    ensures more { used ≤ result }
+    ensures within { result ≤ used + 3 }
+{
+    if is_blank {
+        return put_bytes(text, used, b"\"\"\n");
+    }
+    put_bytes(text, used, b"\n")
+}
+
+// The same of several numbers.
+#[inline]
+pub(crate) fn put_numbers(
+    text: &mut [u8],
+    used: usize,
+    has_field: bool,
+    numbers: &[i64],
+) -> usize
+    requires { used + 22 * length numbers.now ≤ length text.old }
+    ensures written { take result text.new ≡ take used text.old ++ more_text has_field (map signed_decimal numbers.now) }
+    ensures more { used ≤ result }
+    ensures within { result ≤ used + 22 * length numbers.now }
+{
+    let mut at = used;
+    let mut after_field = has_field;
+    for number in numbers {
+        at = put_signed(text, at, after_field, *number);
+        after_field = true;
+    }
+    at
+}
+
+#[inline]
+fn put_comma(text: &mut [u8], used: usize, has_field: bool) -> usize
+    requires { used + 1 ≤ length text.old }
+    ensures written { take result text.new ≡ take used text.old ++ separator has_field }
+    ensures more { used ≤ result }
+    ensures within { result ≤ used + 1 }
+{
+    text[used] = b',';
+    used + usize::from(has_field)
+}
+
+#[inline]
+fn put_bytes(text: &mut [u8], used: usize, bytes: &[u8]) -> usize
+    requires { used + length bytes.now ≤ length text.old }
+    ensures written { take result text.new ≡ take used text.old ++ bytes.now }
+    ensures end { result ≡ used + length bytes.now }
+{
+    let end = used + bytes.len();
+    text[used..end].copy_from_slice(bytes);
+    end
+}
+
+#[inline]
+fn put_byte(text: &mut [u8], used: usize, byte: u8) -> usize
+    requires { used < length text.old }
+    ensures written { take result text.new ≡ take used text.old ++ byte ∷ [] }
+    ensures end { result ≡ used + 1 }
+{
+    text[used] = byte;
+    used + 1
+}
+
+#[inline]
+fn put_digits(text: &mut [u8], used: usize, number: u64) -> usize
+    requires { used + 20 ≤ length text.old }
+    ensures written { take result text.new ≡ take used text.old ++ decimal number }
+    ensures more { used ≤ result }
+    ensures within { result ≤ used + 20 }
+{
+    if number < 10 {
+        return put_one(text, used, number as u8);
+    }
+    if number < 100 {
+        return put_two(text, used, number as u8);
+    }
+    put_many(text, used, number)
+}
+
+#[inline]
+fn put_one(text: &mut [u8], used: usize, number: u8) -> usize
+    requires small { number < 10 }
+    requires room { used < length text.old }
+    ensures written { take result text.new ≡ take used text.old ++ decimal number }
+    ensures end { result ≡ used + 1 }
+{
+    put_byte(text, used, b'0' + number)
+}
+
+#[inline]
+fn put_two(text: &mut [u8], used: usize, number: u8) -> usize
+    requires more { 10 ≤ number }
+    requires small { number < 100 }
+    requires room { used + 2 ≤ length text.old }
+    ensures written { take result text.new ≡ take used text.old ++ decimal number }
+    ensures end { result ≡ used + 2 }
+{
+    let at = put_byte(text, used, b'0' + number / 10);
+    put_byte(text, at, b'0' + number % 10)
+}
+
+#[inline]
+fn put_many(text: &mut [u8], used: usize, number: u64) -> usize
+    requires { used + 20 ≤ length text.old }
+    ensures written { take result text.new ≡ take used text.old ++ decimal number }
+    ensures more { used ≤ result }
+    ensures within { result ≤ used + 20 }
+{
+    let end = used + digit_count(number);
+    let _start = write_digits(number, text, end);
+    end
+}
+
+// How many digits a number has.
+#[inline]
+fn digit_count(number: u64) -> usize
+    ensures count { result ≡ length (decimal number) }
+    ensures most { result ≤ 20 }
+{
+    number.max(1).ilog10() as usize + 1
+}

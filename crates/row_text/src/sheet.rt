@@ -1,0 +1,183 @@
+//! The text of rows that are written.
+ghost use Rattle.std.specs.Prelude.{◌≡◌, [], map, decimal, IsTrue, OnOk, OnErr};
+ghost use Rattle.std.specs.Fmt.{signed_decimal};
+ghost use Rattle.row_text.specs.SheetRows.{with_field, with_fields, with_row, text_of_rows, has_fields};
+
+use crate::fields::Fields;
+use crate::put::{make_room, put_end, put_numbers, put_signed, put_text, put_unsigned};
+use crate::written::Written;
+use rail_model::OutOfMemory;
+use std::alloc::Global;
+use std::marker::Model;
+
+/// Rows as CSV writes them: commas, quotes only where needed, and a line feed after each row. Contracts see
+/// the rows that were ended, and the fields of the row that is being written.
+#[derive(Drop)]
+pub struct Sheet {
+    // The text, and room behind it.
+    text: Vec<u8>,
+    // How many bytes the ended rows have, and all that is written.
+    ended: usize,
+    used: usize,
+    has_field: bool,
+}
+
+impl Model for Sheet {
+    ghost use Rattle.row_text.specs.SheetRows.{SheetRows};
+
+    ghost Value = { SheetRows };
+
+    ghost use Rattle.row_text.specs.Sheet.{sheet_rows};
+    ghost use Rattle.row_text.specs.SheetText.{IsSheet};
+
+    ghost view = { sheet_rows };
+
+    ghost invariant = { IsSheet };
+}
+
+impl Sheet {
+    /// A sheet without rows, which asks for no memory.
+    pub fn new(alloc: Global) -> Sheet
+        ensures rows { result.rows ≡ [] }
+        ensures row { result.row ≡ [] }
+    {
+        Sheet {
+            text: Vec::new(alloc),
+            ended: 0,
+            used: 0,
+            has_field: false,
+        }
+    }
+
+    /// Adds a number in plain decimal to the row that is being written.
+    #[inline]
+    pub fn push_number(&mut self, number: i64) -> Result<(), OutOfMemory>
+        ensures ok { OnOk result (self.new ≡ with_field self.old (signed_decimal number)) }
+        ensures err { OnErr result (self.new ≡ self.old) }
+    {
+        make_room(&mut self.text, self.used, NUMBER_ROOM)?;
+        self.used = put_signed(&mut self.text, self.used, self.has_field, number);
+        self.has_field = true;
+        Ok(())
+    }
+
+    /// Adds numbers in plain decimal, each a field.
+    #[inline]
+    pub fn push_numbers(&mut self, numbers: &[i64]) -> Result<(), OutOfMemory>
+        ensures ok { OnOk result (self.new ≡ with_fields self.old (map signed_decimal numbers.now)) }
+        ensures err { OnErr result (self.new ≡ self.old) }
+    {
+        make_room(&mut self.text, self.used, numbers.len().saturating_mul(NUMBER_ROOM))?;
+        self.used = put_numbers(&mut self.text, self.used, self.has_field, numbers);
+        self.has_field |= !numbers.is_empty();
+        Ok(())
+    }
+
+    /// Adds a number that is not negative, in plain decimal.
+    #[inline]
+    pub fn push_count(&mut self, number: u64) -> Result<(), OutOfMemory>
+        ensures ok { OnOk result (self.new ≡ with_field self.old (decimal number)) }
+        ensures err { OnErr result (self.new ≡ self.old) }
+    {
+        make_room(&mut self.text, self.used, NUMBER_ROOM)?;
+        self.used = put_unsigned(&mut self.text, self.used, self.has_field, number);
+        self.has_field = true;
+        Ok(())
+    }
+
+    /// Adds fields whose text was made before.
+    #[inline]
+    pub fn push_written(&mut self, fields: &Written) -> Result<(), OutOfMemory>
+        ensures ok { OnOk result (self.new ≡ with_fields self.old fields.now) }
+        ensures err { OnErr result (self.new ≡ self.old) }
+    {
+        let text = fields.text();
+        make_room(&mut self.text, self.used, text.len() + 1)?;
+        self.used = put_text(&mut self.text, self.used, self.has_field, text);
+        self.has_field = true;
+        Ok(())
+    }
+
+    /// Adds a field.
+    pub fn push_field(&mut self, field: &[u8]) -> Result<(), OutOfMemory>
+        ensures ok { OnOk result (self.new ≡ with_field self.old field.now) }
+        ensures err { OnErr result (self.new ≡ self.old) }
+    {
+        let alloc = *self.text.allocator();
+        let written = Written::new(alloc, field)?;
+        self.push_written(&written)
+    }
+
+    /// Ends the row that is being written.
+    pub fn end_row(&mut self) -> Result<(), OutOfMemory>
+        requires { IsTrue (has_fields self.old.row) }
+        ensures ok { OnOk result (self.new ≡ with_row self.old self.old.row) }
+        ensures err { OnErr result (self.new ≡ self.old) }
+    {
+        make_room(&mut self.text, self.used, END_ROOM)?;
+        let is_blank = self.used == self.ended;
+        self.used = put_end(&mut self.text, self.used, is_blank);
+        self.ended = self.used;
+        self.has_field = false;
+        Ok(())
+    }
+
+    /// Takes the fields back of the row that is being written.
+    pub fn drop_row(&mut self)
+        ensures rows { self.new.rows ≡ self.old.rows }
+        ensures row { self.new.row ≡ [] }
+    {
+        self.used = self.ended;
+        self.has_field = false;
+    }
+
+    /// Writes a whole row. Without memory the sheet stays as it was.
+    pub fn write_row(&mut self, fields: &Fields) -> Result<(), OutOfMemory>
+        requires open { self.old.row ≡ [] }
+        requires some { IsTrue (has_fields fields.now) }
+        ensures ok { OnOk result (self.new ≡ with_row self.old fields.now) }
+        ensures err { OnErr result (self.new ≡ self.old) }
+    {
+        match self.push_row(fields) {
+            Ok(()) => Ok(()),
+            Err(error) => {
+                self.drop_row();
+                Err(error)
+            }
+        }
+    }
+
+    fn push_row(&mut self, fields: &Fields) -> Result<(), OutOfMemory>
+        requires open { self.old.row ≡ [] }
+        requires some { IsTrue (has_fields fields.now) }
+        ensures ok { OnOk result (self.new ≡ with_row self.old fields.now) }
+        ensures rows { OnErr result (self.new.rows ≡ self.old.rows) }
+    {
+        for i in 0..fields.len() {
+            self.push_field(fields.get(i))?;
+        }
+        self.end_row()
+    }
+
+    /// The text of the rows that were ended.
+    pub fn text(&self) -> &[u8]
+        ensures { result.now ≡ text_of_rows self.now.rows }
+    {
+        &self.text[..self.ended]
+    }
+
+    /// The same without a copy.
+    pub fn into_text(self) -> Vec<u8>
+        ensures { result.items ≡ text_of_rows self.rows }
+    {
+        let mut text = self.text;
+        text.truncate(self.ended);
+        text
+    }
+}
+
+// The most that a number takes, with its sign and the comma before it.
+const NUMBER_ROOM: usize = 22;
+
+// The most that the end of a row takes.
+const END_ROOM: usize = 3;
