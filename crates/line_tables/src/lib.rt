@@ -1,0 +1,4 @@
+//! A line's tables, which take edits: items by name, with what each refers to found once.
+#![tactic(auto)]
+
+mod named_table;
