@@ -2,3 +2,4 @@
 #![tactic(auto)]
 
 mod named_table;
+mod uses;
