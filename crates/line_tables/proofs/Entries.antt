@@ -1,6 +1,6 @@
 -- Lists of items with their keys, in the order of names: what a look-up finds after an edit.
 use Rattle.std.proofs.Common.{◌≡◌, ◌≢◌, ℕ, zero, suc, ◌+◌, ◌<◌, ◌≤◌, ◌==◌, Bool, true, false, not, cond, if◌then◌else◌, List, [], ◌∷◌, ◌++◌, length, get_or, take, drop, insert, Option, Some, None, refl, sym, ap, ◌∙◌, subst, inl, inr, arith}
-use Rattle.std.specs.Prelude.{filter, map, option_map, All, AllPairs}
+use Rattle.std.specs.Prelude.{filter, map, option_map, All, AllPairs, is_some}
 use Rattle.std.specs.Option.{option_or}
 use Rattle.std.specs.List.{list_any, find}
 use Rattle.std.proofs.lemmas.Bool.{cases_Bool, both_ways, eqb-true, or_parts}
@@ -99,3 +99,9 @@ module _ {X : Type 0} (name : X → List ℕ) where
             ]
         | inr e ↦ elim (cases_Bool (is_same (name y.1) n)) [ inl t ↦ rw (e, t) refl | inr t ↦ rw (e, t) rest ]
       ]
+
+  -- a name that is there has a key
+  pub is_some-key_of : (items : List (ℕ × X)) (n : List ℕ) → is_some (key_of name items n) ≡ is_named (named name) items n
+  is_some-key_of [] n = refl
+  is_some-key_of (y ∷ items) n =
+      elim (cases_Bool (is_same (name y.1) n)) [ inl e ↦ rw e refl | inr e ↦ rw e (is_some-key_of items n) ]

@@ -9,6 +9,7 @@ use Rattle.std.proofs.lemmas.Bool.{cases_Bool, both_ways, cases_eq, eqb-true, eq
 use Rattle.std.proofs.lemmas.Map.Lookups.{exact_bytes}
 use Rattle.std.proofs.lemmas.List.{take-append-drop, drop_more, get_or_default, get_or-take, get_or-drop, length-take-le, length-drop, get_or-map, length-map}
 use Rattle.std.proofs.lemmas.List.Elements.{All-append, All-cons, All-head, All-tail, All-take, All-drop, All-weaker, filter-append}
+use Rattle.std.proofs.lemmas.List.Edits.{length-insert, get_or-insert_at}
 use Rattle.std.proofs.lemmas.List.Folds.{list_any_at, find_at}
 use Rattle.std.proofs.lemmas.Option.{slice_get-get_or}
 use Rattle.rail_model.specs.Name.{IsBefore, is_same, NamesRise}
@@ -122,6 +123,13 @@ module _ {X : Type 0} (name : X → List ℕ) where
             ∙ sym (key_of-with_item name (filed at order) k x n kept.rise new)
             ∙ ap (λ l. key_of name l n) (sym is);
       }
+
+  pub there_by_put : (at other : ℕ → Option X) (order : List ℕ) (k : ℕ) (x : X) (i : ℕ) → All (IsStored at) order → Sets at other k (Some x) → at k ≡ None → i ≤ length order → under (filed other (insert order i k)) k ≡ Some x
+  there_by_put at other order k x i s sets none l =
+      let stored = All-insert (IsStored other) order i k (rw sets.changed refl) (stored_beside at other k (Some x) order sets (vacant_apart at k order none s) s) in
+      let here = get_or-insert_at order i k 0 l in
+      let listed = list_any_at (λ q. q == k) (insert order i k) i 0 (omega (arith, length-insert order i k l)) (eq-eqb (get_or (insert order i k) i 0) k here) in
+      under-filed other (insert order i k) k stored ∙ rw listed sets.changed
 
   -- ---- a drop
 

@@ -72,6 +72,7 @@ impl<T: Stored> NamedTable<T> {
     /// The key of the item of a name, if there is one.
     pub(crate) fn key_of(&self, name: &Name) -> Option<usize>
         ensures key { result ≡ tables.key_of T.label self.now name.now }
+        ensures there { is_some result ≡ is_named (tables.named T.label) self.now name.now }
         ensures table { tables.IsTable T.label self.now }
     {
         self.by_name.get(name).copied()
@@ -108,6 +109,7 @@ impl<T: Stored> NamedTable<T> {
         ensures put { IfOk result
             (λ key. self.new ≡ with_item (tables.named T.label) self.old (key, item)) }
         ensures fresh { IfOk result (λ key. tables.under self.old key ≡ None) }
+        ensures there { IfOk result (λ key. tables.under self.new key ≡ Some item) }
         ensures kept { OnErr result (self.new ≡ self.old) }
     {
         let place = place_for(&self.order, &self.slots, item.name());
