@@ -2,3 +2,5 @@ pub mod Filed
 pub mod Entries
 pub mod Kept
 pub mod Counts
+pub mod Found
+pub mod Linked
