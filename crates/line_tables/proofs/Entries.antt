@@ -9,10 +9,11 @@ use Rattle.std.proofs.lemmas.List.Elements.{All-nil, All-cons, All-head, All-tai
 use Rattle.std.proofs.lemmas.List.Folds.{find-append}
 use Rattle.std.proofs.lemmas.List.Kept.{AllPairs-filter}
 use Rattle.rail_model.specs.Name.{IsBefore, is_same, NamesRise}
-use Rattle.rail_model.specs.Puts.{is_named, with_item}
+use Rattle.rail_model.specs.Rules.{is_named}
+use Rattle.rail_model.specs.Edits.{with_item, without}
 use Rattle.rail_model.proofs.NameOrder.{same_name, is_same-from, is_same-sym, is_same-before}
 use Rattle.rail_model.proofs.Places.{IsPlace, place, with_item-place, NamesRise-insert}
-use Rattle.line_tables.specs.Table.{under, with_change, named, key_of, entry_of, item_of, IsTable, without}
+use Rattle.line_tables.specs.Table.{under, with_change, named, key_of, entry_of, item_of, IsTable}
 
 pub find_none : {X : Type 0} (p : X → Bool) (xs : List X) → All (λ x. p x ≡ false) xs → find p xs ≡ None
 find_none p [] h = refl

@@ -6,7 +6,7 @@ use Rattle.std.proofs.lemmas.Bool.{cases_Bool, both_ways, cases_eq, eqb-true, eq
 use Rattle.std.proofs.lemmas.List.{take-append-drop, drop_more, get_or_default}
 use Rattle.std.proofs.lemmas.List.Elements.{All-nil, All-append, All-cons, All-head, All-tail, All-take, All-drop, All-weaker, filter-append, filter_map-append}
 use Rattle.rail_model.specs.Name.{IsBefore, is_same, NamesRise}
-use Rattle.line_tables.specs.Table.{filed, under, with_change, named, name_at, key_of, entry_of, IsTable, IsKept, without}
+use Rattle.line_tables.specs.Table.{filed, under, with_change, named, name_at, key_of, entry_of, IsTable, IsKept}
 
 -- what is there is some value
 pub stored_at : {X : Type 0} (o : Option X) → IsSome o → (x : X) × (o ≡ Some x)

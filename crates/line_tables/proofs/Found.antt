@@ -10,10 +10,11 @@ use Rattle.std.proofs.lemmas.List.Sums.{sum_by-cons, sum_by-insert}
 use Rattle.std.proofs.lemmas.Option.{unwrap_or-slice_get}
 use Rattle.rail_model.specs.Name.{IsBefore, is_same, NamesRise}
 use Rattle.rail_model.specs.Tables.{number_of}
-use Rattle.rail_model.specs.Puts.{is_named, with_item}
+use Rattle.rail_model.specs.Rules.{is_named}
+use Rattle.rail_model.specs.Edits.{with_item, without}
 use Rattle.rail_model.proofs.NameOrder.{same_name, is_same-from, is_same-before, is_same-after}
 use Rattle.rail_model.proofs.Places.{place, with_item-place, filter_all}
-use Rattle.line_tables.specs.Table.{under, with_change, named, key_of, entry_of, item_of, IsTable, without}
+use Rattle.line_tables.specs.Table.{under, with_change, named, key_of, entry_of, item_of, IsTable}
 use Rattle.line_tables.proofs.Filed.{some_from_map}
 use Rattle.line_tables.proofs.Entries.{KeepsName, key_of-with_item, key_of-without, key_of-with_change, is_some-key_of}
 

@@ -14,10 +14,11 @@ use Rattle.std.proofs.lemmas.List.Folds.{list_any_at, find_at}
 use Rattle.std.proofs.lemmas.Option.{slice_get-get_or}
 use Rattle.rail_model.specs.Name.{IsBefore, is_same, NamesRise}
 use Rattle.rail_model.specs.Tables.{number_of}
-use Rattle.rail_model.specs.Puts.{is_named, with_item}
+use Rattle.rail_model.specs.Rules.{is_named}
+use Rattle.rail_model.specs.Edits.{with_item, without}
 use Rattle.rail_model.proofs.NameOrder.{same_name, is_same-from, is_same-before, is_same-after}
 use Rattle.rail_model.proofs.Places.{IsPlace, place_searched, is_named-place, with_item-place, number_of-found, All-insert, filter_all}
-use Rattle.line_tables.specs.Table.{filed, under, with_change, named, name_at, key_of, item_of, IsTable, IsKept, IsPlaceOf, IsPlaceFor, without}
+use Rattle.line_tables.specs.Table.{filed, under, with_change, named, name_at, key_of, item_of, IsTable, IsKept, IsPlaceOf, IsPlaceFor}
 use Rattle.line_tables.proofs.Filed.{IsStored, stored_at, filed-append, filed-cons, filed-same, length-filed, filed-at, All-filed, under-filed, under_slot, some_from_map}
 use Rattle.line_tables.proofs.Entries.{KeepsName, key_of-with_item, rise-with_item, key_of-without, rise-without, key_of-with_change}
 

@@ -7,11 +7,12 @@ use Rattle.std.proofs.lemmas.Bool.Decides.{nat_tests}
 use Rattle.std.proofs.lemmas.List.Elements.{All-nil, All-cons, All-head, All-tail, All-weaker, All-filter, All-map, All-contains}
 use Rattle.std.proofs.lemmas.List.Sums.{sum_by-cons}
 use Rattle.rail_model.specs.Name.{is_same, NamesRise}
-use Rattle.rail_model.specs.Puts.{is_named, with_item}
+use Rattle.rail_model.specs.Rules.{is_named}
+use Rattle.rail_model.specs.Edits.{with_item, without}
 use Rattle.rail_model.proofs.NameOrder.{same_name, is_same-from}
-use Rattle.rail_model.proofs.Sound.{All-with_item}
+use Rattle.rail_model.proofs.Members.{All-with_item}
 use Rattle.line_tables.specs.declared.entry.Entry.{Entry}
-use Rattle.line_tables.specs.Table.{under, with_change, named, key_of, entry_of, item_of, IsTable, without}
+use Rattle.line_tables.specs.Table.{under, with_change, named, key_of, entry_of, item_of, IsTable}
 use Rattle.line_tables.specs.Uses.{times}
 use Rattle.line_tables.specs.Links.{IsLinked, references}
 use Rattle.line_tables.proofs.Filed.{some_from_map}
@@ -113,7 +114,7 @@ module _ {A B : Type 0} (names : A → List (List ℕ)) (label : A → List ℕ)
 
   pub linked_by_put : (users : List (ℕ × Entry A)) (used : List (ℕ × B)) (k : ℕ) (x : A) (refs : List ℕ) → IsLinked names name users used → map (key_of name used) (names x) ≡ map Some refs → IsLinked names name (with_item (named user_name) users (k, entry x refs)) used
   linked_by_put users used k x refs linked found =
-      All-with_item (IsLinkedOne used) (named user_name) users (k, entry x refs) found linked
+      All-with_item (named user_name) users (k, entry x refs) (IsLinkedOne used) found linked
 
   pub linked_by_change : (users : List (ℕ × Entry A)) (used : List (ℕ × B)) (k : ℕ) (x : A) (refs : List ℕ) → IsLinked names name users used → map (key_of name used) (names x) ≡ map Some refs → IsLinked names name (with_change users k (entry x refs)) used
   linked_by_change users used k x refs linked found =

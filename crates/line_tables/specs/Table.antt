@@ -3,7 +3,7 @@ use Rattle.std.specs.Prelude.{◌≡◌, ℕ, Bool, not, ◌==◌, if◌then◌e
 use Rattle.std.specs.List.{find}
 use Rattle.rail_model.specs.Name.{IsBefore, is_same, NamesRise}
 use Rattle.rail_model.specs.Tables.{number_of}
-use Rattle.rail_model.specs.Puts.{is_named}
+use Rattle.rail_model.specs.Rules.{is_named}
 
 module _ {X : Type 0} where
   -- the items under these keys, each with its key, where `at` tells what stands under a key
@@ -63,7 +63,3 @@ module _ {X : Type 0} where
       pub missing : is_named named (filed at order) n ≡ false
       pub below : All (λ k. IsBefore (name_at at k) n) (take i order)
       pub above : All (λ k. IsBefore n (name_at at k)) (drop i order)
-
--- the items but the one of a name
-abbrev pub without : {X : Type 0} → (X → List ℕ) → List X → List ℕ → List X
-without name items n = filter (λ x. not (is_same (name x) n)) items

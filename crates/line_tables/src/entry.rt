@@ -2,7 +2,8 @@
 ghost use Rattle.std.specs.Prelude.{◌≡◌, ◌≤◌, ◌+◌, ℕ, true, false, map, Some, IfOk, OnOk, OnErr};
 ghost use Rattle.std.specs.Option.{option_map};
 ghost use Rattle.std.specs.List.{list_all};
-ghost use Rattle.rail_model.specs.Puts.{is_named, with_item};
+ghost use Rattle.rail_model.specs.Rules.{is_named};
+ghost use Rattle.rail_model.specs.Edits.{with_item, without};
 ghost use Rattle.line_tables.specs.Table as tables;
 ghost use Rattle.line_tables.specs.Uses.{count_of, times, SameCounts};
 ghost use Rattle.line_tables.specs.declared.entry.Entry.{Entry};
@@ -141,7 +142,7 @@ pub(crate) fn take_entry<T: Stored>(
     requires counted_before { (e : Entry T) (k : ℕ)
         → tables.item_of (λ e. T.label e.item) table.old name.now ≡ Some e
         → times k e.refs ≤ count_of uses.old k }
-    ensures rest { table.new ≡ tables.without (λ e. T.label e.1.item) table.old name.now }
+    ensures rest { table.new ≡ without (λ e. T.label e.1.item) table.old name.now }
     ensures counted { (e : Entry T) (k : ℕ)
         → tables.item_of (λ e. T.label e.item) table.old name.now ≡ Some e
         → count_of uses.new k + times k e.refs ≡ count_of uses.old k }

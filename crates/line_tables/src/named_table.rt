@@ -4,7 +4,8 @@ ghost use Rattle.std.specs.Prelude.{◌≡◌, ◌<◌, false, true, length, map
 ghost use Rattle.std.specs.Option.{option_map};
 ghost use Rattle.slab.specs.Slab.{Slab as Slots, get as slot};
 ghost use Rattle.rail_model.specs.Name.{IsBefore, NamesRise};
-ghost use Rattle.rail_model.specs.Puts.{is_named, with_item};
+ghost use Rattle.rail_model.specs.Rules.{is_named};
+ghost use Rattle.rail_model.specs.Edits.{with_item, without};
 ghost use Rattle.rail_model.specs.Tables.{number_of};
 ghost use Rattle.line_tables.specs.Table as tables;
 ghost use Rattle.line_tables.specs.Table.{IsPlaceOf, IsPlaceFor};
@@ -126,7 +127,7 @@ impl<T: Stored> NamedTable<T> {
     pub(crate) fn take(&mut self, name: &Name) -> T
         requires { is_named (tables.named T.label) self.old name.now ≡ true }
         ensures item { tables.item_of T.label self.old name.now ≡ Some result }
-        ensures rest { self.new ≡ tables.without (tables.named T.label) self.old name.now }
+        ensures rest { self.new ≡ without (tables.named T.label) self.old name.now }
     {
         let place = place_at(&self.order, &self.slots, name);
         self.by_name.swap_remove(name);

@@ -3,7 +3,8 @@ use Rattle.std.specs.Prelude.{Option}
 use Rattle.std.proofs.lemmas.List.{get_or_read}
 use Rattle.rail_model.specs.Name.{is_same}
 use Rattle.slab.specs.Slab.{get as slot}
-use Rattle.line_tables.specs.Table.{filed, named, without, IsKept, IsPlaceOf}
+use Rattle.line_tables.specs.Table.{filed, named, IsKept, IsPlaceOf}
+use Rattle.rail_model.specs.Edits.{without}
 use Rattle.line_tables.proofs.Kept.{Sets, StandsAt, stands_at, kept_by_drop, drop_is, item_is}
 use Rattle.line_tables.proofs.named_table.NamedTable.take.Given.{Over}
 use Rattle.line_tables.proofs.named_table.NamedTable.take.Goals as goal
