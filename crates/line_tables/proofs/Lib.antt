@@ -4,3 +4,5 @@ pub mod Kept
 pub mod Counts
 pub mod Found
 pub mod Linked
+pub mod Views
+pub mod Joined

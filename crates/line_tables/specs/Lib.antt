@@ -1,3 +1,4 @@
 pub mod Table
 pub mod Uses
 pub mod Links
+pub mod Inside

@@ -11,7 +11,7 @@ ghost use Rattle.line_tables.specs.declared.entry.Entry.{Entry};
 use crate::named_table::{NamedTable, Stored};
 use crate::uses::Uses;
 use rail_model::{
-    Block, List, Name, Named, OutOfMemory, Route, Run, Section, Signal,
+    Block, Connection, List, Name, Named, OutOfMemory, Route, Run, Section, Signal,
 };
 use std::alloc::Global;
 
@@ -63,6 +63,10 @@ impl Stored for Section {
     } };
 }
 
+impl Stored for Connection {
+    ghost copies = { λ a b h. h };
+}
+
 impl<T: Stored> Stored for Entry<T> {
     ghost copies = { λ a b h. λ j. record { item = T.copies a.item b.item h.0 j; refs = h.1 j } };
 }
@@ -74,9 +78,11 @@ pub(crate) fn keys_of<T: Stored>(
     names: &[Name],
 ) -> Result<List<usize>, OutOfMemory>
     requires { list_all (is_named (tables.named T.label) table.now) names.now ≡ true }
-    ensures { IfOk result
+    ensures keys { IfOk result
         (λ keys. map (tables.key_of T.label table.now) names.now ≡ map Some keys) }
+    ensures table { tables.IsTable T.label table.now }
 {
+    let _count = table.len();
     let mut keys = List::new(alloc);
     for name in names {
         keys.push(table.key_of(name).unwrap())?;
@@ -98,6 +104,7 @@ pub(crate) fn put_entry<T: Stored>(
         ((k : ℕ) → count_of uses.new k ≡ count_of uses.old k + times k refs) }
     ensures kept { OnErr result (table.new ≡ table.old) }
     ensures kept_counts { OnErr result (SameCounts uses.old uses.new) }
+    ensures table { OnOk result (tables.IsTable (λ e. T.label e.item) table.old) }
 {
     uses.make_room(refs.slice())?;
     let key = table.put(Entry { item, refs })?;
@@ -124,6 +131,7 @@ pub(crate) fn change_entry<T: Stored>(
         → count_of uses.new k + times k e.refs ≡ count_of uses.old k + times k refs) }
     ensures kept { OnErr result (table.new ≡ table.old) }
     ensures kept_counts { OnErr result (SameCounts uses.old uses.new) }
+    ensures table { OnOk result (tables.IsTable (λ e. T.label e.item) table.old) }
 {
     uses.make_room(refs.slice())?;
     uses.add(refs.slice());
@@ -146,6 +154,7 @@ pub(crate) fn take_entry<T: Stored>(
     ensures counted { (e : Entry T) (k : ℕ)
         → tables.item_of (λ e. T.label e.item) table.old name.now ≡ Some e
         → count_of uses.new k + times k e.refs ≡ count_of uses.old k }
+    ensures table { tables.IsTable (λ e. T.label e.item) table.old }
 {
     let old = table.take(name);
     uses.remove(old.refs.slice());

@@ -2,5 +2,7 @@
 #![tactic(auto)]
 
 mod entry;
+mod line_tables;
 mod named_table;
 mod uses;
+pub use line_tables::LineTables;

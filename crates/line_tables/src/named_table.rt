@@ -1,6 +1,6 @@
 //! A table of named items. An item stands under a key that stays its own until it is taken out, so what
 //! refers to it by its key needs no change while others come and go.
-ghost use Rattle.std.specs.Prelude.{◌≡◌, ◌<◌, false, true, length, map, take, drop, All, slice_get, slice_index_or, is_some, IfSome, IsSome, IfOk, OnErr, IfErr, Some, None, MatchResult, []};
+ghost use Rattle.std.specs.Prelude.{◌≡◌, ◌<◌, false, true, length, map, take, drop, All, slice_get, slice_index_or, is_some, IfSome, IsSome, IfOk, OnOk, OnErr, IfErr, Some, None, MatchResult, []};
 ghost use Rattle.std.specs.Option.{option_map};
 ghost use Rattle.slab.specs.Slab.{Slab as Slots, get as slot};
 ghost use Rattle.rail_model.specs.Name.{IsBefore, NamesRise};
@@ -111,6 +111,7 @@ impl<T: Stored> NamedTable<T> {
             (λ key. self.new ≡ with_item (tables.named T.label) self.old (key, item)) }
         ensures fresh { IfOk result (λ key. tables.under self.old key ≡ None) }
         ensures there { IfOk result (λ key. tables.under self.new key ≡ Some item) }
+        ensures table { OnOk result (tables.IsTable T.label self.old) }
         ensures kept { OnErr result (self.new ≡ self.old) }
     {
         let place = place_for(&self.order, &self.slots, item.name());
@@ -128,6 +129,7 @@ impl<T: Stored> NamedTable<T> {
         requires { is_named (tables.named T.label) self.old name.now ≡ true }
         ensures item { tables.item_of T.label self.old name.now ≡ Some result }
         ensures rest { self.new ≡ without (tables.named T.label) self.old name.now }
+        ensures table { tables.IsTable T.label self.old }
     {
         let place = place_at(&self.order, &self.slots, name);
         self.by_name.swap_remove(name);
@@ -140,6 +142,7 @@ impl<T: Stored> NamedTable<T> {
         requires { option_map T.label (tables.under self.old key) ≡ Some (T.label item) }
         ensures old { tables.under self.old key ≡ Some result }
         ensures changed { self.new ≡ tables.with_change self.old key item }
+        ensures table { tables.IsTable T.label self.old }
     {
         mem::replace(&mut self.slots[key], item)
     }

@@ -2,7 +2,7 @@ use Rattle.std.proofs.Common.{subst, ◌∙◌, sym, ap, Some, refl}
 use Rattle.std.specs.Prelude.{IsSome}
 use Rattle.slab.specs.Slab.{get as slot, with_value}
 use Rattle.slab.proofs.SlabLemmas.{Updates-with_value}
-use Rattle.line_tables.proofs.Kept.{Sets, old_item, kept_by_change, change_is}
+use Rattle.line_tables.proofs.Kept.{Sets, old_item, kept_by_change, change_is, table_is}
 use Rattle.line_tables.proofs.named_table.NamedTable.change.Given.{Over}
 use Rattle.line_tables.proofs.named_table.NamedTable.change.Goals as goal
 
@@ -36,3 +36,7 @@ pub returns-clause-changed : goal.returns-clause-changed
 returns-clause-changed g c =
     let s = c.self.inside in
     rw (← c.self.view_is) (change_is g.T.Named.label (slot s.slots) _ s.order.items c.args.key c.args.item c.self.invariant.stored (sets g c))
+
+pub returns-clause-table : goal.returns-clause-table
+returns-clause-table g c =
+    rw (← c.self.view_is) (table_is g.T.Named.label (slot c.self.inside.slots) c.self.inside.order.items _ c.self.invariant)

@@ -2,7 +2,7 @@ use Rattle.std.proofs.Common.{◌≡◌, ℕ, List, cond, Some, None, insert, su
 use Rattle.slab.specs.Slab.{get as slot, Updates}
 use Rattle.line_tables.specs.Table.{IsPlaceFor}
 use Rattle.line_tables.proofs.Filed.{under_vacant}
-use Rattle.line_tables.proofs.Kept.{Sets, place_is, kept_by_put, kept_by_copy, put_is, there_by_put}
+use Rattle.line_tables.proofs.Kept.{Sets, place_is, kept_by_put, kept_by_copy, put_is, there_by_put, table_is}
 use Rattle.line_tables.proofs.named_table.NamedTable.put.Given.{Over}
 use Rattle.line_tables.proofs.named_table.NamedTable.put.Goals as goal
 
@@ -59,3 +59,7 @@ returns-clause-there g c =
     let s = c.self.inside in
     rw (order g c)
     (there_by_put g.T.Named.label (slot s.slots) (slot c.insert_reserved.new.self) s.order.items c.vacant_key-key.result c.args.item c.place_for-place.result c.self.invariant.stored (sets g c) (vacant g c) (place g c).within)
+
+pub returns-clause-table : goal.returns-clause-table
+returns-clause-table g c =
+    rw (← c.self.view_is) (table_is g.T.Named.label (slot c.self.inside.slots) c.self.inside.order.items _ c.self.invariant)

@@ -5,7 +5,7 @@ use Rattle.rail_model.specs.Name.{is_same}
 use Rattle.slab.specs.Slab.{get as slot}
 use Rattle.line_tables.specs.Table.{filed, named, IsKept, IsPlaceOf}
 use Rattle.rail_model.specs.Edits.{without}
-use Rattle.line_tables.proofs.Kept.{Sets, StandsAt, stands_at, kept_by_drop, drop_is, item_is}
+use Rattle.line_tables.proofs.Kept.{Sets, StandsAt, stands_at, kept_by_drop, drop_is, item_is, table_is}
 use Rattle.line_tables.proofs.named_table.NamedTable.take.Given.{Over}
 use Rattle.line_tables.proofs.named_table.NamedTable.take.Goals as goal
 
@@ -52,3 +52,7 @@ returns-clause-rest g c =
     rw (← c.self.view_is, c.remove-key.ensures.items)
     (drop_is label (slot s.slots) _ s.order.items c.place_at-place.result c.remove-key.result p.item c.self.invariant.stored c.self.invariant.rise (sets g c) (stands g c)
     ∙ ap (without (named label) (filed (slot s.slots) s.order.items)) p.label)
+
+pub returns-clause-table : goal.returns-clause-table
+returns-clause-table g c =
+    rw (← c.self.view_is) (table_is g.T.Named.label (slot c.self.inside.slots) c.self.inside.order.items _ c.self.invariant)
