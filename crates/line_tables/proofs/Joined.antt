@@ -2,7 +2,7 @@
 use Rattle.std.proofs.Common.{◌≡◌, ℕ, ◌+◌, ◌≤◌, ◌==◌, Bool, true, false, not, ◌||◌, List, [], ◌∷◌, map, Option, Some, None, refl, sym, ap, ◌∙◌, inl, inr, arith}
 use Rattle.std.specs.Prelude.{option_map, All, is_some, nat_lt}
 use Rattle.std.specs.List.{list_any, list_all}
-use Rattle.std.proofs.lemmas.Bool.{cases_Bool, or_parts, ltb-false}
+use Rattle.std.proofs.lemmas.Bool.{cases_Bool, or_parts, and_parts, and_from, ltb-false}
 use Rattle.rail_model.specs.declared.items.Block.{Block}
 use Rattle.rail_model.specs.declared.items.Signal.{Signal}
 use Rattle.rail_model.specs.declared.items.Route.{Route}
@@ -12,7 +12,7 @@ use Rattle.rail_model.specs.declared.items.Connection.{Connection}
 use Rattle.rail_model.specs.declared.items.Item.TheVariants as item
 use Rattle.rail_model.specs.declared.edit.Kind.TheVariants as kind
 use Rattle.rail_model.specs.Name.{is_same}
-use Rattle.rail_model.specs.Rules.{is_named, lists, rule_of_put, rule_of_change, rule_of_drop}
+use Rattle.rail_model.specs.Rules.{is_named, has_block, has_run, lists, refers_to_known, rule_of_put, rule_of_change, rule_of_drop}
 use Rattle.rail_model.specs.Edits.{with_item, with_changed, without}
 use Rattle.rail_model.specs.Sound.{IsSound}
 use Rattle.rail_model.proofs.Sound.{accepted, changeable, free, IsSound-after_put, IsSound-after_change, IsSound-after_drop}
@@ -26,7 +26,7 @@ use Rattle.line_tables.proofs.Filed.{stored_at, some_from_map}
 use Rattle.line_tables.proofs.Entries.{is_some-key_of}
 use Rattle.line_tables.proofs.Found.{found_by_key, key_after_put, key_after_change, key_after_drop, sum-with_item, sum-with_change, sum-without, list_any-map}
 use Rattle.line_tables.proofs.Linked.{entry, linked_by_put, linked_by_change, linked_by_drop, linked_to_same, linked_to_rest, references_tell}
-use Rattle.line_tables.proofs.Views.{is_named-map, map-with_item, map-with_change, map-without, found_in_sum}
+use Rattle.line_tables.proofs.Views.{is_named-map, map-with_item, map-with_change, map-without, list_all_same, found_in_sum}
 
 -- an item of a name that is there, with its key
 entry_there : {X : Type 0} (name : X → List ℕ) (items : List (ℕ × X)) (n : List ℕ) → is_named (named name) items n ≡ true → (y : ℕ × X) × (entry_of name items n ≡ Some y)
@@ -42,6 +42,31 @@ list_any_alike p q same (x ∷ xs) = rw (same x, list_any_alike p q same xs) ref
 -- each key is counted as before, and as often more as it stands in the list
 abbrev pub CountsMore : List ℕ → List ℕ → List ℕ → Type 0
 CountsMore old new keys = (k : ℕ) → count_of new k ≡ count_of old k + times k keys
+
+-- ---- what an item refers to is there
+
+named_block : (t : Inside) (n : List ℕ) → has_block (tables_of t) n ≡ is_named (λ e. e.1.name) t.blocks n
+named_block t n = is_named-map (λ (e : ℕ × Block). e.1) (λ x. x.name) t.blocks n
+
+pub signal_knows : (t : Inside) (x : Signal) → refers_to_known (tables_of t) (item.Signal x) ≡ true → list_all (is_named (λ e. e.1.name) t.blocks) (names_of_signal x) ≡ true
+signal_knows t x h = and_from _ true (sym (named_block t x.block) ∙ h) refl
+
+pub section_knows : (t : Inside) (x : Section) → refers_to_known (tables_of t) (item.Section x) ≡ true → list_all (is_named (λ e. e.1.name) t.blocks) (names_of_section x) ≡ true
+section_knows t x h = list_all_same _ _ (λ n. sym (named_block t n)) x.blocks ∙ h
+
+pub route_knows : (t : Inside) (x : Route) → refers_to_known (tables_of t) (item.Route x) ≡ true → list_all (is_named (λ e. e.1.item.name) t.signals) (names_of_route x) ≡ true
+route_knows t x h =
+    list_all_same _ _ (λ n. sym (is_named-map (λ (e : ℕ × Entry Signal). e.1.item) (λ x. x.name) t.signals n)) x.signals ∙ h
+
+pub run_knows : (t : Inside) (x : Run) → refers_to_known (tables_of t) (item.Run x) ≡ true → list_all (is_named (λ e. e.1.item.name) t.routes) (names_of_run x) ≡ true
+run_knows t x h =
+    and_from _ true (sym (is_named-map (λ (e : ℕ × Entry Route). e.1.item) (λ x. x.name) t.routes x.route) ∙ h) refl
+
+pub connection_knows : (t : Inside) (x : Connection) → refers_to_known (tables_of t) (item.Connection x) ≡ true → list_all (is_named (λ e. e.1.item.name) t.runs) (names_of_connection x) ≡ true
+connection_knows t x h =
+    let named : (n : List ℕ) → has_run (tables_of t) n ≡ is_named (λ e. e.1.item.name) t.runs n = is_named-map (λ (e : ℕ × Entry Run). e.1.item) (λ x. x.name) t.runs in
+    let parts = and_parts _ _ h in
+    and_from _ _ (sym (named x.first) ∙ parts.0) (and_from _ true (sym (named x.second) ∙ parts.1) refl)
 
 -- ---- signals
 

@@ -1,6 +1,7 @@
 //! A line's tables, which take edits: items by name, with what each refers to found once.
 #![tactic(auto)]
 
+mod add;
 mod entry;
 mod line_tables;
 mod named_table;
