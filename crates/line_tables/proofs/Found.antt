@@ -66,6 +66,11 @@ module _ {X : Type 0} (name : X → List ℕ) where
         },
       )
 
+  pub name_under : (items : List (ℕ × X)) (n : List ℕ) (k : ℕ) → IsTable name items → key_of name items n ≡ Some k → option_map name (under items k) ≡ Some n
+  name_under items n k table e =
+      let x = found_by_key items n k table e in
+      rw x.1.under (ap Some x.1.label)
+
   -- two names of one key are one name
   pub name_of_key : (items : List (ℕ × X)) (m n : List ℕ) (k : ℕ) → IsTable name items → key_of name items m ≡ Some k → key_of name items n ≡ Some k → m ≡ n
   name_of_key items m n k table a b =

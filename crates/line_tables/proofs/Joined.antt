@@ -1,7 +1,7 @@
 -- How the tables of a line still fit together after an edit that no rule refuses.
 use Rattle.std.proofs.Common.{◌≡◌, ℕ, ◌+◌, ◌≤◌, ◌==◌, Bool, true, false, not, ◌||◌, List, [], ◌∷◌, map, Option, Some, None, refl, sym, ap, ◌∙◌, inl, inr, arith}
 use Rattle.std.specs.Prelude.{option_map, All, is_some, nat_lt}
-use Rattle.std.specs.List.{list_any, list_all}
+use Rattle.std.specs.List.{list_any, list_all, find}
 use Rattle.std.proofs.lemmas.Bool.{cases_Bool, or_parts, and_parts, and_from, ltb-false}
 use Rattle.rail_model.specs.declared.items.Block.{Block}
 use Rattle.rail_model.specs.declared.items.Signal.{Signal}
@@ -68,6 +68,12 @@ connection_knows t x h =
     let parts = and_parts _ _ h in
     and_from _ _ (sym (named x.first) ∙ parts.0) (and_from _ true (sym (named x.second) ∙ parts.1) refl)
 
+-- a user's own references are among those of all users
+pub refs_of_found : {A : Type 0} (p : ℕ × Entry A → Bool) (users : List (ℕ × Entry A)) (e : Entry A) (k : ℕ) → option_map (λ u. u.1) (find p users) ≡ Some e → times k e.refs ≤ references users k
+refs_of_found p users e k h =
+    let u = some_from_map (λ (u : ℕ × Entry _). u.1) (find p users) e h in
+    omega (arith, found_in_sum (λ (u : ℕ × Entry _). times k u.1.refs) p users u.0 u.1, ap (λ (e : Entry _). times k e.refs) u.2)
+
 -- ---- signals
 
 pub signal_is_new : (t : Inside) (x : Signal) → rule_of_put (tables_of t) (item.Signal x) ≡ None → is_named (λ e. e.1.item.name) t.signals x.name ≡ false
@@ -90,6 +96,10 @@ signal_put t key x refs uses j table none found counted =
       route_uses = j.route_uses;
       run_uses = j.run_uses;
     }
+
+pub signal_stays : (t : Inside) (x : Signal) → rule_of_change (tables_of t) (item.Signal x) ≡ None → is_named (λ e. e.1.item.name) t.signals x.name ≡ true
+signal_stays t x none =
+    sym (is_named-map (λ (e : ℕ × Entry Signal). e.1.item) (λ x. x.name) t.signals x.name) ∙ (changeable (tables_of t) (item.Signal x) none).there
 
 pub signal_change : (t : Inside) (key : ℕ) (x : Signal) (refs uses : List ℕ) → IsJoined t → IsTable (λ (e : Entry Signal). e.item.name) t.signals → option_map (λ (e : Entry Signal). e.item.name) (under t.signals key) ≡ Some x.name → rule_of_change (tables_of t) (item.Signal x) ≡ None → map (key_of (λ b. b.name) t.blocks) (names_of_signal x) ≡ map Some refs → ((e : Entry Signal) (k : ℕ) → under t.signals key ≡ Some e → count_of uses k + times k e.refs ≡ count_of t.block_uses k + times k refs) → IsJoined (record t { signals = with_change t.signals key (entry x refs); block_uses = uses })
 signal_change t key x refs uses j table same none found counted =
@@ -165,6 +175,10 @@ route_put t key x refs uses j table none found counted =
       run_uses = j.run_uses;
     }
 
+pub route_stays : (t : Inside) (x : Route) → rule_of_change (tables_of t) (item.Route x) ≡ None → is_named (λ e. e.1.item.name) t.routes x.name ≡ true
+route_stays t x none =
+    sym (is_named-map (λ (e : ℕ × Entry Route). e.1.item) (λ x. x.name) t.routes x.name) ∙ (changeable (tables_of t) (item.Route x) none).there
+
 pub route_change : (t : Inside) (key : ℕ) (x : Route) (refs uses : List ℕ) → IsJoined t → IsTable (λ (e : Entry Route). e.item.name) t.routes → option_map (λ (e : Entry Route). e.item.name) (under t.routes key) ≡ Some x.name → rule_of_change (tables_of t) (item.Route x) ≡ None → map (key_of (λ e. e.item.name) t.signals) (names_of_route x) ≡ map Some refs → ((e : Entry Route) (k : ℕ) → under t.routes key ≡ Some e → count_of uses k + times k e.refs ≡ count_of t.signal_uses k + times k refs) → IsJoined (record t { routes = with_change t.routes key (entry x refs); signal_uses = uses })
 route_change t key x refs uses j table same none found counted =
     let old = some_from_map (λ (e : Entry Route). e.item.name) (under t.routes key) x.name same in
@@ -238,6 +252,10 @@ run_put t key x refs uses j table none found counted =
       route_uses = λ k. omega (arith, counted k, j.route_uses k, sum-with_item (λ (e : Entry Run). e.item.name) (λ e. times k e.1.refs) t.runs (key, entry x refs) table.rise new);
       run_uses = j.run_uses;
     }
+
+pub run_stays : (t : Inside) (x : Run) → rule_of_change (tables_of t) (item.Run x) ≡ None → is_named (λ e. e.1.item.name) t.runs x.name ≡ true
+run_stays t x none =
+    sym (is_named-map (λ (e : ℕ × Entry Run). e.1.item) (λ x. x.name) t.runs x.name) ∙ (changeable (tables_of t) (item.Run x) none).there
 
 pub run_change : (t : Inside) (key : ℕ) (x : Run) (refs uses : List ℕ) → IsJoined t → IsTable (λ (e : Entry Run). e.item.name) t.runs → option_map (λ (e : Entry Run). e.item.name) (under t.runs key) ≡ Some x.name → rule_of_change (tables_of t) (item.Run x) ≡ None → map (key_of (λ e. e.item.name) t.routes) (names_of_run x) ≡ map Some refs → ((e : Entry Run) (k : ℕ) → under t.runs key ≡ Some e → count_of uses k + times k e.refs ≡ count_of t.route_uses k + times k refs) → IsJoined (record t { runs = with_change t.runs key (entry x refs); route_uses = uses })
 run_change t key x refs uses j table same none found counted =
@@ -316,6 +334,10 @@ section_put t key x refs uses j table none found counted =
       run_uses = j.run_uses;
     }
 
+pub section_stays : (t : Inside) (x : Section) → rule_of_change (tables_of t) (item.Section x) ≡ None → is_named (λ e. e.1.item.name) t.sections x.name ≡ true
+section_stays t x none =
+    sym (is_named-map (λ (e : ℕ × Entry Section). e.1.item) (λ x. x.name) t.sections x.name) ∙ (changeable (tables_of t) (item.Section x) none).there
+
 pub section_change : (t : Inside) (key : ℕ) (x : Section) (refs uses : List ℕ) → IsJoined t → IsTable (λ (e : Entry Section). e.item.name) t.sections → option_map (λ (e : Entry Section). e.item.name) (under t.sections key) ≡ Some x.name → rule_of_change (tables_of t) (item.Section x) ≡ None → map (key_of (λ b. b.name) t.blocks) (names_of_section x) ≡ map Some refs → ((e : Entry Section) (k : ℕ) → under t.sections key ≡ Some e → count_of uses k + times k e.refs ≡ count_of t.block_uses k + times k refs) → IsJoined (record t { sections = with_change t.sections key (entry x refs); block_uses = uses })
 section_change t key x refs uses j table same none found counted =
     let old = some_from_map (λ (e : Entry Section). e.item.name) (under t.sections key) x.name same in
@@ -378,6 +400,10 @@ connection_put t key x refs uses j table none found counted =
       route_uses = j.route_uses;
       run_uses = λ k. omega (arith, counted k, j.run_uses k, sum-with_item (λ (e : Entry Connection). e.item.name) (λ e. times k e.1.refs) t.connections (key, entry x refs) table.rise new);
     }
+
+pub connection_stays : (t : Inside) (x : Connection) → rule_of_change (tables_of t) (item.Connection x) ≡ None → is_named (λ e. e.1.item.name) t.connections x.name ≡ true
+connection_stays t x none =
+    sym (is_named-map (λ (e : ℕ × Entry Connection). e.1.item) (λ x. x.name) t.connections x.name) ∙ (changeable (tables_of t) (item.Connection x) none).there
 
 pub connection_change : (t : Inside) (key : ℕ) (x : Connection) (refs uses : List ℕ) → IsJoined t → IsTable (λ (e : Entry Connection). e.item.name) t.connections → option_map (λ (e : Entry Connection). e.item.name) (under t.connections key) ≡ Some x.name → rule_of_change (tables_of t) (item.Connection x) ≡ None → map (key_of (λ e. e.item.name) t.runs) (names_of_connection x) ≡ map Some refs → ((e : Entry Connection) (k : ℕ) → under t.connections key ≡ Some e → count_of uses k + times k e.refs ≡ count_of t.run_uses k + times k refs) → IsJoined (record t { connections = with_change t.connections key (entry x refs); run_uses = uses })
 connection_change t key x refs uses j table same none found counted =
@@ -442,6 +468,10 @@ block_put t key x j table none =
       route_uses = j.route_uses;
       run_uses = j.run_uses;
     }
+
+pub block_stays : (t : Inside) (x : Block) → rule_of_change (tables_of t) (item.Block x) ≡ None → is_named (λ e. e.1.name) t.blocks x.name ≡ true
+block_stays t x none =
+    sym (is_named-map (λ (e : ℕ × Block). e.1) (λ x. x.name) t.blocks x.name) ∙ (changeable (tables_of t) (item.Block x) none).there
 
 pub block_change : (t : Inside) (key : ℕ) (x : Block) → IsJoined t → IsTable (λ (b : Block). b.name) t.blocks → option_map (λ (b : Block). b.name) (under t.blocks key) ≡ Some x.name → rule_of_change (tables_of t) (item.Block x) ≡ None → IsJoined (record t { blocks = with_change t.blocks key x })
 block_change t key x j table same none =

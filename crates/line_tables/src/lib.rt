@@ -5,5 +5,6 @@ mod add;
 mod entry;
 mod line_tables;
 mod named_table;
+mod replace;
 mod uses;
 pub use line_tables::LineTables;
