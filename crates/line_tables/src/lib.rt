@@ -5,6 +5,7 @@ mod add;
 mod entry;
 mod line_tables;
 mod named_table;
+mod remove;
 mod replace;
 mod uses;
 pub use line_tables::LineTables;
