@@ -1,4 +1,5 @@
 pub mod Table
 pub mod Uses
+pub mod KeySet
 pub mod Links
 pub mod Inside

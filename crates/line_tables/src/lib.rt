@@ -3,9 +3,11 @@
 
 mod add;
 mod entry;
+mod key_set;
 mod line_tables;
 mod named_table;
 mod remove;
 mod replace;
+mod rules;
 mod uses;
 pub use line_tables::LineTables;

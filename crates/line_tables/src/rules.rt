@@ -1,0 +1,139 @@
+//! Which rule refuses an edit.
+ghost use Rattle.std.specs.Prelude.{◌≡◌, ℕ, ◌<◌, ◌==◌, ◌&&◌, true, false, not, map, length, All, Some, None, IfOk, is_some};
+ghost use Rattle.std.specs.List.{list_all, list_any};
+ghost use Rattle.rail_model.specs.declared.items.Item.TheVariants as item;
+ghost use Rattle.rail_model.specs.declared.edit.Kind.TheVariants as kind;
+ghost use Rattle.rail_model.specs.Tables.{route_named};
+ghost use Rattle.rail_model.specs.Rules as rules;
+ghost use Rattle.rail_model.specs.Sound.{IsSound};
+ghost use Rattle.line_tables.specs.Links.{repeats_key, block_beyond, meets};
+
+use crate::LineTables;
+use crate::entry::{Entry, keys_of};
+use crate::key_set::KeySet;
+use crate::named_table::NamedTable;
+use rail_model::{
+    BLOCKS, CONNECTIONS, Connection, Edit, Item, Kind, Name, OutOfMemory, ROUTES, RUNS, Route, Rule, Run, SECTIONS,
+    SIGNALS, Section, Signal, is_within, List,
+};
+use std::alloc::Global;
+
+impl LineTables {
+    fn has_block(&self, name: &Name) -> bool
+        ensures { result ≡ rules.has_block self.now name.now }
+    {
+        self.blocks.key_of(name).is_some()
+    }
+
+    fn has_signal(&self, name: &Name) -> bool
+        ensures { result ≡ rules.has_signal self.now name.now }
+    {
+        self.signals.key_of(name).is_some()
+    }
+
+    fn has_route(&self, name: &Name) -> bool
+        ensures { result ≡ rules.has_route self.now name.now }
+    {
+        self.routes.key_of(name).is_some()
+    }
+
+    fn has_run(&self, name: &Name) -> bool
+        ensures { result ≡ rules.has_run self.now name.now }
+    {
+        self.runs.key_of(name).is_some()
+    }
+
+    fn has_section(&self, name: &Name) -> bool
+        ensures { result ≡ rules.has_section self.now name.now }
+    {
+        self.sections.key_of(name).is_some()
+    }
+
+    fn has_connection(&self, name: &Name) -> bool
+        ensures { result ≡ rules.has_connection self.now name.now }
+    {
+        self.connections.key_of(name).is_some()
+    }
+
+    fn has(&self, kind: Kind, name: &Name) -> bool
+        ensures { result ≡ rules.has self.now kind name.now }
+    {
+        match kind {
+            Kind::Block => self.has_block(name),
+            Kind::Signal => self.has_signal(name),
+            Kind::Route => self.has_route(name),
+            Kind::Run => self.has_run(name),
+            Kind::Section => self.has_section(name),
+            Kind::Connection => self.has_connection(name),
+        }
+    }
+
+    fn is_there(&self, item: &Item) -> bool
+        ensures { result ≡ rules.is_there self.now item.now }
+    {
+        match item {
+            Item::Block(block) => self.has_block(&block.name),
+            Item::Signal(signal) => self.has_signal(&signal.name),
+            Item::Route(route) => self.has_route(&route.name),
+            Item::Run(run) => self.has_run(&run.name),
+            Item::Section(section) => self.has_section(&section.name),
+            Item::Connection(connection) => self.has_connection(&connection.name),
+        }
+    }
+
+    // A block and a connection may not share a name.
+    fn is_taken(&self, item: &Item) -> bool
+        ensures { result ≡ rules.is_taken self.now item.now }
+    {
+        match item {
+            Item::Block(block) => self.has_block(&block.name) || self.has_connection(&block.name),
+            Item::Signal(signal) => self.has_signal(&signal.name),
+            Item::Route(route) => self.has_route(&route.name),
+            Item::Run(run) => self.has_run(&run.name),
+            Item::Section(section) => self.has_section(&section.name),
+            Item::Connection(connection) => {
+                self.has_connection(&connection.name) || self.has_block(&connection.name)
+            }
+        }
+    }
+
+    fn is_full(&self, item: &Item) -> bool
+        ensures { result ≡ rules.is_full self.now item.now }
+    {
+        match item {
+            Item::Block(_) => self.blocks.len() >= BLOCKS,
+            Item::Signal(_) => self.signals.len() >= SIGNALS,
+            Item::Route(_) => self.routes.len() >= ROUTES,
+            Item::Run(_) => self.runs.len() >= RUNS,
+            Item::Section(_) => self.sections.len() >= SECTIONS,
+            Item::Connection(_) => self.connections.len() >= CONNECTIONS,
+        }
+    }
+
+    fn refers_to_known(&self, item: &Item) -> bool
+        ensures { result ≡ rules.refers_to_known self.now item.now }
+    {
+        match item {
+            Item::Block(_) => true,
+            Item::Signal(signal) => self.has_block(&signal.block),
+            Item::Route(route) => self.has_signals(route.signals.slice()),
+            Item::Run(run) => self.has_route(&run.route),
+            Item::Section(section) => self.has_blocks(section.blocks.slice()),
+            Item::Connection(connection) => {
+                self.has_run(&connection.first) && self.has_run(&connection.second)
+            }
+        }
+    }
+
+    fn has_signals(&self, names: &[Name]) -> bool
+        ensures { result ≡ list_all (rules.has_signal self.now) names.now }
+    {
+        names.iter().all(|name| self.has_signal(name))
+    }
+
+    fn has_blocks(&self, names: &[Name]) -> bool
+        ensures { result ≡ list_all (rules.has_block self.now) names.now }
+    {
+        names.iter().all(|name| self.has_block(name))
+    }
+}
