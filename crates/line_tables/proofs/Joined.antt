@@ -2,6 +2,7 @@
 use Rattle.std.proofs.Common.{◌≡◌, ℕ, ◌+◌, ◌≤◌, ◌==◌, Bool, true, false, not, ◌||◌, List, [], ◌∷◌, map, Option, Some, None, refl, sym, ap, ◌∙◌, inl, inr, arith}
 use Rattle.std.specs.Prelude.{option_map, All, is_some, nat_lt}
 use Rattle.std.specs.List.{list_any, list_all, find}
+use Rattle.std.proofs.lemmas.Bool.Decides.{nat_tests}
 use Rattle.std.proofs.lemmas.Bool.{cases_Bool, or_parts, and_parts, and_from, ltb-false}
 use Rattle.rail_model.specs.declared.items.Block.{Block}
 use Rattle.rail_model.specs.declared.items.Signal.{Signal}
@@ -12,7 +13,7 @@ use Rattle.rail_model.specs.declared.items.Connection.{Connection}
 use Rattle.rail_model.specs.declared.items.Item.TheVariants as item
 use Rattle.rail_model.specs.declared.edit.Kind.TheVariants as kind
 use Rattle.rail_model.specs.Name.{is_same}
-use Rattle.rail_model.specs.Rules.{is_named, has_block, has_run, lists, refers_to_known, rule_of_put, rule_of_change, rule_of_drop}
+use Rattle.rail_model.specs.Rules.{is_named, has_block, has_run, lists, refers_to_known, is_used, rule_of_put, rule_of_change, rule_of_drop}
 use Rattle.rail_model.specs.Edits.{with_item, with_changed, without}
 use Rattle.rail_model.specs.Sound.{IsSound}
 use Rattle.rail_model.proofs.Sound.{accepted, changeable, free, IsSound-after_put, IsSound-after_change, IsSound-after_drop}
@@ -528,3 +529,37 @@ block_drop t n j table none =
       route_uses = j.route_uses;
       run_uses = j.run_uses;
     }
+
+-- ---- who uses an item
+
+positive_either : (a b : ℕ) → nat_lt 0 (a + b) ≡ (nat_lt 0 a || nat_lt 0 b)
+positive_either a b = grind (arith, nat_tests)
+
+pub block_used : (t : Inside) (n : List ℕ) (k : ℕ) → IsJoined t → IsTable (λ b. b.name) t.blocks → key_of (λ b. b.name) t.blocks n ≡ Some k → nat_lt 0 (count_of t.block_uses k) ≡ is_used (tables_of t) kind.Block n
+block_used t n k j table key =
+    let signals = references_tell names_of_signal (λ x. x.name) (λ b. b.name) t.signals t.blocks n k table j.signals key in
+    let sections = references_tell names_of_section (λ x. x.name) (λ b. b.name) t.sections t.blocks n k table j.sections key in
+    let by_signal : list_any (λ (s : Signal). is_same s.block n) (items_of t.signals) ≡ nat_lt 0 (references t.signals k) =
+    list_any-map (λ (u : ℕ × Entry Signal). u.1.item) (λ (s : Signal). is_same s.block n) t.signals
+    ∙ list_any_alike _ _ (λ u. elim (cases_Bool (is_same u.1.item.block n)) [ inl e ↦ rw e refl | inr e ↦ rw e refl ]) t.signals ∙ signals in
+    let by_section : list_any (λ (s : Section). lists s.blocks n) (items_of t.sections) ≡ nat_lt 0 (references t.sections k) =
+    list_any-map (λ (u : ℕ × Entry Section). u.1.item) (λ (s : Section). lists s.blocks n) t.sections ∙ sections in
+    ap (nat_lt 0) (j.block_uses k) ∙ positive_either (references t.signals k) (references t.sections k) ∙ rw (by_signal, by_section) refl
+
+pub signal_used : (t : Inside) (n : List ℕ) (k : ℕ) → IsJoined t → IsTable (λ e. e.item.name) t.signals → key_of (λ e. e.item.name) t.signals n ≡ Some k → nat_lt 0 (count_of t.signal_uses k) ≡ is_used (tables_of t) kind.Signal n
+signal_used t n k j table key =
+    let told = references_tell names_of_route (λ x. x.name) (λ e. e.item.name) t.routes t.signals n k table j.routes key in
+    ap (nat_lt 0) (j.signal_uses k) ∙ sym told
+    ∙ sym (list_any-map (λ (u : ℕ × Entry Route). u.1.item) (λ (r : Route). lists r.signals n) t.routes ∙ list_any_alike _ _ (λ u. refl) t.routes)
+
+pub route_used : (t : Inside) (n : List ℕ) (k : ℕ) → IsJoined t → IsTable (λ e. e.item.name) t.routes → key_of (λ e. e.item.name) t.routes n ≡ Some k → nat_lt 0 (count_of t.route_uses k) ≡ is_used (tables_of t) kind.Route n
+route_used t n k j table key =
+    let told = references_tell names_of_run (λ x. x.name) (λ e. e.item.name) t.runs t.routes n k table j.runs key in
+    ap (nat_lt 0) (j.route_uses k) ∙ sym told
+    ∙ sym (list_any-map (λ (u : ℕ × Entry Run). u.1.item) (λ (r : Run). is_same r.route n) t.runs ∙ list_any_alike _ _ (λ u. elim (cases_Bool (is_same u.1.item.route n)) [ inl e ↦ rw e refl | inr e ↦ rw e refl ]) t.runs)
+
+pub run_used : (t : Inside) (n : List ℕ) (k : ℕ) → IsJoined t → IsTable (λ e. e.item.name) t.runs → key_of (λ e. e.item.name) t.runs n ≡ Some k → nat_lt 0 (count_of t.run_uses k) ≡ is_used (tables_of t) kind.Run n
+run_used t n k j table key =
+    let told = references_tell names_of_connection (λ x. x.name) (λ e. e.item.name) t.connections t.runs n k table j.connections key in
+    ap (nat_lt 0) (j.run_uses k) ∙ sym told
+    ∙ sym (list_any-map (λ (u : ℕ × Entry Connection). u.1.item) (λ (c : Connection). is_same c.first n || is_same c.second n) t.connections ∙ list_any_alike _ _ (λ u. sym (either_is_listed u.1.item n)) t.connections)

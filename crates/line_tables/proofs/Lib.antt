@@ -6,3 +6,4 @@ pub mod Found
 pub mod Linked
 pub mod Views
 pub mod Joined
+pub mod Legs

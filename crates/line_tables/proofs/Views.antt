@@ -1,20 +1,24 @@
 -- Edits of a list of entries as edits of the list of their items.
 use Rattle.std.proofs.Common.{◌≡◌, ◌≢◌, ℕ, ◌+◌, ◌<◌, ◌≤◌, ◌==◌, Bool, true, false, not, cond, if◌then◌else◌, List, [], ◌∷◌, ◌++◌, length, get_or, Option, Some, None, refl, sym, ap, ◌∙◌, subst, inl, inr, arith}
-use Rattle.std.specs.Prelude.{filter, map, option_map, All, sum_by}
+use Rattle.std.specs.Prelude.{filter, map, option_map, unwrap_or, All, sum_by}
 use Rattle.std.specs.List.{list_any, list_all, find}
 use Rattle.std.proofs.lemmas.Bool.{cases_Bool, both_ways, eqb-true, eq-eqb, cases_order}
-use Rattle.std.proofs.lemmas.List.{map-append, get_or_default}
+use Rattle.std.proofs.lemmas.List.{map-append, get_or_default, get_or_past}
 use Rattle.std.proofs.lemmas.List.Elements.{All-head, All-tail}
 use Rattle.std.proofs.lemmas.List.Sums.{sum_by-cons}
 use Rattle.std.proofs.lemmas.Simd.{map-map}
+use Rattle.std.proofs.lemmas.Option.{unwrap_or-slice_get}
+use Rattle.std.proofs.lemmas.List.Folds.{find_at}
+use Rattle.rail_model.specs.Tables.{number_of}
+use Rattle.rail_model.proofs.Places.{number_of-missing}
 use Rattle.rail_model.specs.Name.{IsBefore, is_before, is_same}
 use Rattle.rail_model.specs.Rules.{is_named}
 use Rattle.rail_model.specs.Edits.{with_item, with_changed, without}
 use Rattle.rail_model.proofs.NameOrder.{same_name, is_same-from, is_same-before}
-use Rattle.line_tables.specs.Table.{under, with_change, named, IsTable}
+use Rattle.line_tables.specs.Table.{under, with_change, named, key_of, entry_of, IsTable}
 use Rattle.line_tables.proofs.Filed.{some_from_map}
 use Rattle.line_tables.proofs.Entries.{KeepsName}
-use Rattle.line_tables.proofs.Found.{find_some, find-map, list_any-map, filter-map, keeps_name}
+use Rattle.line_tables.proofs.Found.{find_some, find-map, list_any-map, filter-map, keeps_name, found_by_key}
 
 pub map_same : {X Y : Type 0} (f g : X → Y) (xs : List X) → All (λ x. f x ≡ g x) xs → map f xs ≡ map g xs
 map_same f g [] h = refl
@@ -91,3 +95,26 @@ module _ {X Y : Type 0} (f : X → Y) (name : Y → List ℕ) where
             rw (t, apart) refl
       ])
       ∙ sym (map-map changed (λ (e : ℕ × X). f e.1) items)
+
+  map_twice : (o : Option (ℕ × X)) → option_map (λ e. f e.1) o ≡ option_map f (option_map (λ e. e.1) o)
+  map_twice None = refl
+  map_twice (Some e) = refl
+
+  -- the item that a look-up by name gives stands under the key of the name
+  pub item_named : (items : List (ℕ × X)) (n : List ℕ) (k : ℕ) (x : X) (d : Y) → IsTable (λ x. name (f x)) items → key_of (λ x. name (f x)) items n ≡ Some k → under items k ≡ Some x → get_or (map (λ e. f e.1) items) (number_of name (map (λ e. f e.1) items) n) d ≡ f x
+  item_named items n k x d table key here =
+      let label : X → List ℕ = λ x. name (f x) in
+      let item : ℕ × X → Y = λ e. f e.1 in
+      let test : Y → Bool = λ y. is_same (name y) n in
+      let y = found_by_key label items n k table key in
+      let both : Some y.0 ≡ Some x = sym y.1.under ∙ here in
+      let same : y.0 ≡ x = cc in
+      sym (unwrap_or-slice_get (map item items) (number_of name (map item items) n) d)
+      ∙ ap (λ o. unwrap_or o d) (sym (find_at test (map item items)) ∙ find-map item test items ∙ map_twice (entry_of label items n) ∙ ap (option_map f) y.1.item)
+      ∙ ap f same
+
+  pub item_missing : (items : List (ℕ × X)) (n : List ℕ) (d : Y) → is_named (λ e. name (f e.1)) items n ≡ false → get_or (map (λ e. f e.1) items) (number_of name (map (λ e. f e.1) items) n) d ≡ d
+  item_missing items n d out =
+      let item : ℕ × X → Y = λ e. f e.1 in
+      let past = number_of-missing name (map item items) n (list_any-map item (λ y. is_same (name y) n) items ∙ out) in
+      get_or_past (map item items) _ d (omega (arith, past))

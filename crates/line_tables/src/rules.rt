@@ -136,4 +136,86 @@ impl LineTables {
     {
         names.iter().all(|name| self.has_block(name))
     }
+
+    // How many signals the route of a name has: none where it isn't there.
+    fn signal_count(&self, route: &Name) -> usize
+        ensures count { result ≡ length (route_named self.now route.now).signals }
+        ensures sound { IsSound self.now }
+    {
+        match self.routes.key_of(route) {
+            Some(key) => self.routes.get(key).item.signals.len(),
+            None => 0,
+        }
+    }
+
+    fn miscounts_legs(&self, item: &Item) -> bool
+        ensures { result ≡ rules.miscounts_legs self.now item.now }
+    {
+        match item {
+            Item::Run(run) => run.legs.len() != self.signal_count(&run.route),
+            Item::Block(_)
+            | Item::Signal(_)
+            | Item::Route(_)
+            | Item::Section(_)
+            | Item::Connection(_) => false,
+        }
+    }
+
+    // Each run on the route has a leg for each of the signals that it has now.
+    fn makes_miscount(&self, item: &Item) -> bool
+        requires { rules.is_there self.now item.now ≡ true }
+        ensures { result ≡ rules.makes_miscount self.now item.now }
+    {
+        match item {
+            Item::Route(route) => {
+                self.signal_count(&route.name) != route.signals.len() && self.is_route_used(&route.name)
+            }
+            Item::Block(_)
+            | Item::Signal(_)
+            | Item::Run(_)
+            | Item::Section(_)
+            | Item::Connection(_) => false,
+        }
+    }
+
+    fn is_block_used(&self, name: &Name) -> bool
+        requires { rules.has_block self.now name.now ≡ true }
+        ensures { result ≡ rules.is_used self.now kind.Block name.now }
+    {
+        self.block_uses.of(self.blocks.key_of(name).unwrap()) > 0
+    }
+
+    fn is_signal_used(&self, name: &Name) -> bool
+        requires { rules.has_signal self.now name.now ≡ true }
+        ensures { result ≡ rules.is_used self.now kind.Signal name.now }
+    {
+        self.signal_uses.of(self.signals.key_of(name).unwrap()) > 0
+    }
+
+    fn is_route_used(&self, name: &Name) -> bool
+        requires { rules.has_route self.now name.now ≡ true }
+        ensures { result ≡ rules.is_used self.now kind.Route name.now }
+    {
+        self.route_uses.of(self.routes.key_of(name).unwrap()) > 0
+    }
+
+    fn is_run_used(&self, name: &Name) -> bool
+        requires { rules.has_run self.now name.now ≡ true }
+        ensures { result ≡ rules.is_used self.now kind.Run name.now }
+    {
+        self.run_uses.of(self.runs.key_of(name).unwrap()) > 0
+    }
+
+    fn is_used(&self, kind: Kind, name: &Name) -> bool
+        requires { rules.has self.now kind name.now ≡ true }
+        ensures { result ≡ rules.is_used self.now kind name.now }
+    {
+        match kind {
+            Kind::Block => self.is_block_used(name),
+            Kind::Signal => self.is_signal_used(name),
+            Kind::Route => self.is_route_used(name),
+            Kind::Run => self.is_run_used(name),
+            Kind::Section | Kind::Connection => false,
+        }
+    }
 }
