@@ -7,3 +7,5 @@ pub mod Linked
 pub mod Views
 pub mod Joined
 pub mod Legs
+pub mod Repeats
+pub mod Meets

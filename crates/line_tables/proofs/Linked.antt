@@ -14,7 +14,7 @@ use Rattle.rail_model.proofs.Members.{All-with_item}
 use Rattle.line_tables.specs.declared.entry.Entry.{Entry}
 use Rattle.line_tables.specs.Table.{under, with_change, named, key_of, entry_of, item_of, IsTable}
 use Rattle.line_tables.specs.Uses.{times}
-use Rattle.line_tables.specs.Links.{IsLinked, references}
+use Rattle.line_tables.specs.Links.{IsLinked, references, lists_key}
 use Rattle.line_tables.proofs.Filed.{some_from_map}
 use Rattle.line_tables.proofs.Found.{name_of_key, sum-with_item, sum-with_change, sum-without}
 
@@ -56,21 +56,18 @@ keys_same f g (n ∷ ns) (j ∷ ks) keeps e =
     rw (keeps n j first, keys_same f g ns ks keeps rest) refl
 
 -- a name is one of the names where its key is one of the keys
-pub named_counted : {B : Type 0} (name : B → List ℕ) (used : List (ℕ × B)) (n : List ℕ) (k : ℕ) (ns : List (List ℕ)) (ks : List ℕ) → IsTable name used → key_of name used n ≡ Some k → map (key_of name used) ns ≡ map Some ks → list_any (λ m. is_same m n) ns ≡ nat_lt 0 (times k ks)
-named_counted name used n k [] [] table key e = refl
-named_counted name used n k [] (j ∷ ks) table key e = absurd (cc)
-named_counted name used n k (m ∷ ns) [] table key e = absurd (cc)
-named_counted name used n k (m ∷ ns) (j ∷ ks) table key e =
+pub named_listed : {B : Type 0} (name : B → List ℕ) (used : List (ℕ × B)) (n : List ℕ) (k : ℕ) (ns : List (List ℕ)) (ks : List ℕ) → IsTable name used → key_of name used n ≡ Some k → map (key_of name used) ns ≡ map Some ks → list_any (λ m. is_same m n) ns ≡ lists_key ks k
+named_listed name used n k [] [] table key e = refl
+named_listed name used n k [] (j ∷ ks) table key e = absurd (cc)
+named_listed name used n k (m ∷ ns) [] table key e = absurd (cc)
+named_listed name used n k (m ∷ ns) (j ∷ ks) table key e =
     let first : key_of name used m ≡ Some j = cc in
     let rest : map (key_of name used) ns ≡ map Some ks = cc in
-    let later = named_counted name used n k ns ks table key rest in
     elim (cases_Bool (is_same m n)) [
       | inl s ↦
           let both : Some j ≡ Some k = sym first ∙ ap (key_of name used) (same_name m n s) ∙ key in
           let here : j ≡ k = cc in
-          let count = times_yes k j ks (eq-eqb j k here) in
-          let positive : nat_lt 0 (times k (j ∷ ks)) ≡ true = lt-ltb 0 (times k (j ∷ ks)) (omega (arith, count)) in
-          rw (s, positive) refl
+          rw (s, eq-eqb j k here) refl
       | inr s ↦
           let apart : (j == k) ≡ false =
           elim (cases_Bool (j == k)) [
@@ -79,7 +76,7 @@ named_counted name used n k (m ∷ ns) (j ∷ ks) table key e =
                 absurd (both_ways (is_same m n) s (is_same-from m n (name_of_key name used m n k table one key)))
             | inr t ↦ t
           ] in
-          rw (s, times_no k j ks apart) later
+          rw (s, apart) (named_listed name used n k ns ks table key rest)
     ]
 
 -- some part of a sum is above 0 where the sum is
@@ -97,10 +94,19 @@ positive_sum f (x ∷ xs) =
           rw (t, same) rest
     ]
 
-list_any_same : {X : Type 0} (p q : X → Bool) (xs : List X) → All (λ x. p x ≡ q x) xs → list_any p xs ≡ list_any q xs
+pub list_any_same : {X : Type 0} (p q : X → Bool) (xs : List X) → All (λ x. p x ≡ q x) xs → list_any p xs ≡ list_any q xs
 list_any_same p q [] h = refl
 list_any_same p q (x ∷ xs) h =
     rw (All-head (λ x. p x ≡ q x) x xs h, list_any_same p q xs (All-tail (λ x. p x ≡ q x) x xs h)) refl
+
+one_or_none : (b : Bool) → nat_lt 0 (cond b 1 0) ≡ b
+one_or_none true = refl
+one_or_none false = refl
+
+named_counted : {B : Type 0} (name : B → List ℕ) (used : List (ℕ × B)) (n : List ℕ) (k : ℕ) (ns : List (List ℕ)) (ks : List ℕ) → IsTable name used → key_of name used n ≡ Some k → map (key_of name used) ns ≡ map Some ks → list_any (λ m. is_same m n) ns ≡ nat_lt 0 (times k ks)
+named_counted name used n k ns ks table key e =
+    named_listed name used n k ns ks table key e
+    ∙ sym (positive_sum (λ q. cond (q == k) 1 0) ks ∙ list_any_same (λ q. nat_lt 0 (cond (q == k) 1 0)) (λ q. q == k) ks (λ i d l. one_or_none (get_or ks i d == k)))
 
 module _ {A B : Type 0} (names : A → List (List ℕ)) (label : A → List ℕ) (name : B → List ℕ) where
   -- this user's keys are those of the items that it names

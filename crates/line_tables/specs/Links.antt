@@ -1,11 +1,11 @@
 -- References between the items of two tables, by key.
-use Rattle.std.specs.Prelude.{◌≡◌, ℕ, ◌==◌, Bool, false, ◌&&◌, ◌||◌, Option, Some, List, [], ◌∷◌, map, sum_by, All, slice_get, option_and_then}
+use Rattle.std.specs.Prelude.{◌≡◌, ℕ, ◌==◌, Bool, false, ◌&&◌, ◌||◌, Some, IsSome, List, [], ◌∷◌, length, map, sum_by, All, slice_index}
 use Rattle.std.specs.List.{list_any}
 use Rattle.std.specs.Option.{option_map_or}
 use Rattle.rail_model.specs.declared.items.Signal.{Signal}
 use Rattle.rail_model.specs.declared.items.Route.{Route}
 use Rattle.line_tables.specs.declared.entry.Entry.{Entry}
-use Rattle.line_tables.specs.Table.{under, key_of, item_of}
+use Rattle.line_tables.specs.Table.{under, key_of}
 use Rattle.line_tables.specs.Uses.{times}
 
 -- each user refers to the items that it names, by their keys
@@ -25,14 +25,14 @@ abbrev pub repeats_key : List ℕ → Bool
 repeats_key [] = false
 repeats_key (k ∷ keys) = lists_key keys k || repeats_key keys
 
--- the user under a key refers to this one
-abbrev pub refers : {A : Type 0} → List (ℕ × Entry A) → ℕ → ℕ → Bool
-refers users u k = option_map_or (λ e. lists_key e.refs k) (under users u) false
-
--- the key of the block beyond the signal of a name
-abbrev pub block_beyond : List (ℕ × Entry Signal) → List ℕ → Option ℕ
-block_beyond signals n = option_and_then (λ e. slice_get e.refs 0) (item_of (λ e. e.item.name) signals n)
+-- the key of the block beyond the signal under a key
+abbrev pub block_of : List (ℕ × Entry Signal) → ℕ → ℕ
+block_of signals k = option_map_or (λ e. slice_index e.refs 0) (under signals k) 0
 
 -- a route lists the signal under a key, and has a signal of the block under another
 abbrev pub meets : List (ℕ × Entry Signal) → ℕ → ℕ → ℕ × Entry Route → Bool
-meets signals signal block r = lists_key r.1.refs signal && list_any (λ q. refers signals q block) r.1.refs
+meets signals signal block r = lists_key r.1.refs signal && list_any (λ q. block_of signals q == block) r.1.refs
+
+-- a key under which an item stands
+abbrev pub IsKey : {A : Type 0} → List (ℕ × A) → ℕ → Type 0
+IsKey items k = IsSome (under items k)

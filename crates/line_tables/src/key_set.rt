@@ -3,6 +3,7 @@ ghost use Rattle.std.specs.Prelude.{◌≡◌, ℕ, ◌+◌, ◌≤◌, ◌<◌,
 ghost use Rattle.std.specs.Prelude.{◌≢◌};
 ghost use Rattle.std.specs.Int.{bit_at};
 ghost use Rattle.line_tables.specs.KeySet.{holds};
+ghost use Rattle.line_tables.specs.Links.{repeats_key};
 
 use rail_model::OutOfMemory;
 use std::alloc::Global;
@@ -48,6 +49,19 @@ impl KeySet {
         self.words[place] = with_bit(word, bit);
         Ok(!has_bit(word, bit))
     }
+}
+
+/// Whether a key stands twice.
+pub(crate) fn repeats(alloc: Global, keys: &[usize]) -> Result<bool, OutOfMemory>
+    ensures { IfOk result (λ twice. twice ≡ repeats_key keys.now) }
+{
+    let mut seen = KeySet::new(alloc);
+    for key in keys {
+        if !seen.insert(*key)? {
+            return Ok(true);
+        }
+    }
+    Ok(false)
 }
 
 // Adds words without keys until there is one at the place.

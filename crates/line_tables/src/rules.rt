@@ -5,12 +5,13 @@ ghost use Rattle.rail_model.specs.declared.items.Item.TheVariants as item;
 ghost use Rattle.rail_model.specs.declared.edit.Kind.TheVariants as kind;
 ghost use Rattle.rail_model.specs.Tables.{route_named};
 ghost use Rattle.rail_model.specs.Rules as rules;
+ghost use Rattle.rail_model.specs.Name.{has_repeat};
 ghost use Rattle.rail_model.specs.Sound.{IsSound};
-ghost use Rattle.line_tables.specs.Links.{repeats_key, block_beyond, meets};
+ghost use Rattle.line_tables.specs.Links.{block_of, meets, IsKey};
 
 use crate::LineTables;
 use crate::entry::{Entry, keys_of};
-use crate::key_set::KeySet;
+use crate::key_set::repeats;
 use crate::named_table::NamedTable;
 use rail_model::{
     BLOCKS, CONNECTIONS, Connection, Edit, Item, Kind, Name, OutOfMemory, ROUTES, RUNS, Route, Rule, Run, SECTIONS,
@@ -218,4 +219,120 @@ impl LineTables {
             Kind::Section | Kind::Connection => false,
         }
     }
+
+    // The item names something twice.
+    fn repeats(&self, item: &Item) -> Result<bool, OutOfMemory>
+        requires { rules.refers_to_known self.now item.now ≡ true }
+        ensures { IfOk result (λ twice. twice ≡ rules.repeats self.now item.now) }
+    {
+        match item {
+            Item::Route(route) => self.repeats_block(route),
+            Item::Section(section) => self.repeats_in_section(section),
+            Item::Connection(connection) => Ok(connection.first == connection.second),
+            Item::Block(_) | Item::Signal(_) | Item::Run(_) => Ok(false),
+        }
+    }
+
+    fn repeats_block(&self, route: &Route) -> Result<bool, OutOfMemory>
+        requires { list_all (rules.has_signal self.now) route.now.signals ≡ true }
+        ensures { IfOk result (λ twice. twice ≡ rules.repeats_block self.now route.now) }
+    {
+        let _count = self.blocks.len();
+        let signals = keys_of(self.alloc, &self.signals, route.signals.slice())?;
+        let blocks = blocks_of(self.alloc, &self.signals, signals.slice())?;
+        repeats(self.alloc, blocks.slice())
+    }
+
+    fn repeats_in_section(&self, section: &Section) -> Result<bool, OutOfMemory>
+        requires { list_all (rules.has_block self.now) section.now.blocks ≡ true }
+        ensures { IfOk result (λ twice. twice ≡ has_repeat section.now.blocks) }
+    {
+        let blocks = keys_of(self.alloc, &self.blocks, section.blocks.slice())?;
+        repeats(self.alloc, blocks.slice())
+    }
+
+    // With the changed signal in the place of the old one some route would have two signals of its block.
+    fn makes_repeat(&self, item: &Item) -> bool
+        requires there { rules.is_there self.now item.now ≡ true }
+        requires known { rules.refers_to_known self.now item.now ≡ true }
+        ensures { result ≡ rules.makes_repeat self.now item.now }
+    {
+        match item {
+            Item::Signal(signal) => self.meets_on_a_route(signal),
+            Item::Block(_)
+            | Item::Route(_)
+            | Item::Run(_)
+            | Item::Section(_)
+            | Item::Connection(_) => false,
+        }
+    }
+
+    fn meets_on_a_route(&self, signal: &Signal) -> bool
+        requires there { rules.has_signal self.now signal.now.name ≡ true }
+        requires known { rules.has_block self.now signal.now.block ≡ true }
+        ensures { result ≡ rules.makes_repeat self.now (item.Signal signal.now) }
+    {
+        let key = self.signals.key_of(&signal.name).unwrap();
+        let block = self.blocks.key_of(&signal.block).unwrap();
+        block != block_of(&self.signals, key) && any_meets(&self.routes, &self.signals, key, block)
+    }
+}
+
+// The key of the block beyond the signal under a key.
+fn block_of(signals: &NamedTable<Entry<Signal>>, key: usize) -> usize
+    requires there { IsKey signals.now key }
+    requires one { All (λ e. length e.1.refs ≡ 1) signals.now }
+    ensures { result ≡ block_of signals.now key }
+{
+    signals.get(key).refs.slice()[0]
+}
+
+// The keys of the blocks beyond the signals under keys, in their order.
+fn blocks_of(
+    alloc: Global,
+    signals: &NamedTable<Entry<Signal>>,
+    keys: &[usize],
+) -> Result<List<usize>, OutOfMemory>
+    requires there { All (IsKey signals.now) keys.now }
+    requires one { All (λ e. length e.1.refs ≡ 1) signals.now }
+    ensures { IfOk result (λ blocks. blocks ≡ map (block_of signals.now) keys.now) }
+{
+    let mut blocks = List::new(alloc);
+    for key in keys {
+        blocks.push(block_of(signals, *key))?;
+    }
+    Ok(blocks)
+}
+
+// Whether some route lists a signal and has one of a block.
+fn any_meets(
+    routes: &NamedTable<Entry<Route>>,
+    signals: &NamedTable<Entry<Signal>>,
+    signal: usize,
+    block: usize,
+) -> bool
+    requires there { All (λ r. All (IsKey signals.now) r.1.refs) routes.now }
+    requires one { All (λ e. length e.1.refs ≡ 1) signals.now }
+    ensures { result ≡ list_any (meets signals.now signal block) routes.now }
+{
+    for number in 0..routes.len() {
+        let refs = routes.nth(number).refs.slice();
+        if refs.iter().any(|key| *key == signal) && has_signal_of(signals, refs, block) {
+            return true;
+        }
+    }
+    false
+}
+
+fn has_signal_of(signals: &NamedTable<Entry<Signal>>, keys: &[usize], block: usize) -> bool
+    requires there { All (IsKey signals.now) keys.now }
+    requires one { All (λ e. length e.1.refs ≡ 1) signals.now }
+    ensures { result ≡ list_any (λ q. block_of signals.now q == block) keys.now }
+{
+    for key in keys {
+        if block_of(signals, *key) == block {
+            return true;
+        }
+    }
+    false
 }
