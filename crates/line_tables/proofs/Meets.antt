@@ -66,7 +66,7 @@ module _ {B : Type 0} (name : B → List ℕ) (used : List (ℕ × B)) (table : 
       let here = found_by_key name used n k table first in
       All-cons (IsKey used) k ks (rw here.1.under refl) (all_keys ns ks rest)
 
-under_passes : {X : Type 0} (P : ℕ × X → Type 0) (items : List (ℕ × X)) (k : ℕ) (x : X) → under items k ≡ Some x → All P items → (y : ℕ × X) × (y.1 ≡ x) × P y
+pub under_passes : {X : Type 0} (P : ℕ × X → Type 0) (items : List (ℕ × X)) (k : ℕ) (x : X) → under items k ≡ Some x → All P items → (y : ℕ × X) × (y.1 ≡ x) × P y
 under_passes P items k x e all =
     let y = some_from_map (λ (e : ℕ × _). e.1) (find (λ e. e.0 == k) items) x e in
     (y.0, y.2, (find_some (λ e. e.0 == k) items y.0 y.1).1 P all)

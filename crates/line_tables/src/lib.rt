@@ -2,6 +2,7 @@
 #![tactic(auto)]
 
 mod add;
+mod edits;
 mod entry;
 mod key_set;
 mod line_tables;

@@ -7,7 +7,7 @@ ghost use Rattle.rail_model.specs.Tables.{route_named};
 ghost use Rattle.rail_model.specs.Rules as rules;
 ghost use Rattle.rail_model.specs.Name.{has_repeat};
 ghost use Rattle.rail_model.specs.Sound.{IsSound};
-ghost use Rattle.line_tables.specs.Links.{block_of, meets, IsKey};
+ghost use Rattle.line_tables.specs.Links.{block_of, lists_key, meets, IsKey};
 
 use crate::LineTables;
 use crate::entry::{Entry, keys_of};
@@ -20,6 +20,71 @@ use rail_model::{
 use std::alloc::Global;
 
 impl LineTables {
+    /// The first rule that refuses an edit, if one does.
+    pub(crate) fn rule_of(&self, edit: &Edit) -> Result<Option<Rule>, OutOfMemory>
+        ensures { IfOk result (λ rule. rule ≡ rules.rule_of self.now edit.now) }
+    {
+        match edit {
+            Edit::Put(item) => self.rule_of_put(item),
+            Edit::Change(item) => self.rule_of_change(item),
+            Edit::Drop(kind, name) => Ok(self.rule_of_drop(*kind, name)),
+        }
+    }
+
+    fn rule_of_put(&self, item: &Item) -> Result<Option<Rule>, OutOfMemory>
+        ensures { IfOk result (λ rule. rule ≡ rules.rule_of_put self.now item.now) }
+    {
+        if !is_within(item) {
+            return Ok(Some(Rule::Range));
+        }
+        if self.is_taken(item) {
+            return Ok(Some(Rule::Twice));
+        }
+        if self.is_full(item) {
+            return Ok(Some(Rule::Limit));
+        }
+        if !self.refers_to_known(item) {
+            return Ok(Some(Rule::Unknown));
+        }
+        if self.repeats(item)? {
+            return Ok(Some(Rule::Twice));
+        }
+        if self.miscounts_legs(item) {
+            return Ok(Some(Rule::Count));
+        }
+        Ok(None)
+    }
+
+    fn rule_of_change(&self, item: &Item) -> Result<Option<Rule>, OutOfMemory>
+        ensures { IfOk result (λ rule. rule ≡ rules.rule_of_change self.now item.now) }
+    {
+        if !is_within(item) {
+            return Ok(Some(Rule::Range));
+        }
+        if !self.is_there(item) || !self.refers_to_known(item) {
+            return Ok(Some(Rule::Unknown));
+        }
+        if self.repeats(item)? || self.makes_repeat(item) {
+            return Ok(Some(Rule::Twice));
+        }
+        if self.miscounts_legs(item) || self.makes_miscount(item) {
+            return Ok(Some(Rule::Count));
+        }
+        Ok(None)
+    }
+
+    fn rule_of_drop(&self, kind: Kind, name: &Name) -> Option<Rule>
+        ensures { result ≡ rules.rule_of_drop self.now kind name.now }
+    {
+        if !self.has(kind, name) {
+            return Some(Rule::Unknown);
+        }
+        if self.is_used(kind, name) {
+            return Some(Rule::InUse);
+        }
+        None
+    }
+
     fn has_block(&self, name: &Name) -> bool
         ensures { result ≡ rules.has_block self.now name.now }
     {
@@ -316,12 +381,21 @@ fn any_meets(
     ensures { result ≡ list_any (meets signals.now signal block) routes.now }
 {
     for number in 0..routes.len() {
-        let refs = routes.nth(number).refs.slice();
-        if refs.iter().any(|key| *key == signal) && has_signal_of(signals, refs, block) {
+        if meets(signals, routes.nth(number).refs.slice(), signal, block) {
             return true;
         }
     }
     false
+}
+
+// Whether a route's signals, given by their keys, have this one and one of a block.
+fn meets(signals: &NamedTable<Entry<Signal>>, refs: &[usize], signal: usize, block: usize) -> bool
+    requires there { All (IsKey signals.now) refs.now }
+    requires one { All (λ e. length e.1.refs ≡ 1) signals.now }
+    ensures { result
+        ≡ (lists_key refs.now signal && list_any (λ q. block_of signals.now q == block) refs.now) }
+{
+    lists_key(refs, signal) && has_signal_of(signals, refs, block)
 }
 
 fn has_signal_of(signals: &NamedTable<Entry<Signal>>, keys: &[usize], block: usize) -> bool
@@ -335,4 +409,10 @@ fn has_signal_of(signals: &NamedTable<Entry<Signal>>, keys: &[usize], block: usi
         }
     }
     false
+}
+
+fn lists_key(keys: &[usize], key: usize) -> bool
+    ensures { result ≡ lists_key keys.now key }
+{
+    keys.iter().any(|listed| *listed == key)
 }
