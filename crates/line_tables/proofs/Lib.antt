@@ -9,3 +9,4 @@ pub mod Joined
 pub mod Legs
 pub mod Repeats
 pub mod Meets
+pub mod Paths

@@ -3,3 +3,4 @@ pub mod Uses
 pub mod KeySet
 pub mod Links
 pub mod Inside
+pub mod Hops

@@ -7,6 +7,7 @@ mod entry;
 mod key_set;
 mod line_tables;
 mod named_table;
+mod path;
 mod remove;
 mod replace;
 mod rules;

@@ -82,7 +82,8 @@ impl<T: Stored> NamedTable<T> {
     /// The item under a key.
     pub(crate) fn get(&self, key: usize) -> &T
         requires { IsSome (tables.under self.now key) }
-        ensures { tables.under self.now key ≡ Some result.now }
+        ensures item { tables.under self.now key ≡ Some result.now }
+        ensures table { tables.IsTable T.label self.now }
     {
         &self.slots[key]
     }
@@ -99,7 +100,8 @@ impl<T: Stored> NamedTable<T> {
     /// The item of a number.
     pub(crate) fn nth(&self, number: usize) -> &T
         requires { number < length self.now }
-        ensures { option_map (λ e. e.1) (slice_get self.now number) ≡ Some result.now }
+        ensures item { option_map (λ e. e.1) (slice_get self.now number) ≡ Some result.now }
+        ensures table { tables.IsTable T.label self.now }
     {
         &self.slots[self.order[number]]
     }

@@ -17,7 +17,7 @@ pub returns-then-meets : goal.returns-then-meets
 returns-then-meets c =
     let routes = c.args.routes.now in
     let test = meets c.args.signals.now c.args.signal c.args.block in
-    let e = same_test test routes c.loop-number.number c.nth.result.now c.nth.ensures in
+    let e = same_test test routes c.loop-number.number c.nth.result.now c.nth.ensures.item in
     let passes = rw (c.slice.ensures, ← e.2) at c.meets.ensures in
     sym (list_any_at test routes c.loop-number.number e.0 e.3 (ap test e.1 ∙ sym passes ∙ c.if-meets.true))
 
@@ -25,7 +25,7 @@ pub loop-number-preserved : goal.loop-number-preserved
 loop-number-preserved c =
     let routes = c.args.routes.now in
     let test = meets c.args.signals.now c.args.signal c.args.block in
-    let e = same_test test routes c.loop-number.number c.nth.result.now c.nth.ensures in
+    let e = same_test test routes c.loop-number.number c.nth.result.now c.nth.ensures.item in
     let passes = rw (c.slice.ensures, ← e.2) at c.meets.ensures in
     let fails : test (get_or routes c.loop-number.number e.0) ≡ false = ap test e.1 ∙ sym passes ∙ c.if-meets.false in
     list_any_more test routes c.loop-number.number e.0 e.3 ∙ rw (c.loop-number.invariant, fails) refl
