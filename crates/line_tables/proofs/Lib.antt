@@ -1,0 +1,12 @@
+pub mod Filed
+pub mod Entries
+pub mod Kept
+pub mod Counts
+pub mod Found
+pub mod Linked
+pub mod Views
+pub mod Joined
+pub mod Legs
+pub mod Repeats
+pub mod Meets
+pub mod Paths

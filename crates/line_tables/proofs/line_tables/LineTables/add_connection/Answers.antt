@@ -1,0 +1,30 @@
+use Rattle.std.proofs.Common.{ℕ, ap}
+use Rattle.rail_model.specs.declared.items.Item.TheVariants as item
+use Rattle.rail_model.proofs.Sound.{accepted}
+use Rattle.line_tables.specs.declared.entry.Entry.{Entry}
+use Rattle.line_tables.specs.Inside.{tables_of}
+use Rattle.line_tables.proofs.Linked.{entry}
+use Rattle.line_tables.proofs.Views.{map-with_item}
+use Rattle.line_tables.proofs.Joined.{connection_knows, connection_is_new, connection_put}
+use Rattle.line_tables.proofs.line_tables.LineTables.add_connection.Goals as goal
+
+pub keys_of-requires : goal.keys_of-requires
+keys_of-requires c =
+    let t = c.self.inside in
+    let x = c.args.connection in
+    let none = rw (← c.self.view_is) at c.requires in
+    connection_knows t x (accepted (tables_of t) (item.Connection x) none).known
+
+pub put_entry-requires : goal.put_entry-requires
+put_entry-requires c = connection_is_new c.self.inside c.args.connection (rw (← c.self.view_is) at c.requires)
+
+pub invariant_of-self-2 : goal.invariant_of-self-2
+invariant_of-self-2 c =
+    let done = c.in_ok-put_entry.ensures in
+    rw done.put (connection_put c.self.inside c.in_ok-put_entry.field-0 c.args.connection c.in_ok-refs.refs c.put_entry.new.uses c.self.invariant done.table (rw (← c.self.view_is) at c.requires) c.in_ok-refs.ensures.keys done.counted)
+
+pub returns-clause-after : goal.returns-clause-after
+returns-clause-after c =
+    let t = c.self.inside in
+    rw (← c.self.view_is, c.in_ok-put_entry.ensures.put)
+    (ap (λ l. record (tables_of t) { connections = l }) (map-with_item (λ (e : ℕ × Entry _). e.1.item) (λ x. x.name) t.connections (c.in_ok-put_entry.field-0, entry c.args.connection c.in_ok-refs.refs)))

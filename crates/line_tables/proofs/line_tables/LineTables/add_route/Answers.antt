@@ -1,0 +1,30 @@
+use Rattle.std.proofs.Common.{ℕ, ap}
+use Rattle.rail_model.specs.declared.items.Item.TheVariants as item
+use Rattle.rail_model.proofs.Sound.{accepted}
+use Rattle.line_tables.specs.declared.entry.Entry.{Entry}
+use Rattle.line_tables.specs.Inside.{tables_of}
+use Rattle.line_tables.proofs.Linked.{entry}
+use Rattle.line_tables.proofs.Views.{map-with_item}
+use Rattle.line_tables.proofs.Joined.{route_knows, route_is_new, route_put}
+use Rattle.line_tables.proofs.line_tables.LineTables.add_route.Goals as goal
+
+pub keys_of-requires : goal.keys_of-requires
+keys_of-requires c =
+    let t = c.self.inside in
+    let x = c.args.route in
+    let none = rw (← c.self.view_is) at c.requires in
+    rw c.slice.ensures (route_knows t x (accepted (tables_of t) (item.Route x) none).known)
+
+pub put_entry-requires : goal.put_entry-requires
+put_entry-requires c = route_is_new c.self.inside c.args.route (rw (← c.self.view_is) at c.requires)
+
+pub invariant_of-self-2 : goal.invariant_of-self-2
+invariant_of-self-2 c =
+    let done = c.in_ok-put_entry.ensures in
+    rw done.put (route_put c.self.inside c.in_ok-put_entry.field-0 c.args.route c.in_ok-refs.refs c.put_entry.new.uses c.self.invariant done.table (rw (← c.self.view_is) at c.requires) (rw c.slice.ensures at c.in_ok-refs.ensures.keys) done.counted)
+
+pub returns-clause-after : goal.returns-clause-after
+returns-clause-after c =
+    let t = c.self.inside in
+    rw (← c.self.view_is, c.in_ok-put_entry.ensures.put)
+    (ap (λ l. record (tables_of t) { routes = l }) (map-with_item (λ (e : ℕ × Entry _). e.1.item) (λ x. x.name) t.routes (c.in_ok-put_entry.field-0, entry c.args.route c.in_ok-refs.refs)))

@@ -1,0 +1,14 @@
+use Rattle.std.proofs.Common.{ℕ, ◌∙◌, sym}
+use Rattle.rail_model.specs.declared.items.Block.{Block}
+use Rattle.line_tables.proofs.Views.{is_named-map}
+use Rattle.line_tables.proofs.Joined.{block_used}
+use Rattle.line_tables.proofs.line_tables.LineTables.is_block_used.Goals as goal
+
+pub unwrap-requires : goal.unwrap-requires
+unwrap-requires c =
+    c.key_of.ensures.there ∙ sym (is_named-map (λ (e : ℕ × Block). e.1) (λ x. x.name) c.self.inside.blocks c.args.name.now) ∙ rw (← c.self.view_is) at c.requires
+
+pub returns : goal.returns
+returns c =
+    rw (← c.self.view_is, c.of.ensures)
+    (block_used c.self.inside c.args.name.now c.unwrap.result c.self.invariant c.key_of.ensures.table (sym c.key_of.ensures.key ∙ c.unwrap.ensures))

@@ -1,0 +1,20 @@
+use Rattle.std.proofs.Common.{not, ◌∙◌, ap, sym, refl, eq-eqb}
+use Rattle.std.proofs.lemmas.Bool.{false_from_ne_true, eqb-true}
+use Rattle.rail_model.specs.declared.items.Item.TheVariants as item
+use Rattle.rail_model.specs.Rules.{makes_miscount}
+use Rattle.line_tables.proofs.Legs.{makes_miscount_is}
+use Rattle.line_tables.proofs.line_tables.LineTables.makes_miscount.Goals as goal
+
+pub returns-then-signal_count-len : goal.returns-then-signal_count-len
+returns-then-signal_count-len c =
+    let t = c.args.self.now in
+    let differ = false_from_ne_true _ (λ e. c.if-signal_count-len.true (c.signal_count.ensures.count ∙ eqb-true _ _ e ∙ sym c.len.ensures.count)) in
+    c.is_route_used.ensures
+    ∙ sym (ap (makes_miscount t) c.in-Route.is ∙ makes_miscount_is t c.in-Route.route c.signal_count.ensures.sound ∙ rw differ refl)
+
+pub returns-else-signal_count-len : goal.returns-else-signal_count-len
+returns-else-signal_count-len c =
+    let t = c.args.self.now in
+    let same = eq-eqb _ _ c.if-signal_count-len.false in
+    let alike = eq-eqb _ _ (sym c.signal_count.ensures.count ∙ c.if-signal_count-len.false ∙ c.len.ensures.count) in
+    rw same (sym (ap (makes_miscount t) c.in-Route.is ∙ makes_miscount_is t c.in-Route.route c.signal_count.ensures.sound ∙ rw alike refl))

@@ -1,0 +1,10 @@
+use Rattle.std.proofs.Common.{length, take}
+use Rattle.std.specs.Prelude.{All}
+use Rattle.line_tables.specs.Uses.{SameCounts, HasRoomFor}
+use Rattle.line_tables.proofs.uses.Uses.make_room.Given as goal
+
+abbrev pub invariant-loop-key : goal.invariant-loop-key
+invariant-loop-key l = record {
+  same : SameCounts l.initial.self-inside.counts.items l.self-inside.counts.items;
+  room : All (HasRoomFor l.self-inside.counts.items (length l.keys)) (take l.key-index l.keys);
+}

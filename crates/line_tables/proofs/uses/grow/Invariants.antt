@@ -1,0 +1,12 @@
+use Rattle.std.proofs.Common.{◌+◌, ◌-◌, ◌≤◌, length, vec_len}
+use Rattle.line_tables.specs.Uses.{SameCounts}
+use Rattle.line_tables.proofs.uses.grow.Given as goal
+
+abbrev pub invariant-loop-counts : goal.invariant-loop-counts
+invariant-loop-counts l = record {
+  same : SameCounts l.fn.counts.items l.counts.items;
+  longer : length l.fn.counts.items ≤ length l.counts.items;
+}
+
+abbrev pub decreases-loop-counts : goal.decreases-loop-counts
+decreases-loop-counts l = l.key + 1 - vec_len l.counts

@@ -1,0 +1,58 @@
+-- How the tables of a line fit together.
+use Rattle.std.specs.Prelude.{◌≡◌, ℕ, ◌+◌, List, [], ◌∷◌, map}
+use Rattle.rail_model.specs.declared.items.Signal.{Signal}
+use Rattle.rail_model.specs.declared.items.Route.{Route}
+use Rattle.rail_model.specs.declared.items.Run.{Run}
+use Rattle.rail_model.specs.declared.items.Section.{Section}
+use Rattle.rail_model.specs.declared.items.Connection.{Connection}
+use Rattle.rail_model.specs.declared.tables.Tables.{Tables}
+use Rattle.rail_model.specs.Sound.{IsSound}
+use Rattle.line_tables.specs.declared.entry.Entry.{Entry}
+use Rattle.line_tables.specs.declared.line_tables.LineTables.TheInside.{Inside}
+use Rattle.line_tables.specs.Uses.{count_of}
+use Rattle.line_tables.specs.Links.{IsLinked, references}
+
+-- the items alone
+abbrev pub items_of : {A : Type 0} → List (ℕ × Entry A) → List A
+items_of entries = map (λ e. e.1.item) entries
+
+-- what contracts see of them
+abbrev pub tables_of : Inside → Tables
+tables_of t = record {
+  blocks = map (λ e. e.1) t.blocks;
+  signals = items_of t.signals;
+  routes = items_of t.routes;
+  runs = items_of t.runs;
+  sections = items_of t.sections;
+  connections = items_of t.connections;
+}
+
+-- the names of what an item refers to
+abbrev pub names_of_signal : Signal → List (List ℕ)
+names_of_signal s = s.block ∷ []
+
+abbrev pub names_of_route : Route → List (List ℕ)
+names_of_route r = r.signals
+
+abbrev pub names_of_run : Run → List (List ℕ)
+names_of_run r = r.route ∷ []
+
+abbrev pub names_of_section : Section → List (List ℕ)
+names_of_section s = s.blocks
+
+abbrev pub names_of_connection : Connection → List (List ℕ)
+names_of_connection c = c.first ∷ c.second ∷ []
+
+-- the tables are sound, each reference is the key of what the item names, and each item is counted as often as others
+-- refer to it
+pub record IsJoined (t : Inside) : Type 0 where
+  pub sound : IsSound (tables_of t)
+  pub signals : IsLinked names_of_signal (λ b. b.name) t.signals t.blocks
+  pub routes : IsLinked names_of_route (λ e. e.item.name) t.routes t.signals
+  pub runs : IsLinked names_of_run (λ e. e.item.name) t.runs t.routes
+  pub sections : IsLinked names_of_section (λ b. b.name) t.sections t.blocks
+  pub connections : IsLinked names_of_connection (λ e. e.item.name) t.connections t.runs
+  pub block_uses : (k : ℕ) → count_of t.block_uses k ≡ references t.signals k + references t.sections k
+  pub signal_uses : (k : ℕ) → count_of t.signal_uses k ≡ references t.routes k
+  pub route_uses : (k : ℕ) → count_of t.route_uses k ≡ references t.runs k
+  pub run_uses : (k : ℕ) → count_of t.run_uses k ≡ references t.connections k

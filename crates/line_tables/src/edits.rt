@@ -1,0 +1,91 @@
+//! Edits of the tables.
+ghost use Rattle.std.specs.Prelude.{◌≡◌, Some, None, OnOk, OnErr, IfOk, IfErr};
+ghost use Rattle.rail_model.specs.declared.edit.Edit.TheVariants as edits;
+ghost use Rattle.rail_model.specs.Rules.{rule_of, rule_of_put, rule_of_change, rule_of_drop};
+ghost use Rattle.rail_model.specs.Edits.{after, after_put, after_change, after_drop};
+
+use crate::LineTables;
+use rail_model::{Edit, Item, Kind, Name, OutOfMemory, Rule};
+
+impl LineTables {
+    /// Makes an edit, or says which rule refuses it: the first that does, in the order of `rule_of`. The
+    /// tables stay as they were where a rule refuses the edit or memory runs out.
+    pub fn apply(&mut self, edit: &Edit) -> Result<Result<(), Rule>, OutOfMemory>
+        ensures refused { IfOk result
+            (λ answer. IfErr answer (λ rule. rule_of self.old edit.now ≡ Some rule)) }
+        ensures accepted { IfOk result (λ answer. OnOk answer (rule_of self.old edit.now ≡ None)) }
+        ensures after { IfOk result (λ answer. OnOk answer (self.new ≡ after self.old edit.now)) }
+        ensures kept { IfOk result (λ answer. OnErr answer (self.new ≡ self.old)) }
+        ensures kept_without_memory { OnErr result (self.new ≡ self.old) }
+    {
+        if let Some(rule) = self.rule_of(edit)? {
+            return Ok(Err(rule));
+        }
+        let own = edit.copy(self.alloc)?;
+        self.make(own)?;
+        Ok(Ok(()))
+    }
+
+    // Makes an edit that no rule refuses.
+    fn make(&mut self, edit: Edit) -> Result<(), OutOfMemory>
+        requires { rule_of self.old edit ≡ None }
+        ensures after { OnOk result (self.new ≡ after self.old edit) }
+        ensures kept { OnErr result (self.new ≡ self.old) }
+    {
+        match edit {
+            Edit::Put(item) => self.add(item),
+            Edit::Change(item) => self.replace(item),
+            Edit::Drop(kind, name) => {
+                self.remove(kind, &name);
+                Ok(())
+            }
+        }
+    }
+
+    fn add(&mut self, item: Item) -> Result<(), OutOfMemory>
+        requires { rule_of_put self.old item ≡ None }
+        ensures after { OnOk result (self.new ≡ after_put self.old item) }
+        ensures kept { OnErr result (self.new ≡ self.old) }
+    {
+        match item {
+            Item::Block(block) => self.add_block(block),
+            Item::Signal(signal) => self.add_signal(signal),
+            Item::Route(route) => self.add_route(route),
+            Item::Run(run) => self.add_run(run),
+            Item::Section(section) => self.add_section(section),
+            Item::Connection(connection) => self.add_connection(connection),
+        }
+    }
+
+    fn replace(&mut self, item: Item) -> Result<(), OutOfMemory>
+        requires { rule_of_change self.old item ≡ None }
+        ensures after { OnOk result (self.new ≡ after_change self.old item) }
+        ensures kept { OnErr result (self.new ≡ self.old) }
+    {
+        match item {
+            Item::Block(block) => {
+                self.replace_block(block);
+                Ok(())
+            }
+            Item::Signal(signal) => self.replace_signal(signal),
+            Item::Route(route) => self.replace_route(route),
+            Item::Run(run) => self.replace_run(run),
+            Item::Section(section) => self.replace_section(section),
+            Item::Connection(connection) => self.replace_connection(connection),
+        }
+    }
+
+    fn remove(&mut self, kind: Kind, name: &Name)
+        requires { rule_of_drop self.old kind name.now ≡ None }
+        ensures { self.new ≡ after_drop self.old kind name.now }
+    {
+        match kind {
+            Kind::Block => self.remove_block(name),
+            Kind::Signal => self.remove_signal(name),
+            Kind::Route => self.remove_route(name),
+            Kind::Run => self.remove_run(name),
+            Kind::Section => self.remove_section(name),
+            Kind::Connection => self.remove_connection(name),
+        }
+    }
+}

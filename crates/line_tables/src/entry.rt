@@ -1,0 +1,161 @@
+//! Items with the keys of what they refer to, found once when an item is put or changed.
+ghost use Rattle.std.specs.Prelude.{◌≡◌, ◌≤◌, ◌+◌, ℕ, true, false, map, Some, IfOk, OnOk, OnErr};
+ghost use Rattle.std.specs.Option.{option_map};
+ghost use Rattle.std.specs.List.{list_all};
+ghost use Rattle.rail_model.specs.Rules.{is_named};
+ghost use Rattle.rail_model.specs.Edits.{with_item, without};
+ghost use Rattle.line_tables.specs.Table as tables;
+ghost use Rattle.line_tables.specs.Uses.{count_of, times, SameCounts};
+ghost use Rattle.line_tables.specs.declared.entry.Entry.{Entry};
+
+use crate::named_table::{NamedTable, Stored};
+use crate::uses::Uses;
+use rail_model::{
+    Block, Connection, List, Name, Named, OutOfMemory, Route, Run, Section, Signal,
+};
+use std::alloc::Global;
+
+/// An item, and the keys of the items that it names, in its order.
+#[derive(Clone, Drop)]
+pub(crate) struct Entry<T> {
+    pub(crate) item: T,
+    pub(crate) refs: List<usize>,
+}
+
+impl<T: Named> Named for Entry<T> {
+    ghost label = { λ e. T.label e.item };
+
+    fn name(&self) -> &Name {
+        self.item.name()
+    }
+}
+
+impl Stored for Block {
+    ghost copies = { λ a b h. h };
+}
+
+impl Stored for Signal {
+    ghost copies = { λ a b h. h };
+}
+
+impl Stored for Route {
+    ghost copies = { λ a b h. λ j. record { name = h.0 j; signals = h.1 j } };
+}
+
+impl Stored for Run {
+    ghost copies = { λ a b h. λ j. record {
+        name = h.0 j;
+        route = h.1.0 j;
+        length_m = h.1.1.0 j;
+        tail_s = h.1.1.1.0 j;
+        start_s = h.1.1.1.1.0 j;
+        legs = h.1.1.1.1.1 j;
+    } };
+}
+
+impl Stored for Section {
+    ghost copies = { λ a b h. λ j. record {
+        name = h.0 j;
+        from_s = h.1.0 j;
+        to_s = h.1.1.0 j;
+        add_percent = h.1.1.1.0 j;
+        blocks = h.1.1.1.1 j;
+    } };
+}
+
+impl Stored for Connection {
+    ghost copies = { λ a b h. h };
+}
+
+impl<T: Stored> Stored for Entry<T> {
+    ghost copies = { λ a b h. λ j. record { item = T.copies a.item b.item h.0 j; refs = h.1 j } };
+}
+
+/// The keys of the items of these names, in their order.
+pub(crate) fn keys_of<T: Stored>(
+    alloc: Global,
+    table: &NamedTable<T>,
+    names: &[Name],
+) -> Result<List<usize>, OutOfMemory>
+    requires { list_all (is_named (tables.named T.label) table.now) names.now ≡ true }
+    ensures keys { IfOk result
+        (λ keys. map (tables.key_of T.label table.now) names.now ≡ map Some keys) }
+    ensures table { tables.IsTable T.label table.now }
+{
+    let _count = table.len();
+    let mut keys = List::new(alloc);
+    for name in names {
+        keys.push(table.key_of(name).unwrap())?;
+    }
+    Ok(keys)
+}
+
+/// Puts an item of a new name in, and counts the keys that it refers to. Without memory all stays.
+pub(crate) fn put_entry<T: Stored>(
+    table: &mut NamedTable<Entry<T>>,
+    uses: &mut Uses,
+    item: T,
+    refs: List<usize>,
+) -> Result<usize, OutOfMemory>
+    requires { is_named (λ e. T.label e.1.item) table.old (T.label item) ≡ false }
+    ensures put { IfOk result (λ key. table.new
+        ≡ with_item (λ e. T.label e.1.item) table.old (key, record { item = item; refs = refs })) }
+    ensures counted { OnOk result
+        ((k : ℕ) → count_of uses.new k ≡ count_of uses.old k + times k refs) }
+    ensures kept { OnErr result (table.new ≡ table.old) }
+    ensures kept_counts { OnErr result (SameCounts uses.old uses.new) }
+    ensures table { OnOk result (tables.IsTable (λ e. T.label e.item) table.old) }
+{
+    uses.make_room(refs.slice())?;
+    let key = table.put(Entry { item, refs })?;
+    uses.add(table.get(key).refs.slice());
+    Ok(key)
+}
+
+/// Puts an item in the place of the one under a key, and counts what it refers to in place of what that
+/// one does. Without memory all stays.
+pub(crate) fn change_entry<T: Stored>(
+    table: &mut NamedTable<Entry<T>>,
+    uses: &mut Uses,
+    key: usize,
+    item: T,
+    refs: List<usize>,
+) -> Result<(), OutOfMemory>
+    requires same_name { option_map (λ e. T.label e.item) (tables.under table.old key)
+        ≡ Some (T.label item) }
+    requires counted_before { (e : Entry T) (k : ℕ) → tables.under table.old key ≡ Some e
+        → times k e.refs ≤ count_of uses.old k }
+    ensures changed { OnOk result
+        (table.new ≡ tables.with_change table.old key (record { item = item; refs = refs })) }
+    ensures counted { OnOk result ((e : Entry T) (k : ℕ) → tables.under table.old key ≡ Some e
+        → count_of uses.new k + times k e.refs ≡ count_of uses.old k + times k refs) }
+    ensures kept { OnErr result (table.new ≡ table.old) }
+    ensures kept_counts { OnErr result (SameCounts uses.old uses.new) }
+    ensures table { OnOk result (tables.IsTable (λ e. T.label e.item) table.old) }
+{
+    uses.make_room(refs.slice())?;
+    uses.add(refs.slice());
+    let old = table.change(key, Entry { item, refs });
+    uses.remove(old.refs.slice());
+    Ok(())
+}
+
+/// Takes the item of a name out, and what it refers to out of the counts.
+pub(crate) fn take_entry<T: Stored>(
+    table: &mut NamedTable<Entry<T>>,
+    uses: &mut Uses,
+    name: &Name,
+)
+    requires there { is_named (λ e. T.label e.1.item) table.old name.now ≡ true }
+    requires counted_before { (e : Entry T) (k : ℕ)
+        → tables.item_of (λ e. T.label e.item) table.old name.now ≡ Some e
+        → times k e.refs ≤ count_of uses.old k }
+    ensures rest { table.new ≡ without (λ e. T.label e.1.item) table.old name.now }
+    ensures counted { (e : Entry T) (k : ℕ)
+        → tables.item_of (λ e. T.label e.item) table.old name.now ≡ Some e
+        → count_of uses.new k + times k e.refs ≡ count_of uses.old k }
+    ensures table { tables.IsTable (λ e. T.label e.item) table.old }
+{
+    let old = table.take(name);
+    uses.remove(old.refs.slice());
+}

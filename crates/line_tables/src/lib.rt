@@ -1,0 +1,15 @@
+//! A line's tables, which take edits: items by name, with what each refers to found once.
+#![tactic(auto)]
+
+mod add;
+mod edits;
+mod entry;
+mod key_set;
+mod line_tables;
+mod named_table;
+mod path;
+mod remove;
+mod replace;
+mod rules;
+mod uses;
+pub use line_tables::LineTables;

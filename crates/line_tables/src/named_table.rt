@@ -1,0 +1,201 @@
+//! A table of named items. An item stands under a key that stays its own until it is taken out, so what
+//! refers to it by its key needs no change while others come and go.
+ghost use Rattle.std.specs.Prelude.{◌≡◌, ◌<◌, false, true, length, map, take, drop, All, slice_get, slice_index_or, is_some, IfSome, IsSome, IfOk, OnOk, OnErr, IfErr, Some, None, MatchResult, []};
+ghost use Rattle.std.specs.Option.{option_map};
+ghost use Rattle.slab.specs.Slab.{Slab as Slots, get as slot};
+ghost use Rattle.rail_model.specs.Name.{IsBefore, NamesRise};
+ghost use Rattle.rail_model.specs.Rules.{is_named};
+ghost use Rattle.rail_model.specs.Edits.{with_item, without};
+ghost use Rattle.rail_model.specs.Tables.{number_of};
+ghost use Rattle.line_tables.specs.Table as tables;
+ghost use Rattle.line_tables.specs.Table.{IsPlaceOf, IsPlaceFor};
+
+use indexmap::IndexMap;
+use rail_model::{Name, Named, OutOfMemory};
+use slab::Slab;
+use std::alloc::Global;
+use std::marker::Model;
+use std::mem;
+
+/// What a table holds: a copy of it equals it.
+pub(crate) trait Stored: Named + Clone {
+    ghost copies: { (a b : Self) → Self.is_clone a b → b ≡ a };
+}
+
+/// Items of one kind, seen as the list of (key, item) in the order of names.
+#[derive(Drop)]
+pub(crate) struct NamedTable<T: Stored> {
+    // The key of each name.
+    by_name: IndexMap<Name, usize>,
+    // The item under each key.
+    slots: Slab<T>,
+    // The keys in the order of their items' names.
+    order: Vec<usize>,
+}
+
+impl<T: Stored> Model for NamedTable<T> {
+    ghost use Rattle.std.specs.Prelude.{ℕ, List, nat_eq};
+    ghost use Rattle.std.specs.Coded.{coded_list, coded×, coded_ℕ};
+    ghost use Rattle.std.specs.Cmp.Lexicographic.{pointwise};
+    ghost use Rattle.slab.specs.Slab.{get as slot};
+    ghost use Rattle.indexmap.specs.IndexMap.{get};
+    ghost use Rattle.line_tables.specs.Table.{filed, IsKept};
+
+    ghost Value = { List (ℕ × T) };
+
+    ghost coded = { coded_list (coded× coded_ℕ T.code) };
+
+    ghost view = { λ t. filed (slot t.slots) t.order.items };
+
+    ghost invariant = { λ t. IsKept T.label (slot t.slots) t.order.items (get (pointwise nat_eq) t.by_name) };
+}
+
+impl<T: Stored> NamedTable<T> {
+    /// A table without items, which asks for no memory.
+    pub(crate) fn new(alloc: Global) -> Self
+        ensures { result ≡ [] }
+    {
+        NamedTable {
+            by_name: IndexMap::new(alloc),
+            slots: Slab::new(alloc),
+            order: Vec::new(alloc),
+        }
+    }
+
+    /// How many items there are.
+    pub(crate) fn len(&self) -> usize
+        ensures count { result ≡ length self.now }
+        ensures table { tables.IsTable T.label self.now }
+    {
+        self.order.len()
+    }
+
+    /// The key of the item of a name, if there is one.
+    pub(crate) fn key_of(&self, name: &Name) -> Option<usize>
+        ensures key { result ≡ tables.key_of T.label self.now name.now }
+        ensures there { is_some result ≡ is_named (tables.named T.label) self.now name.now }
+        ensures table { tables.IsTable T.label self.now }
+    {
+        self.by_name.get(name).copied()
+    }
+
+    /// The item under a key.
+    pub(crate) fn get(&self, key: usize) -> &T
+        requires { IsSome (tables.under self.now key) }
+        ensures item { tables.under self.now key ≡ Some result.now }
+        ensures table { tables.IsTable T.label self.now }
+    {
+        &self.slots[key]
+    }
+
+    /// The number of the item of a name, if there is one.
+    pub(crate) fn number_of(&self, name: &Name) -> Option<usize>
+        ensures there { is_some result ≡ is_named (tables.named T.label) self.now name.now }
+        ensures number { IfSome result (λ i. i ≡ number_of (tables.named T.label) self.now name.now) }
+        ensures in_range { IfSome result (λ i. i < length self.now) }
+    {
+        place_of(&self.order, &self.slots, name).ok()
+    }
+
+    /// The item of a number.
+    pub(crate) fn nth(&self, number: usize) -> &T
+        requires { number < length self.now }
+        ensures item { option_map (λ e. e.1) (slice_get self.now number) ≡ Some result.now }
+        ensures table { tables.IsTable T.label self.now }
+    {
+        &self.slots[self.order[number]]
+    }
+
+    /// Puts an item of a new name in, and gives its key. Without memory the table stays as it was.
+    pub(crate) fn put(&mut self, item: T) -> Result<usize, OutOfMemory>
+        requires { is_named (tables.named T.label) self.old (T.label item) ≡ false }
+        ensures put { IfOk result
+            (λ key. self.new ≡ with_item (tables.named T.label) self.old (key, item)) }
+        ensures fresh { IfOk result (λ key. tables.under self.old key ≡ None) }
+        ensures there { IfOk result (λ key. tables.under self.new key ≡ Some item) }
+        ensures table { OnOk result (tables.IsTable T.label self.old) }
+        ensures kept { OnErr result (self.new ≡ self.old) }
+    {
+        let place = place_for(&self.order, &self.slots, item.name());
+        self.slots.reserve(1)?;
+        self.order.reserve(1)?;
+        let key = self.slots.vacant_key();
+        self.by_name.insert(*item.name(), key)?;
+        self.slots.insert_reserved(item);
+        self.order.insert(place, key).unwrap();
+        Ok(key)
+    }
+
+    /// Takes the item of a name out.
+    pub(crate) fn take(&mut self, name: &Name) -> T
+        requires { is_named (tables.named T.label) self.old name.now ≡ true }
+        ensures item { tables.item_of T.label self.old name.now ≡ Some result }
+        ensures rest { self.new ≡ without (tables.named T.label) self.old name.now }
+        ensures table { tables.IsTable T.label self.old }
+    {
+        let place = place_at(&self.order, &self.slots, name);
+        self.by_name.swap_remove(name);
+        let key = self.order.remove(place);
+        self.slots.remove(key)
+    }
+
+    /// Puts an item in the place of the one under a key, which has the same name, and gives that one.
+    pub(crate) fn change(&mut self, key: usize, item: T) -> T
+        requires { option_map T.label (tables.under self.old key) ≡ Some (T.label item) }
+        ensures old { tables.under self.old key ≡ Some result }
+        ensures changed { self.new ≡ tables.with_change self.old key item }
+        ensures table { tables.IsTable T.label self.old }
+    {
+        mem::replace(&mut self.slots[key], item)
+    }
+
+    /// A table of the same items under the same keys.
+    pub(crate) fn copy(&self) -> Result<Self, OutOfMemory>
+        ensures { IfOk result (λ other. other ≡ self.now) }
+    {
+        Ok(NamedTable {
+            by_name: self.by_name.clone()?,
+            slots: self.slots.clone()?,
+            order: self.order.clone()?,
+        })
+    }
+}
+
+// The bytes of the name of the item under a key: none where there is no item.
+fn name_at<T: Stored>(slots: &Slab<T>, key: usize) -> &[u8]
+    ensures { result.now ≡ tables.name_at T.label (slot slots.now) key }
+{
+    match slots.get(key) {
+        Some(item) => item.name().bytes(),
+        None => &[],
+    }
+}
+
+// The place of the key of the item of a name in the order, or the place at which such a key is to be put in.
+fn place_of<T: Stored>(order: &[usize], slots: &Slab<T>, name: &Name) -> Result<usize, usize>
+    requires stored { All (λ k. IsSome (slot slots.now k)) order.now }
+    requires rise { NamesRise (tables.named T.label) (tables.filed (slot slots.now) order.now) }
+    ensures { MatchResult result
+        (IsPlaceOf T.label (slot slots.now) order.now name.now)
+        (IsPlaceFor T.label (slot slots.now) order.now name.now) }
+{
+    order.binary_search_by(|key| name_at(slots, *key).cmp(name.bytes()))
+}
+
+fn place_at<T: Stored>(order: &[usize], slots: &Slab<T>, name: &Name) -> usize
+    requires stored { All (λ k. IsSome (slot slots.now k)) order.now }
+    requires rise { NamesRise (tables.named T.label) (tables.filed (slot slots.now) order.now) }
+    requires there { is_named (tables.named T.label) (tables.filed (slot slots.now) order.now) name.now ≡ true }
+    ensures { IsPlaceOf T.label (slot slots.now) order.now name.now result }
+{
+    place_of(order, slots, name).unwrap()
+}
+
+fn place_for<T: Stored>(order: &[usize], slots: &Slab<T>, name: &Name) -> usize
+    requires stored { All (λ k. IsSome (slot slots.now k)) order.now }
+    requires rise { NamesRise (tables.named T.label) (tables.filed (slot slots.now) order.now) }
+    requires new { is_named (tables.named T.label) (tables.filed (slot slots.now) order.now) name.now ≡ false }
+    ensures { IsPlaceFor T.label (slot slots.now) order.now name.now result }
+{
+    place_of(order, slots, name).unwrap_err()
+}

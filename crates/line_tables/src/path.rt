@@ -1,0 +1,95 @@
+//! The path of a run: its route's signals and their blocks, by the keys that were found once.
+//!
+//! What a signal and its block say of a hop is the same for every run over a route, so `route_hops` makes it
+//! once for each route, and `run_path` adds the times of a run's legs.
+ghost use Rattle.std.specs.Prelude.{◌≡◌, ◌≤◌, ◌<◌, IfOk, length, map, All};
+ghost use Rattle.rail_model.specs.Path.{Fits};
+ghost use Rattle.rail_model.specs.Tables.{path_in};
+ghost use Rattle.line_tables.specs.Table as tables;
+ghost use Rattle.line_tables.specs.Links.{IsKey, IsLinked};
+ghost use Rattle.line_tables.specs.Inside.{names_of_signal};
+ghost use Rattle.line_tables.specs.Hops as hops_in;
+ghost use Rattle.line_tables.specs.Hops.{run_at};
+
+use crate::LineTables;
+use crate::entry::Entry;
+use crate::named_table::NamedTable;
+use rail_model::{BLOCKS, Block, Hop, Leg, List, OutOfMemory, Path, Run, Signal};
+use std::alloc::Global;
+
+// The hop beyond the signal under a key, before any run has timed it.
+fn untimed_hop(
+    blocks: &NamedTable<Block>,
+    signals: &NamedTable<Entry<Signal>>,
+    key: usize,
+) -> Hop
+    requires there { IsKey signals.now key }
+    requires linked { IsLinked names_of_signal (λ b. b.name) signals.now blocks.now }
+    requires few { length blocks.now ≤ BLOCKS }
+    ensures { result ≡ hops_in.hop_of blocks.now signals.now key }
+{
+    let entry = signals.get(key);
+    let signal = &entry.item;
+    let block = blocks.get(entry.refs.slice()[0]);
+    let number = blocks.number_of(&block.name).unwrap();
+    Hop {
+        block: number as u32,
+        block_m: block.length_m,
+        approach_m: signal.approach_m,
+        watch_s: signal.watch_s,
+        form_s: signal.form_s,
+        overlap_m: signal.overlap_m,
+        release_s: signal.release_s,
+        running_s: 0,
+        dwell_s: 0,
+    }
+}
+
+// The hops beyond the signals under these keys, in their order.
+fn untimed_hops(
+    alloc: Global,
+    blocks: &NamedTable<Block>,
+    signals: &NamedTable<Entry<Signal>>,
+    keys: &[usize],
+) -> Result<List<Hop>, OutOfMemory>
+    requires there { All (IsKey signals.now) keys.now }
+    requires linked { IsLinked names_of_signal (λ b. b.name) signals.now blocks.now }
+    requires few { length blocks.now ≤ BLOCKS }
+    ensures { IfOk result (λ hops. hops ≡ map (hops_in.hop_of blocks.now signals.now) keys.now) }
+{
+    let mut hops = List::new(alloc);
+    for key in keys {
+        hops.push(untimed_hop(blocks, signals, *key))?;
+    }
+    Ok(hops)
+}
+
+// The hops with the times of these legs, in their order.
+fn timed_hops(alloc: Global, hops: &[Hop], legs: &[Leg]) -> Result<List<Hop>, OutOfMemory>
+    ensures { IfOk result (λ timed. timed ≡ hops_in.with_legs hops.now legs.now) }
+{
+    let mut timed = List::new(alloc);
+    for (hop, leg) in hops.iter().zip(legs) {
+        let hop_with_leg = Hop {
+            running_s: leg.running_s,
+            dwell_s: leg.dwell_s,
+            ..*hop
+        };
+        timed.push(hop_with_leg)?;
+    }
+    Ok(timed)
+}
+
+// The path of a run over the hops of its route.
+fn path_over(alloc: Global, run: &Run, hops: &[Hop]) -> Result<Path, OutOfMemory>
+    ensures { IfOk result (λ path. path ≡ hops_in.path_over run.now hops.now) }
+{
+    let timed = timed_hops(alloc, hops, run.legs.slice())?;
+    Ok(Path {
+        run: run.name,
+        length_m: run.length_m,
+        tail_s: run.tail_s,
+        start_s: run.start_s,
+        hops: timed,
+    })
+}

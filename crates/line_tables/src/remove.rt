@@ -1,0 +1,53 @@
+//! Taking the item of a kind and a name out of the tables. No rule refuses it.
+ghost use Rattle.std.specs.Prelude.{◌≡◌, None};
+ghost use Rattle.rail_model.specs.declared.edit.Kind.TheVariants as kind;
+ghost use Rattle.rail_model.specs.Rules.{rule_of_drop};
+ghost use Rattle.rail_model.specs.Edits.{after_drop};
+
+use crate::LineTables;
+use crate::entry::take_entry;
+use rail_model::Name;
+
+impl LineTables {
+    pub(crate) fn remove_block(&mut self, name: &Name)
+        requires { rule_of_drop self.old kind.Block name.now ≡ None }
+        ensures { self.new ≡ after_drop self.old kind.Block name.now }
+    {
+        self.blocks.take(name);
+    }
+
+    pub(crate) fn remove_signal(&mut self, name: &Name)
+        requires { rule_of_drop self.old kind.Signal name.now ≡ None }
+        ensures { self.new ≡ after_drop self.old kind.Signal name.now }
+    {
+        take_entry(&mut self.signals, &mut self.block_uses, name);
+    }
+
+    pub(crate) fn remove_route(&mut self, name: &Name)
+        requires { rule_of_drop self.old kind.Route name.now ≡ None }
+        ensures { self.new ≡ after_drop self.old kind.Route name.now }
+    {
+        take_entry(&mut self.routes, &mut self.signal_uses, name);
+    }
+
+    pub(crate) fn remove_run(&mut self, name: &Name)
+        requires { rule_of_drop self.old kind.Run name.now ≡ None }
+        ensures { self.new ≡ after_drop self.old kind.Run name.now }
+    {
+        take_entry(&mut self.runs, &mut self.route_uses, name);
+    }
+
+    pub(crate) fn remove_section(&mut self, name: &Name)
+        requires { rule_of_drop self.old kind.Section name.now ≡ None }
+        ensures { self.new ≡ after_drop self.old kind.Section name.now }
+    {
+        take_entry(&mut self.sections, &mut self.block_uses, name);
+    }
+
+    pub(crate) fn remove_connection(&mut self, name: &Name)
+        requires { rule_of_drop self.old kind.Connection name.now ≡ None }
+        ensures { self.new ≡ after_drop self.old kind.Connection name.now }
+    {
+        take_entry(&mut self.connections, &mut self.run_uses, name);
+    }
+}

@@ -1,0 +1,75 @@
+//! Putting an item in the place of the one of its name. No rule refuses it, and without memory the tables
+//! stay as they were.
+ghost use Rattle.std.specs.Prelude.{◌≡◌, None, OnOk, OnErr};
+ghost use Rattle.rail_model.specs.declared.items.Item.TheVariants as item;
+ghost use Rattle.rail_model.specs.Rules.{rule_of_change};
+ghost use Rattle.rail_model.specs.Edits.{after_change};
+
+use crate::LineTables;
+use crate::entry::{change_entry, keys_of};
+use rail_model::{Block, Connection, OutOfMemory, Route, Run, Section, Signal};
+
+impl LineTables {
+    pub(crate) fn replace_block(&mut self, block: Block)
+        requires { rule_of_change self.old (item.Block block) ≡ None }
+        ensures { self.new ≡ after_change self.old (item.Block block) }
+    {
+        let key = self.blocks.key_of(&block.name).unwrap();
+        self.blocks.change(key, block);
+    }
+
+    pub(crate) fn replace_signal(&mut self, signal: Signal) -> Result<(), OutOfMemory>
+        requires { rule_of_change self.old (item.Signal signal) ≡ None }
+        ensures after { OnOk result (self.new ≡ after_change self.old (item.Signal signal)) }
+        ensures kept { OnErr result (self.new ≡ self.old) }
+    {
+        let refs = keys_of(self.alloc, &self.blocks, &[signal.block])?;
+        let key = self.signals.key_of(&signal.name).unwrap();
+        change_entry(&mut self.signals, &mut self.block_uses, key, signal, refs)?;
+        Ok(())
+    }
+
+    pub(crate) fn replace_route(&mut self, route: Route) -> Result<(), OutOfMemory>
+        requires { rule_of_change self.old (item.Route route) ≡ None }
+        ensures after { OnOk result (self.new ≡ after_change self.old (item.Route route)) }
+        ensures kept { OnErr result (self.new ≡ self.old) }
+    {
+        let refs = keys_of(self.alloc, &self.signals, route.signals.slice())?;
+        let key = self.routes.key_of(&route.name).unwrap();
+        change_entry(&mut self.routes, &mut self.signal_uses, key, route, refs)?;
+        Ok(())
+    }
+
+    pub(crate) fn replace_run(&mut self, run: Run) -> Result<(), OutOfMemory>
+        requires { rule_of_change self.old (item.Run run) ≡ None }
+        ensures after { OnOk result (self.new ≡ after_change self.old (item.Run run)) }
+        ensures kept { OnErr result (self.new ≡ self.old) }
+    {
+        let refs = keys_of(self.alloc, &self.routes, &[run.route])?;
+        let key = self.runs.key_of(&run.name).unwrap();
+        change_entry(&mut self.runs, &mut self.route_uses, key, run, refs)?;
+        Ok(())
+    }
+
+    pub(crate) fn replace_section(&mut self, section: Section) -> Result<(), OutOfMemory>
+        requires { rule_of_change self.old (item.Section section) ≡ None }
+        ensures after { OnOk result (self.new ≡ after_change self.old (item.Section section)) }
+        ensures kept { OnErr result (self.new ≡ self.old) }
+    {
+        let refs = keys_of(self.alloc, &self.blocks, section.blocks.slice())?;
+        let key = self.sections.key_of(&section.name).unwrap();
+        change_entry(&mut self.sections, &mut self.block_uses, key, section, refs)?;
+        Ok(())
+    }
+
+    pub(crate) fn replace_connection(&mut self, connection: Connection) -> Result<(), OutOfMemory>
+        requires { rule_of_change self.old (item.Connection connection) ≡ None }
+        ensures after { OnOk result (self.new ≡ after_change self.old (item.Connection connection)) }
+        ensures kept { OnErr result (self.new ≡ self.old) }
+    {
+        let refs = keys_of(self.alloc, &self.runs, &[connection.first, connection.second])?;
+        let key = self.connections.key_of(&connection.name).unwrap();
+        change_entry(&mut self.connections, &mut self.run_uses, key, connection, refs)?;
+        Ok(())
+    }
+}

@@ -1,0 +1,418 @@
+//! Which rule refuses an edit.
+ghost use Rattle.std.specs.Prelude.{◌≡◌, ℕ, ◌<◌, ◌==◌, ◌&&◌, true, false, not, map, length, All, Some, None, IfOk, is_some};
+ghost use Rattle.std.specs.List.{list_all, list_any};
+ghost use Rattle.rail_model.specs.declared.items.Item.TheVariants as item;
+ghost use Rattle.rail_model.specs.declared.edit.Kind.TheVariants as kind;
+ghost use Rattle.rail_model.specs.Tables.{route_named};
+ghost use Rattle.rail_model.specs.Rules as rules;
+ghost use Rattle.rail_model.specs.Name.{has_repeat};
+ghost use Rattle.rail_model.specs.Sound.{IsSound};
+ghost use Rattle.line_tables.specs.Links.{block_of, lists_key, meets, IsKey};
+
+use crate::LineTables;
+use crate::entry::{Entry, keys_of};
+use crate::key_set::repeats;
+use crate::named_table::NamedTable;
+use rail_model::{
+    BLOCKS, CONNECTIONS, Connection, Edit, Item, Kind, Name, OutOfMemory, ROUTES, RUNS, Route, Rule, Run, SECTIONS,
+    SIGNALS, Section, Signal, is_within, List,
+};
+use std::alloc::Global;
+
+impl LineTables {
+    /// The first rule that refuses an edit, if one does.
+    pub(crate) fn rule_of(&self, edit: &Edit) -> Result<Option<Rule>, OutOfMemory>
+        ensures { IfOk result (λ rule. rule ≡ rules.rule_of self.now edit.now) }
+    {
+        match edit {
+            Edit::Put(item) => self.rule_of_put(item),
+            Edit::Change(item) => self.rule_of_change(item),
+            Edit::Drop(kind, name) => Ok(self.rule_of_drop(*kind, name)),
+        }
+    }
+
+    fn rule_of_put(&self, item: &Item) -> Result<Option<Rule>, OutOfMemory>
+        ensures { IfOk result (λ rule. rule ≡ rules.rule_of_put self.now item.now) }
+    {
+        if !is_within(item) {
+            return Ok(Some(Rule::Range));
+        }
+        if self.is_taken(item) {
+            return Ok(Some(Rule::Twice));
+        }
+        if self.is_full(item) {
+            return Ok(Some(Rule::Limit));
+        }
+        if !self.refers_to_known(item) {
+            return Ok(Some(Rule::Unknown));
+        }
+        if self.repeats(item)? {
+            return Ok(Some(Rule::Twice));
+        }
+        if self.miscounts_legs(item) {
+            return Ok(Some(Rule::Count));
+        }
+        Ok(None)
+    }
+
+    fn rule_of_change(&self, item: &Item) -> Result<Option<Rule>, OutOfMemory>
+        ensures { IfOk result (λ rule. rule ≡ rules.rule_of_change self.now item.now) }
+    {
+        if !is_within(item) {
+            return Ok(Some(Rule::Range));
+        }
+        if !self.is_there(item) || !self.refers_to_known(item) {
+            return Ok(Some(Rule::Unknown));
+        }
+        if self.repeats(item)? || self.makes_repeat(item) {
+            return Ok(Some(Rule::Twice));
+        }
+        if self.miscounts_legs(item) || self.makes_miscount(item) {
+            return Ok(Some(Rule::Count));
+        }
+        Ok(None)
+    }
+
+    fn rule_of_drop(&self, kind: Kind, name: &Name) -> Option<Rule>
+        ensures { result ≡ rules.rule_of_drop self.now kind name.now }
+    {
+        if !self.has(kind, name) {
+            return Some(Rule::Unknown);
+        }
+        if self.is_used(kind, name) {
+            return Some(Rule::InUse);
+        }
+        None
+    }
+
+    fn has_block(&self, name: &Name) -> bool
+        ensures { result ≡ rules.has_block self.now name.now }
+    {
+        self.blocks.key_of(name).is_some()
+    }
+
+    fn has_signal(&self, name: &Name) -> bool
+        ensures { result ≡ rules.has_signal self.now name.now }
+    {
+        self.signals.key_of(name).is_some()
+    }
+
+    fn has_route(&self, name: &Name) -> bool
+        ensures { result ≡ rules.has_route self.now name.now }
+    {
+        self.routes.key_of(name).is_some()
+    }
+
+    fn has_run(&self, name: &Name) -> bool
+        ensures { result ≡ rules.has_run self.now name.now }
+    {
+        self.runs.key_of(name).is_some()
+    }
+
+    fn has_section(&self, name: &Name) -> bool
+        ensures { result ≡ rules.has_section self.now name.now }
+    {
+        self.sections.key_of(name).is_some()
+    }
+
+    fn has_connection(&self, name: &Name) -> bool
+        ensures { result ≡ rules.has_connection self.now name.now }
+    {
+        self.connections.key_of(name).is_some()
+    }
+
+    fn has(&self, kind: Kind, name: &Name) -> bool
+        ensures { result ≡ rules.has self.now kind name.now }
+    {
+        match kind {
+            Kind::Block => self.has_block(name),
+            Kind::Signal => self.has_signal(name),
+            Kind::Route => self.has_route(name),
+            Kind::Run => self.has_run(name),
+            Kind::Section => self.has_section(name),
+            Kind::Connection => self.has_connection(name),
+        }
+    }
+
+    fn is_there(&self, item: &Item) -> bool
+        ensures { result ≡ rules.is_there self.now item.now }
+    {
+        match item {
+            Item::Block(block) => self.has_block(&block.name),
+            Item::Signal(signal) => self.has_signal(&signal.name),
+            Item::Route(route) => self.has_route(&route.name),
+            Item::Run(run) => self.has_run(&run.name),
+            Item::Section(section) => self.has_section(&section.name),
+            Item::Connection(connection) => self.has_connection(&connection.name),
+        }
+    }
+
+    // A block and a connection may not share a name.
+    fn is_taken(&self, item: &Item) -> bool
+        ensures { result ≡ rules.is_taken self.now item.now }
+    {
+        match item {
+            Item::Block(block) => self.has_block(&block.name) || self.has_connection(&block.name),
+            Item::Signal(signal) => self.has_signal(&signal.name),
+            Item::Route(route) => self.has_route(&route.name),
+            Item::Run(run) => self.has_run(&run.name),
+            Item::Section(section) => self.has_section(&section.name),
+            Item::Connection(connection) => {
+                self.has_connection(&connection.name) || self.has_block(&connection.name)
+            }
+        }
+    }
+
+    fn is_full(&self, item: &Item) -> bool
+        ensures { result ≡ rules.is_full self.now item.now }
+    {
+        match item {
+            Item::Block(_) => self.blocks.len() >= BLOCKS,
+            Item::Signal(_) => self.signals.len() >= SIGNALS,
+            Item::Route(_) => self.routes.len() >= ROUTES,
+            Item::Run(_) => self.runs.len() >= RUNS,
+            Item::Section(_) => self.sections.len() >= SECTIONS,
+            Item::Connection(_) => self.connections.len() >= CONNECTIONS,
+        }
+    }
+
+    fn refers_to_known(&self, item: &Item) -> bool
+        ensures { result ≡ rules.refers_to_known self.now item.now }
+    {
+        match item {
+            Item::Block(_) => true,
+            Item::Signal(signal) => self.has_block(&signal.block),
+            Item::Route(route) => self.has_signals(route.signals.slice()),
+            Item::Run(run) => self.has_route(&run.route),
+            Item::Section(section) => self.has_blocks(section.blocks.slice()),
+            Item::Connection(connection) => {
+                self.has_run(&connection.first) && self.has_run(&connection.second)
+            }
+        }
+    }
+
+    fn has_signals(&self, names: &[Name]) -> bool
+        ensures { result ≡ list_all (rules.has_signal self.now) names.now }
+    {
+        names.iter().all(|name| self.has_signal(name))
+    }
+
+    fn has_blocks(&self, names: &[Name]) -> bool
+        ensures { result ≡ list_all (rules.has_block self.now) names.now }
+    {
+        names.iter().all(|name| self.has_block(name))
+    }
+
+    // How many signals the route of a name has: none where it isn't there.
+    fn signal_count(&self, route: &Name) -> usize
+        ensures count { result ≡ length (route_named self.now route.now).signals }
+        ensures sound { IsSound self.now }
+    {
+        match self.routes.key_of(route) {
+            Some(key) => self.routes.get(key).item.signals.len(),
+            None => 0,
+        }
+    }
+
+    fn miscounts_legs(&self, item: &Item) -> bool
+        ensures { result ≡ rules.miscounts_legs self.now item.now }
+    {
+        match item {
+            Item::Run(run) => run.legs.len() != self.signal_count(&run.route),
+            Item::Block(_)
+            | Item::Signal(_)
+            | Item::Route(_)
+            | Item::Section(_)
+            | Item::Connection(_) => false,
+        }
+    }
+
+    // Each run on the route has a leg for each of the signals that it has now.
+    fn makes_miscount(&self, item: &Item) -> bool
+        requires { rules.is_there self.now item.now ≡ true }
+        ensures { result ≡ rules.makes_miscount self.now item.now }
+    {
+        match item {
+            Item::Route(route) => {
+                self.signal_count(&route.name) != route.signals.len() && self.is_route_used(&route.name)
+            }
+            Item::Block(_)
+            | Item::Signal(_)
+            | Item::Run(_)
+            | Item::Section(_)
+            | Item::Connection(_) => false,
+        }
+    }
+
+    fn is_block_used(&self, name: &Name) -> bool
+        requires { rules.has_block self.now name.now ≡ true }
+        ensures { result ≡ rules.is_used self.now kind.Block name.now }
+    {
+        self.block_uses.of(self.blocks.key_of(name).unwrap()) > 0
+    }
+
+    fn is_signal_used(&self, name: &Name) -> bool
+        requires { rules.has_signal self.now name.now ≡ true }
+        ensures { result ≡ rules.is_used self.now kind.Signal name.now }
+    {
+        self.signal_uses.of(self.signals.key_of(name).unwrap()) > 0
+    }
+
+    fn is_route_used(&self, name: &Name) -> bool
+        requires { rules.has_route self.now name.now ≡ true }
+        ensures { result ≡ rules.is_used self.now kind.Route name.now }
+    {
+        self.route_uses.of(self.routes.key_of(name).unwrap()) > 0
+    }
+
+    fn is_run_used(&self, name: &Name) -> bool
+        requires { rules.has_run self.now name.now ≡ true }
+        ensures { result ≡ rules.is_used self.now kind.Run name.now }
+    {
+        self.run_uses.of(self.runs.key_of(name).unwrap()) > 0
+    }
+
+    fn is_used(&self, kind: Kind, name: &Name) -> bool
+        requires { rules.has self.now kind name.now ≡ true }
+        ensures { result ≡ rules.is_used self.now kind name.now }
+    {
+        match kind {
+            Kind::Block => self.is_block_used(name),
+            Kind::Signal => self.is_signal_used(name),
+            Kind::Route => self.is_route_used(name),
+            Kind::Run => self.is_run_used(name),
+            Kind::Section | Kind::Connection => false,
+        }
+    }
+
+    // The item names something twice.
+    fn repeats(&self, item: &Item) -> Result<bool, OutOfMemory>
+        requires { rules.refers_to_known self.now item.now ≡ true }
+        ensures { IfOk result (λ twice. twice ≡ rules.repeats self.now item.now) }
+    {
+        match item {
+            Item::Route(route) => self.repeats_block(route),
+            Item::Section(section) => self.repeats_in_section(section),
+            Item::Connection(connection) => Ok(connection.first == connection.second),
+            Item::Block(_) | Item::Signal(_) | Item::Run(_) => Ok(false),
+        }
+    }
+
+    fn repeats_block(&self, route: &Route) -> Result<bool, OutOfMemory>
+        requires { list_all (rules.has_signal self.now) route.now.signals ≡ true }
+        ensures { IfOk result (λ twice. twice ≡ rules.repeats_block self.now route.now) }
+    {
+        let _count = self.blocks.len();
+        let signals = keys_of(self.alloc, &self.signals, route.signals.slice())?;
+        let blocks = blocks_of(self.alloc, &self.signals, signals.slice())?;
+        repeats(self.alloc, blocks.slice())
+    }
+
+    fn repeats_in_section(&self, section: &Section) -> Result<bool, OutOfMemory>
+        requires { list_all (rules.has_block self.now) section.now.blocks ≡ true }
+        ensures { IfOk result (λ twice. twice ≡ has_repeat section.now.blocks) }
+    {
+        let blocks = keys_of(self.alloc, &self.blocks, section.blocks.slice())?;
+        repeats(self.alloc, blocks.slice())
+    }
+
+    // With the changed signal in the place of the old one some route would have two signals of its block.
+    fn makes_repeat(&self, item: &Item) -> bool
+        requires there { rules.is_there self.now item.now ≡ true }
+        requires known { rules.refers_to_known self.now item.now ≡ true }
+        ensures { result ≡ rules.makes_repeat self.now item.now }
+    {
+        match item {
+            Item::Signal(signal) => self.meets_on_a_route(signal),
+            Item::Block(_)
+            | Item::Route(_)
+            | Item::Run(_)
+            | Item::Section(_)
+            | Item::Connection(_) => false,
+        }
+    }
+
+    fn meets_on_a_route(&self, signal: &Signal) -> bool
+        requires there { rules.has_signal self.now signal.now.name ≡ true }
+        requires known { rules.has_block self.now signal.now.block ≡ true }
+        ensures { result ≡ rules.makes_repeat self.now (item.Signal signal.now) }
+    {
+        let key = self.signals.key_of(&signal.name).unwrap();
+        let block = self.blocks.key_of(&signal.block).unwrap();
+        block != block_of(&self.signals, key) && any_meets(&self.routes, &self.signals, key, block)
+    }
+}
+
+// The key of the block beyond the signal under a key.
+fn block_of(signals: &NamedTable<Entry<Signal>>, key: usize) -> usize
+    requires there { IsKey signals.now key }
+    requires one { All (λ e. length e.1.refs ≡ 1) signals.now }
+    ensures { result ≡ block_of signals.now key }
+{
+    signals.get(key).refs.slice()[0]
+}
+
+// The keys of the blocks beyond the signals under keys, in their order.
+fn blocks_of(
+    alloc: Global,
+    signals: &NamedTable<Entry<Signal>>,
+    keys: &[usize],
+) -> Result<List<usize>, OutOfMemory>
+    requires there { All (IsKey signals.now) keys.now }
+    requires one { All (λ e. length e.1.refs ≡ 1) signals.now }
+    ensures { IfOk result (λ blocks. blocks ≡ map (block_of signals.now) keys.now) }
+{
+    let mut blocks = List::new(alloc);
+    for key in keys {
+        blocks.push(block_of(signals, *key))?;
+    }
+    Ok(blocks)
+}
+
+// Whether some route lists a signal and has one of a block.
+fn any_meets(
+    routes: &NamedTable<Entry<Route>>,
+    signals: &NamedTable<Entry<Signal>>,
+    signal: usize,
+    block: usize,
+) -> bool
+    requires there { All (λ r. All (IsKey signals.now) r.1.refs) routes.now }
+    requires one { All (λ e. length e.1.refs ≡ 1) signals.now }
+    ensures { result ≡ list_any (meets signals.now signal block) routes.now }
+{
+    for number in 0..routes.len() {
+        if meets(signals, routes.nth(number).refs.slice(), signal, block) {
+            return true;
+        }
+    }
+    false
+}
+
+// Whether a route's signals, given by their keys, have this one and one of a block.
+fn meets(signals: &NamedTable<Entry<Signal>>, refs: &[usize], signal: usize, block: usize) -> bool
+    requires there { All (IsKey signals.now) refs.now }
+    requires one { All (λ e. length e.1.refs ≡ 1) signals.now }
+    ensures { result
+        ≡ (lists_key refs.now signal && list_any (λ q. block_of signals.now q == block) refs.now) }
+{
+    lists_key(refs, signal) && has_signal_of(signals, refs, block)
+}
+
+fn has_signal_of(signals: &NamedTable<Entry<Signal>>, keys: &[usize], block: usize) -> bool
+    requires there { All (IsKey signals.now) keys.now }
+    requires one { All (λ e. length e.1.refs ≡ 1) signals.now }
+    ensures { result ≡ list_any (λ q. block_of signals.now q == block) keys.now }
+{
+    for key in keys {
+        if block_of(signals, *key) == block {
+            return true;
+        }
+    }
+    false
+}
+
+fn lists_key(keys: &[usize], key: usize) -> bool
+    ensures { result ≡ lists_key keys.now key }
+{
+    keys.iter().any(|listed| *listed == key)
+}
