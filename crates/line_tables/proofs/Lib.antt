@@ -10,3 +10,4 @@ pub mod Legs
 pub mod Repeats
 pub mod Meets
 pub mod Paths
+pub mod RunPaths

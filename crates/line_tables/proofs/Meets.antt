@@ -71,7 +71,11 @@ under_passes P items k x e all =
     let y = some_from_map (λ (e : ℕ × _). e.1) (find (λ e. e.0 == k) items) x e in
     (y.0, y.2, (find_some (λ e. e.0 == k) items y.0 y.1).1 P all)
 
-only_key : (o : Option ℕ) (ks : List ℕ) → o ∷ [] ≡ map Some ks → o ≡ Some (get_or ks 0 0)
+pub some_key : (o : Option ℕ) (ks : List ℕ) → o ∷ [] ≡ map Some ks → 0 < length ks
+some_key o [] e = absurd (cc)
+some_key o (k ∷ ks) e = omega arith
+
+pub only_key : (o : Option ℕ) (ks : List ℕ) → o ∷ [] ≡ map Some ks → o ≡ Some (get_or ks 0 0)
 only_key o [] e = absurd (cc)
 only_key o (k ∷ ks) e = cc
 

@@ -118,3 +118,8 @@ module _ {X Y : Type 0} (f : X → Y) (name : Y → List ℕ) where
       let item : ℕ × X → Y = λ e. f e.1 in
       let past = number_of-missing name (map item items) n (list_any-map item (λ y. is_same (name y) n) items ∙ out) in
       get_or_past (map item items) _ d (omega (arith, past))
+
+pub number_of-map : {X Y : Type 0} (f : X → Y) (name : Y → List ℕ) (xs : List X) (n : List ℕ) → number_of name (map f xs) n ≡ number_of (λ x. name (f x)) xs n
+number_of-map f name [] n = refl
+number_of-map f name (x ∷ xs) n =
+    elim (cases_Bool (is_same (name (f x)) n)) [ inl e ↦ rw e refl | inr e ↦ rw (e, number_of-map f name xs n) refl ]

@@ -28,6 +28,7 @@ fn untimed_hop(
     requires few { length blocks.now ≤ BLOCKS }
     ensures { result ≡ hops_in.hop_of blocks.now signals.now key }
 {
+    let _count = blocks.len();
     let entry = signals.get(key);
     let signal = &entry.item;
     let block = blocks.get(entry.refs.slice()[0]);
@@ -92,4 +93,48 @@ fn path_over(alloc: Global, run: &Run, hops: &[Hop]) -> Result<Path, OutOfMemory
         start_s: run.start_s,
         hops: timed,
     })
+}
+
+impl LineTables {
+    /// The path of the run of a number: one hop for each signal of its route, in the route's order.
+    pub fn path(&self, run: u32) -> Result<Path, OutOfMemory>
+        requires { run < length self.now.runs }
+        ensures same { IfOk result (λ path. path ≡ path_in self.now (run_at self.now run)) }
+        ensures fits { IfOk result Fits }
+        ensures numbered { IfOk result
+            (λ path. All (λ h. h.block < length self.now.blocks) path.hops) }
+    {
+        let _count = (self.signals.len(), self.routes.len());
+        let entry = self.runs.nth(run as usize);
+        let route = self.routes.get(entry.refs.slice()[0]);
+        let hops = untimed_hops(self.alloc, &self.blocks, &self.signals, route.refs.slice())?;
+        path_over(self.alloc, &entry.item, hops.slice())
+    }
+
+    /// The hops of each route, in the order of the routes, before any run has timed them.
+    pub fn route_hops(&self) -> Result<List<List<Hop>>, OutOfMemory>
+        ensures { IfOk result (λ all. all ≡ map (hops_in.route_hops self.now) self.now.routes) }
+    {
+        let _count = self.signals.len();
+        let mut all = List::new(self.alloc);
+        for number in 0..self.routes.len() {
+            let route = self.routes.nth(number);
+            all.push(untimed_hops(self.alloc, &self.blocks, &self.signals, route.refs.slice())?)?;
+        }
+        Ok(all)
+    }
+
+    /// The same path by the hops of all routes, which are made once for many runs.
+    pub fn run_path(&self, routes: &[List<Hop>], run: u32) -> Result<Path, OutOfMemory>
+        requires there { run < length self.now.runs }
+        requires routes { routes.now ≡ map (hops_in.route_hops self.now) self.now.routes }
+        ensures same { IfOk result (λ path. path ≡ path_in self.now (run_at self.now run)) }
+        ensures fits { IfOk result Fits }
+        ensures numbered { IfOk result
+            (λ path. All (λ h. h.block < length self.now.blocks) path.hops) }
+    {
+        let entry = self.runs.nth(run as usize);
+        let number = self.routes.number_of(&entry.item.route).unwrap();
+        path_over(self.alloc, &entry.item, routes[number].slice())
+    }
 }

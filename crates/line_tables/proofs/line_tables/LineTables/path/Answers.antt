@@ -1,0 +1,55 @@
+use Rattle.std.proofs.Common.{◌≡◌, ℕ, map, sym, ap, ◌∙◌, refl, subst, get_or}
+use Rattle.rail_model.specs.declared.items.Route.{Route}
+use Rattle.rail_model.specs.declared.items.Signal.{Signal}
+use Rattle.rail_model.specs.Tables.{route_named}
+use Rattle.line_tables.specs.declared.entry.Entry.{Entry}
+use Rattle.line_tables.specs.Inside.{tables_of}
+use Rattle.line_tables.specs.Hops.{route_hops}
+use Rattle.line_tables.proofs.Found.{found_by_key}
+use Rattle.line_tables.proofs.Meets.{some_key, only_key, all_keys}
+use Rattle.line_tables.proofs.RunPaths.{same_path, fitting_path, numbered_path, run_is, run_stands, route_key, route_is, hops_are, linked_under}
+use Rattle.line_tables.proofs.line_tables.LineTables.path.Goals as goal
+
+pub get-route-requires : goal.get-route-requires
+get-route-requires c =
+    let t = c.self.inside in
+    let e = c.nth-entry.result.now in
+    let key = only_key _ e.refs (route_key t c.self.invariant c.args.run e c.nth-entry.ensures.item) in
+    let found = found_by_key (λ (e : Entry Route). e.item.name) t.routes e.item.route (get_or e.refs 0 0) c.len-2.ensures.table key in
+    rw (c.slice.ensures, found.1.under) refl
+
+pub untimed_hops-requires-clause-there : goal.untimed_hops-requires-clause-there
+untimed_hops-requires-clause-there c =
+    let t = c.self.inside in
+    rw c.slice-2.ensures
+    (all_keys (λ (e : Entry Signal). e.item.name) t.signals c.len.ensures.table _ _ (linked_under t c.self.invariant _ c.get-route.result.now c.get-route.ensures.item))
+
+-- the hops are those of the run's route
+right : (c : goal.After-drop-hops-inside) → c.in_ok-hops.hops ≡ route_hops (tables_of c.self.inside) (route_named (tables_of c.self.inside) c.nth-entry.result.now.item.route)
+right c =
+    let t = c.self.inside in
+    let e = c.nth-entry.result.now in
+    let r = c.get-route.result.now in
+    let linked = linked_under t c.self.invariant _ r c.get-route.ensures.item in
+    let named = route_is t c.self.invariant c.args.run e r c.len-2.ensures.table c.nth-entry.ensures.item (rw c.slice.ensures at c.get-route.ensures.item) in
+    (rw c.slice-2.ensures at c.in_ok-hops.ensures) ∙ hops_are t c.self.invariant r c.len.ensures.table linked ∙ ap (route_hops (tables_of t)) (sym named)
+
+pub returns-clause-same : goal.returns-clause-same
+returns-clause-same c =
+    let t = c.self.inside in
+    let e = c.nth-entry.result.now in
+    rw (← c.self.view_is, run_is t c.self.invariant c.args.run e c.nth-entry.ensures.item)
+    (same_path (tables_of t) c.self.invariant.sound e.item (run_stands t c.self.invariant c.args.run e c.nth-entry.ensures.item) c.in_ok-hops.hops (right c) c.path_over.result (rw c.slice-3.ensures at c.path_over.ensures))
+
+pub returns-clause-fits : goal.returns-clause-fits
+returns-clause-fits c =
+    let t = c.self.inside in
+    let e = c.nth-entry.result.now in
+    fitting_path (tables_of t) c.self.invariant.sound e.item (run_stands t c.self.invariant c.args.run e c.nth-entry.ensures.item) c.in_ok-hops.hops (right c) c.path_over.result (rw c.slice-3.ensures at c.path_over.ensures)
+
+pub returns-clause-numbered : goal.returns-clause-numbered
+returns-clause-numbered c =
+    let t = c.self.inside in
+    let e = c.nth-entry.result.now in
+    rw (← c.self.view_is)
+    (numbered_path (tables_of t) c.self.invariant.sound e.item (run_stands t c.self.invariant c.args.run e c.nth-entry.ensures.item) c.in_ok-hops.hops (right c) c.path_over.result (rw c.slice-3.ensures at c.path_over.ensures))
