@@ -1,6 +1,7 @@
 // What the tests share: the rows of a small line, and a call of the program over bytes in memory.
 mod faults;
 mod refusals;
+mod row_lines;
 mod statuses;
 mod texts;
 
