@@ -3,6 +3,7 @@ mod faults;
 mod lines;
 mod names;
 mod refusals;
+mod row_lines;
 mod statuses;
 mod streams;
 mod texts;

@@ -105,6 +105,10 @@ pub more_text-push : (has_field : Bool) (more : Row) (text : List ℕ) → more_
 more_text-push has_field [] text = rw (or_false has_field, append-nil (field_text default_writer text)) refl
 more_text-push has_field (first ∷ more) text = rw (or_true has_field, more_text-push true more text) (simp append_assoc)
 
+pub has_fields-some : (row : Row) → 0 < length row → has_fields row ≡ true
+has_fields-some [] some = absurd (omega arith)
+has_fields-some (first ∷ row) some = refl
+
 pub has_fields-append : (row more : Row) → has_fields (row ++ more) ≡ (has_fields row || has_fields more)
 has_fields-append [] more = refl
 has_fields-append (first ∷ row) more = refl

@@ -38,3 +38,17 @@ pub(crate) fn sums(
     }
     Ok(times)
 }
+
+// Whether all times at which steps end that begin at a time can be written as times of day.
+pub(crate) fn are_clock_times(start_s: u32, steps: &[u32]) -> bool
+    ensures { result ≡ list_all (λ time. nat_le time GREATEST_CLOCK_S) (spelling.sums start_s steps.now) }
+{
+    let mut before = start_s;
+    for step in steps {
+        if u64::from(before) + u64::from(*step) > u64::from(GREATEST_CLOCK_S) {
+            return false;
+        }
+        before += *step;
+    }
+    true
+}

@@ -22,7 +22,7 @@ pub use field::{HOUR_DIGITS, NUMBER_DIGITS};
 pub use fields::{Fields, Row};
 pub use sheet::Sheet;
 pub use written::Written;
-pub use line_row::{spell, spell_in};
+pub use line_row::{has_times_in, spell, spell_in};
 pub use time_text::GREATEST_CLOCK_S;
 pub use row_list::{RowList, rows};
 pub use line::{Line, read_line, read_row, read_row_in};

@@ -1,14 +1,14 @@
 //! Lines to rows.
-ghost use Rattle.std.specs.Prelude.{◌≡◌, ◌++◌, ◌∷◌, [], map, decimal, IfOk, OnOk, IsTrue, Ok};
+ghost use Rattle.std.specs.Prelude.{◌≡◌, ◌++◌, ◌∷◌, [], map, decimal, IfOk, OnOk, IsTrue, Ok, true, ◌==◌, if◌then◌else◌};
 ghost use Rattle.rail_model.specs.declared.edit.Kind.TheVariants as kind;
 ghost use Rattle.row_text.specs.Spelling as spelling;
 ghost use Rattle.row_text.specs.Lines.{read_in};
 ghost use Rattle.row_text.specs.Words.{word_text};
 
 use crate::fields::Fields;
-use crate::leg_times::{leg_times, sums};
+use crate::leg_times::{are_clock_times, leg_times, sums};
 use crate::line::Line;
-use crate::time_text::clock_text;
+use crate::time_text::{GREATEST_CLOCK_S, clock_text};
 use crate::word::Word;
 use itoa::Buffer;
 use rail_model::{
@@ -34,6 +34,35 @@ pub fn spell_in(alloc: Global, version: u32, line: &Line) -> Result<Fields, OutO
     let mut row = Fields::new(alloc);
     push_line(&mut row, alloc, version, line)?;
     Ok(row)
+}
+
+/// Whether every time of a line can be written in a version of the rows, as `spell_in` requires.
+pub fn has_times_in(alloc: Global, version: u32, line: &Line) -> Result<bool, OutOfMemory>
+    ensures { IfOk result (λ has. has ≡ spelling.has_times_in version line.now) }
+{
+    match line {
+        Line::Edit(Edit::Put(item)) => has_item_times_in(alloc, version, item),
+        Line::Edit(Edit::Change(item)) => has_item_times_in(alloc, version, item),
+        _ => Ok(true),
+    }
+}
+
+fn has_item_times_in(alloc: Global, version: u32, item: &Item) -> Result<bool, OutOfMemory>
+    ensures { IfOk result (λ has. has ≡ (if version == 2 then spelling.has_clock_times item.now else true)) }
+{
+    if version != 2 {
+        return Ok(true);
+    }
+    match item {
+        Item::Run(run) => {
+            let steps = leg_times(alloc, run.legs.slice())?;
+            Ok(run.start_s <= GREATEST_CLOCK_S && are_clock_times(run.start_s, steps.slice()))
+        }
+        Item::Section(section) => {
+            Ok(section.from_s <= GREATEST_CLOCK_S && section.to_s <= GREATEST_CLOCK_S)
+        }
+        _ => Ok(true),
+    }
 }
 
 fn push_line(

@@ -20,7 +20,7 @@ pub(crate) fn make_room(text: &mut Vec<u8>, used: usize, room: usize) -> Result<
     grow(text, used, room)
 }
 
-// At least twice the length, so that growing costs little for each byte.
+// Half as much again at least, so that growing costs little for each byte.
 #[inline(never)]
 fn grow(text: &mut Vec<u8>, used: usize, room: usize) -> Result<(), OutOfMemory>
     requires { used ≤ length text.old.items }
@@ -31,7 +31,9 @@ fn grow(text: &mut Vec<u8>, used: usize, room: usize) -> Result<(), OutOfMemory>
     let Some(least) = used.checked_add(room) else {
         return Err(OutOfMemory);
     };
-    let size = least.max(text.len().saturating_mul(2)).max(LEAST_ROOM);
+    let size = least
+        .max(text.len().saturating_add(text.len() / 2))
+        .max(LEAST_ROOM);
     text.resize(size, 0)?;
     Ok(())
 }

@@ -1,7 +1,7 @@
 //! The text of rows that are written.
-ghost use Rattle.std.specs.Prelude.{◌≡◌, [], map, decimal, IsTrue, OnOk, OnErr};
+ghost use Rattle.std.specs.Prelude.{◌≡◌, ◌<◌, [], length, map, decimal, OnOk, OnErr};
 ghost use Rattle.std.specs.Fmt.{signed_decimal};
-ghost use Rattle.row_text.specs.SheetRows.{with_field, with_fields, with_row, text_of_rows, has_fields};
+ghost use Rattle.row_text.specs.SheetRows.{with_field, with_fields, with_row, text_of_rows};
 
 use crate::fields::Fields;
 use crate::put::{make_room, put_end, put_numbers, put_signed, put_text, put_unsigned};
@@ -89,6 +89,7 @@ impl Sheet {
     #[inline]
     pub fn push_written(&mut self, fields: &Written) -> Result<(), OutOfMemory>
         ensures ok { OnOk result (self.new ≡ with_fields self.old fields.now) }
+        ensures some { OnOk result (0 < length self.new.row) }
         ensures err { OnErr result (self.new ≡ self.old) }
     {
         let text = fields.text();
@@ -110,7 +111,7 @@ impl Sheet {
 
     /// Ends the row that is being written.
     pub fn end_row(&mut self) -> Result<(), OutOfMemory>
-        requires { IsTrue (has_fields self.old.row) }
+        requires { 0 < length self.old.row }
         ensures ok { OnOk result (self.new ≡ with_row self.old self.old.row) }
         ensures err { OnErr result (self.new ≡ self.old) }
     {
@@ -134,7 +135,7 @@ impl Sheet {
     /// Writes a whole row. Without memory the sheet stays as it was.
     pub fn write_row(&mut self, fields: &Fields) -> Result<(), OutOfMemory>
         requires open { self.old.row ≡ [] }
-        requires some { IsTrue (has_fields fields.now) }
+        requires some { 0 < length fields.now }
         ensures ok { OnOk result (self.new ≡ with_row self.old fields.now) }
         ensures err { OnErr result (self.new ≡ self.old) }
     {
@@ -149,7 +150,7 @@ impl Sheet {
 
     fn push_row(&mut self, fields: &Fields) -> Result<(), OutOfMemory>
         requires open { self.old.row ≡ [] }
-        requires some { IsTrue (has_fields fields.now) }
+        requires some { 0 < length fields.now }
         ensures ok { OnOk result (self.new ≡ with_row self.old fields.now) }
         ensures rows { OnErr result (self.new.rows ≡ self.old.rows) }
     {

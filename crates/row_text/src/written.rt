@@ -1,6 +1,5 @@
 //! Fields as the text of a row has them.
-ghost use Rattle.std.specs.Prelude.{◌≡◌, ◌++◌, ◌∷◌, [], true, IfOk};
-ghost use Rattle.row_text.specs.SheetRows.{has_fields};
+ghost use Rattle.std.specs.Prelude.{◌≡◌, ◌<◌, ◌++◌, ◌∷◌, [], length, IfOk};
 ghost use Rattle.csv.specs.Writing as writing;
 
 use crate::fields::Fields;
@@ -18,15 +17,14 @@ pub struct Written {
 }
 
 impl Model for Written {
-    ghost use Rattle.std.specs.Prelude.{◌≡◌, List, ℕ, true};
+    ghost use Rattle.std.specs.Prelude.{◌≡◌, ◌<◌, List, ℕ, length};
     ghost use Rattle.csv.specs.Writing.{default_writer, row_body};
-    ghost use Rattle.row_text.specs.SheetRows.{has_fields};
 
     ghost Value = { List (List ℕ) };
 
     ghost view = { λ w. w.fields };
 
-    ghost invariant = { λ w. (w.text.items ≡ row_body default_writer w.fields) × (has_fields w.fields ≡ true) };
+    ghost invariant = { λ w. (w.text.items ≡ row_body default_writer w.fields) × (0 < length w.fields) };
 }
 
 impl Written {
@@ -55,7 +53,7 @@ impl Written {
     // The text.
     pub(crate) fn text(&self) -> &[u8]
         ensures text { result.now ≡ writing.row_body writing.default_writer self.now }
-        ensures some { has_fields self.now ≡ true }
+        ensures some { 0 < length self.now }
     {
         &self.text
     }

@@ -3,9 +3,8 @@ use Rattle.std.specs.Vec.{with_items}
 use Rattle.std.proofs.lemmas.List.{with_items_is}
 use Rattle.row_text.specs.declared.sheet.Sheet.TheInside.{Inside}
 use Rattle.row_text.specs.Sheet.{sheet_rows}
-use Rattle.row_text.specs.SheetRows.{has_fields}
 use Rattle.row_text.specs.SheetText.{HoldsRows}
-use Rattle.row_text.proofs.SheetRows.{IsTrue-true, sheet_rows-is, IsSheet-from}
+use Rattle.row_text.proofs.SheetRows.{has_fields-some, sheet_rows-is, IsSheet-from}
 use Rattle.row_text.proofs.SheetSteps.{HoldsRows-end}
 use Rattle.row_text.proofs.sheet.Sheet.end_row.Goals as goal
 
@@ -24,7 +23,7 @@ holds c =
     let put = c.put_end-self-inside.ensures in
     let size = ap length c.deref_mut.ensures.value in
     let same : (after c).text.items ≡ c.put_end-self-inside.new.text = with_items_is c.make_room.new.text c.put_end-self-inside.new.text (c.put_end-self-inside.auto.text ∙ size ∙ sym c.make_room.new.text.ok.0) in
-    let some : has_fields (sheet_rows c.self.inside).row ≡ true = rw (← c.self.view_is) at (IsTrue-true c.requires) in
+    let some = has_fields-some (sheet_rows c.self.inside).row (rw (← c.self.view_is) at c.requires) in
     HoldsRows-end c.self.inside (after c) _ _ c.self.invariant some refl refl (rw same (omega (arith, put.within, room.ok, c.put_end-self-inside.auto.text, size))) (rw same (put.written ∙ rw (c.deref_mut.ensures.value, room.kept) refl))
 
 pub invariant_of-self-2 : goal.invariant_of-self-2

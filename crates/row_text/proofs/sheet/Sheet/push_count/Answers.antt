@@ -3,11 +3,11 @@ use Rattle.std.specs.Fmt.{signed_decimal}
 use Rattle.std.proofs.lemmas.Int.{to_z-of_z}
 use Rattle.row_text.proofs.PlainFields.{field_text-decimal, field_text-signed_decimal}
 use Rattle.std.specs.Vec.{with_items}
-use Rattle.std.proofs.lemmas.List.{with_items_is, append-nil}
+use Rattle.std.proofs.lemmas.List.{with_items_is, append-nil, length-append}
 use Rattle.row_text.specs.declared.sheet.Sheet.TheInside.{Inside}
 use Rattle.row_text.specs.Sheet.{sheet_rows}
 use Rattle.row_text.specs.SheetText.{HoldsRows}
-use Rattle.row_text.proofs.SheetRows.{or_true, more_text-body, sheet_rows-is, IsSheet-from}
+use Rattle.row_text.proofs.SheetRows.{or_true, has_fields-some, more_text-body, sheet_rows-is, IsSheet-from}
 use Rattle.row_text.proofs.SheetSteps.{pushed}
 use Rattle.row_text.proofs.sheet.Sheet.push_count.Goals as goal
 

@@ -2,11 +2,11 @@ use Rattle.std.proofs.Common.{◌≡◌, ◌++◌, ◌∷◌, [], ◌||◌, leng
 use Rattle.std.specs.Fmt.{signed_decimal}
 use Rattle.row_text.proofs.PlainFields.{has_fields-map}
 use Rattle.std.specs.Vec.{with_items}
-use Rattle.std.proofs.lemmas.List.{with_items_is, append-nil}
+use Rattle.std.proofs.lemmas.List.{with_items_is, append-nil, length-append}
 use Rattle.row_text.specs.declared.sheet.Sheet.TheInside.{Inside}
 use Rattle.row_text.specs.Sheet.{sheet_rows}
 use Rattle.row_text.specs.SheetText.{HoldsRows}
-use Rattle.row_text.proofs.SheetRows.{or_true, more_text-body, sheet_rows-is, IsSheet-from}
+use Rattle.row_text.proofs.SheetRows.{or_true, has_fields-some, more_text-body, sheet_rows-is, IsSheet-from}
 use Rattle.row_text.proofs.SheetSteps.{pushed}
 use Rattle.row_text.proofs.sheet.Sheet.push_numbers.Goals as goal
 

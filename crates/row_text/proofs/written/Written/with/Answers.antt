@@ -1,9 +1,9 @@
-use Rattle.std.proofs.Common.{◌≡◌, ◌++◌, ◌∷◌, [], sym, refl, ap, ◌∙◌, append_assoc, true, rules}
+use Rattle.std.proofs.Common.{◌≡◌, ◌++◌, ◌∷◌, [], sym, refl, ap, ◌∙◌, append_assoc, true, rules, arith}
 use Rattle.std.specs.Result.{is_ok}
 use Rattle.csv.specs.Writing.{default_writer, field_text, row_body}
-use Rattle.std.proofs.lemmas.List.{append-nil}
+use Rattle.std.proofs.lemmas.List.{append-nil, length-append}
 use Rattle.row_text.specs.Put.{more_text}
-use Rattle.row_text.proofs.SheetRows.{row_body-append, has_fields-append}
+use Rattle.row_text.proofs.SheetRows.{row_body-append, has_fields-some}
 use Rattle.row_text.proofs.written.Written.with.Goals as goal
 
 pub invariant_of-result : goal.invariant_of-result
@@ -16,6 +16,6 @@ invariant_of-result c =
     let text : c.extend_from_slice.new.self.items ≡ row_body default_writer own.fields ++ (44 ∷ (field_text default_writer field ++ [])) =
       c.in_ok-extend_from_slice.ensures.items ∙ rw (comma, last, c.self.invariant.0, append-nil) (append_assoc (row_body default_writer own.fields) (44 ∷ []) (field_text default_writer field)) in
     rw fields (
-      text ∙ rw (row_body-append own.fields (field ∷ []), c.self.invariant.1) refl,
-      has_fields-append own.fields (field ∷ []) ∙ rw c.self.invariant.1 refl,
+      text ∙ rw (row_body-append own.fields (field ∷ []), has_fields-some own.fields c.self.invariant.1) refl,
+      omega (arith, length-append own.fields (field ∷ [])),
     )
