@@ -1,0 +1,5 @@
+pub mod Lookups
+pub mod Growing
+pub mod Fitting
+pub mod Turns
+pub mod Passing

@@ -1,0 +1,5 @@
+pub mod Journal
+pub mod Known
+pub mod Views
+pub mod Rule
+pub mod Steps
