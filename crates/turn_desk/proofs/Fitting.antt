@@ -39,7 +39,7 @@ module _ {E : Type 0} where
   owned_less views id v w at less once i j x y n ei ej oi oj =
       let P : ℕ → View E → Type 0 = λ k z. Owns z n → (u : View E) × At views k u × Owns u n in
       let each : (k : ℕ) (z : View E) → At (set views id w) k z → P k z =
-          all_set views id w P (λ o. (v, at, less n o)) (λ k z _ e o. (z, e, o)) in
+      all_set views id w P (λ o. (v, at, less n o)) (λ k z _ e o. (z, e, o)) in
       let a = each i x ei oi in
       let b = each j y ej oj in
       once i j a.0 b.0 n a.1 b.1 a.2 b.2
@@ -49,10 +49,10 @@ module _ {E : Type 0} where
   owned_new views id w new once i j x y n ei ej oi oj =
       let P : ℕ → View E → Type 0 = λ k z. Owns z n → ((k ≡ id) × Owns w n) ⊎ ((k ≢ id) × At views k z) in
       let each : (k : ℕ) (z : View E) → At (set views id w) k z → P k z =
-          all_set views id w P (λ o. inl (refl, o)) (λ k z ne e o. inr (ne, e)) in
+      all_set views id w P (λ o. inl (refl, o)) (λ k z ne e o. inr (ne, e)) in
       elim (each i x ei oi) [
-        | inl a ↦ elim (each j y ej oj) [ | inl b ↦ a.0 ∙ sym b.0 | inr b ↦ absurd (new j y n b.0 b.1 oj a.1) ]
-        | inr a ↦ elim (each j y ej oj) [ | inl b ↦ absurd (new i x n a.0 a.1 oi b.1) | inr b ↦ once i j x y n a.1 b.1 oi oj ]
+        | inl a ↦ elim (each j y ej oj) [ inl b ↦ a.0 ∙ sym b.0 | inr b ↦ absurd (new j y n b.0 b.1 oj a.1) ]
+        | inr a ↦ elim (each j y ej oj) [ inl b ↦ absurd (new i x n a.0 a.1 oi b.1) | inr b ↦ once i j x y n a.1 b.1 oi oj ]
       ]
 
 module _ {E : Type 0} (maker : E → ℕ) (issued_by : List E → ℕ) (grows : (xs ys : List E) → issued_by xs ≤ issued_by (xs ++ ys)) where

@@ -32,11 +32,15 @@ module _ {X : Type 0} (P : X → Type 0) where
   rest_after (x ∷ xs) (y ∷ ys) us ws e h l = let tails : xs ++ us ≡ ys ++ ws = cc in rest_after xs ys us ws tails h (omega arith)
 
 module _ {E : Type 0} where
+  no_more : (xs more : List E) → length (xs ++ more) ≤ length xs → xs ++ more ≡ xs
+  no_more xs [] l = append-nil xs
+  no_more xs (x ∷ more) l = absurd (omega (arith, length-append xs (x ∷ more)))
+
   pub longer_is : (xs ys : List E) → ((longer xs ys ≡ xs) × (length ys ≤ length xs)) ⊎ ((longer xs ys ≡ ys) × (length xs ≤ length ys))
   longer_is xs ys =
       let go : (b : Bool) → nat_lt (length xs) (length ys) ≡ b
-          → (((if b then ys else xs) ≡ xs) × (length ys ≤ length xs)) ⊎ (((if b then ys else xs) ≡ ys) × (length xs ≤ length ys)) =
-              elim [ true ↦ λ e. inr (refl, grind (arith, nat_tests)) | false ↦ λ e. inl (refl, grind (arith, nat_tests)) ] in
+      → (((if b then ys else xs) ≡ xs) × (length ys ≤ length xs)) ⊎ (((if b then ys else xs) ≡ ys) × (length xs ≤ length ys)) =
+      elim [ true ↦ λ e. inr (refl, grind (arith, nat_tests)) | false ↦ λ e. inl (refl, grind (arith, nat_tests)) ] in
       go _ refl
 
 module _ {E : Type 0} (maker : E → ℕ) where
@@ -73,8 +77,21 @@ module _ {E : Type 0} (maker : E → ℕ) where
       let rest = rest_after (IsOthers maker ns) seen seen g.more h.more (sym g.is ∙ h.is) g.others (omega arith) in record {
         more = h.more;
         is = h.is;
-        others = λ k d l c. elim (Contains-append_cases ns ms _ c) [ | inl x ↦ rest k d l x | inr y ↦ h.others k d l y ];
+        others = λ k d l c. elim (Contains-append_cases ns ms _ c) [ inl x ↦ rest k d l x | inr y ↦ h.others k d l y ];
       }
+
+  -- where one seen part goes on from the other, the longer goes on from both
+  pub agreed : (ns ms : List ℕ) (xs ys : List E) → GoesOn maker ns xs ys ⊎ GoesOn maker ms ys xs → GoesOn maker ns xs (longer xs ys) × GoesOn maker ms ys (longer xs ys)
+  agreed ns ms xs ys (inl g) = elim (longer_is xs ys) [
+    | inl e ↦ let same : ys ≡ xs = g.is ∙ no_more xs g.more (subst (λ zs. length zs ≤ length xs) g.is e.1) in
+        (goes_nowhere ns xs _ (sym e.0), goes_nowhere ms ys _ (same ∙ sym e.0))
+    | inr e ↦ (subst (λ zs. GoesOn maker ns xs zs) (sym e.0) g, goes_nowhere ms ys _ (sym e.0))
+  ]
+  agreed ns ms xs ys (inr g) = elim (longer_is xs ys) [
+    | inl e ↦ (goes_nowhere ns xs _ (sym e.0), subst (λ zs. GoesOn maker ms ys zs) (sym e.0) g)
+    | inr e ↦ let same : xs ≡ ys = g.is ∙ no_more ys g.more (subst (λ zs. length zs ≤ length ys) g.is e.1) in
+        (goes_nowhere ns xs _ (same ∙ sym e.0), goes_nowhere ms ys _ (sym e.0))
+  ]
 
   -- two prefixes of one journal, of which the longer has seen what the other has
   module _ (ns ms : List ℕ) (xs ys log : List E) (g : GoesOn maker ns xs log) (h : GoesOn maker ms ys log) where
@@ -85,10 +102,7 @@ module _ {E : Type 0} (maker : E → ℕ) where
     ]
 
     pub one_goes_on : GoesOn maker ns xs ys ⊎ GoesOn maker ms ys xs
-    one_goes_on = elim (longer_is xs ys) [ | inl e ↦ inr (goes_on-within ms ns ys xs log h g e.1) | inr e ↦ inl (goes_on-within ns ms xs ys log g h e.1) ]
+    one_goes_on = elim (longer_is xs ys) [ inl e ↦ inr (goes_on-within ms ns ys xs log h g e.1) | inr e ↦ inl (goes_on-within ns ms xs ys log g h e.1) ]
 
     pub to_longer : GoesOn maker ns xs (longer xs ys) × GoesOn maker ms ys (longer xs ys)
-    to_longer = elim (longer_is xs ys) [
-      | inl e ↦ (goes_nowhere ns xs (longer xs ys) (sym e.0), subst (λ zs. GoesOn maker ms ys zs) (sym e.0) (goes_on-within ms ns ys xs log h g e.1))
-      | inr e ↦ (subst (λ zs. GoesOn maker ns xs zs) (sym e.0) (goes_on-within ns ms xs ys log g h e.1), goes_nowhere ms ys (longer xs ys) (sym e.0))
-    ]
+    to_longer = agreed ns ms xs ys one_goes_on

@@ -3,3 +3,4 @@ pub mod Growing
 pub mod Fitting
 pub mod Turns
 pub mod Passing
+pub mod Waiting

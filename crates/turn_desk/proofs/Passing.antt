@@ -5,7 +5,7 @@ use mathlib.Core.Option.{some, none}
 use Rattle.std.proofs.lemmas.Bool.Decides.{nat_tests}
 use mathlib.Core.Logic.{dite}
 use native.Mathlib.Decide.{ℕ_discrete}
-use Rattle.std.proofs.lemmas.List.Elements.{All-append, All-weaker, All-contains, Contains-append_cases}
+use Rattle.std.proofs.lemmas.List.Elements.{All-append, All-weaker, All-contains, Contains-append_cases, Contains-append_left}
 use Rattle.atomic_table.specs.Table.{State, keeps, step, Allows, Splits, Joins}
 use Rattle.atomic_table.proofs.Lists.{set_else, set_again, at_longer}
 use Rattle.turn_desk.specs.declared.rule.View.{View}
@@ -16,7 +16,8 @@ use Rattle.turn_desk.specs.Rule.{At, IsDrawn, Owns, OwnedOnce, steps_of, Dated, 
 use Rattle.turn_desk.specs.Steps as steps
 use Rattle.turn_desk.specs.Steps.{Mine}
 use Rattle.turn_desk.proofs.Lookups.{at_same, at_changed, all_set, all_end, kept_at, steps_of-set, steps_of-end}
-use Rattle.turn_desk.proofs.Growing.{all_right, longer_begins, one_goes_on, to_longer}
+use Rattle.turn_desk.proofs.Growing.{all_right, longer_is, longer_begins, one_goes_on, to_longer, agreed}
+use Rattle.turn_desk.specs.Seats.{IsPass}
 use Rattle.turn_desk.proofs.Fitting.{none_in_nil, only_in, all_of, grown, below_more, fits_fresh, fits_spent}
 
 module _ {V E : Type 0} (entries : V → List E) (maker : E → ℕ) (issued_by : List E → ℕ) (is_legal : List E → Type 0)
@@ -59,12 +60,12 @@ module _ {V E : Type 0} (entries : V → List E) (maker : E → ℕ) (issued_by 
         | inr b ↦ let low = b.0 in let high = b.1 in inr (v, at, inr (omega arith, omega arith), λ e. omega arith)
       ] in
       let others : (k : ℕ) (z : View E) → k ≢ id → At views k z → P k z =
-          λ k z ne e o. inr (z, e, o, λ is. ne (once k id z v n e at o (inr (subst (λ m. IsDrawn v m) (sym is) here)))) in
-      let right : P len (newcomer v) = λ o. inl (refl, elim o [ | inl c ↦ sym (only_in v.drawn n c) | inr b ↦ absurd (let high = b.1 in omega arith) ]) in
+      λ k z ne e o. inr (z, e, o, λ is. ne (once k id z v n e at o (inr (subst (λ m. IsDrawn v m) (sym is) here)))) in
+      let right : P len (newcomer v) = λ o. inl (refl, elim o [ inl c ↦ sym (only_in v.drawn n c) | inr b ↦ absurd (let high = b.1 in omega arith) ]) in
       let each = all_end (set views id (one_fewer v)) (newcomer v) P (all_set views id (one_fewer v) P left others) right in
       elim (each i x ei oi) [
-        | inl a ↦ elim (each j y ej oj) [ | inl b ↦ a.0 ∙ sym b.0 | inr b ↦ absurd (b.3 a.1) ]
-        | inr a ↦ elim (each j y ej oj) [ | inl b ↦ absurd (a.3 b.1) | inr b ↦ once i j a.0 b.0 n a.1 b.1 a.2 b.2 ]
+        | inl a ↦ elim (each j y ej oj) [ inl b ↦ a.0 ∙ sym b.0 | inr b ↦ absurd (b.3 a.1) ]
+        | inr a ↦ elim (each j y ej oj) [ inl b ↦ absurd (a.3 b.1) | inr b ↦ once i j a.0 b.0 n a.1 b.1 a.2 b.2 ]
       ]
 
   pub splitting : (id : ℕ) (v : View E) → 0 < v.left → Splits Rule id v (one_fewer v) (newcomer v)
@@ -87,18 +88,18 @@ module _ {V E : Type 0} (entries : V → List E) (maker : E → ℕ) (issued_by 
             nobody = all_end views right (λ _ u. u.holds ≡ false) (all_set s.views id left (λ _ u. u.holds ≡ false) (t.nobody id v at) (λ j u _ e. t.nobody j u e)) refl;
           }
           | inr t ↦
-            let R = λ (u : View E). (((u.closes ≡ false) × (s.homes ≡ none ∷ [])) ⊎ ((u.closes ≡ true) × (s.homes ≡ some None ∷ []))) × (u.holds ≡ true) × (u.seen ≡ r.log) in
-            let k = kept_at s.views id t.holder v left t.view R at t.here (t.home, t.holds, t.is) (λ h. h) in inr record {
-              holder = t.holder;
-              view = k.0;
-              here = at_longer views (right ∷ []) t.holder k.0 k.1;
-              word = t.word;
-              home = k.2.0;
-              holds = k.2.1;
-              is = k.2.2;
-              alone = all_end views right (λ j u. u.holds ≡ true → j ≡ t.holder)
-                  (all_set s.views id left (λ j u. u.holds ≡ true → j ≡ t.holder) (t.alone id v at) (λ j u _ e. t.alone j u e)) (λ h. absurd (cc));
-            }
+              let R = λ (u : View E). (((u.closes ≡ false) × (s.homes ≡ none ∷ [])) ⊎ ((u.closes ≡ true) × (s.homes ≡ some None ∷ []))) × (u.holds ≡ true) × (u.seen ≡ r.log) in
+              let k = kept_at s.views id t.holder v left t.view R at t.here (t.home, t.holds, t.is) (λ h. h) in inr record {
+                holder = t.holder;
+                view = k.0;
+                here = at_longer views (right ∷ []) t.holder k.0 k.1;
+                word = t.word;
+                home = k.2.0;
+                holds = k.2.1;
+                is = k.2.2;
+                alone = all_end views right (λ j u. u.holds ≡ true → j ≡ t.holder)
+                    (all_set s.views id left (λ j u. u.holds ≡ true → j ≡ t.holder) (t.alone id v at) (λ j u _ e. t.alone j u e)) (λ h. absurd (cc));
+              }
         ];
         each = all_end views right (λ _ u. Fit r.log u) (all_set s.views id left (λ _ u. Fit r.log u) (fits_fewer r.log v some_left f) (λ j u _ e. r.each j u e))
             (fits_newcomer r.log v some_left f);
@@ -136,17 +137,17 @@ module _ {V E : Type 0} (entries : V → List E) (maker : E → ℕ) (issued_by 
   owned_joined views id other v w at at' ne once i j x y n ei ej oi oj =
       let P : ℕ → View E → Type 0 = λ k z. Owns z n → ((k ≡ id) × (Owns v n ⊎ Owns w n)) ⊎ ((k ≢ id) × (k ≢ other) × At views k z) in
       let one : P id (joined v w) = λ o. elim o [
-        | inl c ↦ elim (Contains-append_cases v.numbers w.numbers n c) [ | inl a ↦ inl (refl, inl (inl a)) | inr b ↦ inl (refl, inr (inl b)) ]
+        | inl c ↦ elim (Contains-append_cases v.numbers w.numbers n c) [ inl a ↦ inl (refl, inl (inl a)) | inr b ↦ inl (refl, inr (inl b)) ]
         | inr d ↦ absurd (let a = d.1 in omega arith)
       ] in
-      let two : P other spent = λ o. elim o [ | inl c ↦ absurd (none_in_nil n c) | inr d ↦ absurd (let a = d.1 in omega arith) ] in
+      let two : P other spent = λ o. elim o [ inl c ↦ absurd (none_in_nil n c) | inr d ↦ absurd (let a = d.1 in omega arith) ] in
       let each = all_set (set views id (joined v w)) other spent P two
-          (λ k z out e. all_set views id (joined v w) (λ k' z'. k' ≢ other → P k' z') (λ _. one) (λ k' z' ne' e' out' o. inr (ne', out', e')) k z e out) in
+      (λ k z out e. all_set views id (joined v w) (λ k' z'. k' ≢ other → P k' z') (λ _. one) (λ k' z' ne' e' out' o. inr (ne', out', e')) k z e out) in
       let owner : Owns v n ⊎ Owns w n → (k : ℕ) (z : View E) → k ≢ id → k ≢ other → At views k z → Owns z n → ⊥ =
-          λ o k z ne' out e mine. elim o [ | inl a ↦ ne' (once k id z v n e at mine a) | inr b ↦ out (once k other z w n e at' mine b) ] in
+      λ o k z ne' out e mine. elim o [ inl a ↦ ne' (once k id z v n e at mine a) | inr b ↦ out (once k other z w n e at' mine b) ] in
       elim (each i x ei oi) [
-        | inl a ↦ elim (each j y ej oj) [ | inl b ↦ a.0 ∙ sym b.0 | inr b ↦ absurd (owner a.1 j y b.0 b.1 b.2 oj) ]
-        | inr a ↦ elim (each j y ej oj) [ | inl b ↦ absurd (owner b.1 i x a.0 a.1 a.2 oi) | inr b ↦ once i j x y n a.2 b.2 oi oj ]
+        | inl a ↦ elim (each j y ej oj) [ inl b ↦ a.0 ∙ sym b.0 | inr b ↦ absurd (owner a.1 j y b.0 b.1 b.2 oj) ]
+        | inr a ↦ elim (each j y ej oj) [ inl b ↦ absurd (owner b.1 i x a.0 a.1 a.2 oi) | inr b ↦ once i j x y n a.2 b.2 oi oj ]
       ]
 
   -- of two passes the one that made the later step knows what the word is
@@ -172,16 +173,16 @@ module _ {V E : Type 0} (entries : V → List E) (maker : E → ℕ) (issued_by 
       let d = r.dated in
       let total : steps_of two ≡ steps_of s.views = let a = steps_of-set s.views id v both at in let b = steps_of-set one other w spent at2 in omega arith in
       let in_both : (P : ℕ → View E → Type 0) → P id both → P other spent → ((j : ℕ) (u : View E) → j ≢ id → j ≢ other → At s.views j u → P j u)
-              → (j : ℕ) (u : View E) → At two j u → P j u =
-          λ P here there rest. all_set one other spent P there
-              (λ j u out e. all_set s.views id both (λ k z. k ≢ other → P k z) (λ _. here) (λ k z ne' e' out'. rest k z ne' out' e') j u e out) in
+      → (j : ℕ) (u : View E) → At two j u → P j u =
+      λ P here there rest. all_set one other spent P there
+      (λ j u out e. all_set s.views id both (λ k z. k ≢ other → P k z) (λ _. here) (λ k z ne' e' out'. rest k z ne' out' e') j u e out) in
       let t = later v w (steps_of s.views) (slice_index s.words 0) (d.past id v at) (d.past other w at') (d.now id v at) (d.now other w at') in
       let here : At two id both = set_else one other id spent (λ e. ne (sym e)) ∙ at_changed s.views id v both at in
       let last : (k : ℕ) × (u : View E) × At two k u × (u.moment ≡ steps_of s.views) = dite (ℕ_discrete d.last.0 id)
-          (λ e. (id, both, here, t.2 (ap (λ (u : View E). u.moment) (at_same s.views id v d.last.1 at (subst (λ k. At s.views k d.last.1) e d.last.2)) ∙ d.last.3)))
-          (λ ne'. dite (ℕ_discrete d.last.0 other)
-              (λ e. (id, both, here, t.3 (ap (λ (u : View E). u.moment) (at_same s.views other w d.last.1 at' (subst (λ k. At s.views k d.last.1) e d.last.2)) ∙ d.last.3)))
-              (λ out. (d.last.0, d.last.1, set_else one other d.last.0 spent out ∙ (set_else s.views id d.last.0 both ne' ∙ d.last.2), d.last.3))) in record {
+      (λ e. (id, both, here, t.2 (ap (λ (u : View E). u.moment) (at_same s.views id v d.last.1 at (subst (λ k. At s.views k d.last.1) e d.last.2)) ∙ d.last.3)))
+      (λ ne'. dite (ℕ_discrete d.last.0 other)
+      (λ e. (id, both, here, t.3 (ap (λ (u : View E). u.moment) (at_same s.views other w d.last.1 at' (subst (λ k. At s.views k d.last.1) e d.last.2)) ∙ d.last.3)))
+      (λ out. (d.last.0, d.last.1, set_else one other d.last.0 spent out ∙ (set_else s.views id d.last.0 both ne' ∙ d.last.2), d.last.3))) in record {
         log = r.log;
         lawful = r.lawful;
         issued = r.issued;
@@ -194,18 +195,18 @@ module _ {V E : Type 0} (entries : V → List E) (maker : E → ℕ) (issued_by 
             nobody = in_both (λ _ u. u.holds ≡ false) idle refl (λ j u _ _ e. h.nobody j u e);
           }
           | inr h ↦
-            let free : (k : ℕ) (u : View E) → At s.views k u → u.holds ≡ false → h.holder ≢ k = λ k u e no is.
-                let same = at_same s.views k h.view u (subst (λ z. At s.views z h.view) is h.here) e in
-                let on : u.holds ≡ true = sym (ap (λ (z : View E). z.holds) same) ∙ h.holds in cc in inr record {
-              holder = h.holder;
-              view = h.view;
-              here = set_else one other h.holder spent (free other w at' idle') ∙ (set_else s.views id h.holder both (free id v at idle) ∙ h.here);
-              word = h.word;
-              home = h.home;
-              holds = h.holds;
-              is = h.is;
-              alone = in_both (λ j u. u.holds ≡ true → j ≡ h.holder) (λ on. absurd (cc)) (λ on. absurd (cc)) (λ j u _ _ e. h.alone j u e);
-            }
+              let free : (k : ℕ) (u : View E) → At s.views k u → u.holds ≡ false → h.holder ≢ k = λ k u e no is.
+              let same = at_same s.views k h.view u (subst (λ z. At s.views z h.view) is h.here) e in
+              let on : u.holds ≡ true = sym (ap (λ (z : View E). z.holds) same) ∙ h.holds in cc in inr record {
+                holder = h.holder;
+                view = h.view;
+                here = set_else one other h.holder spent (free other w at' idle') ∙ (set_else s.views id h.holder both (free id v at idle) ∙ h.here);
+                word = h.word;
+                home = h.home;
+                holds = h.holds;
+                is = h.is;
+                alone = in_both (λ j u. u.holds ≡ true → j ≡ h.holder) (λ on. absurd (cc)) (λ on. absurd (cc)) (λ j u _ _ e. h.alone j u e);
+              }
         ];
         each = in_both (λ _ u. Fit r.log u) (fits_joined r.log v w (λ n c c'. ne (r.owned_once other id w v n at' at (inl c') (inl c))) f g)
             (fits_spent maker issued_by grows r.log) (λ j u _ _ e. r.each j u e);
@@ -234,3 +235,19 @@ module _ {V E : Type 0} (entries : V → List E) (maker : E → ℕ) (issued_by 
         subst Rule (λ i. record { words = sym word i; homes = s.homes; views = sym views i }) r,
         (refl, f.agree, f.apart),
       )
+
+  -- what holds of a pass still does after another has left into it
+  pub pass_joined : (m o : Mine V E) (number : ℕ) → rule.Agree maker (sight m.0) (sight o.0) → IsPass issued_by is_legal m number → is_legal o.0.seen
+      → All (λ n. n < issued_by o.0.seen) o.0.numbers → IsPass issued_by is_legal (joined m.0 o.0, m.1) number
+  pass_joined m o number agree p lawful issued =
+      let xs = m.0.seen in
+      let ys = o.0.seen in
+      let to = agreed maker m.0.numbers o.0.numbers xs ys agree in
+      let P = λ (n : ℕ). n < issued_by (longer xs ys) in record {
+        number_is = p.number_is;
+        own = Contains-append_left m.0.numbers o.0.numbers number p.own;
+        issued = All-append P m.0.numbers o.0.numbers (below_more maker issued_by grows m.0.numbers xs _ (grown maker issued_by grows xs _ to.0.more to.0.is) p.issued)
+            (below_more maker issued_by grows o.0.numbers ys _ (grown maker issued_by grows ys _ to.1.more to.1.is) issued);
+        lawful = elim (longer_is xs ys) [ inl e ↦ subst is_legal (sym e.0) p.lawful | inr e ↦ subst is_legal (sym e.0) lawful ];
+        hand = p.hand;
+      }

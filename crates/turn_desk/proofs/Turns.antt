@@ -6,7 +6,7 @@ use mathlib.Core.Option as maybe
 use lib.ListN.{get_elem?}
 use prog.Atomic.{either}
 use Rattle.std.proofs.lemmas.List.Elements.{All-append, All-weaker, All-contains}
-use Rattle.atomic_table.specs.Table.{State, Act, keeps, takes, gives, Valid, carried_after, step, Allows, stepped, opening, Final, Seen}
+use Rattle.atomic_table.specs.Table.{State, Act, rest, keeps, takes, gives, Valid, carried_after, step, Allows, stepped, opening, Final, Seen}
 use Rattle.atomic_table.proofs.Lists.{set_else}
 use Rattle.turn_desk.specs.declared.rule.View.{View}
 use Rattle.turn_desk.specs.Journal.{GoesOn, AddsOwn}
@@ -27,6 +27,10 @@ module _ {V : Type 0} where
   abbrev value_or : V → Option V → V
   value_or d (Some v) = v
   value_or d None = d
+
+  -- the slot taken last, and the others
+  pub in_front : (hs others : List (ℕ × Option V)) (x : ℕ × Option V) → hs ≡ x ∷ others → hs ≡ x ∷ rest hs
+  in_front hs others x e = e ∙ ap (λ (t : List (ℕ × Option V)). x ∷ t) (sym (ap rest e))
 
   -- the value in hand
   abbrev in_hand : V → List (ℕ × Option V) → V
@@ -54,7 +58,7 @@ module _ {V E : Type 0} (entries : V → List E) (maker : E → ℕ) (issued_by 
       let log = entries value in
       let v = first_view log in
       let alone : (P : ℕ → View E → Type 0) → P 0 v → (j : ℕ) (u : View E) → At (v ∷ []) j u → P j u =
-          λ P here j u e. let t = at_only v u j e in subst (λ (z : ℕ × View E). P z.0 z.1) (λ i. (sym t.0 i, t.1 i)) here in record {
+      λ P here j u e. let t = at_only v u j e in subst (λ (z : ℕ × View E). P z.0 z.1) (λ i. (sym t.0 i, t.1 i)) here in record {
         log = log;
         lawful = lawful;
         issued = All-weaker (λ e. maker e ≡ 0) (λ e. maker e < issued_by log) (λ e h. omega arith) log made;
@@ -126,7 +130,7 @@ module _ {V E : Type 0} (entries : V → List E) (maker : E → ℕ) (issued_by 
       let moment = steps_of s.views + 1 in
       let w = lost moment me.0 in
       let other : t.holder ≢ id = λ e. let same = at_same s.views id t.view me.0 (subst (λ k. At s.views k t.view) e t.here) at in
-              let yes = t.holds in let h : me.0.holds ≡ true = sym (ap (λ (u : View E). u.holds) same) ∙ yes in cc in (
+      let yes = t.holds in let h : me.0.holds ≡ true = sym (ap (λ (u : View E). u.holds) same) ∙ yes in cc in (
         w,
         keeps,
         tt,
@@ -155,7 +159,7 @@ module _ {V E : Type 0} (entries : V → List E) (maker : E → ℕ) (issued_by 
       → Allows Rule slots id me 0 (λ x. either (eqb x 0) 1 x) (steps.took entries maker issued_by is_legal (step slots 0 0 1 none) me)
   taking slots id me idle s r _ at _ =
       let P : List ℕ → Type 0 = Can s id me (λ x. either (eqb x 0) 1 x) (steps.took entries maker issued_by is_legal (step slots 0 0 1 none) me) in
-      elim r.turn [ | inl f ↦ subst P (sym f.word) (win s r f slots id me at) | inr t ↦ subst P (sym t.word) (lose s r t slots id me at idle) ]
+      elim r.turn [ inl f ↦ subst P (sym f.word) (win s r f slots id me at) | inr t ↦ subst P (sym t.word) (lose s r t slots id me at idle) ]
 
   -- The journal grows by entries of a number that a pass owns alone: each other pass still fits it
   fits_grown : (log log' : List E) (number : ℕ) (v : View E) → (Owns v number → ⊥) → AddsOwn maker number log log' → Fit log v → Fit log' v
@@ -221,7 +225,7 @@ module _ {V E : Type 0} (entries : V → List E) (maker : E → ℕ) (issued_by 
       let all = all_grown r.log log' number (omega arith) a r.issued in
       let word : set s.words 0 0 ≡ 0 ∷ [] = ap (λ (ws : List ℕ). set ws 0 0) t.word in
       let put = λ (hs : List (maybe.Option (Option V))). set hs 0 (some (Some value)) in
-      let home : put s.homes ≡ some (Some value) ∷ [] = elim t.home [ | inl e ↦ ap put e.1 | inr e ↦ ap put e.1 ] in
+      let home : put s.homes ≡ some (Some value) ∷ [] = elim t.home [ inl e ↦ ap put e.1 | inr e ↦ ap put e.1 ] in
       subst (λ ws. Rule record { words = ws; homes = put s.homes; views = set s.views id w }) (sym word) record {
         log = log';
         lawful = lawful;
@@ -256,7 +260,7 @@ module _ {V E : Type 0} (entries : V → List E) (maker : E → ℕ) (issued_by 
       let v = me.0 in
       let moment = steps_of s.views + 1 in
       let P : List (ℕ × Option V) → Type 0 = λ hs. (w : View E) × (a : Act (Option V)) × Valid s.homes hs a × Rule (stepped s 0 0 id hs w a)
-              × steps.gave entries maker issued_by is_legal (step slots 0 0 0 none) (v, hs) 0 (w, carried_after hs a) in
+      × steps.gave entries maker issued_by is_legal (step slots 0 0 0 none) (v, hs) 0 (w, carried_after hs a) in
       subst P (sym hand) (
         given issued_by moment (entries value) v,
         gives,
@@ -264,6 +268,15 @@ module _ {V E : Type 0} (entries : V → List E) (maker : E → ℕ) (issued_by 
         give s r id number v value at on own adds lawful,
         λ other e. (moment, λ i. (given issued_by moment (entries (in_hand value (e i))) v, [])),
       )
+
+  -- the same with what is known after the value was put into the slot
+  pub giving_after : (slots id : ℕ) (m m' : Mine V E) (number : ℕ) (value : V) → m' ≡ (m.0, (0, Some value) ∷ rest m.1) → m.1 ≡ (0, None) ∷ [] → m.0.holds ≡ true
+      → Contains m.0.numbers number → AddsOwn maker number m.0.seen (entries value) → is_legal (entries value)
+      → Allows Rule slots id m' 0 (λ _. 0) (λ _. steps.gave entries maker issued_by is_legal (step slots 0 0 0 none) m' 0)
+  giving_after slots id m m' number value is hand on own adds lawful =
+      let now : m' ≡ (m.0, (0, Some value) ∷ []) = is ∙ ap (λ (hs : List (ℕ × Option V)). (m.0, (0, Some value) ∷ rest hs)) hand in
+      subst (λ z. Allows Rule slots id z 0 (λ _. 0) (λ _. steps.gave entries maker issued_by is_legal (step slots 0 0 0 none) z 0)) (sym now)
+      (giving slots id (m.0, (0, Some value) ∷ []) number value refl on own adds lawful)
 
   close : (s : State (Option V) (View E)) (r : Rule s) (id : ℕ) (v : View E) → At s.views id v → v.holds ≡ true
       → Rule record { words = set s.words 0 1; homes = set s.homes 0 (some None); views = set s.views id (closing (steps_of s.views + 1) v) }
@@ -273,7 +286,7 @@ module _ {V E : Type 0} (entries : V → List E) (maker : E → ℕ) (issued_by 
       let w = closing (steps_of s.views + 1) v in
       let word : set s.words 0 1 ≡ 1 ∷ [] = ap (λ (ws : List ℕ). set ws 0 1) t.word in
       let put = λ (hs : List (maybe.Option (Option V))). set hs 0 (some None) in
-      let home : put s.homes ≡ some None ∷ [] = elim t.home [ | inl e ↦ ap put e.1 | inr e ↦ ap put e.1 ] in
+      let home : put s.homes ≡ some None ∷ [] = elim t.home [ inl e ↦ ap put e.1 | inr e ↦ ap put e.1 ] in
       subst (λ ws. Rule record { words = ws; homes = put s.homes; views = set s.views id w }) (sym word) record {
         log = r.log;
         lawful = r.lawful;
@@ -299,7 +312,7 @@ module _ {V E : Type 0} (entries : V → List E) (maker : E → ℕ) (issued_by 
       let v = me.0 in
       let moment = steps_of s.views + 1 in
       let P : List (ℕ × Option V) → Type 0 = λ hs. (w : View E) × (a : Act (Option V)) × Valid s.homes hs a × Rule (stepped s 0 1 id hs w a)
-              × steps.shut entries maker issued_by is_legal (step slots 0 1 0 none) (v, hs) 1 (w, carried_after hs a) in
+      × steps.shut entries maker issued_by is_legal (step slots 0 1 0 none) (v, hs) 1 (w, carried_after hs a) in
       subst P (sym hand) (closing moment v, gives, tt, close s r id v at on, λ _. (moment, refl))
 
   -- once a pass has closed the desk, the slot that comes back is empty
@@ -310,5 +323,5 @@ module _ {V E : Type 0} (entries : V → List E) (maker : E → ℕ) (issued_by 
       let r = f.1.0 in
       let h = held s r id v f.1.1 on in
       let same : h.0.view.closes ≡ true = ap (λ (u : View E). u.closes) h.2 ∙ closes in
-      let home : s.homes ≡ some None ∷ [] = elim h.0.home [ | inl e ↦ absurd (let no = e.0 in cc) | inr e ↦ e.1 ] in
+      let home : s.homes ≡ some None ∷ [] = elim h.0.home [ inl e ↦ absurd (let no = e.0 in cc) | inr e ↦ e.1 ] in
       f.4 0 None (ap (λ (hs : List (maybe.Option (Option V))). get_elem? hs 0) home)

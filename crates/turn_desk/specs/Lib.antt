@@ -3,3 +3,5 @@ pub mod Known
 pub mod Views
 pub mod Rule
 pub mod Steps
+pub mod Seats
+pub mod Turn

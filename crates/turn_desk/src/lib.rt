@@ -2,8 +2,15 @@
 //! meanwhile: what a pass finds begins with what it had seen, and no entry of the rest is its own.
 #![tactic(auto)]
 
+mod desk;
 mod kept;
+mod pass;
 mod plays;
 mod rule;
+mod steps;
+mod turn;
 
+pub use desk::{Busy, Desk, Full};
 pub use kept::Kept;
+pub use pass::Pass;
+pub use turn::Turn;
