@@ -4,3 +4,5 @@ pub mod Fitting
 pub mod Turns
 pub mod Passing
 pub mod Waiting
+pub mod Drawing
+pub mod Passes

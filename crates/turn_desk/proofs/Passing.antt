@@ -1,15 +1,15 @@
 -- The steps that make passes and join them keep the rule.
-use Rattle.std.proofs.Common.{◌≡◌, ◌≢◌, ◌⊎◌, ℕ, ◌+◌, ◌-◌, ◌<◌, ◌≤◌, Bool, true, false, List, [], ◌∷◌, ◌++◌, length, set, get_or, sym, ap, ◌∙◌, subst, refl, inl, inr, arith}
-use Rattle.std.specs.Prelude.{All, Contains, Option, Some, None, slice_index, nat_lt, if◌then◌else◌}
+use Rattle.std.proofs.Common.{◌≡◌, ◌≢◌, ◌⊎◌, ℕ, ◌<◌, ◌≤◌, Bool, true, false, List, [], ◌∷◌, ◌++◌, length, set, get_or, sym, ap, ◌∙◌, subst, refl, inl, inr, arith}
+use Rattle.std.specs.Prelude.{All, Contains, Option, None, slice_index, nat_lt, if◌then◌else◌}
 use mathlib.Core.Option.{some, none}
 use Rattle.std.proofs.lemmas.Bool.Decides.{nat_tests}
 use mathlib.Core.Logic.{dite}
 use native.Mathlib.Decide.{ℕ_discrete}
-use Rattle.std.proofs.lemmas.List.Elements.{All-append, All-weaker, All-contains, Contains-append_cases, Contains-append_left}
+use Rattle.std.proofs.lemmas.List.Elements.{All-append, All-weaker, Contains-append_cases, Contains-append_left}
 use Rattle.atomic_table.specs.Table.{State, keeps, step, Allows, Splits, Joins}
 use Rattle.atomic_table.proofs.Lists.{set_else, set_again, at_longer}
 use Rattle.turn_desk.specs.declared.rule.View.{View}
-use Rattle.turn_desk.specs.Journal.{IsOthers, GoesOn}
+use Rattle.turn_desk.specs.Journal.{IsOthers}
 use Rattle.turn_desk.specs.Views.{one_fewer, newcomer, joined, spent, sight, longer}
 use Rattle.turn_desk.specs.Rule as rule
 use Rattle.turn_desk.specs.Rule.{At, IsDrawn, Owns, OwnedOnce, steps_of, Dated, Taken, Free}

@@ -1,5 +1,5 @@
 -- The steps that take the turn and give it back keep the rule.
-use Rattle.std.proofs.Common.{◌≡◌, ◌≢◌, ◌⊎◌, ℕ, ◌+◌, ◌-◌, ◌<◌, ◌≤◌, Bool, true, false, eqb, List, [], ◌∷◌, ◌++◌, length, set, sym, ap, ◌∙◌, subst, refl, inl, inr, append-nil, arith}
+use Rattle.std.proofs.Common.{◌≡◌, ◌≢◌, ℕ, ◌+◌, ◌<◌, ◌≤◌, Bool, true, false, eqb, List, [], ◌∷◌, ◌++◌, set, sym, ap, ◌∙◌, subst, refl, inl, inr, arith}
 use Rattle.std.specs.Prelude.{All, Contains, Option, Some, None, slice_index}
 use mathlib.Core.Option.{some, none}
 use mathlib.Core.Option as maybe
@@ -17,7 +17,7 @@ use Rattle.turn_desk.specs.Steps as steps
 use Rattle.turn_desk.specs.Steps.{Mine}
 use Rattle.turn_desk.proofs.Lookups.{at_same, at_changed, at_only, all_set}
 use Rattle.turn_desk.proofs.Growing.{goes_nowhere, goes_on-adds}
-use Rattle.turn_desk.proofs.Fitting.{all_of, dated_step, owned_less, owned_new, grown, below_more, fits_moved, fits_won, fits_fresh}
+use Rattle.turn_desk.proofs.Fitting.{dated_step, owned_less, owned_new, grown, below_more, fits_moved, fits_won, fits_fresh}
 
 not_true : (b : Bool) → (b ≡ true → ⊥) → b ≡ false
 not_true true h = absurd (h refl)

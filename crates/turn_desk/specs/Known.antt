@@ -1,7 +1,7 @@
 -- What contracts see of a pass, and how the calls of a desk change it.
-use Rattle.std.specs.Prelude.{◌≡◌, ◌⊎◌, ℕ, ◌+◌, ◌-◌, ◌<◌, ◌≤◌, zero, suc, Bool, true, false, List, [], ◌∷◌, ◌++◌, length, Contains}
+use Rattle.std.specs.Prelude.{◌≡◌, ◌⊎◌, ℕ, ◌+◌, zero, suc, Bool, true, false, List, [], ◌∷◌, ◌++◌, Contains}
 use Rattle.atomic_table.specs.Seated.{TableId}
-use Rattle.turn_desk.specs.Journal.{GoesOn, AddsOwn, Calls}
+use Rattle.turn_desk.specs.Journal.{GoesOn}
 use Rattle.turn_desk.specs.Views.{longer}
 
 pub record Known (E : Type 0) : Type 0 where

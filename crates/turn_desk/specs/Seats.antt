@@ -14,20 +14,23 @@ IsSmall id = (id.words ≡ 1) × (id.slots ≡ 1)
 abbrev pub hand_of : {V : Type 0} → Bool → List (ℕ × Option V)
 hand_of holds = if holds then (0, None) ∷ [] else []
 
-module _ {V E : Type 0} where
-  -- what contracts see of a seat
-  abbrev pub known : Seat (Option V) (View E) → Known E
-  known s = record {
-    desk = s.table_id;
-    number = s.me.0.number;
-    numbers = s.me.0.numbers;
-    seen = s.me.0.seen;
-    holds = s.me.0.holds;
-    tries = s.me.0.tries;
-    found = s.me.0.found;
-    steps = s.me.0.steps;
-    word = s.me.0.word;
-  }
+-- what contracts see of a view at a table
+abbrev pub known_of : {E : Type 0} → TableId → View E → Known E
+known_of desk v = record {
+  desk = desk;
+  number = v.number;
+  numbers = v.numbers;
+  seen = v.seen;
+  holds = v.holds;
+  tries = v.tries;
+  found = v.found;
+  steps = v.steps;
+  word = v.word;
+}
+
+-- what contracts see of a seat
+abbrev pub known : {V E : Type 0} → Seat (Option V) (View E) → Known E
+known s = known_of s.table_id s.me.0
 
 module _ {V E : Type 0} (issued_by : List E → ℕ) (is_legal : List E → Type 0) where
   -- What holds of a pass between two calls: its number is one of its numbers, each of which is issued in what

@@ -1,5 +1,5 @@
 -- How each step changes what a pass knows.
-use Rattle.std.specs.Prelude.{ℕ, ◌+◌, ◌-◌, Bool, true, false, List, [], ◌∷◌, ◌++◌, length, nat_lt, if◌then◌else◌}
+use Rattle.std.specs.Prelude.{ℕ, ◌+◌, ◌-◌, true, false, List, [], ◌∷◌, ◌++◌, length, nat_lt, if◌then◌else◌}
 use Rattle.turn_desk.specs.declared.rule.Sight.{Sight}
 use Rattle.turn_desk.specs.declared.rule.View.{View}
 
@@ -63,6 +63,10 @@ module _ {E : Type 0} where
   -- the turn is kept for ever from this moment on
   abbrev pub closing : ℕ → View E → View E
   closing moment v = record v { closes = true; steps = v.steps + 1; moment = moment; word = 1 }
+
+  -- other numbers are drawn and given to no pass yet
+  abbrev pub with_drawn : ℕ → ℕ → View E → View E
+  with_drawn drawn left v = record v { drawn = drawn; left = left }
 
   -- the least drawn number goes to another pass
   abbrev pub one_fewer : View E → View E

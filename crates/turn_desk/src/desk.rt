@@ -1,12 +1,14 @@
 ghost use Rattle.std.specs.Prelude.{◌≡◌, ℕ, ◌+◌, true, false, All, IfOk, OnErr};
+ghost use Rattle.turn_desk.specs.Entering.{EntersAll, EntersNone, EntersSome};
 ghost use Rattle.turn_desk.specs.Journal.{GoesOn, AddsOwn};
 ghost use Rattle.turn_desk.specs.Known.{IsSamePass, AgreeOn, HaveNoCommonNumber, new_pass, with_turn, refused, without_turn, with_other};
 
+use crate::drawn::draw_all;
 use crate::rule::{Law, View};
 use crate::steps::{give_back, join_one, shut_down, try_turn};
 use crate::{Kept, Pass, Turn};
 use atomic_table::Table;
-use rail_model::OutOfMemory;
+use rail_model::{List, OutOfMemory};
 use std::alloc::Global;
 use std::marker::Model;
 use std::snapshot::Snapshot;
@@ -100,6 +102,36 @@ impl<V: Kept> Desk<V> {
             self.table.shared.park(rt, 0, 1);
         }
         unreachable!()
+    }
+
+    /// Draws `count` numbers in one turn, one after the other, and gives a new pass for each, in the order of
+    /// the numbers. `Full` comes where so many numbers are not left; no entry is then made. After want of
+    /// memory some of the entries may stand in the journal, and no pass has their numbers.
+    pub fn enter<R: Wait>(
+        &self,
+        rt: &R,
+        alloc: Global,
+        pass: &mut Pass<V>,
+        count: u32,
+    ) -> Result<Result<List<Pass<V>>, Full>, OutOfMemory>
+        requires desk { pass.old.desk ≡ self.now }
+        requires idle { pass.old.holds ≡ false }
+        ensures pass { IsSamePass pass.old pass.new }
+        ensures idle { pass.new.holds ≡ false }
+        ensures ok { IfOk result (λ r. IfOk r (λ passes. EntersAll V.maker V.issued_by pass.old pass.new count passes)) }
+        ensures full { IfOk result (λ r. OnErr r (EntersNone V.maker V.issued_by pass.old pass.new count)) }
+        ensures err { OnErr result (EntersSome V.maker V.issued_by pass.old pass.new count) }
+    {
+        let turn = self.take(rt, pass);
+        let first = turn.value().issued();
+        if count > u32::MAX - first {
+            self.give(pass, turn);
+            return Ok(Err(Full));
+        }
+        let value = turn.into_value();
+        let shared = &self.table.shared;
+        let number = pass.number;
+        Ok(Ok(draw_all(alloc, shared, &mut pass.seat, number, value, count)?))
     }
 
     /// Takes another pass in: what either has seen is then seen by one, which has the numbers of both.

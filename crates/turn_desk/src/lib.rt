@@ -3,6 +3,7 @@
 #![tactic(auto)]
 
 mod desk;
+mod drawn;
 mod kept;
 mod pass;
 mod plays;

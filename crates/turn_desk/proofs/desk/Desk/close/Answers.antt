@@ -1,4 +1,4 @@
-use Rattle.std.proofs.Common.{◌≡◌, true, sym, ap, ◌∙◌}
+use Rattle.std.proofs.Common.{sym, ap, ◌∙◌}
 use mathlib.Core.Option.{some-injective}
 use Rattle.turn_desk.specs.Known.{Known}
 use Rattle.turn_desk.specs.Steps.{Mine}

@@ -1,0 +1,73 @@
+-- Entries and passes that are made one after the other.
+use Rattle.std.proofs.Common.{◌≡◌, ℕ, zero, suc, ◌+◌, ◌≤◌, List, [], ◌∷◌, ◌++◌, sym, ap, ◌∙◌, subst, append_assoc, append-nil, length-append, arith}
+use Rattle.std.specs.Prelude.{Option, All, Result, Ok, Err, OnErr}
+use Rattle.std.proofs.lemmas.List.Elements.{All-nil, All-push}
+use Rattle.atomic_table.specs.Seated.{TableId}
+use Rattle.atomic_table.specs.declared.shared.Seat.{Seat}
+use Rattle.turn_desk.specs.declared.rule.View.{View}
+use Rattle.turn_desk.specs.Entering.{Issues, EntersSome}
+use Rattle.turn_desk.specs.Journal.{GoesOn}
+use Rattle.turn_desk.specs.Known.{Known, IsSamePass, new_pass, new_passes}
+use Rattle.turn_desk.specs.Seats.{known, known_of}
+use Rattle.turn_desk.specs.Views.{newcomer}
+
+module _ {E : Type 0} (maker : E → ℕ) (issued_by : List E → ℕ) where
+  pub issues_none : (number : ℕ) (xs : List E) → Issues maker issued_by number 0 xs xs
+  issues_none number xs = record {
+    adds_own = record { own = []; is = sym (append-nil xs); made = All-nil (λ e. maker e ≡ number) };
+    many = omega arith;
+    issued = omega arith;
+  }
+
+  pub issues_more : (number count : ℕ) (xs ys zs : List E) (e : E) → Issues maker issued_by number count xs ys → zs ≡ ys ++ e ∷ [] → maker e ≡ number
+      → issued_by zs ≡ issued_by ys + 1 → Issues maker issued_by number (count + 1) xs zs
+  issues_more number count xs ys zs e i is made more =
+      let a = i.adds_own in
+      let many = i.many in
+      let before = i.issued in record {
+        adds_own = record {
+          own = a.own ++ e ∷ [];
+          is = is ∙ (ap (λ l. l ++ e ∷ []) a.is ∙ append_assoc xs a.own (e ∷ []));
+          made = All-push (λ e. maker e ≡ number) a.own e a.made made;
+        };
+        many = omega (arith, length-append a.own (e ∷ []));
+        issued = omega arith;
+      }
+
+  -- what a pass that drew some numbers tells of the pass that took the turn
+  pub enters_some : (old mid taken new : Known E) (log : List E) (count : ℕ) → IsSamePass old mid → GoesOn maker old.numbers old.seen log → mid.seen ≡ log → taken ≡ mid
+      → ((made : ℕ) × (made ≤ count) × Issues maker issued_by taken.number made taken.seen new.seen) → EntersSome maker issued_by old new count
+  enters_some old mid taken new log count same goes seen is drew =
+      let a = drew.2.adds_own in
+      let many = drew.2.many in
+      let le = drew.1 in
+      let number : taken.number ≡ old.number = ap (λ (k : Known E). k.number) is ∙ same.number in
+      let found : log ≡ taken.seen = sym (ap (λ (k : Known E). k.seen) is ∙ seen) in record {
+        call = record {
+          found = taken.seen;
+          goes_on = subst (λ xs. GoesOn maker old.numbers old.seen xs) found goes;
+          adds_own = record { own = a.own; is = a.is; made = subst (λ n. All (λ e. maker e ≡ n) a.own) number a.made };
+        };
+        few = omega arith;
+      }
+
+-- a fact that holds anyway
+pub on_err : {T E P : Type 0} (r : Result T E) → P → OnErr r P
+on_err (Ok x) h = tt
+on_err (Err e) h = h
+
+module _ {E : Type 0} where
+  pub new_passes-push : (desk : TableId) (seen : List E) (first count : ℕ)
+      → new_passes desk seen first count ++ new_pass desk (first + count) seen ∷ [] ≡ new_passes desk seen first (count + 1)
+  new_passes-push desk seen first zero =
+      let e : first + 0 ≡ first = omega arith in λ i. new_pass desk (e i) seen ∷ []
+  new_passes-push desk seen first (suc count) =
+      let e : first + suc count ≡ first + 1 + count = omega arith in
+      let last : new_passes desk seen first (suc count) ++ new_pass desk (first + suc count) seen ∷ [] ≡ new_passes desk seen first (suc count) ++ new_pass desk (first + 1 + count) seen ∷ [] =
+      λ i. new_passes desk seen first (suc count) ++ new_pass desk (e i) seen ∷ [] in
+      let s : suc count + 1 ≡ suc (count + 1) = omega arith in
+      last ∙ (ap (λ l. new_pass desk first seen ∷ l) (new_passes-push desk seen (first + 1) count) ∙ ap (λ n. new_passes desk seen first n) (sym s))
+
+  pub known_newcomer : {V : Type 0} (s : Seat (Option V) (View E)) (desk : TableId) (v : View E) (number : ℕ) (seen : List E)
+      → s.table_id ≡ desk → s.me ≡ (newcomer v, []) → v.drawn ≡ number → v.seen ≡ seen → known s ≡ new_pass desk number seen
+  known_newcomer s desk v number seen at me drawn same = (λ i. known_of (at i) (me i).0) ∙ (λ i. new_pass desk (drawn i) (same i))
