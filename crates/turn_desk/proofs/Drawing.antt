@@ -1,12 +1,12 @@
 -- Entries and passes that are made one after the other.
-use Rattle.std.proofs.Common.{◌≡◌, ℕ, zero, suc, ◌+◌, ◌≤◌, List, [], ◌∷◌, ◌++◌, sym, ap, ◌∙◌, subst, append_assoc, append-nil, length-append, arith}
+use Rattle.std.proofs.Common.{◌≡◌, ℕ, zero, suc, ◌+◌, ◌^◌, ◌<◌, ◌≤◌, List, [], ◌∷◌, ◌++◌, sym, ap, ◌∙◌, subst, append_assoc, append-nil, length-append, arith}
 use Rattle.std.specs.Prelude.{Option, All, Result, Ok, Err, OnErr}
 use Rattle.std.proofs.lemmas.List.Elements.{All-nil, All-push}
 use Rattle.atomic_table.specs.Seated.{TableId}
 use Rattle.atomic_table.specs.declared.shared.Seat.{Seat}
 use Rattle.turn_desk.specs.declared.rule.View.{View}
-use Rattle.turn_desk.specs.Entering.{Issues, EntersSome}
-use Rattle.turn_desk.specs.Journal.{GoesOn}
+use Rattle.turn_desk.specs.Entering.{Issues, EntersSome, EntersAll}
+use Rattle.turn_desk.specs.Journal.{GoesOn, AddsOwn, Calls}
 use Rattle.turn_desk.specs.Known.{Known, IsSamePass, new_pass, new_passes}
 use Rattle.turn_desk.specs.Seats.{known, known_of}
 use Rattle.turn_desk.specs.Views.{newcomer}
@@ -34,22 +34,29 @@ module _ {E : Type 0} (maker : E → ℕ) (issued_by : List E → ℕ) where
         issued = omega arith;
       }
 
-  -- what a pass that drew some numbers tells of the pass that took the turn
-  pub enters_some : (old mid taken new : Known E) (log : List E) (count : ℕ) → IsSamePass old mid → GoesOn maker old.numbers old.seen log → mid.seen ≡ log → taken ≡ mid
-      → ((made : ℕ) × (made ≤ count) × Issues maker issued_by taken.number made taken.seen new.seen) → EntersSome maker issued_by old new count
-  enters_some old mid taken new log count same goes seen is drew =
-      let a = drew.2.adds_own in
-      let many = drew.2.many in
-      let le = drew.1 in
-      let number : taken.number ≡ old.number = ap (λ (k : Known E). k.number) is ∙ same.number in
-      let found : log ≡ taken.seen = sym (ap (λ (k : Known E). k.seen) is ∙ seen) in record {
-        call = record {
-          found = taken.seen;
-          goes_on = subst (λ xs. GoesOn maker old.numbers old.seen xs) found goes;
-          adds_own = record { own = a.own; is = a.is; made = subst (λ n. All (λ e. maker e ≡ n) a.own) number a.made };
-        };
-        few = omega arith;
-      }
+  -- the call of a pass that took the turn and drew numbers in it
+  module _ (old mid taken new : Known E) (log : List E) (same : IsSamePass old mid) (goes : GoesOn maker old.numbers old.seen log) (seen : mid.seen ≡ log) (is : taken ≡ mid) where
+    abbrev call_of : AddsOwn maker taken.number taken.seen new.seen → Calls maker old.number old.numbers old.seen new.seen
+    call_of a = record {
+      found = taken.seen;
+      goes_on = subst (λ xs. GoesOn maker old.numbers old.seen xs) (sym (ap (λ (k : Known E). k.seen) is ∙ seen)) goes;
+      adds_own = record { own = a.own; is = a.is; made = subst (λ n. All (λ e. maker e ≡ n) a.own) (ap (λ (k : Known E). k.number) is ∙ same.number) a.made };
+    }
+
+    pub enters_some : (count : ℕ) → ((made : ℕ) × (made ≤ count) × Issues maker issued_by taken.number made taken.seen new.seen) → EntersSome maker issued_by old new count
+    enters_some count drew = let many = drew.2.many in let le = drew.1 in record { call = call_of drew.2.adds_own; few = omega arith }
+
+    pub enters_all : (count : ℕ) (given : List (Known E)) → issued_by log + count < 2 ^ 32
+        → Issues maker issued_by taken.number count taken.seen new.seen × (given ≡ new_passes taken.desk new.seen (issued_by taken.seen) count) → EntersAll maker issued_by old new count given
+    enters_all count given room drew =
+        let found : issued_by taken.seen ≡ issued_by log = ap issued_by (ap (λ (k : Known E). k.seen) is ∙ seen) in
+        let desk : taken.desk ≡ old.desk = ap (λ (k : Known E). k.desk) is ∙ same.desk in record {
+          call = call_of drew.0.adds_own;
+          room = omega arith;
+          many = drew.0.many;
+          issued = drew.0.issued;
+          passes = drew.1 ∙ ap (λ d. new_passes d new.seen (issued_by taken.seen) count) desk;
+        }
 
 -- a fact that holds anyway
 pub on_err : {T E P : Type 0} (r : Result T E) → P → OnErr r P

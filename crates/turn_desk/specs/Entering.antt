@@ -5,7 +5,7 @@ use Rattle.turn_desk.specs.Journal.{GoesOn, AddsOwn, Calls}
 use Rattle.turn_desk.specs.Known.{Known, new_passes}
 
 module _ {E : Type 0} (maker : E → ℕ) (issued_by : List E → ℕ) where
-  -- this many entries were made, and each issued one number more
+  -- so many entries were made, and each issued one number more
   pub record Issues (number count : ℕ) (found after : List E) : Type 0 where
     pub adds_own : AddsOwn maker number found after
     pub many : length adds_own.own ≡ count
@@ -17,21 +17,21 @@ module _ {E : Type 0} (maker : E → ℕ) (issued_by : List E → ℕ) where
       (λ given. Issues old.number count old.seen new.seen × (given ≡ new_passes old.desk new.seen (issued_by old.seen) count))
       (λ _. (made : ℕ) × (made ≤ count) × Issues old.number made old.seen new.seen)
 
-  -- The call found a journal that goes on by entries of others and leaves numbers enough. It made this many
-  -- entries, and gives a new pass for each number issued by them, in order
+  -- The call made so many entries, for which numbers enough were left. It gives a new pass for each number
+  -- that they issued, in order
   pub record EntersAll (old new : Known E) (count : ℕ) (given : List (Known E)) : Type 0 where
-    pub found : List E
-    pub goes_on : GoesOn maker old.numbers old.seen found
-    pub room : issued_by found + count < 2 ^ 32
-    pub issues : Issues old.number count found new.seen
-    pub passes : given ≡ new_passes old.desk new.seen (issued_by found) count
+    pub call : Calls maker old.number old.numbers old.seen new.seen
+    pub room : issued_by call.found + count < 2 ^ 32
+    pub many : length call.adds_own.own ≡ count
+    pub issued : issued_by new.seen ≡ issued_by call.found + count
+    pub passes : given ≡ new_passes old.desk new.seen (issued_by call.found) count
 
-  -- the call found a journal that goes on by entries of others and leaves too few numbers, and made no entry
+  -- the call found too few numbers left, and made no entry
   pub record EntersNone (old new : Known E) (count : ℕ) : Type 0 where
     pub goes_on : GoesOn maker old.numbers old.seen new.seen
     pub full : 2 ^ 32 ≤ issued_by new.seen + count
 
-  -- the call made no more than this many entries
+  -- the call made no more than so many entries
   pub record EntersSome (old new : Known E) (count : ℕ) : Type 0 where
     pub call : Calls maker old.number old.numbers old.seen new.seen
     pub few : length call.adds_own.own ≤ count

@@ -6,3 +6,4 @@ pub mod Steps
 pub mod Seats
 pub mod Turn
 pub mod Entering
+pub mod Laws

@@ -2,9 +2,11 @@
 //! meanwhile: what a pass finds begins with what it had seen, and no entry of the rest is its own.
 #![tactic(auto)]
 
+mod crossing;
 mod desk;
 mod drawn;
 mod kept;
+mod laws;
 mod pass;
 mod plays;
 mod rule;
@@ -13,5 +15,8 @@ mod turn;
 
 pub use desk::{Busy, Desk, Full};
 pub use kept::Kept;
+pub use laws::{
+    all_is_seen_once_all_have_left, calls_keep_own_entries, leaving_keeps_own_entries,
+};
 pub use pass::Pass;
 pub use turn::Turn;
