@@ -1,7 +1,7 @@
 -- Entries and passes that are made one after the other.
-use Rattle.std.proofs.Common.{◌≡◌, ℕ, zero, suc, ◌+◌, ◌^◌, ◌<◌, ◌≤◌, List, [], ◌∷◌, ◌++◌, sym, ap, ◌∙◌, subst, append_assoc, append-nil, length-append, arith}
+use Rattle.std.proofs.Common.{◌≡◌, ℕ, zero, suc, ◌+◌, ◌^◌, ◌<◌, ◌≤◌, List, [], ◌∷◌, ◌++◌, length, sym, refl, ap, ◌∙◌, subst, append_assoc, append-nil, length-append, arith}
 use Rattle.std.specs.Prelude.{Option, All, Result, Ok, Err, OnErr}
-use Rattle.std.proofs.lemmas.List.Elements.{All-nil, All-push}
+use Rattle.std.proofs.lemmas.List.Elements.{All-nil, All-cons, All-push}
 use Rattle.atomic_table.specs.Seated.{TableId}
 use Rattle.atomic_table.specs.declared.shared.Seat.{Seat}
 use Rattle.turn_desk.specs.declared.rule.View.{View}
@@ -78,3 +78,12 @@ module _ {E : Type 0} where
   pub known_newcomer : {V : Type 0} (s : Seat (Option V) (View E)) (desk : TableId) (v : View E) (number : ℕ) (seen : List E)
       → s.table_id ≡ desk → s.me ≡ (newcomer v, []) → v.drawn ≡ number → v.seen ≡ seen → known s ≡ new_pass desk number seen
   known_newcomer s desk v number seen at me drawn same = (λ i. known_of (at i) (me i).0) ∙ (λ i. new_pass desk (drawn i) (same i))
+
+  -- each of the new passes is of the desk, idle, and has its own number alone
+  pub new_passes-all : (P : Known E → Type 0) (desk : TableId) (seen : List E) (first count : ℕ) → ((k : ℕ) → P (new_pass desk k seen)) → All P (new_passes desk seen first count)
+  new_passes-all P desk seen first zero each = All-nil P
+  new_passes-all P desk seen first (suc count) each = All-cons P (new_pass desk first seen) (new_passes desk seen (first + 1) count) (each first) (new_passes-all P desk seen (first + 1) count each)
+
+  pub length-new_passes : (desk : TableId) (seen : List E) (first count : ℕ) → length (new_passes desk seen first count) ≡ count
+  length-new_passes desk seen first zero = refl
+  length-new_passes desk seen first (suc count) = ap suc (length-new_passes desk seen (first + 1) count)

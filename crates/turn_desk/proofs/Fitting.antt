@@ -1,6 +1,6 @@
 -- What a step keeps of the rule where it changes one pass.
-use Rattle.std.proofs.Common.{◌≡◌, ◌≢◌, ◌⊎◌, ℕ, ◌+◌, ◌<◌, ◌≤◌, Bool, List, [], ◌∷◌, ◌++◌, set, sym, ◌∙◌, subst, refl, inl, inr, arith}
-use Rattle.std.specs.Prelude.{All, Contains, Option, slice_index_or}
+use Rattle.std.proofs.Common.{◌≡◌, ◌≢◌, ◌⊎◌, ℕ, ◌+◌, ◌<◌, ◌≤◌, Bool, List, [], ◌∷◌, ◌++◌, set, sym, ap, ◌∙◌, subst, refl, inl, inr, arith}
+use Rattle.std.specs.Prelude.{All, Contains, Option, slice_index, slice_index_or}
 use mathlib.Core.Option as maybe
 use Rattle.std.proofs.lemmas.List.Elements.{All-nil, All-cons, All-weaker, All-contains}
 use Rattle.atomic_table.specs.Table.{State}
@@ -32,6 +32,18 @@ module _ {V E : Type 0} where
         last = (id, w, at_changed s.views id v w at, now ∙ sym total);
         new = λ none. absurd (omega arith);
       }
+
+  -- Whatever a step does with the word, a pass that counts it as one step knows the word truly. So no step
+  -- can tell that the turn is taken where it is free
+  pub knows_the_word : (s t : State (Option V) (View E)) (id : ℕ) (v w : View E) → Dated s → Dated t → At s.views id v → t.views ≡ set s.views id w → w.steps ≡ v.steps + 1
+      → w.word ≡ slice_index t.words 0
+  knows_the_word s t id v w d e at is more =
+      let all : steps_of t.views ≡ steps_of (set s.views id w) = ap steps_of is in
+      let total : steps_of t.views ≡ steps_of s.views + 1 = omega (arith, steps_of-set s.views id v w at) in
+      let here : At t.views id w = subst (λ vs. At vs id w) (sym is) (at_changed s.views id v w at) in
+      let last = subst (λ vs. At vs e.last.0 e.last.1) is e.last.2 in
+      let P : ℕ → View E → Type 0 = λ j u. u.moment ≡ steps_of t.views → w.word ≡ slice_index t.words 0 in
+      all_set s.views id w P (λ now. e.now id w here now) (λ j u _ old now. absurd (let past = d.past j u old in omega arith)) e.last.0 e.last.1 last e.last.3
 
 module _ {E : Type 0} where
   -- a view that owns no more than the one before it

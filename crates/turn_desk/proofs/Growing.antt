@@ -44,6 +44,12 @@ module _ {E : Type 0} where
       go _ refl
 
 module _ {E : Type 0} (maker : E → ℕ) where
+  pub adds_nothing : (number : ℕ) (found after : List E) → after ≡ found → AddsOwn maker number found after
+  adds_nothing number found after e = record { own = []; is = e ∙ sym (append-nil found); made = All-nil (λ e. maker e ≡ number) }
+
+  pub adds_one : (number : ℕ) (found after : List E) (e : E) → after ≡ found ++ e ∷ [] → maker e ≡ number → AddsOwn maker number found after
+  adds_one number found after e is made = record { own = e ∷ []; is = is; made = All-cons (λ e. maker e ≡ number) e [] made (All-nil (λ e. maker e ≡ number)) }
+
   pub goes_nowhere : (ns : List ℕ) (xs ys : List E) → xs ≡ ys → GoesOn maker ns xs ys
   goes_nowhere ns xs ys e = record { more = []; is = sym e ∙ sym (append-nil xs); others = All-nil (IsOthers maker ns) }
 

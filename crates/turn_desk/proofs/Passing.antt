@@ -162,6 +162,19 @@ module _ {V E : Type 0} (entries : V → List E) (maker : E → ℕ) (issued_by 
       ] in
       go _ refl
 
+  -- the pass that made the last step is still there, or it is one of the two
+  last_joined : (views : List (View E)) (id other : ℕ) (v w : View E) (n : ℕ) → At views id v → At views other w → other ≢ id → (v.moment ≡ n → (joined v w).moment ≡ n)
+      → (w.moment ≡ n → (joined v w).moment ≡ n) → ((k : ℕ) × (u : View E) × At views k u × (u.moment ≡ n))
+      → (k : ℕ) × (u : View E) × At (set (set views id (joined v w)) other spent) k u × (u.moment ≡ n)
+  last_joined views id other v w n at at' ne mine theirs d =
+      let one = set views id (joined v w) in
+      let here : At (set one other spent) id (joined v w) = set_else one other id spent (λ e. ne (sym e)) ∙ at_changed views id v (joined v w) at in
+      let moment : (k : ℕ) (u : View E) → At views k u → d.0 ≡ k → u.moment ≡ n = λ k u e is. let same = at_same views k u d.1 e (subst (λ j. At views j d.1) is d.2) in
+              ap (λ (z : View E). z.moment) same ∙ d.3 in
+      dite (ℕ_discrete d.0 id) (λ e. (id, joined v w, here, mine (moment id v at e)))
+          (λ out. dite (ℕ_discrete d.0 other) (λ e. (id, joined v w, here, theirs (moment other w at' e)))
+              (λ out'. (d.0, d.1, set_else one other d.0 spent out' ∙ (set_else views id d.0 (joined v w) out ∙ d.2), d.3)))
+
   pub joining : (id : ℕ) (v : View E) (other : ℕ) (w : View E) → v.holds ≡ false → w.holds ≡ false → Joins Rule id v other w (joined v w) spent
   joining id v other w idle idle' s r at ne at2 =
       let both = joined v w in
@@ -177,12 +190,8 @@ module _ {V E : Type 0} (entries : V → List E) (maker : E → ℕ) (issued_by 
       λ P here there rest. all_set one other spent P there
       (λ j u out e. all_set s.views id both (λ k z. k ≢ other → P k z) (λ _. here) (λ k z ne' e' out'. rest k z ne' out' e') j u e out) in
       let t = later v w (steps_of s.views) (slice_index s.words 0) (d.past id v at) (d.past other w at') (d.now id v at) (d.now other w at') in
-      let here : At two id both = set_else one other id spent (λ e. ne (sym e)) ∙ at_changed s.views id v both at in
-      let last : (k : ℕ) × (u : View E) × At two k u × (u.moment ≡ steps_of s.views) = dite (ℕ_discrete d.last.0 id)
-      (λ e. (id, both, here, t.2 (ap (λ (u : View E). u.moment) (at_same s.views id v d.last.1 at (subst (λ k. At s.views k d.last.1) e d.last.2)) ∙ d.last.3)))
-      (λ ne'. dite (ℕ_discrete d.last.0 other)
-      (λ e. (id, both, here, t.3 (ap (λ (u : View E). u.moment) (at_same s.views other w d.last.1 at' (subst (λ k. At s.views k d.last.1) e d.last.2)) ∙ d.last.3)))
-      (λ out. (d.last.0, d.last.1, set_else one other d.last.0 spent out ∙ (set_else s.views id d.last.0 both ne' ∙ d.last.2), d.last.3))) in record {
+      let last = last_joined s.views id other v w (steps_of s.views) at at' ne t.2 t.3 d.last in
+      let latest : last.1.moment ≡ steps_of two = omega arith in record {
         log = r.log;
         lawful = r.lawful;
         issued = r.issued;
@@ -215,7 +224,7 @@ module _ {V E : Type 0} (entries : V → List E) (maker : E → ℕ) (issued_by 
           past = in_both (λ _ u. u.moment ≤ steps_of two) (let h = t.0 in omega arith) (omega arith) (λ j u _ _ e. let h = d.past j u e in omega arith);
           now = in_both (λ _ u. u.moment ≡ steps_of two → u.word ≡ slice_index s.words 0) (λ e. t.1 (e ∙ total)) (λ e. sym (d.new (sym total ∙ sym e)))
               (λ j u _ _ e is. d.now j u e (is ∙ total));
-          last = (last.0, last.1, last.2, last.3 ∙ sym total);
+          last = (last.0, last.1, last.2, latest);
           new = λ e. d.new (sym total ∙ e);
         };
       }

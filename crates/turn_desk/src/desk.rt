@@ -15,14 +15,15 @@ use std::snapshot::Snapshot;
 use std::sync::Wait;
 
 /// Another pass has the turn.
-#[derive(Clone, Copy, Debug, PartialEq, Eq)]
+#[derive(Clone, Copy, Debug)]
 pub struct Busy;
 
-/// More passes would be issued than there are numbers.
-#[derive(Clone, Copy, Debug, PartialEq, Eq)]
+/// There are too few numbers left for so many passes: the numbers are below 2^32.
+#[derive(Clone, Copy, Debug)]
 pub struct Full;
 
 /// Hands one value from thread to thread: who has the turn has the value. Contracts see which desk it is.
+#[derive(Drop)]
 pub struct Desk<V: Kept> {
     pub(crate) table: Table<Option<V>, View<V::Entry>, Snapshot<V>, Law<V>, Global>,
 }
@@ -59,7 +60,9 @@ impl<V: Kept> Desk<V> {
         Ok((Desk { table }, Pass { seat, number: 0 }))
     }
 
-    /// One try to take the turn, which does not wait.
+    /// One try to take the turn, which does not wait. What the value's list has beyond the pass's seen part
+    /// are entries of others. `Busy` comes exactly where the turn was taken at the pass's one step: the word
+    /// was 1 then, and nothing but counts has changed.
     pub fn try_take(&self, pass: &mut Pass<V>) -> Result<Turn<V>, Busy>
         requires desk { pass.old.desk ≡ self.now }
         requires idle { pass.old.holds ≡ false }
@@ -73,7 +76,7 @@ impl<V: Kept> Desk<V> {
         Ok(Turn::new(value))
     }
 
-    /// Gives the turn back. The journal is then the value's entries.
+    /// Gives the turn back, with the value as it was taken and then entries of the pass's own number.
     pub fn give(&self, pass: &mut Pass<V>, turn: Turn<V>)
         requires desk { pass.old.desk ≡ self.now }
         requires holds { pass.old.holds ≡ true }
@@ -85,7 +88,7 @@ impl<V: Kept> Desk<V> {
         give_back(&self.table.shared, &mut pass.seat, pass.number, value);
     }
 
-    /// Takes the turn, and waits until it is free.
+    /// Takes the turn. It sleeps while another pass has it.
     pub fn take<R: Wait>(&self, rt: &R, pass: &mut Pass<V>) -> Turn<V>
         requires desk { pass.old.desk ≡ self.now }
         requires idle { pass.old.holds ≡ false }

@@ -15,8 +15,6 @@ mod turn;
 
 pub use desk::{Busy, Desk, Full};
 pub use kept::Kept;
-pub use laws::{
-    all_is_seen_once_all_have_left, calls_keep_own_entries, leaving_keeps_own_entries,
-};
+pub use laws::{all_is_seen_once_all_have_left, calls_keep_own_entries, leaving_keeps_own_entries};
 pub use pass::Pass;
 pub use turn::Turn;
