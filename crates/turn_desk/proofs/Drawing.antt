@@ -1,5 +1,5 @@
 -- Entries and passes that are made one after the other.
-use Rattle.std.proofs.Common.{◌≡◌, ℕ, zero, suc, ◌+◌, ◌^◌, ◌<◌, ◌≤◌, List, [], ◌∷◌, ◌++◌, length, sym, refl, ap, ◌∙◌, subst, append_assoc, append-nil, length-append, arith}
+use Rattle.std.proofs.Common.{◌≡◌, ℕ, zero, suc, ◌+◌, ◌-◌, ◌^◌, ◌<◌, ◌≤◌, List, [], ◌∷◌, ◌++◌, length, sym, refl, ap, ◌∙◌, subst, append_assoc, append-nil, length-append, arith}
 use Rattle.std.specs.Prelude.{Option, All, Result, Ok, Err, OnErr}
 use Rattle.std.proofs.lemmas.List.Elements.{All-nil, All-cons, All-push}
 use Rattle.atomic_table.specs.Seated.{TableId}
@@ -9,7 +9,8 @@ use Rattle.turn_desk.specs.Entering.{Issues, EntersSome, EntersAll}
 use Rattle.turn_desk.specs.Journal.{GoesOn, AddsOwn, Calls}
 use Rattle.turn_desk.specs.Known.{Known, IsSamePass, new_pass, new_passes}
 use Rattle.turn_desk.specs.Seats.{known, known_of}
-use Rattle.turn_desk.specs.Views.{newcomer}
+use Rattle.turn_desk.specs.Views.{newcomer, one_fewer, with_drawn}
+use Rattle.turn_desk.specs.Steps.{Mine}
 
 module _ {E : Type 0} (maker : E → ℕ) (issued_by : List E → ℕ) where
   pub issues_none : (number : ℕ) (xs : List E) → Issues maker issued_by number 0 xs xs
@@ -74,6 +75,15 @@ module _ {E : Type 0} where
       λ i. new_passes desk seen first (suc count) ++ new_pass desk (e i) seen ∷ [] in
       let s : suc count + 1 ≡ suc (count + 1) = omega arith in
       last ∙ (ap (λ l. new_pass desk first seen ∷ l) (new_passes-push desk seen (first + 1) count) ∙ ap (λ n. new_passes desk seen first n) (sym s))
+
+  -- one number more has gone to a pass
+  pub one_fewer_drawn : {V : Type 0} (start before after : Mine V E) (first count i : ℕ) → before ≡ (with_drawn (first + i) (count - i) start.0, start.1)
+      → after ≡ (one_fewer before.0, before.1) → after ≡ (with_drawn (first + (i + 1)) (count - (i + 1)) start.0, start.1)
+  one_fewer_drawn {V} start before after first count i was is =
+      let next : first + i + 1 ≡ first + (i + 1) = omega arith in
+      let fewer : count - i - 1 ≡ count - (i + 1) = omega arith in
+      let cut : Mine V E → Mine V E = λ m. (one_fewer m.0, m.1) in
+      is ∙ (ap cut was ∙ (λ j. (with_drawn (next j) (fewer j) start.0, start.1)))
 
   pub known_newcomer : {V : Type 0} (s : Seat (Option V) (View E)) (desk : TableId) (v : View E) (number : ℕ) (seen : List E)
       → s.table_id ≡ desk → s.me ≡ (newcomer v, []) → v.drawn ≡ number → v.seen ≡ seen → known s ≡ new_pass desk number seen

@@ -1,12 +1,10 @@
 -- The laws on calls by passes.
-use Rattle.std.proofs.Common.{◌≡◌, ◌≢◌, ◌⊎◌, ℕ, zero, suc, ◌<◌, ◌==◌, Bool, true, false, List, [], ◌∷◌, ◌++◌, sym, ap, ◌∙◌, subst, refl, inl, inr, append-nil, arith}
-use Rattle.std.specs.Prelude.{All, Contains, filter, cond}
+use Rattle.std.proofs.Common.{◌≡◌, ◌≢◌, ℕ, ◌==◌, Bool, true, false, List, [], ◌∷◌, ◌++◌, sym, ap, ◌∙◌, subst, refl, append-nil, arith}
+use Rattle.std.specs.Prelude.{All, Contains, filter}
 use Rattle.std.proofs.lemmas.Bool.Decides.{nat_tests}
 use Rattle.std.proofs.lemmas.List.Elements.{All-head, All-tail, All-weaker, filter-append}
-use Rattle.turn_desk.specs.Journal.{IsOthers, GoesOn, AddsOwn, Calls}
-use Rattle.turn_desk.specs.Known.{Known, AgreeOn}
+use Rattle.turn_desk.specs.Journal.{IsOthers, GoesOn, AddsOwn}
 use Rattle.turn_desk.specs.Laws.{own_entries, CallsKeepOwn, JoinKeepsOwn, AllHaveLeft}
-use Rattle.turn_desk.specs.Views.{longer}
 use Rattle.turn_desk.proofs.Growing.{agreed}
 
 module _ {X : Type 0} (p : X → Bool) where

@@ -170,10 +170,10 @@ module _ {V E : Type 0} (entries : V → List E) (maker : E → ℕ) (issued_by 
       let one = set views id (joined v w) in
       let here : At (set one other spent) id (joined v w) = set_else one other id spent (λ e. ne (sym e)) ∙ at_changed views id v (joined v w) at in
       let moment : (k : ℕ) (u : View E) → At views k u → d.0 ≡ k → u.moment ≡ n = λ k u e is. let same = at_same views k u d.1 e (subst (λ j. At views j d.1) is d.2) in
-              ap (λ (z : View E). z.moment) same ∙ d.3 in
+      ap (λ (z : View E). z.moment) same ∙ d.3 in
       dite (ℕ_discrete d.0 id) (λ e. (id, joined v w, here, mine (moment id v at e)))
-          (λ out. dite (ℕ_discrete d.0 other) (λ e. (id, joined v w, here, theirs (moment other w at' e)))
-              (λ out'. (d.0, d.1, set_else one other d.0 spent out' ∙ (set_else views id d.0 (joined v w) out ∙ d.2), d.3)))
+      (λ out. dite (ℕ_discrete d.0 other) (λ e. (id, joined v w, here, theirs (moment other w at' e)))
+      (λ out'. (d.0, d.1, set_else one other d.0 spent out' ∙ (set_else views id d.0 (joined v w) out ∙ d.2), d.3)))
 
   pub joining : (id : ℕ) (v : View E) (other : ℕ) (w : View E) → v.holds ≡ false → w.holds ≡ false → Joins Rule id v other w (joined v w) spent
   joining id v other w idle idle' s r at ne at2 =
