@@ -1,6 +1,6 @@
 -- What contracts see of a pass, and how the calls of a desk change it.
 use Rattle.std.specs.Prelude.{◌≡◌, ◌⊎◌, ℕ, ◌+◌, zero, suc, Bool, true, false, List, [], ◌∷◌, ◌++◌, Contains}
-use Rattle.atomic_table.specs.Seated.{TableId}
+pub use Rattle.atomic_table.specs.Seated.{TableId}
 use Rattle.turn_desk.specs.Journal.{GoesOn}
 use Rattle.turn_desk.specs.Views.{longer}
 
@@ -62,6 +62,11 @@ module _ {E : Type 0} where
     steps = k.steps + other.steps;
     word = word;
   }
+
+  -- the pass is of this desk and holds no turn
+  pub record IsReady (desk : TableId) (k : Known E) : Type 0 where
+    pub desk_is : k.desk ≡ desk
+    pub idle : k.holds ≡ false
 
   -- the same pass, which may have seen more and made steps
   pub record IsSamePass (old new : Known E) : Type 0 where

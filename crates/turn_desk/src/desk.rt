@@ -1,7 +1,7 @@
 ghost use Rattle.std.specs.Prelude.{◌≡◌, ℕ, ◌+◌, true, false, All, IfOk, OnErr};
 ghost use Rattle.turn_desk.specs.Entering.{EntersAll, EntersNone, EntersSome};
 ghost use Rattle.turn_desk.specs.Journal.{GoesOn, AddsOwn};
-ghost use Rattle.turn_desk.specs.Known.{IsSamePass, AgreeOn, HaveNoCommonNumber, new_pass, with_turn, refused, without_turn, with_other};
+ghost use Rattle.turn_desk.specs.Known.{IsReady, IsSamePass, AgreeOn, HaveNoCommonNumber, new_pass, with_turn, refused, without_turn, with_other};
 
 use crate::drawn::draw_all;
 use crate::rule::{Law, View};
@@ -64,8 +64,7 @@ impl<V: Kept> Desk<V> {
     /// are entries of others. `Busy` comes exactly where the turn was taken at the pass's one step: the word
     /// was 1 then, and nothing but counts has changed.
     pub fn try_take(&self, pass: &mut Pass<V>) -> Result<Turn<V>, Busy>
-        requires desk { pass.old.desk ≡ self.now }
-        requires idle { pass.old.holds ≡ false }
+        requires { IsReady self.now pass.old }
         ensures goes_on { IfOk result (λ turn. GoesOn V.maker pass.old.numbers pass.old.seen (V.entries turn)) }
         ensures ok { IfOk result (λ turn. pass.new ≡ with_turn pass.old (V.entries turn)) }
         ensures busy { OnErr result (pass.new ≡ refused pass.old) }
@@ -90,8 +89,7 @@ impl<V: Kept> Desk<V> {
 
     /// Takes the turn. It sleeps while another pass has it.
     pub fn take<R: Wait>(&self, rt: &R, pass: &mut Pass<V>) -> Turn<V>
-        requires desk { pass.old.desk ≡ self.now }
-        requires idle { pass.old.holds ≡ false }
+        requires { IsReady self.now pass.old }
         ensures pass { IsSamePass pass.old pass.new }
         ensures goes_on { GoesOn V.maker pass.old.numbers pass.old.seen (V.entries result) }
         ensures seen { pass.new.seen ≡ V.entries result }
@@ -117,8 +115,7 @@ impl<V: Kept> Desk<V> {
         pass: &mut Pass<V>,
         count: u32,
     ) -> Result<Result<List<Pass<V>>, Full>, OutOfMemory>
-        requires desk { pass.old.desk ≡ self.now }
-        requires idle { pass.old.holds ≡ false }
+        requires { IsReady self.now pass.old }
         ensures pass { IsSamePass pass.old pass.new }
         ensures idle { pass.new.holds ≡ false }
         ensures ok { IfOk result (λ r. IfOk r (λ passes. EntersAll V.maker V.issued_by pass.old pass.new count passes)) }
@@ -139,8 +136,8 @@ impl<V: Kept> Desk<V> {
 
     /// Takes another pass in: what either has seen is then seen by one, which has the numbers of both.
     pub fn leave(&self, pass: &mut Pass<V>, other: Pass<V>)
-        requires desk { (pass.old.desk ≡ self.now) × (other.desk ≡ self.now) }
-        requires idle { (pass.old.holds ≡ false) × (other.holds ≡ false) }
+        requires one { IsReady self.now pass.old }
+        requires other { IsReady self.now other }
         ensures agree { AgreeOn V.maker pass.old other }
         ensures apart { HaveNoCommonNumber pass.old other }
         ensures joined { pass.new ≡ with_other pass.old other pass.new.word }
@@ -150,8 +147,7 @@ impl<V: Kept> Desk<V> {
 
     /// Takes the last turn, and keeps its value.
     pub fn close<R: Wait>(self, rt: &R, pass: Pass<V>) -> V
-        requires desk { pass.desk ≡ self }
-        requires idle { pass.holds ≡ false }
+        requires { IsReady self pass }
         ensures goes_on { GoesOn V.maker pass.numbers pass.seen (V.entries result) }
         ensures lawful { V.is_legal (V.entries result) }
     {
