@@ -17,7 +17,7 @@ use Rattle.turn_desk.specs.Steps as steps
 use Rattle.turn_desk.specs.Steps.{Mine}
 use Rattle.turn_desk.proofs.Lookups.{at_same, at_changed, at_only, all_set}
 use Rattle.turn_desk.proofs.Growing.{goes_nowhere, goes_on-adds}
-use Rattle.turn_desk.proofs.Fitting.{dated_step, owned_less, owned_new, grown, below_more, fits_moved, fits_won, fits_fresh}
+use Rattle.turn_desk.proofs.Fitting.{knows_the_word, dated_step, owned_less, owned_new, grown, below_more, fits_moved, fits_won, fits_fresh}
 
 not_true : (b : Bool) → (b ≡ true → ⊥) → b ≡ false
 not_true true h = absurd (h refl)
@@ -325,3 +325,17 @@ module _ {V E : Type 0} (entries : V → List E) (maker : E → ℕ) (issued_by 
       let same : h.0.view.closes ≡ true = ap (λ (u : View E). u.closes) h.2 ∙ closes in
       let home : s.homes ≡ some None ∷ [] = elim h.0.home [ inl e ↦ absurd (let no = e.0 in cc) | inr e ↦ e.1 ] in
       f.4 0 None (ap (λ (hs : List (maybe.Option (Option V))). get_elem? hs 0) home)
+
+  -- A step that counts as one, found the turn taken and changes nothing else can't be made up where the turn
+  -- is free: here it is free, and the first pass looks at the word
+  pub no_made_up_refusal : (value : V) → is_legal (entries value) → issued_by (entries value) ≡ 1 → All (λ e. maker e ≡ 0) (entries value)
+      → Allows Rule 1 0 (first_view (entries value), []) 0 (λ n. n) (λ _ m'. (moment : ℕ) × (m' ≡ (lost moment (first_view (entries value)), []))) → ⊥
+  no_made_up_refusal value lawful one made allowed =
+      let v = first_view (entries value) in
+      let s = opening (0 ∷ []) (Some value ∷ []) v in
+      let r = opens value lawful one made in
+      let did = allowed s r refl refl (omega arith) in
+      let more : did.0.steps ≡ 0 + 1 = ap (λ (m : Mine V E). m.0.steps) did.4.1 in
+      let free : did.0.word ≡ 0 = knows_the_word s (stepped s 0 0 0 [] did.0 did.1) 0 v did.0 r.dated did.3.dated refl refl more in
+      let taken : did.0.word ≡ 1 = ap (λ (m : Mine V E). m.0.word) did.4.1 in
+      omega arith
