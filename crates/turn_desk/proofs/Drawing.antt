@@ -1,5 +1,6 @@
 -- Entries and passes that are made one after the other.
-use Rattle.std.proofs.Common.{◌≡◌, ℕ, zero, suc, ◌+◌, ◌-◌, ◌^◌, ◌<◌, ◌≤◌, List, [], ◌∷◌, ◌++◌, length, sym, refl, ap, ◌∙◌, subst, append_assoc, append-nil, length-append, arith}
+use Rattle.std.proofs.Common.{◌≡◌, ℕ, zero, suc, ◌+◌, ◌-◌, ◌^◌, ◌<◌, ◌≤◌, List, [], ◌∷◌, ◌++◌, length, sym, refl, ap}
+use Rattle.std.proofs.Common.{◌∙◌, subst, append_assoc, append-nil, length-append, arith}
 use Rattle.std.specs.Prelude.{Option, All, Result, Ok, Err, OnErr}
 use Rattle.std.proofs.lemmas.List.Elements.{All-nil, All-cons, All-push}
 use Rattle.atomic_table.specs.Seated.{TableId}
@@ -20,7 +21,8 @@ module _ {E : Type 0} (maker : E → ℕ) (issued_by : List E → ℕ) where
     issued = omega arith;
   }
 
-  pub issues_more : (number count : ℕ) (xs ys zs : List E) (e : E) → Issues maker issued_by number count xs ys → zs ≡ ys ++ e ∷ [] → maker e ≡ number
+  pub issues_more : (number count : ℕ) (xs ys zs : List E) (e : E) → Issues maker issued_by number count xs ys
+      → zs ≡ ys ++ e ∷ [] → maker e ≡ number
       → issued_by zs ≡ issued_by ys + 1 → Issues maker issued_by number (count + 1) xs zs
   issues_more number count xs ys zs e i is made more =
       let a = i.adds_own in
@@ -36,19 +38,31 @@ module _ {E : Type 0} (maker : E → ℕ) (issued_by : List E → ℕ) where
       }
 
   -- the call of a pass that took the turn and drew numbers in it
-  module _ (old mid taken new : Known E) (log : List E) (same : IsSamePass old mid) (goes : GoesOn maker old.numbers old.seen log) (seen : mid.seen ≡ log) (is : taken ≡ mid) where
-    abbrev call_of : AddsOwn maker taken.number taken.seen new.seen → Calls maker old.number old.numbers old.seen new.seen
+  module _ (old mid taken new : Known E) (log : List E) (same : IsSamePass old mid)
+      (goes : GoesOn maker old.numbers old.seen log) (seen : mid.seen ≡ log) (is : taken ≡ mid) where
+    abbrev call_of : AddsOwn maker taken.number taken.seen new.seen
+        → Calls maker old.number old.numbers old.seen new.seen
     call_of a = record {
       found = taken.seen;
-      goes_on = subst (λ xs. GoesOn maker old.numbers old.seen xs) (sym (ap (λ (k : Known E). k.seen) is ∙ seen)) goes;
-      adds_own = record { own = a.own; is = a.is; made = subst (λ n. All (λ e. maker e ≡ n) a.own) (ap (λ (k : Known E). k.number) is ∙ same.number) a.made };
+      goes_on = subst (λ xs. GoesOn maker old.numbers old.seen xs) (sym (ap (λ (k : Known E). k.seen) is ∙ seen))
+          goes;
+      adds_own = record {
+        own = a.own;
+        is = a.is;
+        made =
+            subst (λ n. All (λ e. maker e ≡ n) a.own) (ap (λ (k : Known E). k.number) is ∙ same.number) a.made;
+      };
     }
 
-    pub enters_some : (count : ℕ) → ((made : ℕ) × (made ≤ count) × Issues maker issued_by taken.number made taken.seen new.seen) → EntersSome maker issued_by old new count
-    enters_some count drew = let many = drew.2.many in let le = drew.1 in record { call = call_of drew.2.adds_own; few = omega arith }
+    pub enters_some : (count : ℕ) → ((made : ℕ) × (made ≤ count)
+        × Issues maker issued_by taken.number made taken.seen new.seen) → EntersSome maker issued_by old new count
+    enters_some count drew = let many = drew.2.many in let le = drew.1 in
+        record { call = call_of drew.2.adds_own; few = omega arith }
 
     pub enters_all : (count : ℕ) (given : List (Known E)) → issued_by log + count < 2 ^ 32
-        → Issues maker issued_by taken.number count taken.seen new.seen × (given ≡ new_passes taken.desk new.seen (issued_by taken.seen) count) → EntersAll maker issued_by old new count given
+        → Issues maker issued_by taken.number count taken.seen new.seen
+        × (given ≡ new_passes taken.desk new.seen (issued_by taken.seen) count)
+        → EntersAll maker issued_by old new count given
     enters_all count given room drew =
         let found : issued_by taken.seen ≡ issued_by log = ap issued_by (ap (λ (k : Known E). k.seen) is ∙ seen) in
         let desk : taken.desk ≡ old.desk = ap (λ (k : Known E). k.desk) is ∙ same.desk in record {
@@ -66,34 +80,46 @@ on_err (Err e) h = h
 
 module _ {E : Type 0} where
   pub new_passes-push : (desk : TableId) (seen : List E) (first count : ℕ)
-      → new_passes desk seen first count ++ new_pass desk (first + count) seen ∷ [] ≡ new_passes desk seen first (count + 1)
+      → new_passes desk seen first count ++ new_pass desk (first + count) seen ∷ [] ≡ new_passes desk seen first
+      (count + 1)
   new_passes-push desk seen first zero =
       let e : first + 0 ≡ first = omega arith in λ i. new_pass desk (e i) seen ∷ []
   new_passes-push desk seen first (suc count) =
       let e : first + suc count ≡ first + 1 + count = omega arith in
-      let last : new_passes desk seen first (suc count) ++ new_pass desk (first + suc count) seen ∷ [] ≡ new_passes desk seen first (suc count) ++ new_pass desk (first + 1 + count) seen ∷ [] =
+      let last : new_passes desk seen first (suc count) ++ new_pass desk (first + suc count) seen ∷ [] ≡ new_passes
+      desk seen first (suc count) ++ new_pass desk (first + 1 + count) seen ∷ [] =
       λ i. new_passes desk seen first (suc count) ++ new_pass desk (e i) seen ∷ [] in
       let s : suc count + 1 ≡ suc (count + 1) = omega arith in
-      last ∙ (ap (λ l. new_pass desk first seen ∷ l) (new_passes-push desk seen (first + 1) count) ∙ ap (λ n. new_passes desk seen first n) (sym s))
+      last ∙ (ap (λ l. new_pass desk first seen ∷ l) (new_passes-push desk seen (first + 1) count)
+      ∙ ap (λ n. new_passes desk seen first n) (sym s))
 
   -- one number more has gone to a pass
-  pub one_fewer_drawn : {V : Type 0} (start before after : Mine V E) (first count i : ℕ) → before ≡ (with_drawn (first + i) (count - i) start.0, start.1)
-      → after ≡ (one_fewer before.0, before.1) → after ≡ (with_drawn (first + (i + 1)) (count - (i + 1)) start.0, start.1)
+  pub one_fewer_drawn : {V : Type 0} (start before after : Mine V E) (first count i : ℕ)
+      → before ≡ (with_drawn (first + i) (count - i) start.0, start.1)
+      → after ≡ (one_fewer before.0, before.1) → after ≡
+      (with_drawn (first + (i + 1)) (count - (i + 1)) start.0, start.1)
   one_fewer_drawn {V} start before after first count i was is =
       let next : first + i + 1 ≡ first + (i + 1) = omega arith in
       let fewer : count - i - 1 ≡ count - (i + 1) = omega arith in
       let cut : Mine V E → Mine V E = λ m. (one_fewer m.0, m.1) in
       is ∙ (ap cut was ∙ (λ j. (with_drawn (next j) (fewer j) start.0, start.1)))
 
-  pub known_newcomer : {V : Type 0} (s : Seat (Option V) (View E)) (desk : TableId) (v : View E) (number : ℕ) (seen : List E)
-      → s.table_id ≡ desk → s.me ≡ (newcomer v, []) → v.drawn ≡ number → v.seen ≡ seen → known s ≡ new_pass desk number seen
-  known_newcomer s desk v number seen at me drawn same = (λ i. known_of (at i) (me i).0) ∙ (λ i. new_pass desk (drawn i) (same i))
+  pub known_newcomer : {V : Type 0} (s : Seat (Option V) (View E)) (desk : TableId) (v : View E) (number : ℕ)
+      (seen : List E)
+      → s.table_id ≡ desk → s.me ≡ (newcomer v, []) → v.drawn ≡ number → v.seen ≡ seen
+      → known s ≡ new_pass desk number seen
+  known_newcomer s desk v number seen at me drawn same = (λ i. known_of (at i) (me i).0)
+      ∙ (λ i. new_pass desk (drawn i) (same i))
 
   -- each of the new passes is of the desk, idle, and has its own number alone
-  pub new_passes-all : (P : Known E → Type 0) (desk : TableId) (seen : List E) (first count : ℕ) → ((k : ℕ) → P (new_pass desk k seen)) → All P (new_passes desk seen first count)
+  pub new_passes-all : (P : Known E → Type 0) (desk : TableId) (seen : List E) (first count : ℕ)
+      → ((k : ℕ) → P (new_pass desk k seen)) → All P (new_passes desk seen first count)
   new_passes-all P desk seen first zero each = All-nil P
-  new_passes-all P desk seen first (suc count) each = All-cons P (new_pass desk first seen) (new_passes desk seen (first + 1) count) (each first) (new_passes-all P desk seen (first + 1) count each)
+  new_passes-all P desk seen first (suc count) each =
+      All-cons P (new_pass desk first seen) (new_passes desk seen (first + 1) count) (each first)
+      (new_passes-all P desk seen (first + 1) count each)
 
-  pub length-new_passes : (desk : TableId) (seen : List E) (first count : ℕ) → length (new_passes desk seen first count) ≡ count
+  pub length-new_passes : (desk : TableId) (seen : List E) (first count : ℕ)
+      → length (new_passes desk seen first count) ≡ count
   length-new_passes desk seen first zero = refl
   length-new_passes desk seen first (suc count) = ap suc (length-new_passes desk seen (first + 1) count)

@@ -14,7 +14,8 @@ module _ {E : Type 0} (maker : E → ℕ) (issued_by : List E → ℕ) where
   -- all entries were made, with a new pass for each; or some of them
   abbrev pub HasDrawn : Known E → Known E → ℕ → Result (List (Known E)) OutOfMemory → Type 0
   HasDrawn old new count result = MatchResult result
-      (λ given. Issues old.number count old.seen new.seen × (given ≡ new_passes old.desk new.seen (issued_by old.seen) count))
+      (λ given. Issues old.number count old.seen new.seen
+      × (given ≡ new_passes old.desk new.seen (issued_by old.seen) count))
       (λ _. (made : ℕ) × (made ≤ count) × Issues old.number made old.seen new.seen)
 
   -- The call made so many entries, for which numbers enough were left. It gives a new pass for each number

@@ -1,5 +1,13 @@
 -- A list of entries that grows, as one who has seen a prefix of it finds it again.
-use Rattle.std.specs.Prelude.{◌≡◌, ℕ, List, ◌++◌, All, Contains}
+use Rattle.std.specs.Prelude.{◌≡◌, ℕ, ◌≤◌, List, ◌∷◌, ◌++◌, All, Contains}
+
+-- a longer list that begins with a list has issued no fewer passes
+abbrev pub NeverIssuesFewer : {E : Type 0} → (List E → ℕ) → Type 0
+NeverIssuesFewer {E} issued_by = (xs ys : List E) → issued_by xs ≤ issued_by (xs ++ ys)
+
+-- each prefix of a legal list that has at least one entry is legal
+abbrev pub HasLegalPrefixes : {E : Type 0} → (List E → Type 0) → Type 0
+HasLegalPrefixes {E} is_legal = (e : E) (xs ys : List E) → is_legal (e ∷ xs ++ ys) → is_legal (e ∷ xs)
 
 module _ {E : Type 0} (maker : E → ℕ) where
   -- the entry carries none of the numbers

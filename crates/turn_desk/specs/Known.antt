@@ -44,7 +44,14 @@ module _ {E : Type 0} where
 
   -- the pass after one try that took the turn, with this list
   abbrev pub with_turn : Known E → List E → Known E
-  with_turn k seen = record k { seen = seen; holds = true; tries = k.tries + 1; found = 0; steps = k.steps + 1; word = 1 }
+  with_turn k seen = record k {
+    seen = seen;
+    holds = true;
+    tries = k.tries + 1;
+    found = 0;
+    steps = k.steps + 1;
+    word = 1;
+  }
 
   -- the pass after one try that found the turn taken
   abbrev pub refused : Known E → Known E

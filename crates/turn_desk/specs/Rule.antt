@@ -1,5 +1,6 @@
 -- The rule between any two steps.
-use Rattle.std.specs.Prelude.{◌≡◌, ◌⊎◌, ℕ, ◌+◌, ◌<◌, ◌≤◌, true, false, List, [], ◌∷◌, slice_index, All, Contains, Option, Some, None}
+use Rattle.std.specs.Prelude.{◌≡◌, ◌⊎◌, ℕ, ◌+◌, ◌<◌, ◌≤◌, true, false, List, [], ◌∷◌, slice_index, All, Contains}
+use Rattle.std.specs.Prelude.{Option, Some, None}
 use mathlib.Core.Option.{some, none}
 use lib.ListN.{get_elem?}
 use Rattle.atomic_table.specs.Table.{State}
@@ -67,7 +68,8 @@ module _ {V E : Type 0} where
   -- is one. Before the first step the word is 0
   pub record Dated (s : State (Option V) (View E)) : Type 0 where
     pub past : (seat : ℕ) (v : View E) → At s.views seat v → v.moment ≤ steps_of s.views
-    pub now : (seat : ℕ) (v : View E) → At s.views seat v → v.moment ≡ steps_of s.views → v.word ≡ slice_index s.words 0
+    pub now : (seat : ℕ) (v : View E) → At s.views seat v → v.moment ≡ steps_of s.views
+        → v.word ≡ slice_index s.words 0
     pub last : (seat : ℕ) × (v : View E) × At s.views seat v × (v.moment ≡ steps_of s.views)
     pub new : steps_of s.views ≡ 0 → slice_index s.words 0 ≡ 0
 
@@ -82,7 +84,8 @@ module _ {V E : Type 0} (entries : V → List E) where
 
 -- There is one legal journal, each of whose entries carries an issued number. It is that of the value at
 -- home, or what the holder has seen. Each pass fits it, and no number is owned by two passes
-pub record Standing {V E : Type 0} (entries : V → List E) (maker : E → ℕ) (issued_by : List E → ℕ) (is_legal : List E → Type 0)
+pub record Standing {V E : Type 0} (entries : V → List E) (maker : E → ℕ) (issued_by : List E → ℕ)
+    (is_legal : List E → Type 0)
     (s : State (Option V) (View E)) : Type 0 where
   pub log : List E
   pub lawful : is_legal log

@@ -1,4 +1,5 @@
-//! What may go to another thread, where the value may: the desk is shared, passes and turns are handed over.
+//! What may go to another thread, where the value may: the desk is shared, passes and turns are
+//! handed over.
 use crate::{Desk, Kept, Pass, Turn};
 
 fn shared<T: Sync>() {}

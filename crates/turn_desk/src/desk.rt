@@ -1,7 +1,8 @@
 ghost use Rattle.std.specs.Prelude.{◌≡◌, ℕ, ◌+◌, true, false, All, IfOk, OnErr};
 ghost use Rattle.turn_desk.specs.Entering.{EntersAll, EntersNone, EntersSome};
 ghost use Rattle.turn_desk.specs.Journal.{GoesOn, AddsOwn};
-ghost use Rattle.turn_desk.specs.Known.{IsReady, IsSamePass, AgreeOn, HaveNoCommonNumber, new_pass, with_turn, refused, without_turn, with_other};
+ghost use Rattle.turn_desk.specs.Known.{IsReady, IsSamePass, AgreeOn, HaveNoCommonNumber, new_pass};
+ghost use Rattle.turn_desk.specs.Known.{with_turn, refused, without_turn, with_other};
 
 use crate::drawn::draw_all;
 use crate::rule::{Law, View};
@@ -22,7 +23,8 @@ pub struct Busy;
 #[derive(Clone, Copy, Debug)]
 pub struct Full;
 
-/// Hands one value from thread to thread: who has the turn has the value. Contracts see which desk it is.
+/// Hands one value from thread to thread: who has the turn has the value. Contracts see which desk
+/// it is.
 #[derive(Drop)]
 pub struct Desk<V: Kept> {
     pub(crate) table: Table<Option<V>, View<V::Entry>, Snapshot<V>, Law<V>, Global>,
@@ -60,12 +62,13 @@ impl<V: Kept> Desk<V> {
         Ok((Desk { table }, Pass { seat, number: 0 }))
     }
 
-    /// One try to take the turn, which does not wait. What the value's list has beyond the pass's seen part
-    /// are entries of others. `Busy` comes exactly where the turn was taken at the pass's one step: the word
-    /// was 1 then, and nothing but counts has changed.
+    /// One try to take the turn, which does not wait. What the value's list has beyond the pass's
+    /// seen part are entries of others. `Busy` comes exactly where the turn was taken at the pass's
+    /// one step: the word was 1 then, and nothing but counts has changed.
     pub fn try_take(&self, pass: &mut Pass<V>) -> Result<Turn<V>, Busy>
         requires { IsReady self.now pass.old }
-        ensures goes_on { IfOk result (λ turn. GoesOn V.maker pass.old.numbers pass.old.seen (V.entries turn)) }
+        ensures goes_on { IfOk result
+            (λ turn. GoesOn V.maker pass.old.numbers pass.old.seen (V.entries turn)) }
         ensures ok { IfOk result (λ turn. pass.new ≡ with_turn pass.old (V.entries turn)) }
         ensures busy { OnErr result (pass.new ≡ refused pass.old) }
     {
@@ -75,7 +78,8 @@ impl<V: Kept> Desk<V> {
         Ok(Turn::new(value))
     }
 
-    /// Gives the turn back, with the value as it was taken and then entries of the pass's own number.
+    /// Gives the turn back, with the value as it was taken and then entries of the pass's own
+    /// number.
     pub fn give(&self, pass: &mut Pass<V>, turn: Turn<V>)
         requires desk { pass.old.desk ≡ self.now }
         requires holds { pass.old.holds ≡ true }
@@ -105,9 +109,10 @@ impl<V: Kept> Desk<V> {
         unreachable!()
     }
 
-    /// Draws `count` numbers in one turn, one after the other, and gives a new pass for each, in the order of
-    /// the numbers. `Full` comes where so many numbers are not left; no entry is then made. After want of
-    /// memory some of the entries may stand in the journal, and no pass has their numbers.
+    /// Draws `count` numbers in one turn, one after the other, and gives a new pass for each, in
+    /// the order of the numbers. `Full` comes exactly where so many numbers are not left; no entry
+    /// is then made. After want of memory some of the entries may stand in the journal, and no pass
+    /// has their numbers.
     pub fn enter<R: Wait>(
         &self,
         rt: &R,
@@ -118,8 +123,10 @@ impl<V: Kept> Desk<V> {
         requires { IsReady self.now pass.old }
         ensures pass { IsSamePass pass.old pass.new }
         ensures idle { pass.new.holds ≡ false }
-        ensures ok { IfOk result (λ r. IfOk r (λ passes. EntersAll V.maker V.issued_by pass.old pass.new count passes)) }
-        ensures full { IfOk result (λ r. OnErr r (EntersNone V.maker V.issued_by pass.old pass.new count)) }
+        ensures ok { IfOk result
+            (λ r. IfOk r (EntersAll V.maker V.issued_by pass.old pass.new count)) }
+        ensures full { IfOk result
+            (λ r. OnErr r (EntersNone V.maker V.issued_by pass.old pass.new count)) }
         ensures err { OnErr result (EntersSome V.maker V.issued_by pass.old pass.new count) }
     {
         let turn = self.take(rt, pass);
@@ -134,7 +141,8 @@ impl<V: Kept> Desk<V> {
         Ok(Ok(draw_all(alloc, shared, &mut pass.seat, number, value, count)?))
     }
 
-    /// Takes another pass in: what either has seen is then seen by one, which has the numbers of both.
+    /// Takes another pass in: what either has seen is then seen by one, which has the numbers of
+    /// both.
     pub fn leave(&self, pass: &mut Pass<V>, other: Pass<V>)
         requires one { IsReady self.now pass.old }
         requires other { IsReady self.now other }

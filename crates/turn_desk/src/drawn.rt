@@ -16,7 +16,8 @@ pub(crate) fn enter_all<V: Kept>(value: &mut V, by: u32, count: u32) -> Result<(
     requires room { V.issued_by (V.entries value.old) + count < 2 ^ 32 }
     ensures { MatchResult result
         (λ _. Issues V.maker V.issued_by by count (V.entries value.old) (V.entries value.new))
-        (λ _. (made : ℕ) × (made ≤ count) × Issues V.maker V.issued_by by made (V.entries value.old) (V.entries value.new)) }
+        (λ _. (made : ℕ) × (made ≤ count)
+        × Issues V.maker V.issued_by by made (V.entries value.old) (V.entries value.new)) }
 {
     for _made in 0..count {
         value.enter(by)?;
@@ -38,8 +39,10 @@ pub(crate) fn cut_all<V: Kept>(
     requires issued { first + count ≤ V.issued_by seat.old.me.0.seen }
     requires lawful { V.is_legal seat.old.me.0.seen }
     ensures table { seat.new.table_id ≡ seat.old.table_id }
-    ensures seat { (drawn left : ℕ) × (seat.new.me ≡ (with_drawn drawn left seat.old.me.0, seat.old.me.1)) }
-    ensures passes { IfOk result (λ l. l ≡ new_passes seat.old.table_id seat.old.me.0.seen first count) }
+    ensures seat { (drawn left : ℕ)
+        × (seat.new.me ≡ (with_drawn drawn left seat.old.me.0, seat.old.me.1)) }
+    ensures passes { IfOk result
+        (λ l. l ≡ new_passes seat.old.table_id seat.old.me.0.seen first count) }
 {
     let mut passes = List::new(alloc);
     for i in 0..count {
@@ -52,7 +55,8 @@ pub(crate) fn cut_all<V: Kept>(
     Ok(passes)
 }
 
-// Makes this many entries, gives the turn back, and gives a new pass for each number that was issued.
+// Makes this many entries, gives the turn back, and gives a new pass for each number that was
+// issued.
 pub(crate) fn draw_all<V: Kept>(
     alloc: Global,
     shared: &Shared<V>,

@@ -3,12 +3,14 @@ ghost use Rattle.turn_desk.specs.Laws.{CallsKeepOwn, JoinKeepsOwn, AllHaveLeft};
 
 use crate::Kept;
 
-/// A call adds its own entries to those of its pass's number, and none to those of the pass's other numbers.
+/// A call adds its own entries to those of its pass's number, and none to those of the pass's other
+/// numbers.
 pub fn calls_keep_own_entries<V: Kept>()
     ensures { CallsKeepOwn V.maker }
 {}
 
-/// A pass into which another has left has seen the own entries of both, and no others of their numbers.
+/// A pass into which another has left has seen the own entries of both, and no others of their
+/// numbers.
 pub fn leaving_keeps_own_entries<V: Kept>()
     ensures { JoinKeepsOwn V.maker }
 {}

@@ -1,5 +1,6 @@
-//! A lock that hands one value from thread to thread, so that each can prove what the others may have done
-//! meanwhile: what a pass finds begins with what it had seen, and no entry of the rest is its own.
+//! A lock that hands one value from thread to thread, so that each can prove what the others may
+//! have done meanwhile: what a pass finds begins with what it had seen, and no entry of the rest is
+//! its own.
 #![tactic(auto)]
 
 mod crossing;

@@ -5,9 +5,10 @@ use crate::Kept;
 use crate::steps::Seat;
 use std::marker::Model;
 
-/// What one thread, or one part of a program, comes to a desk with. Contracts see what it knows: its number,
-/// its numbers, which are its own and those of the passes that have left into it, the prefix of the desk's
-/// journal that it has seen, whether it holds the turn, and counts of what it did.
+/// What one thread, or one part of a program, comes to a desk with. Contracts see what it knows:
+/// its number, its numbers, which are its own and those of the passes that have left into it, the
+/// prefix of the desk's journal that it has seen, whether it holds the turn, and counts of what it
+/// did.
 pub struct Pass<V: Kept> {
     pub(crate) seat: Seat<V>,
     pub(crate) number: u32,
@@ -25,8 +26,8 @@ impl<V: Kept> Model for Pass<V> {
 }
 
 impl<V: Kept> Pass<V> {
-    /// The pass's own number, which no call changes. It is one of its numbers, and each of them is issued in
-    /// what it has seen, which is legal.
+    /// The pass's own number, which no call changes. It is one of its numbers, and each of them is
+    /// issued in what it has seen, which is legal.
     pub fn number(&self) -> u32
         ensures number { result ≡ self.now.number }
         ensures own { Contains self.now.numbers result }

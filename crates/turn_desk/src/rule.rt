@@ -1,7 +1,7 @@
 //! The rule of the desk's table, and what each pass knows of it.
 //!
-//! The table has one word and one slot. The word is 0 where the turn is free, and 1 where it is taken. The
-//! slot has the value while the turn is free. A pass has one seat at the table.
+//! The table has one word and one slot. The word is 0 where the turn is free, and 1 where it is
+//! taken. The slot has the value while the turn is free. A pass has one seat at the table.
 use crate::Kept;
 use atomic_table::TableRule;
 use std::collections::LinkedList;

@@ -27,7 +27,8 @@ pub(crate) fn try_turn<V: Kept>(shared: &Shared<V>, seat: &mut Seat<V>) -> Optio
     ensures table { seat.new.table_id ≡ seat.old.table_id }
     ensures turn { MatchOption result
         ((moment : ℕ) × (seat.new.me ≡ (lost moment seat.old.me.0, [])))
-        (λ v. Finds V.entries V.maker V.issued_by V.is_legal v seat.old.me.0 seat.new.me.0 × (seat.new.me.1 ≡ (0, None) ∷ [])) }
+        (λ v. Finds V.entries V.maker V.issued_by V.is_legal v seat.old.me.0 seat.new.me.0
+        × (seat.new.me.1 ≡ (0, None) ∷ [])) }
 {
     if shared.compare_exchange::<Take>(seat, 0, 0, 1) != 0 {
         return None;
@@ -43,7 +44,8 @@ pub(crate) fn give_back<V: Kept>(shared: &Shared<V>, seat: &mut Seat<V>, number:
     requires own { AddsOwn V.maker number seat.old.me.0.seen (V.entries value) }
     requires lawful { V.is_legal (V.entries value) }
     ensures table { seat.new.table_id ≡ seat.old.table_id }
-    ensures given { (moment : ℕ) × (seat.new.me ≡ (given V.issued_by moment (V.entries value) seat.old.me.0, [])) }
+    ensures given { (moment : ℕ)
+        × (seat.new.me ≡ (given V.issued_by moment (V.entries value) seat.old.me.0, [])) }
 {
     let left = shared.exchange(seat, 0, Some(value));
     let None = left else { unreachable!() };
@@ -65,7 +67,8 @@ pub(crate) fn shut_down<V: Kept>(shared: &Shared<V>, seat: &mut Seat<V>)
 pub(crate) fn cut_one<V: Kept>(shared: &Shared<V>, seat: &mut Seat<V>) -> Seat<V>
     requires table { (seat.old.table_id ≡ shared.now.table_id) × IsSmall shared.now.table_id }
     requires drawn { 0 < seat.old.me.0.left }
-    ensures table { (seat.new.table_id ≡ seat.old.table_id) × (result.table_id ≡ seat.old.table_id) }
+    ensures table { (seat.new.table_id ≡ seat.old.table_id)
+        × (result.table_id ≡ seat.old.table_id) }
     ensures fewer { seat.new.me ≡ (one_fewer seat.old.me.0, seat.old.me.1) }
     ensures new { result.me ≡ (newcomer seat.old.me.0, []) }
 {
@@ -74,7 +77,8 @@ pub(crate) fn cut_one<V: Kept>(shared: &Shared<V>, seat: &mut Seat<V>) -> Seat<V
 
 // One seat with what both have seen, and what is thereby known of both.
 pub(crate) fn join_one<V: Kept>(shared: &Shared<V>, seat: &mut Seat<V>, other: Seat<V>)
-    requires table { (seat.old.table_id ≡ shared.now.table_id) × (other.table_id ≡ shared.now.table_id) × IsSmall shared.now.table_id }
+    requires table { (seat.old.table_id ≡ shared.now.table_id)
+        × (other.table_id ≡ shared.now.table_id) × IsSmall shared.now.table_id }
     requires idle { (seat.old.me.0.holds ≡ false) × (other.me.0.holds ≡ false) × (other.me.1 ≡ []) }
     ensures table { seat.new.table_id ≡ seat.old.table_id }
     ensures joined { seat.new.me ≡ (joined seat.old.me.0 other.me.0, seat.old.me.1) }

@@ -2,7 +2,8 @@ ghost use Rattle.std.specs.Prelude.{◌≡◌};
 
 use std::marker::Model;
 
-/// The turn at a desk, with the value. Contracts see the value. A turn that is dropped is never given back.
+/// The turn at a desk, with the value. Contracts see the value. A turn that is dropped is never
+/// given back.
 #[derive(Drop)]
 pub struct Turn<V> {
     value: V,
