@@ -93,6 +93,13 @@ module _ {E : Type 0} where
       last ∙ (ap (λ l. new_pass desk first seen ∷ l) (new_passes-push desk seen (first + 1) count)
       ∙ ap (λ n. new_passes desk seen first n) (sym s))
 
+  pub new_passes-more : (passes more : List (Known E)) (k : Known E) (desk : TableId) (seen : List E)
+      (first count : ℕ)
+      → more ≡ passes ++ k ∷ [] → passes ≡ new_passes desk seen first count → k ≡ new_pass desk (first + count) seen
+      → more ≡ new_passes desk seen first (count + 1)
+  new_passes-more passes more k desk seen first count is was new =
+      is ∙ ((λ i. was i ++ new i ∷ []) ∙ new_passes-push desk seen first count)
+
   -- one number more has gone to a pass
   pub one_fewer_drawn : {V : Type 0} (start before after : Mine V E) (first count i : ℕ)
       → before ≡ (with_drawn (first + i) (count - i) start.0, start.1)
@@ -104,12 +111,13 @@ module _ {E : Type 0} where
       let cut : Mine V E → Mine V E = λ m. (one_fewer m.0, m.1) in
       is ∙ (ap cut was ∙ (λ j. (with_drawn (next j) (fewer j) start.0, start.1)))
 
-  pub known_newcomer : {V : Type 0} (s : Seat (Option V) (View E)) (desk : TableId) (v : View E) (number : ℕ)
-      (seen : List E)
-      → s.table_id ≡ desk → s.me ≡ (newcomer v, []) → v.drawn ≡ number → v.seen ≡ seen
-      → known s ≡ new_pass desk number seen
-  known_newcomer s desk v number seen at me drawn same = (λ i. known_of (at i) (me i).0)
-      ∙ (λ i. new_pass desk (drawn i) (same i))
+  pub known_newcomer : {V : Type 0} (s : Seat (Option V) (View E)) (desk : TableId) (start before : Mine V E)
+      (number left : ℕ)
+      → s.table_id ≡ desk → s.me ≡ (newcomer before.0, []) → before ≡ (with_drawn number left start.0, start.1)
+      → known s ≡ new_pass desk number start.0.seen
+  known_newcomer {V} s desk start before number left at me was =
+      let new : Mine V E → Known E = λ m. new_pass desk m.0.drawn m.0.seen in
+      (λ i. known_of (at i) (me i).0) ∙ ap new was
 
   -- each of the new passes is of the desk, idle, and has its own number alone
   pub new_passes-all : (P : Known E → Type 0) (desk : TableId) (seen : List E) (first count : ℕ)

@@ -162,10 +162,14 @@ fn put_at_once<R: Threads + Wait + Sync>(
     requires { All (IsReady desk.now) passes.items }
     ensures { IfOk result (λ v. All (IsReady desk.now) v.items) }
 {
-    map_vec(rt, passes, &|pass: Pass<Notes>| -> Pass<Notes>
-        requires { IsReady desk.now pass }
-        ensures { IsReady desk.entry.now result }
-    { put_all(rt, desk, pass) })
+    map_vec(
+        rt,
+        passes,
+        &|pass: Pass<Notes>| -> Pass<Notes>
+            requires { IsReady desk.now pass }
+            ensures { IsReady desk.entry.now result }
+        { put_all(rt, desk, pass) },
+    )
 }
 
 fn take_in(desk: &Desk<Notes>, main: &mut Pass<Notes>, others: Vec<Pass<Notes>>)
