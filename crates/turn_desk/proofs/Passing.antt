@@ -304,24 +304,24 @@ module _ {V E : Type 0} (entries : V → List E) (maker : E → ℕ) (issued_by 
       )
 
   -- what holds of a pass still does after another has left into it
-  pub pass_joined : (m o : Mine V E) (number : ℕ) → rule.Agree maker (sight m.0) (sight o.0)
-      → IsPass issued_by is_legal m number → is_legal o.0.seen
-      → All (λ n. n < issued_by o.0.seen) o.0.numbers → IsPass issued_by is_legal (joined m.0 o.0, m.1) number
-  pass_joined m o number agree p lawful issued =
+  pub pass_joined : (m o m' : Mine V E) (number other : ℕ) → m' ≡ (joined m.0 o.0, m.1)
+      → rule.Agree maker (sight m.0) (sight o.0)
+      → IsPass issued_by is_legal m number → IsPass issued_by is_legal o other → IsPass issued_by is_legal m' number
+  pass_joined m o m' number other is agree p q =
       let xs = m.0.seen in
       let ys = o.0.seen in
       let to = agreed maker m.0.numbers o.0.numbers xs ys agree in
-      let P = λ (n : ℕ). n < issued_by (longer xs ys) in record {
+      let le : issued_by xs ≤ issued_by (longer xs ys) = grown maker issued_by grows xs _ to.0.more to.0.is in
+      let le' : issued_by ys ≤ issued_by (longer xs ys) = grown maker issued_by grows ys _ to.1.more to.1.is in
+      subst (λ z. IsPass issued_by is_legal z number) (sym is) record {
         number_is = p.number_is;
         own = Contains-append_left m.0.numbers o.0.numbers number p.own;
-        issued = All-append P m.0.numbers o.0.numbers
-            (below_more maker issued_by grows m.0.numbers xs _ (grown maker issued_by grows xs _ to.0.more to.0.is)
-            p.issued)
-            (below_more maker issued_by grows o.0.numbers ys _ (grown maker issued_by grows ys _ to.1.more to.1.is)
-            issued);
+        issued = All-append (λ n. n < issued_by (longer xs ys)) m.0.numbers o.0.numbers
+            (below_more maker issued_by grows m.0.numbers xs _ le p.issued)
+            (below_more maker issued_by grows o.0.numbers ys _ le' q.issued);
         lawful = elim (longer_is xs ys) [
           | inl e ↦ subst is_legal (sym e.0) p.lawful
-          | inr e ↦ subst is_legal (sym e.0) lawful
+          | inr e ↦ subst is_legal (sym e.0) q.lawful
         ];
         hand = p.hand;
       }
