@@ -91,7 +91,8 @@ impl<V: Kept> Desk<V> {
         give_back(&self.table.shared, &mut pass.seat, pass.number, value);
     }
 
-    /// Takes the turn. It sleeps while another pass has it.
+    /// Takes the turn. It sleeps while another pass has it. What the value's list has beyond the
+    /// pass's seen part are entries of others.
     pub fn take<R: Wait>(&self, rt: &R, pass: &mut Pass<V>) -> Turn<V>
         requires { IsReady self.now pass.old }
         ensures pass { IsSamePass pass.old pass.new }
@@ -142,7 +143,8 @@ impl<V: Kept> Desk<V> {
     }
 
     /// Takes another pass in: what either has seen is then seen by one, which has the numbers of
-    /// both.
+    /// both. One of the two seen parts began with the other, and what the longer had beyond it
+    /// carries none of the numbers of the pass with the shorter.
     pub fn leave(&self, pass: &mut Pass<V>, other: Pass<V>)
         requires one { IsReady self.now pass.old }
         requires other { IsReady self.now other }
@@ -153,7 +155,8 @@ impl<V: Kept> Desk<V> {
         join_one(&self.table.shared, &mut pass.seat, other.into_seat());
     }
 
-    /// Takes the last turn, and keeps its value.
+    /// Takes the last turn, and keeps its value. What its list has beyond the pass's seen part are
+    /// entries of others.
     pub fn close<R: Wait>(self, rt: &R, pass: Pass<V>) -> V
         requires { IsReady self pass }
         ensures goes_on { GoesOn V.maker pass.numbers pass.seen (V.entries result) }
