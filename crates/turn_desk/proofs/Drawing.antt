@@ -1,0 +1,133 @@
+-- Entries and passes that are made one after the other.
+use Rattle.std.proofs.Common.{◌≡◌, ℕ, zero, suc, ◌+◌, ◌-◌, ◌^◌, ◌<◌, ◌≤◌, List, [], ◌∷◌, ◌++◌, length, sym, refl, ap}
+use Rattle.std.proofs.Common.{◌∙◌, subst, append_assoc, append-nil, length-append, arith}
+use Rattle.std.specs.Prelude.{Option, All, Result, Ok, Err, OnErr}
+use Rattle.std.proofs.lemmas.List.Elements.{All-nil, All-cons, All-push}
+use Rattle.atomic_table.specs.Seated.{TableId}
+use Rattle.atomic_table.specs.declared.shared.Seat.{Seat}
+use Rattle.turn_desk.specs.declared.rule.View.{View}
+use Rattle.turn_desk.specs.Entering.{Issues, EntersSome, EntersAll}
+use Rattle.turn_desk.specs.Journal.{GoesOn, AddsOwn, Calls}
+use Rattle.turn_desk.specs.Known.{Known, IsSamePass, new_pass, new_passes}
+use Rattle.turn_desk.specs.Seats.{known, known_of}
+use Rattle.turn_desk.specs.Views.{newcomer, one_fewer, with_drawn}
+use Rattle.turn_desk.specs.Steps.{Mine}
+
+module _ {E : Type 0} (maker : E → ℕ) (issued_by : List E → ℕ) where
+  pub issues_none : (number : ℕ) (xs : List E) → Issues maker issued_by number 0 xs xs
+  issues_none number xs = record {
+    adds_own = record { own = []; is = sym (append-nil xs); made = All-nil (λ e. maker e ≡ number) };
+    many = omega arith;
+    issued = omega arith;
+  }
+
+  pub issues_more : (number count : ℕ) (xs ys zs : List E) (e : E) → Issues maker issued_by number count xs ys
+      → zs ≡ ys ++ e ∷ [] → maker e ≡ number
+      → issued_by zs ≡ issued_by ys + 1 → Issues maker issued_by number (count + 1) xs zs
+  issues_more number count xs ys zs e i is made more =
+      let a = i.adds_own in
+      let many = i.many in
+      let before = i.issued in record {
+        adds_own = record {
+          own = a.own ++ e ∷ [];
+          is = is ∙ (ap (λ l. l ++ e ∷ []) a.is ∙ append_assoc xs a.own (e ∷ []));
+          made = All-push (λ e. maker e ≡ number) a.own e a.made made;
+        };
+        many = omega (arith, length-append a.own (e ∷ []));
+        issued = omega arith;
+      }
+
+  -- the call of a pass that took the turn and drew numbers in it
+  module _ (old mid taken new : Known E) (log : List E) (same : IsSamePass old mid)
+      (goes : GoesOn maker old.numbers old.seen log) (seen : mid.seen ≡ log) (is : taken ≡ mid) where
+    abbrev call_of : AddsOwn maker taken.number taken.seen new.seen
+        → Calls maker old.number old.numbers old.seen new.seen
+    call_of a = record {
+      found = taken.seen;
+      goes_on = subst (λ xs. GoesOn maker old.numbers old.seen xs) (sym (ap (λ (k : Known E). k.seen) is ∙ seen))
+          goes;
+      adds_own = record {
+        own = a.own;
+        is = a.is;
+        made =
+            subst (λ n. All (λ e. maker e ≡ n) a.own) (ap (λ (k : Known E). k.number) is ∙ same.number) a.made;
+      };
+    }
+
+    pub enters_some : (count : ℕ) → ((made : ℕ) × (made ≤ count)
+        × Issues maker issued_by taken.number made taken.seen new.seen) → EntersSome maker issued_by old new count
+    enters_some count drew = let many = drew.2.many in let le = drew.1 in
+        record { call = call_of drew.2.adds_own; few = omega arith }
+
+    pub enters_all : (count : ℕ) (given : List (Known E)) → issued_by log + count < 2 ^ 32
+        → Issues maker issued_by taken.number count taken.seen new.seen
+        × (given ≡ new_passes taken.desk new.seen (issued_by taken.seen) count)
+        → EntersAll maker issued_by old new count given
+    enters_all count given room drew =
+        let found : issued_by taken.seen ≡ issued_by log = ap issued_by (ap (λ (k : Known E). k.seen) is ∙ seen) in
+        let desk : taken.desk ≡ old.desk = ap (λ (k : Known E). k.desk) is ∙ same.desk in record {
+          call = call_of drew.0.adds_own;
+          room = omega arith;
+          many = drew.0.many;
+          issued = drew.0.issued;
+          passes = drew.1 ∙ ap (λ d. new_passes d new.seen (issued_by taken.seen) count) desk;
+        }
+
+-- a fact that holds anyway
+pub on_err : {T E P : Type 0} (r : Result T E) → P → OnErr r P
+on_err (Ok x) h = tt
+on_err (Err e) h = h
+
+module _ {E : Type 0} where
+  pub new_passes-push : (desk : TableId) (seen : List E) (first count : ℕ)
+      → new_passes desk seen first count ++ new_pass desk (first + count) seen ∷ [] ≡ new_passes desk seen first
+      (count + 1)
+  new_passes-push desk seen first zero =
+      let e : first + 0 ≡ first = omega arith in λ i. new_pass desk (e i) seen ∷ []
+  new_passes-push desk seen first (suc count) =
+      let e : first + suc count ≡ first + 1 + count = omega arith in
+      let last : new_passes desk seen first (suc count) ++ new_pass desk (first + suc count) seen ∷ [] ≡ new_passes
+      desk seen first (suc count) ++ new_pass desk (first + 1 + count) seen ∷ [] =
+      λ i. new_passes desk seen first (suc count) ++ new_pass desk (e i) seen ∷ [] in
+      let s : suc count + 1 ≡ suc (count + 1) = omega arith in
+      last ∙ (ap (λ l. new_pass desk first seen ∷ l) (new_passes-push desk seen (first + 1) count)
+      ∙ ap (λ n. new_passes desk seen first n) (sym s))
+
+  pub new_passes-more : (passes more : List (Known E)) (k : Known E) (desk : TableId) (seen : List E)
+      (first count : ℕ)
+      → more ≡ passes ++ k ∷ [] → passes ≡ new_passes desk seen first count → k ≡ new_pass desk (first + count) seen
+      → more ≡ new_passes desk seen first (count + 1)
+  new_passes-more passes more k desk seen first count is was new =
+      is ∙ ((λ i. was i ++ new i ∷ []) ∙ new_passes-push desk seen first count)
+
+  -- one number more has gone to a pass
+  pub one_fewer_drawn : {V : Type 0} (start before after : Mine V E) (first count i : ℕ)
+      → before ≡ (with_drawn (first + i) (count - i) start.0, start.1)
+      → after ≡ (one_fewer before.0, before.1) → after ≡
+      (with_drawn (first + (i + 1)) (count - (i + 1)) start.0, start.1)
+  one_fewer_drawn {V} start before after first count i was is =
+      let next : first + i + 1 ≡ first + (i + 1) = omega arith in
+      let fewer : count - i - 1 ≡ count - (i + 1) = omega arith in
+      let cut : Mine V E → Mine V E = λ m. (one_fewer m.0, m.1) in
+      is ∙ (ap cut was ∙ (λ j. (with_drawn (next j) (fewer j) start.0, start.1)))
+
+  pub known_newcomer : {V : Type 0} (s : Seat (Option V) (View E)) (desk : TableId) (start before : Mine V E)
+      (number left : ℕ)
+      → s.table_id ≡ desk → s.me ≡ (newcomer before.0, []) → before ≡ (with_drawn number left start.0, start.1)
+      → known s ≡ new_pass desk number start.0.seen
+  known_newcomer {V} s desk start before number left at me was =
+      let new : Mine V E → Known E = λ m. new_pass desk m.0.drawn m.0.seen in
+      (λ i. known_of (at i) (me i).0) ∙ ap new was
+
+  -- each of the new passes is of the desk, idle, and has its own number alone
+  pub new_passes-all : (P : Known E → Type 0) (desk : TableId) (seen : List E) (first count : ℕ)
+      → ((k : ℕ) → P (new_pass desk k seen)) → All P (new_passes desk seen first count)
+  new_passes-all P desk seen first zero each = All-nil P
+  new_passes-all P desk seen first (suc count) each =
+      All-cons P (new_pass desk first seen) (new_passes desk seen (first + 1) count) (each first)
+      (new_passes-all P desk seen (first + 1) count each)
+
+  pub length-new_passes : (desk : TableId) (seen : List E) (first count : ℕ)
+      → length (new_passes desk seen first count) ≡ count
+  length-new_passes desk seen first zero = refl
+  length-new_passes desk seen first (suc count) = ap suc (length-new_passes desk seen (first + 1) count)

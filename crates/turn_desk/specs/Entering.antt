@@ -1,0 +1,38 @@
+-- What `enter` does: one call by a pass, whose own entries stand side by side and issue one number each.
+use Rattle.std.specs.Prelude.{◌≡◌, ℕ, ◌+◌, ◌^◌, ◌<◌, ◌≤◌, List, length, Result, MatchResult}
+use Rattle.rail_model.specs.declared.memory.OutOfMemory.{OutOfMemory}
+use Rattle.turn_desk.specs.Journal.{GoesOn, AddsOwn, Calls}
+use Rattle.turn_desk.specs.Known.{Known, new_passes}
+
+module _ {E : Type 0} (maker : E → ℕ) (issued_by : List E → ℕ) where
+  -- so many entries were made, and each issued one number more
+  pub record Issues (number count : ℕ) (found after : List E) : Type 0 where
+    pub adds_own : AddsOwn maker number found after
+    pub many : length adds_own.own ≡ count
+    pub issued : issued_by after ≡ issued_by found + count
+
+  -- all entries were made, with a new pass for each; or some of them
+  abbrev pub HasDrawn : Known E → Known E → ℕ → Result (List (Known E)) OutOfMemory → Type 0
+  HasDrawn old new count result = MatchResult result
+      (λ given. Issues old.number count old.seen new.seen
+      × (given ≡ new_passes old.desk new.seen (issued_by old.seen) count))
+      (λ _. (made : ℕ) × (made ≤ count) × Issues old.number made old.seen new.seen)
+
+  -- The call made so many entries, for which numbers enough were left. It gives a new pass for each number
+  -- that they issued, in order
+  pub record EntersAll (old new : Known E) (count : ℕ) (given : List (Known E)) : Type 0 where
+    pub call : Calls maker old.number old.numbers old.seen new.seen
+    pub room : issued_by call.found + count < 2 ^ 32
+    pub many : length call.adds_own.own ≡ count
+    pub issued : issued_by new.seen ≡ issued_by call.found + count
+    pub passes : given ≡ new_passes old.desk new.seen (issued_by call.found) count
+
+  -- the call found too few numbers left, and made no entry
+  pub record EntersNone (old new : Known E) (count : ℕ) : Type 0 where
+    pub goes_on : GoesOn maker old.numbers old.seen new.seen
+    pub full : 2 ^ 32 ≤ issued_by new.seen + count
+
+  -- the call made no more than so many entries
+  pub record EntersSome (old new : Known E) (count : ℕ) : Type 0 where
+    pub call : Calls maker old.number old.numbers old.seen new.seen
+    pub few : length call.adds_own.own ≤ count

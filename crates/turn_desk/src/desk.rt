@@ -1,0 +1,176 @@
+ghost use Rattle.std.specs.Prelude.{◌≡◌, ℕ, ◌+◌, true, false, All, IfOk, OnErr};
+ghost use Rattle.turn_desk.specs.Entering.{EntersAll, EntersNone, EntersSome};
+ghost use Rattle.turn_desk.specs.Journal.{GoesOn, AddsOwn};
+ghost use Rattle.turn_desk.specs.Known.{IsReady, IsSamePass, AgreeOn, HaveNoCommonNumber, new_pass};
+ghost use Rattle.turn_desk.specs.Known.{with_turn, refused, without_turn, with_other};
+
+use crate::drawn::draw_all;
+use crate::rule::{Law, View};
+use crate::steps::{give_back, join_one, shut_down, try_turn};
+use crate::{Kept, Pass, Turn};
+use atomic_table::Table;
+use rail_model::{List, OutOfMemory};
+use std::alloc::Global;
+use std::marker::Model;
+use std::snapshot::Snapshot;
+use std::sync::Wait;
+
+/// Another pass has the turn.
+#[derive(Clone, Copy, Debug)]
+pub struct Busy;
+
+/// There are too few numbers left for so many passes: the numbers are below 2^32.
+#[derive(Clone, Copy, Debug)]
+pub struct Full;
+
+/// Hands one value from thread to thread: who has the turn has the value. Contracts see which desk
+/// it is.
+#[derive(Drop)]
+pub struct Desk<V: Kept> {
+    pub(crate) table: Table<Option<V>, View<V::Entry>, Snapshot<V>, Law<V>, Global>,
+}
+
+impl<V: Kept> Model for Desk<V> {
+    ghost use Rattle.atomic_table.specs.Seated.{TableId, table_id_coded};
+    ghost use Rattle.turn_desk.specs.Seats.{IsSmall};
+
+    ghost Value = { TableId };
+
+    ghost coded = { table_id_coded };
+
+    ghost view = { λ d. d.table.shared.table_id };
+
+    ghost invariant = { λ d. IsSmall d.table.shared.table_id };
+}
+
+impl<V: Kept> Desk<V> {
+    /// A desk for the value, and pass 0, which has seen all its entries.
+    pub fn start(alloc: Global, value: V) -> Result<(Desk<V>, Pass<V>), OutOfMemory>
+    where
+        V: Drop,
+        requires alone { V.issued_by (V.entries value) ≡ 1 }
+        requires zero { All (λ e. V.maker e ≡ 0) (V.entries value) }
+        ensures { IfOk result (λ r. r.1 ≡ new_pass r.0 0 (V.entries value)) }
+    {
+        let _issued = value.issued();
+        let key = Snapshot::of(&value);
+        let mut slots = Vec::new(alloc);
+        slots.push(Some(value))?;
+        let Ok((table, seat)) = Table::new(alloc, &[0], slots, &key) else {
+            return Err(OutOfMemory);
+        };
+        Ok((Desk { table }, Pass { seat, number: 0 }))
+    }
+
+    /// One try to take the turn, which does not wait. What the value's list has beyond the pass's
+    /// seen part are entries of others. `Busy` comes exactly where the turn was taken at the pass's
+    /// one step: the word was 1 then, and nothing but counts has changed.
+    pub fn try_take(&self, pass: &mut Pass<V>) -> Result<Turn<V>, Busy>
+        requires { IsReady self.now pass.old }
+        ensures goes_on { IfOk result
+            (λ turn. GoesOn V.maker pass.old.numbers pass.old.seen (V.entries turn)) }
+        ensures ok { IfOk result (λ turn. pass.new ≡ with_turn pass.old (V.entries turn)) }
+        ensures busy { OnErr result (pass.new ≡ refused pass.old) }
+    {
+        let Some(value) = try_turn(&self.table.shared, &mut pass.seat) else {
+            return Err(Busy);
+        };
+        Ok(Turn::new(value))
+    }
+
+    /// Gives the turn back, with the value as it was taken and then entries of the pass's own
+    /// number.
+    pub fn give(&self, pass: &mut Pass<V>, turn: Turn<V>)
+        requires desk { pass.old.desk ≡ self.now }
+        requires holds { pass.old.holds ≡ true }
+        requires own { AddsOwn V.maker pass.old.number pass.old.seen (V.entries turn) }
+        ensures { pass.new ≡ without_turn pass.old (V.entries turn) }
+    {
+        let value = turn.into_value();
+        let _issued = value.issued();
+        give_back(&self.table.shared, &mut pass.seat, pass.number, value);
+    }
+
+    /// Takes the turn. It sleeps while another pass has it. What the value's list has beyond the
+    /// pass's seen part are entries of others.
+    pub fn take<R: Wait>(&self, rt: &R, pass: &mut Pass<V>) -> Turn<V>
+        requires { IsReady self.now pass.old }
+        ensures pass { IsSamePass pass.old pass.new }
+        ensures goes_on { GoesOn V.maker pass.old.numbers pass.old.seen (V.entries result) }
+        ensures seen { pass.new.seen ≡ V.entries result }
+        ensures holds { pass.new.holds ≡ true }
+        ensures found { pass.new.found ≡ 0 }
+    {
+        for _ in rt.forever() {
+            if let Ok(turn) = self.try_take(pass) {
+                return turn;
+            }
+            self.table.shared.park(rt, 0, 1);
+        }
+        unreachable!()
+    }
+
+    /// Draws `count` numbers in one turn, one after the other, and gives a new pass for each, in
+    /// the order of the numbers. `Full` comes exactly where so many numbers are not left; no entry
+    /// is then made. After want of memory some of the entries may stand in the journal, and no pass
+    /// has their numbers.
+    pub fn enter<R: Wait>(
+        &self,
+        rt: &R,
+        alloc: Global,
+        pass: &mut Pass<V>,
+        count: u32,
+    ) -> Result<Result<List<Pass<V>>, Full>, OutOfMemory>
+        requires { IsReady self.now pass.old }
+        ensures pass { IsSamePass pass.old pass.new }
+        ensures idle { pass.new.holds ≡ false }
+        ensures ok { IfOk result
+            (λ r. IfOk r (EntersAll V.maker V.issued_by pass.old pass.new count)) }
+        ensures full { IfOk result
+            (λ r. OnErr r (EntersNone V.maker V.issued_by pass.old pass.new count)) }
+        ensures err { OnErr result (EntersSome V.maker V.issued_by pass.old pass.new count) }
+    {
+        let turn = self.take(rt, pass);
+        let first = turn.value().issued();
+        if count > u32::MAX - first {
+            self.give(pass, turn);
+            return Ok(Err(Full));
+        }
+        let value = turn.into_value();
+        let shared = &self.table.shared;
+        let number = pass.number;
+        Ok(Ok(draw_all(alloc, shared, &mut pass.seat, number, value, count)?))
+    }
+
+    /// Takes another pass in: what either has seen is then seen by one, which has the numbers of
+    /// both. One of the two seen parts began with the other, and what the longer had beyond it
+    /// carries none of the numbers of the pass with the shorter.
+    pub fn leave(&self, pass: &mut Pass<V>, other: Pass<V>)
+        requires one { IsReady self.now pass.old }
+        requires other { IsReady self.now other }
+        ensures agree { AgreeOn V.maker pass.old other }
+        ensures apart { HaveNoCommonNumber pass.old other }
+        ensures joined { pass.new ≡ with_other pass.old other pass.new.word }
+    {
+        join_one(&self.table.shared, &mut pass.seat, other.into_seat());
+    }
+
+    /// Takes the last turn, and keeps its value. What its list has beyond the pass's seen part are
+    /// entries of others.
+    pub fn close<R: Wait>(self, rt: &R, pass: Pass<V>) -> V
+        requires { IsReady self pass }
+        ensures goes_on { GoesOn V.maker pass.numbers pass.seen (V.entries result) }
+        ensures lawful { V.is_legal (V.entries result) }
+    {
+        let mut pass = pass;
+        let value = self.take(rt, &mut pass).into_value();
+        let mut seat = pass.into_seat();
+        shut_down(&self.table.shared, &mut seat);
+        let Desk { table } = self;
+        let mut closed = table.close_with(seat);
+        let left = closed.take(0);
+        let None = left else { unreachable!() };
+        closed.free();
+        value
+    }
+}
