@@ -42,6 +42,12 @@ read_entry items n x h =
     let e = some_from_map (λ (e : ℕ × _). e.1) (slice_get items n) x h in
     (e.0, get_or_from_slice_get items n e.0 e.0 e.1, e.2, slice_get_within items n e.0 e.1)
 
+-- the images of one entry more
+pub images_more : {X Y : Type 0} (f : X → Y) (items : List (ℕ × X)) (n : ℕ) (x : X) (so_far : List Y) (y : Y) → option_map (λ e. e.1) (slice_get items n) ≡ Some x → so_far ≡ map (λ e. f e.1) (take n items) → y ≡ f x → so_far ++ y ∷ [] ≡ map (λ e. f e.1) (take (n + 1) items)
+images_more f items n x so_far y here right same =
+    let e = read_entry items n x here in
+    rw (right, same, map_more (λ (e : ℕ × _). f e.1) items n e.0 e.3, e.1, e.2) refl
+
 all_at : {X : Type 0} (P : ℕ × X → Type 0) (items : List (ℕ × X)) (n : ℕ) (x : X) → option_map (λ e. e.1) (slice_get items n) ≡ Some x → All P items → (e : ℕ × X) × (e.1 ≡ x) × P e
 all_at P items n x h all =
     let e = read_entry items n x h in

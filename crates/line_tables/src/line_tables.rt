@@ -1,12 +1,12 @@
 //! The tables of a line: what they hold, and looking it up.
-ghost use Rattle.std.specs.Prelude.{◌≡◌, ◌<◌, length, Some, IfOk, IfSome, is_some, slice_get};
-ghost use Rattle.rail_model.specs.Tables as lookup;
-ghost use Rattle.rail_model.specs.Rules.{has_block, has_run, has_section, is_named};
+ghost use Rattle.std.specs.Prelude.{◌≡◌, ◌<◌, length, map, Some, IfOk, IfSome, is_some, slice_get};
+ghost use Rattle.rail_model.specs.Tables.{number_of};
+ghost use Rattle.rail_model.specs.Rules.{has_block, has_run, has_section};
 ghost use Rattle.rail_model.specs.Edits.{no_tables};
 ghost use Rattle.rail_model.specs.Sound.{IsSound};
 
 use crate::entry::Entry;
-use crate::named_table::NamedTable;
+use crate::named_table::{NamedTable, Stored};
 use crate::uses::Uses;
 use rail_model::{
     Block, Connection, List, Name, OutOfMemory, Route, Run, Section, Signal, Tables,
@@ -64,4 +64,146 @@ impl LineTables {
             run_uses: Uses::new(alloc),
         }
     }
+
+    /// The items alone, as plain tables.
+    pub fn plain(&self) -> Result<Tables, OutOfMemory>
+        ensures same { IfOk result (λ tables. tables ≡ self.now) }
+        ensures sound { IfOk result IsSound }
+    {
+        Ok(Tables {
+            blocks: plain_blocks(self.alloc, &self.blocks)?,
+            signals: plain_items(self.alloc, &self.signals)?,
+            routes: plain_items(self.alloc, &self.routes)?,
+            runs: plain_items(self.alloc, &self.runs)?,
+            sections: plain_items(self.alloc, &self.sections)?,
+            connections: plain_items(self.alloc, &self.connections)?,
+        })
+    }
+
+    /// How many blocks there are: at most `BLOCKS`.
+    pub fn blocks(&self) -> u32
+        ensures count { result ≡ length self.now.blocks }
+        ensures sound { IsSound self.now }
+    {
+        self.blocks.len() as u32
+    }
+
+    /// How many runs there are: at most `RUNS`.
+    pub fn runs(&self) -> u32
+        ensures count { result ≡ length self.now.runs }
+        ensures sound { IsSound self.now }
+    {
+        self.runs.len() as u32
+    }
+
+    /// How many sections there are: at most `SECTIONS`.
+    pub fn sections(&self) -> u32
+        ensures count { result ≡ length self.now.sections }
+        ensures sound { IsSound self.now }
+    {
+        self.sections.len() as u32
+    }
+
+    /// How many connections there are: at most `CONNECTIONS`.
+    pub fn connections(&self) -> u32
+        ensures count { result ≡ length self.now.connections }
+        ensures sound { IsSound self.now }
+    {
+        self.connections.len() as u32
+    }
+
+    /// The block of a number.
+    pub fn block(&self, n: u32) -> &Block
+        requires { n < length self.now.blocks }
+        ensures { slice_get self.now.blocks n ≡ Some result.now }
+    {
+        self.blocks.nth(n as usize)
+    }
+
+    /// The run of a number.
+    pub fn run(&self, n: u32) -> &Run
+        requires { n < length self.now.runs }
+        ensures { slice_get self.now.runs n ≡ Some result.now }
+    {
+        &self.runs.nth(n as usize).item
+    }
+
+    /// The section of a number.
+    pub fn section(&self, n: u32) -> &Section
+        requires { n < length self.now.sections }
+        ensures { slice_get self.now.sections n ≡ Some result.now }
+    {
+        &self.sections.nth(n as usize).item
+    }
+
+    /// The connection of a number.
+    pub fn connection(&self, n: u32) -> &Connection
+        requires { n < length self.now.connections }
+        ensures { slice_get self.now.connections n ≡ Some result.now }
+    {
+        &self.connections.nth(n as usize).item
+    }
+
+    /// The number of the block of a name, if there is one.
+    pub fn block_number(&self, name: &Name) -> Option<u32>
+        ensures there { is_some result ≡ has_block self.now name.now }
+        ensures number { IfSome result (λ n. n ≡ number_of (λ x. x.name) self.now.blocks name.now) }
+        ensures in_range { IfSome result (λ n. n < length self.now.blocks) }
+    {
+        match self.blocks.number_of(name) {
+            Some(number) => Some(number as u32),
+            None => None,
+        }
+    }
+
+    /// The number of the run of a name, if there is one.
+    pub fn run_number(&self, name: &Name) -> Option<u32>
+        ensures there { is_some result ≡ has_run self.now name.now }
+        ensures number { IfSome result (λ n. n ≡ number_of (λ x. x.name) self.now.runs name.now) }
+        ensures in_range { IfSome result (λ n. n < length self.now.runs) }
+    {
+        match self.runs.number_of(name) {
+            Some(number) => Some(number as u32),
+            None => None,
+        }
+    }
+
+    /// The number of the section of a name, if there is one.
+    pub fn section_number(&self, name: &Name) -> Option<u32>
+        ensures there { is_some result ≡ has_section self.now name.now }
+        ensures number { IfSome result (λ n. n ≡ number_of (λ x. x.name) self.now.sections name.now) }
+        ensures in_range { IfSome result (λ n. n < length self.now.sections) }
+    {
+        match self.sections.number_of(name) {
+            Some(number) => Some(number as u32),
+            None => None,
+        }
+    }
+}
+
+fn plain_blocks(
+    alloc: Global,
+    table: &NamedTable<Block>,
+) -> Result<List<Block>, OutOfMemory>
+    ensures { IfOk result (λ items. items ≡ map (λ e. e.1) table.now) }
+{
+    let mut items = List::new(alloc);
+    for number in 0..table.len() {
+        items.push(*table.nth(number))?;
+    }
+    Ok(items)
+}
+
+// The items of a table's entries, in their order.
+fn plain_items<T: Stored>(
+    alloc: Global,
+    table: &NamedTable<Entry<T>>,
+) -> Result<List<T>, OutOfMemory>
+    ensures { IfOk result (λ items. items ≡ map (λ e. e.1.item) table.now) }
+{
+    let mut items = List::new(alloc);
+    for number in 0..table.len() {
+        items.push(table.nth(number).item.clone()?)?;
+    }
+    Ok(items)
 }
