@@ -1,0 +1,42 @@
+-- The rows of the conflicts that were found are those of the definition.
+use Rattle.std.proofs.Common.{◌≡◌, ℕ, ◌+◌, ◌-◌, ◌<◌, ◌≤◌, List, [], ◌∷◌, ◌++◌, length, map, take, get_or, refl, sym, ap, ◌∙◌, subst, arith}
+use Rattle.std.specs.Prelude.{pos}
+use Rattle.std.specs.List.{All, Contains}
+use Rattle.std.proofs.lemmas.List.{length-map, get_or-map, get_or-take, length-take}
+use Rattle.std.proofs.lemmas.List.Elements.{Contains-get_or}
+use Rattle.std.proofs.lemmas.Simd.{map-map}
+use Rattle.rail_model.specs.declared.tables.Tables.{Tables}
+use Rattle.rail_model.specs.Conflict as whole
+use Rattle.rail_model.specs.Conflict.{AreConflicts, IsConflict}
+use Rattle.rail_model.specs.Sound.{IsSound}
+use Rattle.conflict_finder.specs.declared.found.Conflict.{Conflict}
+use Rattle.conflict_finder.specs.declared.found.Conflicts.{Conflicts}
+use Rattle.conflict_finder.specs.declared.found.TheConstants.{LISTED}
+use Rattle.conflict_finder.specs.Found.{listed, IsFound}
+use Rattle.row_text.specs.Row.{Row}
+use Rattle.capacity_report.specs.Timetable.{timetable}
+use Rattle.capacity_report.specs.Check.{conflict_row, found_row, count_row, check_rows}
+use Rattle.capacity_report.proofs.Timetables.{used_there}
+
+-- the block of a conflict is one of the tables
+conflict_there : (tables : Tables) → IsSound tables → (c : whole.Conflict) → IsConflict (timetable tables) c → c.block < length tables.blocks
+conflict_there tables sound c h =
+    subst (λ b. b < length tables.blocks) (sym h.8.block) (used_there tables sound h.0 h.1 h.4 h.6)
+
+pub listed_there : (tables : Tables) → IsSound tables → (found : Conflicts) → IsFound (timetable tables) found → (i : ℕ) (d : Conflict) → i < length found.list → (get_or found.list i d).block < length tables.blocks
+listed_there tables sound found f i d l =
+    let some : Conflict → whole.Conflict = λ c. record { block = c.block; first = c.first; first_start = pos 0; second = c.second; from = c.from; to = c.to } in
+    let count : length (map listed (take LISTED f.all)) ≡ length (take LISTED f.all) = length-map (take LISTED f.all) listed in
+    let within : i < length (take LISTED f.all) = omega (arith, ap length f.list, count) in
+    let here : get_or found.list i d ≡ listed (get_or f.all i (some d)) =
+    ap (λ xs. get_or xs i d) f.list ∙ get_or-map listed (take LISTED f.all) i (some d) d within ∙ ap listed (get_or-take LISTED f.all i (some d) (omega (arith, length-take LISTED f.all))) in
+    let there : Contains f.all (get_or f.all i (some d)) = Contains-get_or f.all i (some d) (omega (arith, length-take LISTED f.all)) in
+    rw here (conflict_there tables sound (get_or f.all i (some d)) ((f.are.each (get_or f.all i (some d))).0 there))
+
+-- their rows, and the count
+pub rows_found : (tables : Tables) (found : Conflicts) → (f : IsFound (timetable tables) found) → map (found_row tables) found.list ++ count_row (length found.list) found.more ∷ [] ≡ check_rows tables f.all
+rows_found tables found f =
+    let count : length found.list ≡ length (take LISTED f.all) = ap length f.list ∙ length-map (take LISTED f.all) listed in
+    let rows : map (found_row tables) found.list ≡ map (conflict_row tables) (take LISTED f.all) =
+    ap (map (found_row tables)) f.list ∙ map-map (found_row tables) listed (take LISTED f.all) in
+    rw (rows, count, f.more) refl

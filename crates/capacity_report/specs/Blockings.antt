@@ -1,0 +1,28 @@
+-- The rows of `stairs` as the program makes them: what stands at the head, the block's name in a list, and the times.
+use Rattle.std.specs.Prelude.{ℕ, List, [], ◌∷◌, ◌++◌, map, codes, slice_index_or}
+use Rattle.std.specs.List.{range_with_len}
+use Rattle.std.specs.Fmt.{signed_decimal}
+use Rattle.blocking_time.specs.declared.walk.Blocking.{Blocking}
+use Rattle.blocking_time.specs.Blocking.{blocking_of}
+use Rattle.rail_model.specs.declared.path.Path.{Path}
+use Rattle.rail_model.specs.declared.tables.Tables.{Tables}
+use Rattle.rail_model.specs.Path.{hop_count}
+use Rattle.row_text.specs.Row.{Row}
+
+-- the row of a blocking: its head, its block, its use and its six parts
+abbrev pub blocking_row : Row → Row → Blocking → Row
+blocking_row head block b =
+    head ++ block ++ map signed_decimal (b.used.start ∷ b.used.«end» ∷ []) ++ map signed_decimal b.parts
+
+-- the same with the block's name among the names, which stand by the blocks' numbers
+abbrev pub named_row : List Row → Row → Blocking → Row
+named_row names head b = blocking_row head (slice_index_or names b.used.block ([] ∷ [])) b
+
+-- the rows of a path
+abbrev pub rows_by_names : List Row → Path → List Row
+rows_by_names names path =
+    map (named_row names (codes "use" ∷ path.run ∷ [])) (map (blocking_of path) (range_with_len 1 (hop_count path)))
+
+-- the names of the blocks, by number
+abbrev pub names_of : Tables → List Row
+names_of tables = map (λ b. b.name ∷ []) tables.blocks

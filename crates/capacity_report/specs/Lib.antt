@@ -1,0 +1,4 @@
+pub mod Timetable
+pub mod Stairs
+pub mod Blockings
+pub mod Check

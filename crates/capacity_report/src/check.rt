@@ -1,0 +1,58 @@
+//! The rows of `check`.
+ghost use Rattle.std.specs.Prelude.{◌≡◌, ◌<◌, [], List, length, map, All, OnOk, codes};
+ghost use Rattle.rail_model.specs.Conflict.{Conflict as Whole, AreConflicts};
+ghost use Rattle.conflict_finder.specs.Found.{IsFound};
+ghost use Rattle.row_text.specs.SheetRows.{with_rows, with_row};
+ghost use Rattle.capacity_report.specs.Timetable.{timetable};
+ghost use Rattle.capacity_report.specs.Check as rows;
+
+use conflict_finder::{Conflict, Conflicts};
+use line_tables::LineTables;
+use rail_model::OutOfMemory;
+use row_text::Sheet;
+
+/// Adds the rows of the conflicts that were found, in their order, and their count.
+pub fn conflict_rows(
+    sheet: &mut Sheet,
+    tables: &LineTables,
+    found: &Conflicts,
+) -> Result<(), OutOfMemory>
+    requires closed { sheet.old.row ≡ [] }
+    requires found { IsFound (timetable tables.now) found.now }
+    ensures { OnOk result ((all : List Whole) × AreConflicts (timetable tables.now) all
+        × (sheet.new ≡ with_rows sheet.old (rows.check_rows tables.now all))) }
+{
+    let _runs = tables.runs();
+    for conflict in found.list.slice() {
+        conflict_row(sheet, tables, conflict)?;
+    }
+    count_row(sheet, found.list.len() as u64, found.more)
+}
+
+fn conflict_row(
+    sheet: &mut Sheet,
+    tables: &LineTables,
+    conflict: &Conflict,
+) -> Result<(), OutOfMemory>
+    requires closed { sheet.old.row ≡ [] }
+    requires there { conflict.now.block < length tables.now.blocks }
+    ensures { OnOk result (sheet.new ≡ with_row sheet.old (rows.found_row tables.now conflict.now)) }
+{
+    sheet.push_field(b"conflict")?;
+    sheet.push_field(tables.block(conflict.block).name.bytes())?;
+    sheet.push_field(conflict.first.bytes())?;
+    sheet.push_field(conflict.second.bytes())?;
+    sheet.push_number(conflict.from)?;
+    sheet.push_number(conflict.to)?;
+    sheet.end_row()
+}
+
+fn count_row(sheet: &mut Sheet, listed: u64, more: u64) -> Result<(), OutOfMemory>
+    requires { sheet.old.row ≡ [] }
+    ensures { OnOk result (sheet.new ≡ with_row sheet.old (rows.count_row listed more)) }
+{
+    sheet.push_field(b"conflicts")?;
+    sheet.push_count(listed)?;
+    sheet.push_count(more)?;
+    sheet.end_row()
+}
