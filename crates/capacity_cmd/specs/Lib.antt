@@ -1,10 +1,5 @@
-pub mod Rows
-pub mod Fields
 pub mod Input
-pub mod Putting
-pub mod Text
-pub mod Sheet
-pub mod StairsRows
+pub mod Made
 pub mod Command
 pub mod Outcome
 pub mod Reply

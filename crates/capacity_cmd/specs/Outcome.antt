@@ -1,19 +1,23 @@
 -- What a command ends with, by its input.
-use Rattle.std.specs.Prelude.{◌≡◌, ℕ, nat_lt, if◌then◌else◌, List, [], ◌∷◌, length, codes, decimal, Option, Result, Ok, Err, IfSome}
+use Rattle.std.specs.Prelude.{◌≡◌, ℕ, List, [], ◌∷◌, codes, decimal, Option, Result, Ok, Err, IfSome}
 use Rattle.rail_model.specs.declared.tables.Tables.{Tables}
-use Rattle.rail_model.specs.declared.items.Form.{Form}
-use Rattle.rail_model.specs.declared.items.Form.TheVariants as form
-use Rattle.rail_model.specs.declared.items.Rule.{Rule}
-use Rattle.rail_model.specs.declared.items.Rule.TheVariants as rule
+use Rattle.rail_model.specs.declared.form.Form.{Form}
+use Rattle.rail_model.specs.declared.form.Form.TheVariants as form
+use Rattle.rail_model.specs.declared.edit.Rule.{Rule}
+use Rattle.rail_model.specs.declared.edit.Rule.TheVariants as rule
+use Rattle.rail_model.specs.Conflict.{Conflict, AreConflicts}
+use Rattle.row_text.specs.SheetRows.{text_of_row, text_of_rows}
+use Rattle.capacity_report.specs.Timetable.{timetable}
+use Rattle.capacity_report.specs.Stairs.{stairs_rows}
+use Rattle.capacity_report.specs.Check.{check_rows}
 use Rattle.capacity_cmd.specs.declared.command.Command.{Command}
 use Rattle.capacity_cmd.specs.declared.command.Command.TheVariants as command
 use Rattle.capacity_cmd.specs.declared.status.Status.{Status}
 use Rattle.capacity_cmd.specs.declared.status.Status.TheVariants as status
 use Rattle.capacity_cmd.specs.declared.status.Cause.{Cause}
 use Rattle.capacity_cmd.specs.declared.status.Cause.TheVariants as cause
-use Rattle.capacity_cmd.specs.declared.call.TheConstants.{INPUT_BYTES}
-use Rattle.capacity_cmd.specs.Input.{rows_of, tables_of}
-use Rattle.capacity_cmd.specs.Text.{text_of_row, stairs_text}
+use Rattle.capacity_cmd.specs.declared.refusal.Refusal.{Refusal}
+use Rattle.capacity_cmd.specs.Input.{tables_of_input}
 
 -- a text to write, or the refusal of a row for a cause
 pub data Outcome : Type 0 where
@@ -26,6 +30,7 @@ form_text form.Kind = codes "kind"
 form_text form.Fields = codes "fields"
 form_text form.Number = codes "number"
 form_text form.BadName = codes "name"
+form_text form.Order = codes "order"
 
 abbrev pub rule_text : Rule → List ℕ
 rule_text rule.Range = codes "range"
@@ -41,7 +46,6 @@ cause_text (cause.Rule r) = rule_text r
 cause_text cause.TooLong = codes "too-long"
 cause_text cause.NoSection = codes "no-section"
 cause_text cause.Script = codes "script"
-cause_text cause.Early = codes "early"
 
 -- refused,ROW,CAUSE
 abbrev pub refusal_text : ℕ → Cause → List ℕ
@@ -65,20 +69,21 @@ status_number status.ReadFault = 3
 status_number status.WriteFault = 4
 status_number status.OutOfMemory = 5
 
--- the outcome of `stairs` on the tables that rows make: their text, or the refusal of a row
-abbrev pub stairs_of : Result Tables ℕ → Outcome
-stairs_of (Ok tables) = Writes (stairs_text tables)
-stairs_of (Err row) = Refuses row cause.Early
+-- the text of each command for the tables that an input makes
+abbrev pub IsText : Command → Tables → List ℕ → Type 0
+IsText command.Stairs tables text = text ≡ text_of_rows (stairs_rows tables)
+IsText command.Check tables text = (all : List Conflict) × AreConflicts (timetable tables) all × (text ≡ text_of_rows (check_rows tables all))
 
--- the outcome of an input, which may have no more bytes than are read
-abbrev pub within_limit : List ℕ → Outcome → Outcome
-within_limit input outcome = if nat_lt INPUT_BYTES (length input) then Refuses 0 cause.TooLong else outcome
+-- the outcome of a command on the tables or the refusal that an input makes
+abbrev pub Ends : Command → Result Tables Refusal → Outcome → Type 0
+Ends command (Ok tables) outcome = (text : List ℕ) × IsText command tables text × (outcome ≡ Writes text)
+Ends command (Err refusal) outcome = outcome ≡ Refuses refusal.row refusal.cause
 
--- the outcome of each command on an input
-unfoldable pub outcome_of : Command → List ℕ → Outcome
-outcome_of command.Stairs input = within_limit input (stairs_of (tables_of (rows_of input)))
+-- the outcome of a command on an input
+abbrev pub EndsOn : Command → List ℕ → Outcome → Type 0
+EndsOn command input outcome = Ends command (tables_of_input input) outcome
 
 -- the outcome is that of the command on the bytes of a source, where it tells them, and else on some bytes
 pub record IsOutcome (command : Command) (told : Option (List ℕ)) (outcome : Outcome) : Type 0 where
-  pub of_some : (input : List ℕ) × (outcome_of command input ≡ outcome)
-  pub of_told : IfSome told (λ input. outcome_of command input ≡ outcome)
+  pub of_some : (input : List ℕ) × EndsOn command input outcome
+  pub of_told : IfSome told (λ input. EndsOn command input outcome)

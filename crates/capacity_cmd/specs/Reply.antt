@@ -5,12 +5,18 @@ use Rattle.capacity_cmd.specs.declared.command.Command.{Command}
 use Rattle.capacity_cmd.specs.declared.reply.Reply.{Reply}
 use Rattle.capacity_cmd.specs.declared.status.Status.{Status}
 use Rattle.capacity_cmd.specs.declared.status.Status.TheVariants.{WriteFault}
-use Rattle.capacity_cmd.specs.Outcome.{Outcome, IsOutcome, outcome_text, outcome_status}
+use Rattle.capacity_cmd.specs.Outcome.{Outcome, EndsOn, IsOutcome, outcome_text, outcome_status}
 
 -- the reply says an outcome
 pub record Says (outcome : Outcome) (reply : Reply) : Type 0 where
   pub text : reply.text.items ≡ outcome_text outcome
   pub status : reply.status ≡ outcome_status outcome
+
+-- the reply says an outcome of the command on an input
+pub record IsReplyTo (command : Command) (input : List ℕ) (reply : Reply) : Type 0 where
+  pub outcome : Outcome
+  pub ends : EndsOn command input outcome
+  pub said : Says outcome reply
 
 -- the reply says an outcome of the command on the bytes of a source, where it tells them, and else on some bytes
 pub record IsReply (command : Command) (told : Option (List ℕ)) (reply : Reply) : Type 0 where

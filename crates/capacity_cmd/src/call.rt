@@ -9,6 +9,7 @@ ghost use Rattle.capacity_cmd.specs.Reply.{IsReply};
 ghost use Rattle.capacity_cmd.specs.Promise.{Answers};
 
 use crate::command::command_of;
+use crate::limit::INPUT_BYTES;
 use crate::reply::{Reply, refusal, reply_to};
 use crate::send::send;
 use crate::{Cause, Command, Status};
@@ -16,9 +17,6 @@ use rail_outside::{Gate, Sink, Source, Taken, take_all};
 use std::alloc::Global;
 use std::sync::Wait;
 use std::thread::Threads;
-
-/// The greatest number of bytes of an input.
-pub const INPUT_BYTES: usize = 16_777_216;
 
 /// Whether a call with these words runs on its caller's thread alone and waits for nobody. Today
 /// all do.

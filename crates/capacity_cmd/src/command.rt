@@ -8,6 +8,8 @@ ghost use Rattle.capacity_cmd.specs.Command.{command_of};
 pub enum Command {
     /// Writes the blocking times of every run: the word `stairs`.
     Stairs,
+    /// Writes the conflicts of the timetable: the word `check`.
+    Check,
 }
 
 // The command that the words spell, if they spell one.
@@ -16,6 +18,7 @@ pub(crate) fn command_of(words: &[String]) -> Option<Command>
 {
     match words {
         [word] if word.as_str() == "stairs" => Some(Command::Stairs),
+        [word] if word.as_str() == "check" => Some(Command::Check),
         _ => None,
     }
 }

@@ -1,76 +1,134 @@
 //! From the bytes of an input to tables, or to the row at which it is refused.
-ghost use Rattle.std.specs.Prelude.{◌≡◌, ◌+◌, ◌<◌, ◌≤◌, ◌^◌, length, IfOk, OnOk};
-ghost use Rattle.rail_model.specs.Puts.{IsSound};
-ghost use Rattle.capacity_cmd.specs.Input.{rows_of, tables_of};
+ghost use Rattle.std.specs.Prelude.{◌≡◌, ◌+◌, ◌<◌, ◌^◌, length, slice_index_or, [], IfOk, OnOk, Ok, Some};
+ghost use Rattle.row_text.specs.Rows.{rows_of};
+ghost use Rattle.rail_model.specs.Edits.{no_tables};
+ghost use Rattle.capacity_cmd.specs.Input.{tables_of, tables_in, edit_of, edit_in};
 
-use crate::call::INPUT_BYTES;
-use crate::item_row::item_of;
-use csv::ReaderBuilder;
-use rail_model::{Item, OutOfMemory, Tables};
+use crate::Cause;
+use crate::refusal::Refusal;
+use line_tables::LineTables;
+use rail_model::{Edit, OutOfMemory};
+use row_text::{Line, RowList, rows};
 use std::alloc::Global;
 
-// The tables that the rows of a text make, or the row, from 1, at which the text is refused.
-pub(crate) fn tables_of_text(alloc: Global, text: &[u8]) -> Result<Result<Tables, u64>, OutOfMemory>
-    requires { length text.now ≤ INPUT_BYTES }
-    ensures made { IfOk result (λ made. made ≡ tables_of (rows_of text.now)) }
-    ensures sound { IfOk result (λ made. IfOk made IsSound) }
+// The tables that the rows of a text make, or the row at which the text is refused.
+pub(crate) fn tables_of_text(
+    alloc: Global,
+    text: &[u8],
+) -> Result<Result<LineTables, Refusal>, OutOfMemory>
+    ensures { IfOk result (λ made. made ≡ tables_of (rows_of text.now)) }
 {
-    let rdr = ReaderBuilder::new()
-        .has_headers(false)
-        .flexible(true)
-        .from_reader(alloc, text);
-    let mut putting = Putting {
-        tables: Tables::new(alloc),
-        rows: 0,
+    let rows = rows(alloc, text)?;
+    tables_of_rows(alloc, &rows)
+}
+
+fn tables_of_rows(alloc: Global, rows: &RowList) -> Result<Result<LineTables, Refusal>, OutOfMemory>
+    ensures { IfOk result (λ made. made ≡ tables_of rows.now) }
+{
+    let version = match rows.version() {
+        Ok(version) => version,
+        Err(form) => return Ok(Err(Refusal { row: 1, cause: Cause::Form(form) })),
+    };
+    let mut made = Made {
+        tables: LineTables::new(alloc),
         refused: None,
     };
-    for row in rdr.into_byte_records() {
-        let Ok(row) = row else {
-            return Err(OutOfMemory);
-        };
-        let Some(item) = item_of(alloc, &row)? else {
-            return Ok(Err(putting.rows + 1));
-        };
-        putting.take(alloc, item)?;
+    match made.take_rows(alloc, rows, version)? {
+        Some(refusal) => Ok(Err(refusal)),
+        None => Ok(made.end()),
     }
-    Ok(putting.end())
 }
 
-// The tables after the puts of some rows, and the first of these rows whose put a rule refused. After it
-// rows are only read on for one that puts no item.
+// The edit that the row at a place spells, or why it is refused.
+fn edit_at(
+    alloc: Global,
+    rows: &RowList,
+    version: u32,
+    i: usize,
+) -> Result<Result<Edit, Cause>, OutOfMemory>
+    requires { i < length rows.now }
+    ensures { IfOk result (λ found. found ≡ edit_in version (slice_index_or rows.now i [])) }
+{
+    match rows.line(alloc, version, i)? {
+        Ok(line) => Ok(edit_of(line)),
+        Err(form) => Ok(Err(Cause::Form(form))),
+    }
+}
+
+fn edit_of(line: Line) -> Result<Edit, Cause>
+    ensures { result ≡ edit_of line }
+{
+    match line {
+        Line::Edit(edit) => Ok(edit),
+        Line::Ask(_) | Line::Planner(_) => Err(Cause::Script),
+    }
+}
+
+// The tables after the edits of some rows, and the first of these rows whose edit a rule refused. After it
+// rows are only read on for one that spells no edit.
 #[derive(Drop)]
-struct Putting {
-    tables: Tables,
-    rows: u64,
-    refused: Option<u64>,
+struct Made {
+    tables: LineTables,
+    refused: Option<Refusal>,
 }
 
-impl Putting {
-    ghost use Rattle.capacity_cmd.specs.Putting.{made_so_far, put_next};
+impl Made {
+    ghost use Rattle.capacity_cmd.specs.Made.{made_so_far, after_one_more, TakesRow, TakesRows};
 
-    fn take(&mut self, alloc: Global, item: Item) -> Result<(), OutOfMemory>
-        requires room { self.old.rows + 1 < 2 ^ 64 }
-        requires sound { IsSound self.old.tables }
-        ensures made { OnOk result (made_so_far self.new ≡ put_next (self.old.rows + 1) (made_so_far self.old) item) }
-        ensures rows { OnOk result (self.new.rows ≡ self.old.rows + 1) }
-        ensures sound_again { IsSound self.new.tables }
+    // Takes the edits of all rows, up to the first row that is refused.
+    fn take_rows(
+        &mut self,
+        alloc: Global,
+        rows: &RowList,
+        version: u32,
+    ) -> Result<Option<Refusal>, OutOfMemory>
+        requires { made_so_far self.old ≡ Ok no_tables }
+        ensures { IfOk result (TakesRows (tables_in (Ok version) rows.now) self.new) }
+    {
+        for i in rows.first_line()..rows.len() {
+            if let Some(cause) = self.take_row(alloc, rows, version, i)? {
+                return Ok(Some(Refusal { row: i as u64 + 1, cause }));
+            }
+        }
+        Ok(None)
+    }
+
+    // Takes the edit of the row at a place, unless the row is refused.
+    fn take_row(
+        &mut self,
+        alloc: Global,
+        rows: &RowList,
+        version: u32,
+        i: usize,
+    ) -> Result<Option<Cause>, OutOfMemory>
+        requires there { i < length rows.now }
+        requires counted { length rows.now < 2 ^ 64 }
+        ensures { IfOk result (TakesRow
+            (edit_in version (slice_index_or rows.now i [])) (i + 1) self.old self.new) }
+    {
+        match edit_at(alloc, rows, version, i)? {
+            Ok(edit) => self.take(i as u64 + 1, &edit).map(|()| None),
+            Err(cause) => Ok(Some(cause)),
+        }
+    }
+
+    fn take(&mut self, row: u64, edit: &Edit) -> Result<(), OutOfMemory>
+        ensures { OnOk result (made_so_far self.new ≡ after_one_more row (made_so_far self.old) edit.now) }
     {
         if self.refused.is_some() {
-            self.rows += 1;
             return Ok(());
         }
-        if self.tables.put(alloc, item)?.is_err() {
-            self.refused = Some(self.rows + 1);
+        if let Err(rule) = self.tables.apply(edit)? {
+            self.refused = Some(Refusal { row, cause: Cause::Rule(rule) });
         }
-        self.rows += 1;
         Ok(())
     }
 
-    fn end(self) -> Result<Tables, u64>
+    fn end(self) -> Result<LineTables, Refusal>
         ensures { result ≡ made_so_far self }
     {
         match self.refused {
-            Some(row) => Err(row),
+            Some(refusal) => Err(refusal),
             None => Ok(self.tables),
         }
     }

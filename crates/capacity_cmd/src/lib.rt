@@ -1,19 +1,17 @@
-//! The program's commands, from bytes to bytes: rows are read, items put into tables, and texts
-//! written.
+//! The program's commands, from bytes to bytes: rows are read, their edits make tables, and the text of a
+//! command is written.
 #![tactic(auto)]
 
 mod call;
 mod command;
-mod fields;
 mod input;
-mod item_row;
-mod number;
+mod limit;
+mod refusal;
 mod reply;
 mod send;
-mod sheet;
-mod stairs_text;
 mod status;
 
-pub use call::{INPUT_BYTES, alone, run, run_alone};
+pub use call::{alone, run, run_alone};
 pub use command::Command;
+pub use limit::INPUT_BYTES;
 pub use status::{Cause, Status};

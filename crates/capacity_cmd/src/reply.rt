@@ -1,18 +1,19 @@
 //! The reply to an input: the text to write, and the status that says so.
-ghost use Rattle.std.specs.Prelude.{◌≡◌, ◌≤◌, ◌∷◌, [], length, IfOk, codes, decimal};
-ghost use Rattle.csv.specs.Records.{fields_of};
-ghost use Rattle.capacity_cmd.specs.Text.{text_of_row};
-ghost use Rattle.capacity_cmd.specs.Input.{rows_of, tables_of};
-ghost use Rattle.capacity_cmd.specs.Outcome.{Refuses, stairs_of, outcome_of, cause_text, form_text, rule_text};
-ghost use Rattle.capacity_cmd.specs.Reply.{Says};
+ghost use Rattle.std.specs.Prelude.{◌≡◌, ◌≤◌, ◌∷◌, [], List, length, IfOk, codes, decimal};
+ghost use Rattle.row_text.specs.SheetRows.{text_of_row};
+ghost use Rattle.capacity_cmd.specs.Outcome.{Refuses, Outcome, EndsOn, cause_text, form_text, rule_text};
+ghost use Rattle.capacity_cmd.specs.Outcome as outcome;
+ghost use Rattle.capacity_cmd.specs.declared.command.Command.TheVariants as command;
+ghost use Rattle.capacity_cmd.specs.Reply.{Says, IsReplyTo};
 
-use crate::call::INPUT_BYTES;
 use crate::input::tables_of_text;
-use crate::sheet::{Sheet, push_number};
-use crate::stairs_text::stairs_text;
+use crate::limit::INPUT_BYTES;
 use crate::{Cause, Command, Status};
-use csv::ByteRecord;
+use capacity_report::{conflict_rows, stairs_rows, stairways};
+use conflict_finder::conflicts;
+use line_tables::LineTables;
 use rail_model::{Form, OutOfMemory, Rule};
+use row_text::Sheet;
 use std::alloc::Global;
 
 #[derive(Drop)]
@@ -24,55 +25,64 @@ pub(crate) struct Reply {
 // The reply of a command to an input that isn't too long.
 pub(crate) fn reply_to(alloc: Global, command: Command, input: &[u8]) -> Result<Reply, OutOfMemory>
     requires { length input.now ≤ INPUT_BYTES }
-    ensures { IfOk result (Says (outcome_of command input.now)) }
-{
-    match command {
-        Command::Stairs => stairs_reply(alloc, input),
-    }
-}
-
-fn stairs_reply(alloc: Global, input: &[u8]) -> Result<Reply, OutOfMemory>
-    requires { length input.now ≤ INPUT_BYTES }
-    ensures { IfOk result (Says (stairs_of (tables_of (rows_of input.now)))) }
+    ensures { IfOk result (IsReplyTo command input.now) }
 {
     match tables_of_text(alloc, input)? {
         Ok(tables) => Ok(Reply {
-            text: stairs_text(alloc, &tables)?,
+            text: text_of(alloc, command, &tables)?,
             status: Status::Done,
         }),
-        Err(row) => refusal(alloc, row, Cause::Early),
+        Err(refused) => refusal(alloc, refused.row, refused.cause),
     }
+}
+
+// The text of a command for the tables of a line.
+fn text_of(alloc: Global, command: Command, tables: &LineTables) -> Result<Vec<u8>, OutOfMemory>
+    ensures { IfOk result (λ text. outcome.IsText command tables.now text.items) }
+{
+    match command {
+        Command::Stairs => stairs_text(alloc, tables),
+        Command::Check => check_text(alloc, tables),
+    }
+}
+
+fn stairs_text(alloc: Global, tables: &LineTables) -> Result<Vec<u8>, OutOfMemory>
+    ensures { IfOk result (λ text. outcome.IsText command.Stairs tables.now text.items) }
+{
+    let mut sheet = Sheet::new(alloc);
+    stairs_rows(&mut sheet, alloc, tables)?;
+    Ok(sheet.into_text())
+}
+
+fn check_text(alloc: Global, tables: &LineTables) -> Result<Vec<u8>, OutOfMemory>
+    ensures { IfOk result (λ text. outcome.IsText command.Check tables.now text.items) }
+{
+    let stairs = stairways(alloc, tables)?;
+    let found = conflicts(alloc, &stairs)?;
+    let mut sheet = Sheet::new(alloc);
+    conflict_rows(&mut sheet, tables, &found)?;
+    Ok(sheet.into_text())
 }
 
 // The refusal of a row.
 pub(crate) fn refusal(alloc: Global, row: u64, cause: Cause) -> Result<Reply, OutOfMemory>
     ensures { IfOk result (Says (Refuses row cause)) }
 {
-    let fields = refusal_fields(alloc, row, cause)?;
-    let text = text_of_row(alloc, &fields)?;
     Ok(Reply {
-        text,
+        text: refusal_text(alloc, row, cause)?,
         status: Status::Refused { row, cause },
     })
 }
 
-fn refusal_fields(alloc: Global, row: u64, cause: Cause) -> Result<ByteRecord, OutOfMemory>
-    ensures { IfOk result (λ fields.
-        fields_of fields ≡ codes "refused" ∷ decimal row ∷ cause_text cause ∷ []) }
-{
-    let mut fields = ByteRecord::new(alloc);
-    fields.push_field(b"refused")?;
-    push_number(&mut fields, row)?;
-    fields.push_field(cause_text(cause))?;
-    Ok(fields)
-}
-
-fn text_of_row(alloc: Global, fields: &ByteRecord) -> Result<Vec<u8>, OutOfMemory>
-    ensures { IfOk result (λ text. text.items ≡ text_of_row (fields_of fields.now)) }
+fn refusal_text(alloc: Global, row: u64, cause: Cause) -> Result<Vec<u8>, OutOfMemory>
+    ensures { IfOk result (λ text. text.items ≡ outcome.refusal_text row cause) }
 {
     let mut sheet = Sheet::new(alloc);
-    sheet.write_row(fields)?;
-    sheet.into_text()
+    sheet.push_field(b"refused")?;
+    sheet.push_count(row)?;
+    sheet.push_field(cause_text(cause))?;
+    sheet.end_row()?;
+    Ok(sheet.into_text())
 }
 
 // The text of a cause in the row of a refusal.
@@ -85,7 +95,6 @@ fn cause_text(cause: Cause) -> &'static [u8]
         Cause::TooLong => b"too-long",
         Cause::NoSection => b"no-section",
         Cause::Script => b"script",
-        Cause::Early => b"early",
     }
 }
 
@@ -97,6 +106,7 @@ fn form_text(form: Form) -> &'static [u8]
         Form::Fields => b"fields",
         Form::Number => b"number",
         Form::BadName => b"name",
+        Form::Order => b"order",
     }
 }
 

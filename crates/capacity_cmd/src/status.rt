@@ -5,7 +5,7 @@ ghost use Rattle.capacity_cmd.specs.declared.status.Status.TheVariants as status
 use rail_model::{Form, OutOfMemory, Rule};
 use thiserror::Error;
 
-/// Why an input is refused. Of these only `Early` and `TooLong` come today.
+/// Why an input is refused.
 #[derive(Clone, Copy, Debug, PartialEq, Eq, Error)]
 pub enum Cause {
     /// What is wrong with the form of the row.
@@ -20,12 +20,9 @@ pub enum Cause {
     /// The named section isn't in the tables.
     #[error("no section has that name")]
     NoSection,
-    /// The row may not stand at its place in the input.
+    /// The row may not stand at its place in the input: the rows of scripts stand in sessions alone.
     #[error("the row may not stand there")]
     Script,
-    /// The row puts no item, or the tables can't take its item.
-    #[error("the row puts no block, signal, route, run or section that the tables can take")]
-    Early,
 }
 
 /// How a call of the program ends.

@@ -1,0 +1,2 @@
+/// The greatest number of bytes of an input.
+pub const INPUT_BYTES: usize = 16_777_216;
