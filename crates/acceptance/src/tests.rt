@@ -1,4 +1,5 @@
 //! What the tests share: the rows of a small line, and a call of the program over bytes in memory.
+mod checks;
 mod desk;
 mod faults;
 mod lines;
@@ -68,20 +69,21 @@ fn assert_ends<R: Abort + AllocGlobal + Threads + Wait>(
     status: Status,
     text: &[u8],
 ) -> Result<(), Fail> {
-    let (ended, sink) = stairs(rt, input.as_bytes(), outside)?;
+    let (ended, sink) = called(rt, "stairs", input.as_bytes(), outside)?;
     assert_eq!(rt; ended, status, "{input}");
     assert_eq!(rt; sink.bytes(), text, "{input}");
     Ok(())
 }
 
-// Calls the program with the word `stairs`. Gives its status, and the sink with the bytes written.
-fn stairs<R: AllocGlobal + Threads + Wait>(
+// Calls the program with one word. Gives its status, and the sink with the bytes written.
+fn called<R: AllocGlobal + Threads + Wait>(
     rt: &R,
+    word: &str,
     input: &[u8],
     outside: Outside,
 ) -> Result<(Status, MemorySink), Fail> {
     let alloc = rt.alloc();
-    let words = words_of(alloc, &["stairs"])?;
+    let words = words_of(alloc, &[word])?;
     let mut source = source_of(alloc, input, outside.source_piece, outside.failing_read)?;
     let mut sink = MemorySink::new(
         alloc,

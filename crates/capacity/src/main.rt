@@ -3,6 +3,7 @@
 #![tactic(auto)]
 
 mod program;
+mod sentence;
 
 use program::{Ended, end_of_call};
 use rail_outside::{StdSink, StdSource};

@@ -5,7 +5,8 @@ ghost use Rattle.std.specs.declared.io.ErrorKind.TheVariants as kind;
 ghost use Rattle.capacity_cmd.specs.declared.status.Status.TheVariants as status;
 ghost use Rattle.capacity.specs.Call.{IsCall, EndsAsCall};
 
-use capacity_cmd::{Status, run};
+use crate::sentence::explain;
+use capacity_cmd::{RowForm, Status, run_telling};
 use rail_outside::{OpenGate, Sink, Source};
 use std::io::ErrorKind;
 use std::process::{ExitCode, Termination};
@@ -47,19 +48,22 @@ pub(crate) fn end_of_call<R: AllocGlobal + Env + Eprint + Threads + Wait, S: Sou
           after = sink.new;
         }) }
 {
-    let status = call(rt, source, sink);
+    let mut told = RowForm::NONE;
+    let status = call(rt, source, sink, &mut told);
     // What can't be said on standard error is said by the exit code.
-    let _ = explain(rt, status);
+    let _ = explain(rt, status, told);
     Ended {
         code: ExitCode::from(status.number()),
     }
 }
 
-// A call with the runtime's words. No contract tells which they are.
+// A call with the runtime's words, which tells what a refused row is to look like. No contract tells which words
+// they are.
 fn call<R: AllocGlobal + Env + Threads + Wait, S: Source, K: Sink>(
     rt: &R,
     source: &mut S,
     sink: &mut K,
+    told: &mut RowForm,
 ) -> Status
     ensures { IsCall
         result
@@ -73,7 +77,7 @@ fn call<R: AllocGlobal + Env + Threads + Wait, S: Source, K: Sink>(
         }) }
 {
     match words(rt) {
-        Ok(words) => run(rt, &words, source, sink, &OpenGate),
+        Ok(words) => run_telling(rt, &words, source, sink, &OpenGate, told),
         Err(error) => without_words(&error),
     }
 }
@@ -96,17 +100,5 @@ fn without_words(error: &io::Error) -> Status
         Status::OutOfMemory
     } else {
         Status::BadWords
-    }
-}
-
-fn explain(rt: &impl Eprint, status: Status) -> io::Result<()> {
-    match status {
-        Status::Done => Ok(()),
-        Status::Refused { row: 0, cause } => eprintln!(rt; "{cause}"),
-        Status::Refused { row, cause } => eprintln!(rt; "row {row}: {cause}"),
-        Status::BadWords => eprintln!(rt; "usage: capacity stairs < LINE.csv > STAIRS.csv"),
-        Status::ReadFault => eprintln!(rt; "the input could not be read"),
-        Status::WriteFault => eprintln!(rt; "the output could not be written"),
-        Status::OutOfMemory => eprintln!(rt; "memory ran out"),
     }
 }

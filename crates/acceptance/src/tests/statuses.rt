@@ -11,7 +11,7 @@ const NO_COMMANDS: [&[&str]; 6] = [
     &[],
     &["compress"],
     &["stairs", "x"],
-    &["check"],
+    &["check", "stairs"],
     &["Stairs"],
     &["--help"],
 ];
@@ -45,16 +45,23 @@ fn call_and_read<R: AllocGlobal + Threads + Wait>(rt: &R, words: &[&str]) -> Res
 }
 
 #[test]
-fn stairs_runs_alone(rt: HostRuntime) -> Result<(), Fail> {
-    let words = words_of(rt.alloc(), &["stairs"])?;
-    let input = joined(rt.alloc(), &[LINE, FIRST_RUN, REST])?;
+fn commands_run_alone(rt: HostRuntime) -> Result<(), Fail> {
     let text = joined(rt.alloc(), &[FIRST_USES, REST_USES])?;
+    for (word, text) in [("stairs", text.as_str()), ("check", "conflicts,0,0\n")] {
+        runs_alone(&rt, word, text)?;
+    }
+    Ok(())
+}
+
+fn runs_alone<R: AllocGlobal>(rt: &R, word: &str, text: &str) -> Result<(), Fail> {
+    let words = words_of(rt.alloc(), &[word])?;
+    let input = joined(rt.alloc(), &[LINE, FIRST_RUN, REST])?;
     let mut source = source_of(rt.alloc(), input.as_bytes(), 16, 0)?;
     let mut sink = MemorySink::new(rt.alloc(), 10, only(rt.alloc(), 0)?);
     sink.reserve(text.len())?;
     assert!(rt; alone(&words));
     assert!(rt; alone(&[]));
-    let status = run_alone(&rt, &words, &mut source, &mut sink);
+    let status = run_alone(rt, &words, &mut source, &mut sink);
     assert_eq!(rt; status, Status::Done);
     assert_eq!(rt; sink.bytes(), text.as_bytes());
     Ok(())
@@ -64,7 +71,7 @@ fn stairs_runs_alone(rt: HostRuntime) -> Result<(), Fail> {
 fn statuses_have_numbers(rt: HostRuntime) {
     let refused = Status::Refused {
         row: 7,
-        cause: Cause::Early,
+        cause: Cause::TooLong,
     };
     for (status, number) in [
         (Status::Done, 0),
@@ -89,10 +96,6 @@ fn causes_have_texts(rt: HostRuntime) -> Result<(), Fail> {
         (Cause::TooLong, "the input is longer than 16,777,216 bytes"),
         (Cause::NoSection, "no section has that name"),
         (Cause::Script, "the row may not stand there"),
-        (
-            Cause::Early,
-            "the row puts no block, signal, route, run or section that the tables can take",
-        ),
     ] {
         let said = format!(in rt.alloc(); "{cause}")?;
         assert_eq!(rt; said.as_str(), text);
