@@ -50,7 +50,7 @@ fn stairs_text(alloc: Global, tables: &LineTables) -> Result<Vec<u8>, OutOfMemor
     ensures { IfOk result (λ text. outcome.IsText command.Stairs tables.now text.items) }
 {
     let mut sheet = Sheet::new(alloc);
-    stairs_rows(&mut sheet, alloc, tables)?;
+    stairs_rows(alloc, &mut sheet, tables)?;
     Ok(sheet.into_text())
 }
 

@@ -1,8 +1,8 @@
 -- The rows of the conflicts that were found are those of the definition.
-use Rattle.std.proofs.Common.{◌≡◌, ℕ, ◌+◌, ◌-◌, ◌<◌, ◌≤◌, List, [], ◌∷◌, ◌++◌, length, map, take, get_or, refl, sym, ap, ◌∙◌, subst, arith}
+use Rattle.std.proofs.Common.{◌≡◌, ℕ, ◌+◌, ◌-◌, ◌<◌, ◌≤◌, List, [], ◌∷◌, ◌++◌, length, map, take, drop, get_or, refl, sym, ap, ◌∙◌, append_assoc, subst, arith}
 use Rattle.std.specs.Prelude.{pos}
 use Rattle.std.specs.List.{All, Contains}
-use Rattle.std.proofs.lemmas.List.{length-map, get_or-map, get_or-take, length-take}
+use Rattle.std.proofs.lemmas.List.{length-map, get_or-map, get_or-take, length-take, map-append, take-append-drop}
 use Rattle.std.proofs.lemmas.List.Elements.{Contains-get_or}
 use Rattle.std.proofs.lemmas.Simd.{map-map}
 use Rattle.rail_model.specs.declared.tables.Tables.{Tables}
@@ -13,9 +13,11 @@ use Rattle.conflict_finder.specs.declared.found.Conflict.{Conflict}
 use Rattle.conflict_finder.specs.declared.found.Conflicts.{Conflicts}
 use Rattle.conflict_finder.specs.declared.found.TheConstants.{LISTED}
 use Rattle.conflict_finder.specs.Found.{listed, IsFound}
-use Rattle.row_text.specs.Row.{Row}
+use Rattle.row_text.specs.SheetRows.{SheetRows}
+use Rattle.capacity_report.specs.Added.{AddsPrefix}
 use Rattle.capacity_report.specs.Timetable.{timetable}
 use Rattle.capacity_report.specs.Check.{conflict_row, found_row, count_row, check_rows}
+use Rattle.capacity_report.proofs.Rows.{prefix_from}
 use Rattle.capacity_report.proofs.Timetables.{used_there}
 
 -- the block of a conflict is one of the tables
@@ -40,3 +42,14 @@ rows_found tables found f =
     let rows : map (found_row tables) found.list ≡ map (conflict_row tables) (take LISTED f.all) =
     ap (map (found_row tables)) f.list ∙ map-map (found_row tables) listed (take LISTED f.all) in
     rw (rows, count, f.more) refl
+
+-- those of the first of them are a prefix
+pub first_found : (tables : Tables) (found : Conflicts) → (f : IsFound (timetable tables) found) → (before after : SheetRows) (i : ℕ) → after.rows ≡ before.rows ++ map (found_row tables) (take i found.list) → AddsPrefix before after (check_rows tables f.all)
+first_found tables found f before after i so_far =
+    let past = map (found_row tables) (take i found.list) in
+    let rest = map (found_row tables) (drop i found.list) in
+    let count = count_row (length found.list) found.more ∷ [] in
+    let split : map (found_row tables) found.list ≡ past ++ rest =
+    ap (map (found_row tables)) (sym (take-append-drop i found.list)) ∙ map-append (found_row tables) (take i found.list) (drop i found.list) in
+    prefix_from before after past (rest ++ count) (check_rows tables f.all)
+      (sym (rows_found tables found f) ∙ ap (λ rows. rows ++ count) split ∙ append_assoc past rest count) so_far

@@ -1,4 +1,5 @@
 pub mod Timetable
+pub mod Added
 pub mod Stairs
 pub mod Blockings
 pub mod Check

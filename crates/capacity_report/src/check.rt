@@ -1,8 +1,9 @@
 //! The rows of `check`.
-ghost use Rattle.std.specs.Prelude.{◌≡◌, ◌<◌, [], List, length, map, All, OnOk, codes};
+ghost use Rattle.std.specs.Prelude.{◌≡◌, ◌<◌, ◌++◌, [], List, length, map, All, OnOk, OnErr, codes};
 ghost use Rattle.rail_model.specs.Conflict.{Conflict as Whole, AreConflicts};
 ghost use Rattle.conflict_finder.specs.Found.{IsFound};
-ghost use Rattle.row_text.specs.SheetRows.{with_rows, with_row};
+ghost use Rattle.row_text.specs.SheetRows.{with_row};
+ghost use Rattle.capacity_report.specs.Added.{AddsPrefix};
 ghost use Rattle.capacity_report.specs.Timetable.{timetable};
 ghost use Rattle.capacity_report.specs.Check as rows;
 
@@ -11,16 +12,19 @@ use line_tables::LineTables;
 use rail_model::OutOfMemory;
 use row_text::Sheet;
 
-/// Adds the rows of the conflicts that were found, in their order, and their count.
+/// Adds the rows of the conflicts that were found, in their order, and their count. A row that is open is
+/// dropped first. Where memory runs out, the first rows stand.
 pub fn conflict_rows(
     sheet: &mut Sheet,
     tables: &LineTables,
     found: &Conflicts,
 ) -> Result<(), OutOfMemory>
-    requires closed { sheet.old.row ≡ [] }
-    requires found { IsFound (timetable tables.now) found.now }
-    ensures { OnOk result ((all : List Whole) × AreConflicts (timetable tables.now) all
-        × (sheet.new ≡ with_rows sheet.old (rows.check_rows tables.now all))) }
+    requires { IsFound (timetable tables.now) found.now }
+    ensures ok { OnOk result ((all : List Whole) × AreConflicts (timetable tables.now) all
+        × (sheet.new.rows ≡ sheet.old.rows ++ rows.check_rows tables.now all)) }
+    ensures ended { OnOk result (sheet.new.row ≡ []) }
+    ensures err { OnErr result ((all : List Whole) × AreConflicts (timetable tables.now) all
+        × AddsPrefix sheet.old sheet.new (rows.check_rows tables.now all)) }
 {
     let _runs = tables.runs();
     for conflict in found.list.slice() {
@@ -34,10 +38,12 @@ fn conflict_row(
     tables: &LineTables,
     conflict: &Conflict,
 ) -> Result<(), OutOfMemory>
-    requires closed { sheet.old.row ≡ [] }
-    requires there { conflict.now.block < length tables.now.blocks }
-    ensures { OnOk result (sheet.new ≡ with_row sheet.old (rows.found_row tables.now conflict.now)) }
+    requires { conflict.now.block < length tables.now.blocks }
+    ensures ok { OnOk result (sheet.new
+        ≡ with_row sheet.old (rows.found_row tables.now conflict.now)) }
+    ensures err { OnErr result (sheet.new.rows ≡ sheet.old.rows) }
 {
+    sheet.drop_row();
     sheet.push_field(b"conflict")?;
     sheet.push_field(tables.block(conflict.block).name.bytes())?;
     sheet.push_field(conflict.first.bytes())?;
@@ -48,9 +54,10 @@ fn conflict_row(
 }
 
 fn count_row(sheet: &mut Sheet, listed: u64, more: u64) -> Result<(), OutOfMemory>
-    requires { sheet.old.row ≡ [] }
-    ensures { OnOk result (sheet.new ≡ with_row sheet.old (rows.count_row listed more)) }
+    ensures ok { OnOk result (sheet.new ≡ with_row sheet.old (rows.count_row listed more)) }
+    ensures err { OnErr result (sheet.new.rows ≡ sheet.old.rows) }
 {
+    sheet.drop_row();
     sheet.push_field(b"conflicts")?;
     sheet.push_count(listed)?;
     sheet.push_count(more)?;

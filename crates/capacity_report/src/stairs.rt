@@ -1,7 +1,8 @@
 //! The rows of `stairs`.
-ghost use Rattle.std.specs.Prelude.{◌≡◌, ◌<◌, ◌∷◌, [], length, map, All, OnOk, IfOk, codes};
+ghost use Rattle.std.specs.Prelude.{◌≡◌, ◌<◌, ◌∷◌, ◌++◌, [], length, map, All, OnOk, OnErr, IfOk, codes};
 ghost use Rattle.rail_model.specs.Path.{Fits};
-ghost use Rattle.row_text.specs.SheetRows.{with_rows, with_row};
+ghost use Rattle.row_text.specs.SheetRows.{with_row};
+ghost use Rattle.capacity_report.specs.Added.{AddsPrefix};
 ghost use Rattle.capacity_report.specs.Stairs as rows;
 ghost use Rattle.capacity_report.specs.Blockings.{blocking_row, named_row, rows_by_names, names_of};
 
@@ -12,20 +13,22 @@ use row_text::{Sheet, Written};
 use std::alloc::Global;
 
 /// Adds the rows of all runs, in the order of their names: one for each block of the run's path, in the
-/// order of the path.
+/// order of the path. A row that is open is dropped first. Where memory runs out, the first rows stand.
 pub fn stairs_rows(
-    sheet: &mut Sheet,
     alloc: Global,
+    sheet: &mut Sheet,
     tables: &LineTables,
 ) -> Result<(), OutOfMemory>
-    requires { sheet.old.row ≡ [] }
-    ensures { OnOk result (sheet.new ≡ with_rows sheet.old (rows.stairs_rows tables.now)) }
+    ensures ok { OnOk result (sheet.new.rows ≡ sheet.old.rows ++ rows.stairs_rows tables.now) }
+    ensures ended { OnOk result (sheet.new.row ≡ []) }
+    ensures err { OnErr result (AddsPrefix sheet.old sheet.new (rows.stairs_rows tables.now)) }
 {
+    sheet.drop_row();
     let names = block_names(alloc, tables)?;
     let routes = tables.route_hops()?;
     for run in 0..tables.runs() {
         let path = tables.run_path(routes.slice(), run)?;
-        run_rows(sheet, alloc, &names, &path)?;
+        run_rows(alloc, sheet, &names, &path)?;
     }
     Ok(())
 }
@@ -43,15 +46,16 @@ fn block_names(alloc: Global, tables: &LineTables) -> Result<Vec<Written>, OutOf
 
 // Adds the rows of the run of a path.
 fn run_rows(
-    sheet: &mut Sheet,
     alloc: Global,
+    sheet: &mut Sheet,
     names: &[Written],
     path: &Path,
 ) -> Result<(), OutOfMemory>
-    requires closed { sheet.old.row ≡ [] }
     requires fits { Fits path.now }
     requires there { All (λ h. h.block < length names.now) path.now.hops }
-    ensures { OnOk result (sheet.new ≡ with_rows sheet.old (rows_by_names names.now path.now)) }
+    ensures ok { OnOk result (sheet.new.rows ≡ sheet.old.rows ++ rows_by_names names.now path.now) }
+    ensures ended { OnOk result (sheet.new.row ≡ []) }
+    ensures err { OnErr result (AddsPrefix sheet.old sheet.new (rows_by_names names.now path.now)) }
 {
     let head = head(alloc, path)?;
     let all = blockings(alloc, path)?;
@@ -72,11 +76,14 @@ fn blocking_rows(
     head: &Written,
     all: &[Blocking],
 ) -> Result<(), OutOfMemory>
-    requires closed { sheet.old.row ≡ [] }
-    requires there { All (λ b. b.used.block < length names.now) all.now }
-    ensures { OnOk result (sheet.new
-        ≡ with_rows sheet.old (map (named_row names.now head.now) all.now)) }
+    requires { All (λ b. b.used.block < length names.now) all.now }
+    ensures ok { OnOk result (sheet.new.rows
+        ≡ sheet.old.rows ++ map (named_row names.now head.now) all.now) }
+    ensures ended { OnOk result (sheet.new.row ≡ []) }
+    ensures err { OnErr result (AddsPrefix sheet.old sheet.new
+        (map (named_row names.now head.now) all.now)) }
 {
+    sheet.drop_row();
     for blocking in all {
         blocking_row(sheet, head, &names[blocking.used.block as usize], blocking)?;
     }
@@ -90,10 +97,11 @@ fn blocking_row(
     block: &Written,
     blocking: &Blocking,
 ) -> Result<(), OutOfMemory>
-    requires { sheet.old.row ≡ [] }
-    ensures { OnOk result (sheet.new
+    ensures ok { OnOk result (sheet.new
         ≡ with_row sheet.old (blocking_row head.now block.now blocking.now)) }
+    ensures err { OnErr result (sheet.new.rows ≡ sheet.old.rows) }
 {
+    sheet.drop_row();
     sheet.push_written(head)?;
     sheet.push_written(block)?;
     sheet.push_numbers(&[blocking.used.start, blocking.used.end])?;
