@@ -1,5 +1,5 @@
 -- The rows of a text.
-use Rattle.std.specs.Prelude.{◌≡◌, ℕ, List, [], ◌∷◌, length, slice_range}
+use Rattle.std.specs.Prelude.{◌≡◌, ℕ, List, length}
 use Rattle.csv.specs.Reading.{default_config, records, strip_bom}
 use Rattle.csv.specs.Records.{Rising, last_end}
 use Rattle.row_text.specs.declared.row_list.Taken.{Taken}

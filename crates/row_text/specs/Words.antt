@@ -1,5 +1,5 @@
 -- The words that rows begin with, and the fields that follow each.
-use Rattle.std.specs.Prelude.{ℕ, ◌+◌, ◌*◌, ◌-◌, ◌%◌, Bool, ◌&&◌, ◌==◌, nat_lt, nat_le, List, [], ◌∷◌, ◌++◌, length, map, find, codes, Option}
+use Rattle.std.specs.Prelude.{ℕ, ◌*◌, ◌-◌, ◌%◌, Bool, ◌&&◌, ◌==◌, nat_lt, nat_le, List, [], ◌∷◌, ◌++◌, length, map, find, codes, Option}
 use Rattle.rail_model.specs.Name.{is_same}
 use Rattle.rail_model.specs.declared.edit.Kind.{Kind}
 use Rattle.rail_model.specs.declared.edit.Kind.TheVariants as kind

@@ -22,11 +22,7 @@ pub(crate) fn leg_times(alloc: Global, legs: &[Leg]) -> Result<List<u32>, OutOfM
 }
 
 // The times at which steps end that begin at a time.
-pub(crate) fn sums(
-    alloc: Global,
-    start_s: u32,
-    steps: &[u32],
-) -> Result<List<u32>, OutOfMemory>
+pub(crate) fn sums(alloc: Global, start_s: u32, steps: &[u32]) -> Result<List<u32>, OutOfMemory>
     requires { IsTrue (list_all (λ time. nat_le time GREATEST_CLOCK_S) (spelling.sums start_s steps.now)) }
     ensures { IfOk result (λ times. times ≡ spelling.sums start_s steps.now) }
 {

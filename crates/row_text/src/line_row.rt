@@ -65,12 +65,7 @@ fn has_item_times_in(alloc: Global, version: u32, item: &Item) -> Result<bool, O
     }
 }
 
-fn push_line(
-    row: &mut Fields,
-    alloc: Global,
-    version: u32,
-    line: &Line,
-) -> Result<(), OutOfMemory>
+fn push_line(row: &mut Fields, alloc: Global, version: u32, line: &Line) -> Result<(), OutOfMemory>
     requires { IsTrue (spelling.has_times_in version line.now) }
     ensures { OnOk result (row.new ≡ row.old ++ spelling.row_in version line.now) }
 {
@@ -111,12 +106,7 @@ fn kind_of_item(item: &Item) -> Kind
     }
 }
 
-fn push_item(
-    row: &mut Fields,
-    alloc: Global,
-    version: u32,
-    item: &Item,
-) -> Result<(), OutOfMemory>
+fn push_item(row: &mut Fields, alloc: Global, version: u32, item: &Item) -> Result<(), OutOfMemory>
     requires { version ≡ 2 → IsTrue (spelling.has_clock_times item.now) }
     ensures { OnOk result (row.new ≡ row.old ++ spelling.item_fields version item.now) }
 {
@@ -158,12 +148,7 @@ fn push_route(row: &mut Fields, route: &Route) -> Result<(), OutOfMemory>
     push_names(row, route.signals.slice())
 }
 
-fn push_run(
-    row: &mut Fields,
-    alloc: Global,
-    version: u32,
-    run: &Run,
-) -> Result<(), OutOfMemory>
+fn push_run(row: &mut Fields, alloc: Global, version: u32, run: &Run) -> Result<(), OutOfMemory>
     requires { version ≡ 2 → IsTrue (spelling.has_clock_times (item.Run run.now)) }
     ensures { OnOk result (row.new ≡ row.old ++ spelling.item_fields version (item.Run run.now)) }
 {
@@ -228,12 +213,7 @@ fn push_times(
     Ok(())
 }
 
-fn push_time(
-    row: &mut Fields,
-    alloc: Global,
-    version: u32,
-    time: u32,
-) -> Result<(), OutOfMemory>
+fn push_time(row: &mut Fields, alloc: Global, version: u32, time: u32) -> Result<(), OutOfMemory>
     ensures { OnOk result (row.new ≡ row.old ++ spelling.time_text version time ∷ []) }
 {
     if version != 2 {

@@ -96,12 +96,7 @@ pub(crate) fn put_end(text: &mut [u8], used: usize, is_blank: bool) -> usize
 
 // The same of several numbers.
 #[inline]
-pub(crate) fn put_numbers(
-    text: &mut [u8],
-    used: usize,
-    has_field: bool,
-    numbers: &[i64],
-) -> usize
+pub(crate) fn put_numbers(text: &mut [u8], used: usize, has_field: bool, numbers: &[i64]) -> usize
     requires { used + 22 * length numbers.now ≤ length text.old }
     ensures written { take result text.new ≡ take used text.old ++ more_text has_field (map signed_decimal numbers.now) }
     ensures more { used ≤ result }
@@ -128,7 +123,7 @@ fn put_comma(text: &mut [u8], used: usize, has_field: bool) -> usize
 }
 
 #[inline]
-fn put_bytes(text: &mut [u8], used: usize, bytes: &[u8]) -> usize
+pub(crate) fn put_bytes(text: &mut [u8], used: usize, bytes: &[u8]) -> usize
     requires { used + length bytes.now ≤ length text.old }
     ensures written { take result text.new ≡ take used text.old ++ bytes.now }
     ensures end { result ≡ used + length bytes.now }

@@ -67,7 +67,11 @@ impl Sheet {
         ensures ok { OnOk result (self.new ≡ with_fields self.old (map signed_decimal numbers.now)) }
         ensures err { OnErr result (self.new ≡ self.old) }
     {
-        make_room(&mut self.text, self.used, numbers.len().saturating_mul(NUMBER_ROOM))?;
+        make_room(
+            &mut self.text,
+            self.used,
+            numbers.len().saturating_mul(NUMBER_ROOM),
+        )?;
         self.used = put_numbers(&mut self.text, self.used, self.has_field, numbers);
         self.has_field |= !numbers.is_empty();
         Ok(())
