@@ -50,7 +50,8 @@ read_more version Times make fields = do
   make times
 
 -- the fields from a place on, read one after the other: what is made of them, or the first fault
-abbrev pub read_from : {A : Type 0} → ℕ → (sorts : List Sort) → (more : More) → Maker sorts more A → Row → ℕ → Result A Form
+abbrev pub read_from :
+    {A : Type 0} → ℕ → (sorts : List Sort) → (more : More) → Maker sorts more A → Row → ℕ → Result A Form
 read_from version [] more made row i = read_more version more made (drop i row)
 read_from version (sort ∷ sorts) more make row i = do
   x ← read version sort (field row i)
@@ -115,7 +116,8 @@ line_of version (word.Put k) row = do
 line_of version (word.Change k) row = do
   x ← item_in version k row
   Ok (line.Edit (edit.Change x))
-line_of version (word.Drop k) row = read_fields version (shape_of (word.Drop k)) (λ name. line.Edit (edit.Drop k name)) row
+line_of version (word.Drop k) row =
+    read_fields version (shape_of (word.Drop k)) (λ name. line.Edit (edit.Drop k name)) row
 line_of version word.Ask row = read_fields version (shape_of word.Ask) line.Ask row
 line_of version word.Planner row = read_fields version (shape_of word.Planner) line.Planner row
 

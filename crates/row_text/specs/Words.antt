@@ -53,7 +53,8 @@ pub record Shape : Type 0 where
 
 abbrev pub kind_shape : Kind → Shape
 kind_shape kind.Block = record { sorts = Name ∷ Number ∷ []; more = Nothing }
-kind_shape kind.Signal = record { sorts = Name ∷ Name ∷ Number ∷ Number ∷ Number ∷ Number ∷ Number ∷ []; more = Nothing }
+kind_shape kind.Signal =
+    record { sorts = Name ∷ Name ∷ Number ∷ Number ∷ Number ∷ Number ∷ Number ∷ []; more = Nothing }
 kind_shape kind.Route = record { sorts = Name ∷ []; more = Names }
 kind_shape kind.Run = record { sorts = Name ∷ Name ∷ Number ∷ Number ∷ Time ∷ []; more = Times }
 kind_shape kind.Section = record { sorts = Name ∷ Time ∷ Time ∷ Rate ∷ []; more = Names }

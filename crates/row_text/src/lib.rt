@@ -1,5 +1,5 @@
-//! Rows of a planner's text to lines and back: what a row spells, or its first fault; the row that spells a
-//! line; and the text of rows that are written.
+//! Rows of a planner's text to lines and back: what a row spells, or its first fault; the row that
+//! spells a line; and the text of rows that are written.
 #![tactic(auto)]
 
 mod field;

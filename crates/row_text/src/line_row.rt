@@ -19,17 +19,19 @@ use std::alloc::Global;
 /// The row that spells a line in version 1 of the rows.
 pub fn spell(alloc: Global, line: &Line) -> Result<Fields, OutOfMemory>
     ensures row { IfOk result (λ row. row ≡ spelling.row_in 1 line.now) }
-    ensures again { spelling.IsSpelled line.now → IfOk result (λ row. read_in 1 row ≡ Ok line.now) }
+    ensures again { spelling.IsSpelled line.now
+        → IfOk result (λ row. read_in 1 row ≡ Ok line.now) }
 {
     spell_in(alloc, 1, line)
 }
 
-/// The row that spells a line in a version of the rows, 1 or 2. In version 2 times of runs and sections are
-/// times of day, none above 359,999,999 s.
+/// The row that spells a line in a version of the rows, 1 or 2. In version 2 the times of runs and
+/// sections are times of day, none above 359,999,999 s: `has_times_in` is the test.
 pub fn spell_in(alloc: Global, version: u32, line: &Line) -> Result<Fields, OutOfMemory>
     requires { IsTrue (spelling.has_times_in version line.now) }
     ensures row { IfOk result (λ row. row ≡ spelling.row_in version line.now) }
-    ensures again { spelling.IsSpelled line.now → IfOk result (λ row. read_in version row ≡ Ok line.now) }
+    ensures again { spelling.IsSpelled line.now
+        → IfOk result (λ row. read_in version row ≡ Ok line.now) }
 {
     let mut row = Fields::new(alloc);
     push_line(&mut row, alloc, version, line)?;
@@ -48,7 +50,7 @@ pub fn has_times_in(alloc: Global, version: u32, line: &Line) -> Result<bool, Ou
 }
 
 fn has_item_times_in(alloc: Global, version: u32, item: &Item) -> Result<bool, OutOfMemory>
-    ensures { IfOk result (λ has. has ≡ (if version == 2 then spelling.has_clock_times item.now else true)) }
+    ensures { IfOk result (λ has. has ≡ spelling.has_item_times_in version item.now) }
 {
     if version != 2 {
         return Ok(true);
@@ -172,7 +174,8 @@ fn push_section(
     version: u32,
     section: &Section,
 ) -> Result<(), OutOfMemory>
-    ensures { OnOk result (row.new ≡ row.old ++ spelling.item_fields version (item.Section section.now)) }
+    ensures { OnOk result (row.new
+        ≡ row.old ++ spelling.item_fields version (item.Section section.now)) }
 {
     row.push(section.name.bytes())?;
     push_time(row, alloc, version, section.from_s)?;
@@ -182,7 +185,8 @@ fn push_section(
 }
 
 fn push_connection(row: &mut Fields, connection: &Connection) -> Result<(), OutOfMemory>
-    ensures { OnOk result (row.new ≡ row.old ++ spelling.item_fields 1 (item.Connection connection.now)) }
+    ensures { OnOk result (row.new
+        ≡ row.old ++ spelling.item_fields 1 (item.Connection connection.now)) }
 {
     row.push(connection.name.bytes())?;
     row.push(connection.first.bytes())?;

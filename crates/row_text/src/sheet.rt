@@ -10,8 +10,8 @@ use rail_model::OutOfMemory;
 use std::alloc::Global;
 use std::marker::Model;
 
-/// Rows as CSV writes them: commas, quotes only where needed, and a line feed after each row. Contracts see
-/// the rows that were ended, and the fields of the row that is being written.
+/// Rows as CSV writes them: commas, quotes only where needed, and a line feed after each row. Contracts
+/// see the rows that were ended, and the fields of the row that is being written.
 #[derive(Drop)]
 pub struct Sheet {
     // The text, and room behind it.
@@ -64,7 +64,8 @@ impl Sheet {
     /// Adds numbers in plain decimal, each a field.
     #[inline]
     pub fn push_numbers(&mut self, numbers: &[i64]) -> Result<(), OutOfMemory>
-        ensures ok { OnOk result (self.new ≡ with_fields self.old (map signed_decimal numbers.now)) }
+        ensures ok { OnOk result (self.new
+            ≡ with_fields self.old (map signed_decimal numbers.now)) }
         ensures err { OnErr result (self.new ≡ self.old) }
     {
         make_room(
