@@ -99,7 +99,14 @@ make_item version kind.Signal = λ name block approach_m watch_s form_s overlap_
 make_item version kind.Route = λ name signals. item.Route (record { name = name; signals = signals })
 make_item version kind.Run = λ name route length_m tail_s start_s times. do
   legs ← run_legs version start_s times
-  Ok (item.Run (record { name = name; route = route; length_m = length_m; tail_s = tail_s; start_s = start_s; legs = legs }))
+  Ok (item.Run (record {
+    name = name;
+    route = route;
+    length_m = length_m;
+    tail_s = tail_s;
+    start_s = start_s;
+    legs = legs;
+  }))
 make_item version kind.Section = λ name from_s to_s add_percent blocks.
     item.Section (record { name = name; from_s = from_s; to_s = to_s; add_percent = add_percent; blocks = blocks })
 make_item version kind.Connection = λ name first second minimum_s.

@@ -80,8 +80,8 @@ impl RowList {
         read_line(alloc, version, &self.get(i))
     }
 
-    /// The version in which the rows are read, 1 or 2. A first row with the word `version` says it, and
-    /// an error is the fault of that row; without one it is 1.
+    /// The version in which the rows are read, 1 or 2. A first row with the word `version` says it,
+    /// and an error is the fault of that row; without one it is 1.
     pub fn version(&self) -> Result<u32, Form>
         ensures { result ≡ version_of self.now }
     {
@@ -135,8 +135,8 @@ struct Taken {
 
 ghost use Rattle.row_text.specs.Rows.{rows_of, Takes};
 
-/// The rows of a text as CSV reads them: commas, double quotes, no header row, rows of any lengths. A
-/// byte order mark at the start is left out. Any error of the reader over memory is want of memory.
+/// The rows of a text as CSV reads them: commas, double quotes, no header row, rows of any lengths.
+/// A byte order mark at the start is left out. Any error of the reader is that memory ran out.
 pub fn rows(alloc: Global, text: &[u8]) -> Result<RowList, OutOfMemory>
     ensures { IfOk result (λ rows. rows ≡ rows_of text.now) }
 {

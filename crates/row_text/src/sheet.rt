@@ -10,11 +10,11 @@ use rail_model::OutOfMemory;
 use std::alloc::Global;
 use std::marker::Model;
 
-/// Rows as CSV writes them: commas, quotes only where needed, and a line feed after each row. Contracts
-/// see the rows that were ended, and the fields of the row that is being written.
+/// Rows as CSV writes them: commas, quotes only where needed, and a line feed after each row.
+/// Contracts see the rows that were ended, and the fields of the row that is being written.
 #[derive(Drop)]
 pub struct Sheet {
-    // The text, and room behind it.
+    // The text, and room after it.
     text: Vec<u8>,
     // How many bytes the ended rows have, and all that is written.
     ended: usize,

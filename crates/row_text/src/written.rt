@@ -8,8 +8,8 @@ use rail_model::OutOfMemory;
 use std::alloc::Global;
 use std::marker::Model;
 
-/// Fields with their text in a row, made once for many rows. Contracts see the fields, of which there is
-/// one at least.
+/// Fields with their text in a row, made once for many rows. Contracts see the fields, of which
+/// there is one at least.
 #[derive(Drop)]
 pub struct Written {
     fields: Fields,
