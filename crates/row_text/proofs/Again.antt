@@ -1,8 +1,7 @@
 -- The row that spells a line spells it again.
-use Rattle.std.proofs.Common.{◌≡◌, ℕ, zero, suc, ◌+◌, ◌-◌, ◌%◌, ◌<◌, ◌≤◌, Bool, true, false, ◌&&◌, ◌==◌, nat_lt, nat_le, List, [], ◌∷◌, length, drop, map, Result, Ok, Err, Some, decimal, IsTrue, refl, sym, ap, ◌∙◌, subst, inl, inr, arith}
+use Rattle.std.proofs.Common.{◌≡◌, ℕ, suc, ◌+◌, ◌-◌, ◌%◌, ◌<◌, ◌≤◌, Bool, true, false, ◌==◌, nat_lt, nat_le, List, [], ◌∷◌, length, map, Result, Ok, Some, refl, sym, ap, ◌∙◌, subst, inl, inr, arith}
 use Rattle.std.specs.List.{list_all}
-use Rattle.std.proofs.lemmas.Bool.{cases_Bool, and_parts, ltb-true, leb-true, le-ltb, false≢true}
-use Rattle.std.proofs.lemmas.Bool.Decides.{nat_tests}
+use Rattle.std.proofs.lemmas.Bool.{cases_Bool, and_parts, leb-true, le-ltb, false≢true}
 use Rattle.rail_model.specs.declared.form.Form.{Form}
 use Rattle.rail_model.specs.declared.form.Form.TheVariants as form
 use Rattle.rail_model.specs.declared.edit.Kind.{Kind}
@@ -16,10 +15,10 @@ use Rattle.row_text.specs.declared.line.Line.TheVariants as line
 use Rattle.row_text.specs.declared.word.Word.{Word}
 use Rattle.row_text.specs.declared.word.Word.TheVariants as word
 use Rattle.row_text.specs.Row.{Row, field}
-use Rattle.row_text.specs.Sorts.{Name, Number, Rate, Time, or_fault, name_in, number_in, rate_in, time_in}
+use Rattle.row_text.specs.Sorts.{Name, Number, Rate, Time, or_fault, name_in, time_in}
 use Rattle.row_text.specs.Words.{Nothing, Names, Times, kind_shape, shape_of, word_text, word_of, may_follow, allows}
-use Rattle.row_text.specs.Lines.{◌>>=◌, read_each, legs_of, differences, falls, run_legs, make_item, item_in, line_of, read_in}
-use Rattle.row_text.specs.Spelling.{leg_times, sums, run_times, time_text, kind_of_item, item_fields, edit_row, row_in, has_clock_times, has_times_in, IsSpelled}
+use Rattle.row_text.specs.Lines.{read_each, legs_of, differences, falls, run_legs, make_item, item_in, line_of, read_in}
+use Rattle.row_text.specs.Spelling.{leg_times, sums, run_times, time_text, kind_of_item, item_fields, row_in, has_clock_times, has_times_in, IsSpelled}
 use Rattle.std.proofs.lemmas.List.{length-map}
 use Rattle.row_text.specs.Words.{Shape}
 use Rattle.row_text.proofs.Numbers.{lt_true, number_in-decimal, rate_in-decimal, time_in-text}

@@ -1,7 +1,9 @@
 -- How many digits a number has.
 use Rattle.std.proofs.Common.{◌≡◌, ℕ, zero, suc, ◌+◌, ◌*◌, ◌/◌, ◌^◌, ◌<◌, ◌≤◌, length, decimal, max, [], ◌∷◌, ◌%◌, refl, ap, ◌∙◌, arith}
 use Rattle.std.proofs.Math.Nat.{pow-suc, pow-le-pow_right}
-use Rattle.std.proofs.lemmas.List.{length-append}
+use Rattle.std.proofs.Common.{List, ◌++◌, take, drop, sym, append_assoc}
+use Rattle.std.proofs.Math.Seq.{take-append_seam}
+use Rattle.std.proofs.lemmas.List.{length-append, length-take-le, take-append-drop}
 use Rattle.std.proofs.lemmas.Fmt.{decimal_digit, decimal_step, decimal_nonempty, length-decimal-le}
 
 digits_least : (k n : ℕ) → n < 2 ^ 64 → 10 ^ k ≤ n → k < length (decimal n)
@@ -29,3 +31,13 @@ length-decimal-max k (suc n) small le lt = length-decimal k (suc n) small (omega
 
 pub decimal_two : (n : ℕ) → 10 ≤ n → n < 100 → decimal n ≡ (48 + n / 10) ∷ (48 + n % 10) ∷ []
 decimal_two n le lt = rw (decimal_step n le (omega arith), decimal_digit (n / 10) (omega arith)) refl
+
+-- digits that were written to end at a place stand after the bytes before them
+pub take-written : (old new digits : List ℕ) (used start end : ℕ) → used ≤ length old → start + length digits ≡ end → end ≡ used + length digits → take start new ≡ take start old → drop start new ≡ digits ++ drop end old
+    → take end new ≡ take used old ++ digits
+take-written old new digits used start end room from to before after =
+    let same : start ≡ used = omega arith in
+    let whole : new ≡ (take start old ++ digits) ++ drop end old = sym (take-append-drop start new) ∙ rw (before, after) (sym (append_assoc (take start old) digits (drop end old))) in
+    let size : length (take start old ++ digits) ≡ end = omega (arith, length-append (take start old) digits, length-take-le start old (omega arith)) in
+    let cut = rw size at (take-append_seam (take start old ++ digits) (drop end old)) in
+    ap (take end) whole ∙ cut ∙ ap (λ n. take n old ++ digits) same

@@ -1,5 +1,5 @@
 -- Numbers and times, from their text and back.
-use Rattle.std.proofs.Common.{◌≡◌, ℕ, zero, suc, ◌+◌, ◌-◌, ◌*◌, ◌/◌, ◌%◌, ◌^◌, ◌<◌, ◌≤◌, Bool, true, false, ◌&&◌, ◌==◌, nat_lt, nat_le, List, [], ◌∷◌, ◌++◌, length, take, drop, get_or, fold, Option, Some, None, Ok, decimal, option_and_then, slice_range, refl, sym, ap, ◌∙◌, inl, inr, arith}
+use Rattle.std.proofs.Common.{◌≡◌, ℕ, ◌+◌, ◌-◌, ◌*◌, ◌/◌, ◌%◌, ◌^◌, ◌<◌, ◌≤◌, Bool, true, false, ◌&&◌, ◌==◌, nat_lt, nat_le, List, [], ◌∷◌, ◌++◌, length, take, get_or, Some, None, Ok, decimal, slice_range, refl, ap, ◌∙◌, inl, inr, arith}
 use Rattle.std.specs.List.{list_all}
 use Rattle.std.specs.Char.{is_ascii_digit}
 use Rattle.std.proofs.lemmas.Bool.{cases_Bool}
@@ -10,7 +10,7 @@ use Rattle.std.proofs.Common.{append_assoc}
 use Rattle.std.proofs.lemmas.List.Folds.{list_all-append}
 use Rattle.std.proofs.lemmas.List.Sums.{fold-append}
 use Rattle.std.proofs.lemmas.Fmt.{decimal_by_steps, length-decimal-le, decimal_nonempty, decimal_step}
-use Rattle.row_text.specs.Sorts.{value_of, is_number, number_of, number_in, rate_of, rate_in, else_some, has_clock_form, clock_after, clock_of, time_of, time_in}
+use Rattle.row_text.specs.Sorts.{value_of, number_of, number_in, rate_in, has_clock_form, clock_of, time_in}
 use Rattle.row_text.specs.Spelling.{two_digits, hours_text, clock_text, time_text}
 
 pub lt_true : (a b : ℕ) → a < b → nat_lt a b ≡ true
@@ -31,6 +31,7 @@ decimal_digits n small = decimal_by_steps (λ n digits. (list_all is_ascii_digit
   where
     one : (n : ℕ) → n < 10 → (list_all is_ascii_digit ((48 + n) ∷ []) ≡ true) × (value_of ((48 + n) ∷ []) ≡ n)
     one n lt = (rw (is_digit n lt) refl, omega arith)
+
     more : (n : ℕ) (digits : List ℕ) → 10 ≤ n → (list_all is_ascii_digit digits ≡ true) × (value_of digits ≡ n / 10)
         → (list_all is_ascii_digit (digits ++ (48 + n % 10) ∷ []) ≡ true) × (value_of (digits ++ (48 + n % 10) ∷ []) ≡ n)
     more n digits le h = (

@@ -1,5 +1,5 @@
 -- The pieces of a list.
-use Rattle.std.proofs.Common.{◌≡◌, ◌≢◌, ℕ, zero, suc, ◌+◌, ◌-◌, ◌<◌, ◌≤◌, List, [], ◌∷◌, ◌++◌, length, get_or, take, drop, sym, ap, ◌∙◌, refl, arith, slice_range}
+use Rattle.std.proofs.Common.{◌≡◌, ℕ, zero, suc, ◌-◌, ◌<◌, ◌≤◌, List, [], ◌∷◌, ◌++◌, length, get_or, drop, ap, ◌∙◌, refl, arith, slice_range}
 use Rattle.std.proofs.lemmas.List.{drop-append-le, take-append-le, length-append, length-drop, take_all}
 use Rattle.csv.specs.Records.{Rising, last_end, prev}
 use Rattle.std.proofs.Math.Seq.{drop-append_seam}
@@ -42,5 +42,5 @@ pub pieces-append : {X : Type 0} (ends : List ℕ) (xs more : List X) → Rising
     → pieces 0 (ends ++ length (xs ++ more) ∷ []) (xs ++ more) ≡ pieces 0 ends xs ++ more ∷ []
 pieces-append ends xs more rise last =
     let rest : slice_range (xs ++ more) (length xs) (length (xs ++ more)) ≡ more =
-      rw drop-append_seam (take_all (length (xs ++ more) - length xs) more (omega (arith, length-append xs more))) in
+    rw drop-append_seam (take_all (length (xs ++ more) - length xs) more (omega (arith, length-append xs more))) in
     pieces-push 0 ends (xs ++ more) (length (xs ++ more)) ∙ rw (pieces-more 0 ends xs more rise, last, rest) refl

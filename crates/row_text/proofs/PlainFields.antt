@@ -1,11 +1,11 @@
 -- Fields that CSV writes as they are.
-use Rattle.std.proofs.Common.{◌≡◌, ℕ, suc, ◌^◌, ◌<◌, ◌≤◌, Bool, true, false, List, [], ◌∷◌, decimal, ℤ, pos, negsuc, FitsSigned, w64, refl, arith}
+use Rattle.std.proofs.Common.{◌≡◌, ℕ, suc, ◌^◌, ◌<◌, Bool, true, false, List, [], ◌∷◌, decimal, ℤ, pos, negsuc, FitsSigned, w64, refl, arith}
 use Rattle.std.specs.List.{list_any, list_all}
 use Rattle.std.specs.Char.{is_ascii_digit}
 use Rattle.std.specs.Fmt.{signed_decimal}
-use Rattle.std.proofs.lemmas.Bool.{and_parts, leb-true, ne_eqb}
+use Rattle.std.proofs.lemmas.Bool.{and_parts, ne_eqb}
 use Rattle.std.proofs.lemmas.Bool.Decides.{nat_tests}
-use Rattle.csv.specs.Writing.{default_writer, needs_quotes, needs_byte, field_text}
+use Rattle.csv.specs.Writing.{default_writer, needs_byte, field_text}
 use Rattle.std.proofs.Common.{◌+◌, ◌++◌, ◌||◌, ◌==◌, not, map, take, length, get_or}
 use Rattle.std.proofs.lemmas.List.{take_more, map-append}
 use Rattle.row_text.specs.Put.{separator, more_text}

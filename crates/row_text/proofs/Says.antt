@@ -1,8 +1,8 @@
 -- What a row has that spells a line: names, numbers below 1,000,000,000, and as many further fields as it may have.
-use Rattle.std.proofs.Common.{◌≡◌, ℕ, zero, suc, ◌+◌, ◌-◌, ◌*◌, ◌^◌, ◌<◌, ◌≤◌, Bool, true, false, ◌&&◌, ◌==◌, nat_lt, nat_le, List, [], ◌∷◌, length, drop, take, fold, codes, Option, Some, None, Result, Ok, Err, option_and_then, slice_range, refl, sym, ap, ◌∙◌, subst, inl, inr, arith}
+use Rattle.std.proofs.Common.{◌≡◌, ℕ, suc, ◌+◌, ◌-◌, ◌*◌, ◌^◌, ◌<◌, ◌≤◌, Bool, true, ◌&&◌, ◌==◌, nat_lt, nat_le, List, [], ◌∷◌, length, drop, take, fold, Option, Some, None, Result, Ok, Err, slice_range, refl, ap, subst, inl, inr, arith}
 use Rattle.std.specs.List.{list_all}
 use Rattle.std.specs.Char.{is_ascii_digit}
-use Rattle.std.proofs.lemmas.Bool.{cases_Bool, and_parts, ltb-true, leb-true, false≢true}
+use Rattle.std.proofs.lemmas.Bool.{cases_Bool, and_parts, ltb-true, leb-true}
 use Rattle.std.proofs.lemmas.Bool.Decides.{nat_tests}
 use Rattle.std.proofs.Common.{◌⊎◌, get_or, option_map, if◌then◌else◌}
 use Rattle.std.specs.List.{find}
@@ -10,13 +10,13 @@ use Rattle.std.proofs.lemmas.Option.{option_and_then_some}
 use Rattle.std.proofs.lemmas.List.{length-take}
 use Rattle.std.proofs.Math.Nat.{pow-succ', pow-le-pow_right, mul-le-mul_right}
 use Rattle.std.proofs.lemmas.List.{length-drop}
-use Rattle.rail_model.specs.Name.{is_name, name_of, is_same}
+use Rattle.rail_model.specs.Name.{is_name, is_same}
 use Rattle.rail_model.specs.declared.form.Form.{Form}
 use Rattle.rail_model.specs.declared.form.Form.TheVariants as form
 use Rattle.row_text.specs.Row.{Row, field}
-use Rattle.row_text.specs.Sorts.{Sort, Name, Number, Rate, Time, Read, or_fault, value_of, is_number, number_of, classes, class_rate, rate_of, else_some, has_clock_form, clock_after, clock_of, time_of, name_in, number_in, rate_in, time_in, read}
-use Rattle.row_text.specs.Words.{More, Nothing, Names, Times, Shape, may_follow, allows}
-use Rattle.row_text.specs.Lines.{◌>>=◌, read_each, read_more, read_from, MadeOf, Maker}
+use Rattle.row_text.specs.Sorts.{Sort, Name, Number, Rate, Time, Read, or_fault, value_of, is_number, number_of, classes, class_rate, rate_of, else_some, has_clock_form, clock_after, clock_of, time_of, name_in, time_in, read}
+use Rattle.row_text.specs.Words.{More, Nothing, Names, Times, may_follow}
+use Rattle.row_text.specs.Lines.{◌>>=◌, read_each, read_from, Maker}
 
 -- the value before a read that goes on
 pub bind-ok : {A B : Type 0} (r : Result A Form) (next : A → Result B Form) (y : B) → (r >>= next) ≡ Ok y → (x : A) × (r ≡ Ok x) × (next x ≡ Ok y)
@@ -103,9 +103,9 @@ clock-small h m s n few e = elim (cases_Bool (nat_lt m 60 && nat_lt s 60)) [
 clock_after-small : (digits : ℕ) (text : List ℕ) (n : ℕ) → digits ≤ 5 → clock_after digits text ≡ Some n → n < 1000000000
 clock_after-small digits text n few e =
     option_and_then_some _ (number_of (take digits text)) n e (λ h is_h in_hours.
-        option_and_then_some _ (number_of (slice_range text (digits + 1) (digits + 3))) n in_hours (λ m is_m in_minutes.
-            option_and_then_some _ (number_of (slice_range text (digits + 4) (digits + 6))) n in_minutes (λ s is_s in_seconds.
-                clock-small h m s n (number_of-below 5 (take digits text) h is_h (omega (arith, length-take digits text))) in_seconds)))
+    option_and_then_some _ (number_of (slice_range text (digits + 1) (digits + 3))) n in_hours (λ m is_m in_minutes.
+    option_and_then_some _ (number_of (slice_range text (digits + 4) (digits + 6))) n in_minutes (λ s is_s in_seconds.
+    clock-small h m s n (number_of-below 5 (take digits text) h is_h (omega (arith, length-take digits text))) in_seconds)))
 
 clock_of-small : (text : List ℕ) (n : ℕ) → clock_of text ≡ Some n → n < 1000000000
 clock_of-small text n e = elim (cases_Bool (has_clock_form text)) [

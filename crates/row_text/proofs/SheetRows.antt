@@ -1,8 +1,8 @@
 -- The bytes of a sheet and the rows that they are the text of.
-use Rattle.std.proofs.Common.{◌≡◌, ℕ, zero, suc, ◌+◌, ◌-◌, ◌<◌, ◌≤◌, Bool, true, false, ◌==◌, ◌&&◌, ◌||◌, List, [], ◌∷◌, ◌++◌, length, take, drop, slice_range, Some, None, IsTrue, if◌then◌else◌, subst, refl, sym, ap, ◌∙◌, append_assoc, arith, rules, inl, inr}
-use Rattle.std.specs.List.{flat_map, list_all}
-use Rattle.std.proofs.lemmas.Bool.{cases_Bool, and_parts, false≢true, and_from, eq-eqb, ne_eqb}
-use Rattle.std.proofs.lemmas.List.{append-nil, length-append, take-append-le}
+use Rattle.std.proofs.Common.{◌≡◌, ℕ, zero, suc, ◌+◌, ◌<◌, ◌≤◌, Bool, true, false, ◌==◌, ◌||◌, List, [], ◌∷◌, ◌++◌, length, None, IsTrue, if◌then◌else◌, subst, refl, sym, ap, ◌∙◌, append_assoc, arith, rules}
+use Rattle.std.specs.List.{list_all}
+use Rattle.std.proofs.lemmas.Bool.{and_parts, false≢true, ne_eqb}
+use Rattle.std.proofs.lemmas.List.{append-nil, length-append}
 use Rattle.csv.specs.Machine.{next_record}
 use Rattle.csv.specs.Reading.{default_config, records, records_from}
 use Rattle.csv.specs.Writing.{default_writer, row_text, row_body, fields_text, field_text, is_blank, read_back}
@@ -69,7 +69,7 @@ ended_row-text (first ∷ []) some = rw (append-nil (field_text default_writer f
 ended_row-text (first ∷ next ∷ row) some =
     let rest : List ℕ = 44 ∷ (field_text default_writer next ++ fields_text default_writer row) in
     let shown : (length (field_text default_writer first ++ rest) == 0) ≡ false =
-      ne_eqb (length (field_text default_writer first ++ rest)) 0 (λ none. absurd (omega (arith, none, length-append (field_text default_writer first) rest))) in
+    ne_eqb (length (field_text default_writer first ++ rest)) 0 (λ none. absurd (omega (arith, none, length-append (field_text default_writer first) rest))) in
     rw shown refl
 
 first_row-text : (row : Row) → has_fields row ≡ true → first_row (text_of_row row) ≡ row

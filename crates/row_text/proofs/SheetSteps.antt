@@ -1,8 +1,8 @@
 -- What each step of writing leaves a sheet as.
-use Rattle.std.proofs.Common.{◌≡◌, ℕ, ◌+◌, ◌-◌, ◌<◌, ◌≤◌, Bool, true, false, ◌==◌, ◌&&◌, ◌||◌, List, [], ◌∷◌, ◌++◌, length, take, drop, slice_range, inl, inr, IsTrue, if◌then◌else◌, refl, sym, ap, ◌∙◌, append_assoc, arith, rules}
+use Rattle.std.proofs.Common.{◌≡◌, ℕ, ◌+◌, ◌-◌, ◌≤◌, true, false, ◌==◌, ◌&&◌, ◌||◌, List, [], ◌∷◌, ◌++◌, length, take, drop, slice_range, inl, inr, if◌then◌else◌, refl, sym, ap, ◌∙◌, append_assoc, arith, rules}
 use Rattle.std.specs.List.{list_all}
 use Rattle.std.proofs.lemmas.Bool.{cases_Bool, and_from, eqb-true, eqb-false, ne_eqb, eq-eqb}
-use Rattle.std.proofs.lemmas.List.{append-nil, length-append, length-take-le, length-drop, length-take, take-take, drop-take, take-append-drop, take-append-le, drop-append-le}
+use Rattle.std.proofs.lemmas.List.{append-nil, length-take-le, length-drop, take-take, drop-take, take-append-drop, take-append-le, drop-append-le}
 use Rattle.std.proofs.lemmas.List.Folds.{list_all-append}
 use Rattle.std.proofs.lemmas.List.Concat.{flat_map-append}
 use Rattle.csv.specs.Writing.{default_writer, row_body}
@@ -10,7 +10,7 @@ use Rattle.row_text.specs.declared.sheet.Sheet.TheInside.{Inside}
 use Rattle.row_text.specs.Row.{Row}
 use Rattle.row_text.specs.Put.{more_text}
 use Rattle.row_text.specs.SheetRows.{text_of_row, text_of_rows, has_fields}
-use Rattle.row_text.specs.Sheet.{ended_text, open_text, ended_row, sheet_rows}
+use Rattle.row_text.specs.Sheet.{ended_text, open_text, sheet_rows}
 use Rattle.row_text.specs.SheetText.{HoldsRows, IsSheet}
 use Rattle.row_text.proofs.SheetRows.{IsTrue-true, IsTrue-from, row_body-append, has_fields-append, ended_row-text}
 
@@ -49,10 +49,10 @@ pushed old new roomy more h ended has_field kept written grown room =
     let text : List ℕ = more_text old.has_field more in
     let written_all : take new.used new.text.items ≡ take old.used old.text.items ++ text = written ∙ rw kept refl in
     let ended_same : take old.ended new.text.items ≡ take old.ended old.text.items =
-      ended-is new.text.items old.ended new.used (omega arith) ∙ ap (take old.ended) written_all ∙ take-append-le old.ended (take old.used old.text.items) text (omega arith) ∙ sym (ended-is old.text.items old.ended old.used le) in
+    ended-is new.text.items old.ended new.used (omega arith) ∙ ap (take old.ended) written_all ∙ take-append-le old.ended (take old.used old.text.items) text (omega arith) ∙ sym (ended-is old.text.items old.ended old.used le) in
     let open_more : slice_range new.text.items old.ended new.used ≡ slice_range old.text.items old.ended old.used ++ text =
-      open-is new.text.items old.ended new.used (omega arith) ∙ ap (drop old.ended) written_all ∙ drop-append-le old.ended (take old.used old.text.items) text (omega arith)
-      ∙ ap (λ open_bytes. open_bytes ++ text) (sym (open-is old.text.items old.ended old.used le)) in
+    open-is new.text.items old.ended new.used (omega arith) ∙ ap (drop old.ended) written_all ∙ drop-append-le old.ended (take old.used old.text.items) text (omega arith)
+    ∙ ap (λ open_bytes. open_bytes ++ text) (sym (open-is old.text.items old.ended old.used le)) in
     let begun = h.begun in
     record {
       order = omega arith;
@@ -81,8 +81,8 @@ HoldsRows-end old new rows row h some ended has_field room written =
     let none : new.used - new.used ≡ 0 = omega arith in
     let tail : List ℕ = (if old.used == old.ended then 34 ∷ 34 ∷ [] else []) ++ 10 ∷ [] in
     let all : take new.used new.text.items ≡ text_of_rows rows ++ text_of_row row =
-      written ∙ ap (λ bytes. bytes ++ tail) (used-is old.text.items old.ended old.used h.order) ∙ append_assoc (ended_text old) (open_text old) tail
-      ∙ rw (h.ended, is_blank-is old rows row h, h.body) (ap (λ bytes. text_of_rows rows ++ bytes) (ended_row-text row some)) in
+    written ∙ ap (λ bytes. bytes ++ tail) (used-is old.text.items old.ended old.used h.order) ∙ append_assoc (ended_text old) (open_text old) tail
+    ∙ rw (h.ended, is_blank-is old rows row h, h.body) (ap (λ bytes. text_of_rows rows ++ bytes) (ended_row-text row some)) in
     record {
       order = omega arith;
       room = room;

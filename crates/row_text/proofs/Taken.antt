@@ -1,5 +1,5 @@
 -- Rows that are taken one after the other.
-use Rattle.std.proofs.Common.{◌≡◌, ℕ, ◌≤◌, List, [], ◌∷◌, ◌++◌, length, arith, refl}
+use Rattle.std.proofs.Common.{◌≡◌, List, [], ◌∷◌, ◌++◌, length, arith, refl}
 use Rattle.std.proofs.lemmas.List.{length-append}
 use Rattle.csv.specs.Records.{Rising, last_end}
 use Rattle.csv.proofs.RecordFacts.{rising-end, rising-more, last-append}

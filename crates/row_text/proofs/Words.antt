@@ -7,11 +7,10 @@ use Rattle.std.proofs.Math.Seq.{take-append_seam}
 use Rattle.std.proofs.lemmas.Slice.Eq.{bytes_eq-Decides}
 use Rattle.std.specs.Cmp.Lexicographic.{pointwise}
 use Rattle.rail_model.specs.Name.{is_same}
-use Rattle.rail_model.specs.declared.edit.Kind.{Kind}
 use Rattle.row_text.specs.declared.word.Word.{Word}
 use Rattle.row_text.specs.declared.word.Word.TheVariants as word
 use Rattle.row_text.specs.Sorts.{else_some}
-use Rattle.row_text.specs.Words.{kind_text, kinds, word_text, words, word_of, kind_of}
+use Rattle.row_text.specs.Words.{kind_text, kinds, word_text, word_of, kind_of}
 
 find-map : {X Y : Type 0} (f : X → Y) (test : Y → Bool) (xs : List X) → find test (map f xs) ≡ option_map f (find (λ x. test (f x)) xs)
 find-map f test [] = refl
@@ -63,9 +62,9 @@ unfolding word_of
 word_of-kind field no_change no_drop no_ask no_planner =
     let test : Word → Bool = λ w. is_same field (word_text w) in
     let changes : find test (map word.Change kinds) ≡ None =
-      find-map word.Change test kinds ∙ ap (option_map word.Change) (find-none (λ k. test (word.Change k)) kinds (λ k. unprefixed field (codes "change-") (kind_text k) no_change)) in
+    find-map word.Change test kinds ∙ ap (option_map word.Change) (find-none (λ k. test (word.Change k)) kinds (λ k. unprefixed field (codes "change-") (kind_text k) no_change)) in
     let drops : find test (map word.Drop kinds) ≡ None =
-      find-map word.Drop test kinds ∙ ap (option_map word.Drop) (find-none (λ k. test (word.Drop k)) kinds (λ k. unprefixed field (codes "drop-") (kind_text k) no_drop)) in
+    find-map word.Drop test kinds ∙ ap (option_map word.Drop) (find-none (λ k. test (word.Drop k)) kinds (λ k. unprefixed field (codes "drop-") (kind_text k) no_drop)) in
     let rest : find test (word.Ask ∷ word.Planner ∷ []) ≡ None = rw (no_ask, no_planner) refl in
     let puts : find test (map word.Put kinds) ≡ option_map word.Put (kind_of field) = find-map word.Put test kinds in
     find-append test (map word.Put kinds ++ map word.Change kinds ++ map word.Drop kinds) (word.Ask ∷ word.Planner ∷ [])

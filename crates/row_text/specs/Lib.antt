@@ -1,5 +1,6 @@
 pub mod Row
 pub mod Pieces
+pub mod Cuts
 pub mod Rows
 pub mod Sorts
 pub mod Words

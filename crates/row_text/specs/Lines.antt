@@ -1,5 +1,5 @@
 -- Which line a row spells, or its first form fault.
-use Rattle.std.specs.Prelude.{ℕ, ◌+◌, ◌-◌, Bool, true, false, ◌&&◌, ◌||◌, ◌==◌, nat_lt, if◌then◌else◌, List, [], ◌∷◌, length, drop, slice_index_or, Result, Ok, Err}
+use Rattle.std.specs.Prelude.{ℕ, ◌+◌, ◌-◌, Bool, false, ◌||◌, ◌==◌, nat_lt, if◌then◌else◌, List, [], ◌∷◌, length, drop, Result, Ok, Err}
 use Rattle.rail_model.specs.declared.form.Form.{Form}
 use Rattle.rail_model.specs.declared.form.Form.TheVariants as form
 use Rattle.rail_model.specs.declared.edit.Kind.{Kind}
@@ -13,7 +13,7 @@ use Rattle.row_text.specs.declared.line.Line.TheVariants as line
 use Rattle.row_text.specs.declared.word.Word.{Word}
 use Rattle.row_text.specs.declared.word.Word.TheVariants as word
 use Rattle.row_text.specs.Row.{Row, field}
-use Rattle.row_text.specs.Sorts.{Sort, Name, Number, Rate, Time, Read, read, name_in, time_in, or_fault}
+use Rattle.row_text.specs.Sorts.{Sort, Read, read, name_in, time_in, or_fault}
 use Rattle.row_text.specs.Words.{More, Nothing, Names, Times, Shape, kind_shape, shape_of, word_of, allows}
 
 infixl 10 ◌>>=◌
@@ -50,7 +50,8 @@ read_more version Times make fields = do
   make times
 
 -- the fields from a place on, read one after the other: what is made of them, or the first fault
-abbrev pub read_from : {A : Type 0} → ℕ → (sorts : List Sort) → (more : More) → Maker sorts more A → Row → ℕ → Result A Form
+abbrev pub read_from :
+    {A : Type 0} → ℕ → (sorts : List Sort) → (more : More) → Maker sorts more A → Row → ℕ → Result A Form
 read_from version [] more made row i = read_more version more made (drop i row)
 read_from version (sort ∷ sorts) more make row i = do
   x ← read version sort (field row i)
@@ -97,8 +98,15 @@ make_item version kind.Signal = λ name block approach_m watch_s form_s overlap_
     })
 make_item version kind.Route = λ name signals. item.Route (record { name = name; signals = signals })
 make_item version kind.Run = λ name route length_m tail_s start_s times. do
-    legs ← run_legs version start_s times
-    Ok (item.Run (record { name = name; route = route; length_m = length_m; tail_s = tail_s; start_s = start_s; legs = legs }))
+  legs ← run_legs version start_s times
+  Ok (item.Run (record {
+    name = name;
+    route = route;
+    length_m = length_m;
+    tail_s = tail_s;
+    start_s = start_s;
+    legs = legs;
+  }))
 make_item version kind.Section = λ name from_s to_s add_percent blocks.
     item.Section (record { name = name; from_s = from_s; to_s = to_s; add_percent = add_percent; blocks = blocks })
 make_item version kind.Connection = λ name first second minimum_s.
@@ -115,7 +123,8 @@ line_of version (word.Put k) row = do
 line_of version (word.Change k) row = do
   x ← item_in version k row
   Ok (line.Edit (edit.Change x))
-line_of version (word.Drop k) row = read_fields version (shape_of (word.Drop k)) (λ name. line.Edit (edit.Drop k name)) row
+line_of version (word.Drop k) row =
+    read_fields version (shape_of (word.Drop k)) (λ name. line.Edit (edit.Drop k name)) row
 line_of version word.Ask row = read_fields version (shape_of word.Ask) line.Ask row
 line_of version word.Planner row = read_fields version (shape_of word.Planner) line.Planner row
 

@@ -10,4 +10,5 @@ separator has_field = if has_field then 44 ∷ [] else []
 -- the text of more fields of a row that has a field or has none
 abbrev pub more_text : Bool → Row → List ℕ
 more_text has_field [] = []
-more_text has_field (first ∷ fields) = separator has_field ++ (field_text default_writer first ++ more_text true fields)
+more_text has_field (first ∷ fields) =
+    separator has_field ++ (field_text default_writer first ++ more_text true fields)

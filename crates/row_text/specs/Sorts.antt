@@ -1,5 +1,5 @@
 -- The sorts of fields, and what a field of each sort says.
-use Rattle.std.specs.Prelude.{◌≡◌, ℕ, ◌+◌, ◌-◌, ◌*◌, Bool, ◌&&◌, ◌==◌, nat_lt, nat_le, if◌then◌else◌, List, [], ◌∷◌, length, take, fold, codes, slice_range, slice_index, Option, Some, None, Result, Ok, Err, option_and_then, find, option_map}
+use Rattle.std.specs.Prelude.{ℕ, ◌+◌, ◌-◌, ◌*◌, Bool, ◌&&◌, ◌==◌, nat_lt, nat_le, if◌then◌else◌, List, [], ◌∷◌, length, take, fold, codes, slice_range, slice_index, Option, Some, None, Result, Ok, Err, option_and_then, find, option_map}
 use Rattle.std.specs.List.{list_all}
 use Rattle.std.specs.Char.{is_ascii_digit}
 use Rattle.rail_model.specs.Name.{is_same, name_of}
@@ -64,11 +64,11 @@ rate_of field = else_some (number_of field) (class_rate field)
 abbrev pub clock_after : ℕ → List ℕ → Option ℕ
 clock_after digits field =
     option_and_then (λ hours.
-      option_and_then (λ minutes.
-        option_and_then (λ seconds.
-          if nat_lt minutes 60 && nat_lt seconds 60 then Some (hours * 3600 + minutes * 60 + seconds) else None)
-        (number_of (slice_range field (digits + 4) (digits + 6))))
-      (number_of (slice_range field (digits + 1) (digits + 3))))
+    option_and_then (λ minutes.
+    option_and_then (λ seconds.
+    if nat_lt minutes 60 && nat_lt seconds 60 then Some (hours * 3600 + minutes * 60 + seconds) else None)
+    (number_of (slice_range field (digits + 4) (digits + 6))))
+    (number_of (slice_range field (digits + 1) (digits + 3))))
     (number_of (take digits field))
 
 -- a time of day: one to five digits of hours, and colons before the minutes and the seconds

@@ -1,5 +1,5 @@
 -- The row that spells a line.
-use Rattle.std.specs.Prelude.{◌≡◌, ℕ, ◌+◌, ◌*◌, ◌/◌, ◌%◌, Bool, true, ◌&&◌, ◌==◌, nat_lt, nat_le, if◌then◌else◌, List, [], ◌∷◌, ◌++◌, map, decimal, Ok}
+use Rattle.std.specs.Prelude.{◌≡◌, ℕ, ◌+◌, ◌/◌, ◌%◌, Bool, true, ◌&&◌, ◌==◌, nat_lt, nat_le, if◌then◌else◌, List, [], ◌∷◌, ◌++◌, map, decimal, Ok}
 use Rattle.std.specs.List.{list_all}
 use Rattle.rail_model.specs.declared.edit.Kind.{Kind}
 use Rattle.rail_model.specs.declared.edit.Kind.TheVariants as kind
@@ -25,7 +25,8 @@ abbrev pub hours_text : ℕ → List ℕ
 hours_text hours = if nat_lt hours 10 then 48 ∷ decimal hours else decimal hours
 
 abbrev pub clock_text : ℕ → List ℕ
-clock_text seconds = hours_text (seconds / 3600) ++ (58 ∷ two_digits (seconds / 60 % 60)) ++ (58 ∷ two_digits (seconds % 60))
+clock_text seconds =
+    hours_text (seconds / 3600) ++ (58 ∷ two_digits (seconds / 60 % 60)) ++ (58 ∷ two_digits (seconds % 60))
 
 -- a time in a version of the rows
 abbrev pub time_text : ℕ → ℕ → List ℕ
@@ -74,7 +75,8 @@ item_fields version (item.Run r) =
     ∷ decimal r.tail_s
     ∷ time_text version r.start_s
     ∷ map (time_text version) (run_times version r.start_s r.legs)
-item_fields version (item.Section s) = s.name ∷ time_text version s.from_s ∷ time_text version s.to_s ∷ decimal s.add_percent ∷ s.blocks
+item_fields version (item.Section s) =
+    s.name ∷ time_text version s.from_s ∷ time_text version s.to_s ∷ decimal s.add_percent ∷ s.blocks
 item_fields version (item.Connection c) = c.name ∷ c.first ∷ c.second ∷ decimal c.minimum_s ∷ []
 
 -- the row of a line in a version of the rows
@@ -88,20 +90,27 @@ row_in version (line.Edit e) = edit_row version e
 row_in version (line.Ask name) = word_text word.Ask ∷ name ∷ []
 row_in version (line.Planner n) = word_text word.Planner ∷ decimal n ∷ []
 
+-- all times can be written as times of day
+abbrev pub are_clock_times : List ℕ → Bool
+are_clock_times times = list_all (λ time. nat_le time GREATEST_CLOCK_S) times
+
 -- every time of an item can be written as a time of day
 abbrev pub has_clock_times : Item → Bool
 has_clock_times (item.Block b) = true
 has_clock_times (item.Signal s) = true
 has_clock_times (item.Route r) = true
 has_clock_times (item.Run r) =
-    nat_le r.start_s GREATEST_CLOCK_S && list_all (λ time. nat_le time GREATEST_CLOCK_S) (sums r.start_s (leg_times r.legs))
+    nat_le r.start_s GREATEST_CLOCK_S && are_clock_times (sums r.start_s (leg_times r.legs))
 has_clock_times (item.Section s) = nat_le s.from_s GREATEST_CLOCK_S && nat_le s.to_s GREATEST_CLOCK_S
 has_clock_times (item.Connection c) = true
 
--- every time of a line can be written in a version of the rows
+-- every time of an item, and of a line, can be written in a version of the rows
+abbrev pub has_item_times_in : ℕ → Item → Bool
+has_item_times_in version x = if version == 2 then has_clock_times x else true
+
 abbrev pub has_times_in : ℕ → Line → Bool
-has_times_in version (line.Edit (edit.Put x)) = if version == 2 then has_clock_times x else true
-has_times_in version (line.Edit (edit.Change x)) = if version == 2 then has_clock_times x else true
+has_times_in version (line.Edit (edit.Put x)) = has_item_times_in version x
+has_times_in version (line.Edit (edit.Change x)) = has_item_times_in version x
 has_times_in version (line.Edit (edit.Drop k name)) = true
 has_times_in version (line.Ask name) = true
 has_times_in version (line.Planner n) = true

@@ -1,5 +1,5 @@
 -- In which version the rows of a text are read.
-use Rattle.std.specs.Prelude.{ℕ, Bool, ◌||◌, ◌==◌, if◌then◌else◌, List, [], ◌∷◌, length, codes, slice_index_or, Result, Ok, Err}
+use Rattle.std.specs.Prelude.{ℕ, Bool, ◌||◌, ◌==◌, if◌then◌else◌, List, [], length, codes, slice_index_or, Result, Ok, Err}
 use Rattle.rail_model.specs.Name.{is_same}
 use Rattle.rail_model.specs.declared.form.Form.{Form}
 use Rattle.rail_model.specs.declared.form.Form.TheVariants as form

@@ -1,5 +1,5 @@
 -- The words that rows begin with, and the fields that follow each.
-use Rattle.std.specs.Prelude.{ℕ, ◌+◌, ◌*◌, ◌-◌, ◌%◌, Bool, ◌&&◌, ◌==◌, nat_lt, nat_le, List, [], ◌∷◌, ◌++◌, length, map, find, codes, Option}
+use Rattle.std.specs.Prelude.{ℕ, ◌*◌, ◌-◌, ◌%◌, Bool, ◌&&◌, ◌==◌, nat_lt, nat_le, List, [], ◌∷◌, ◌++◌, length, map, find, codes, Option}
 use Rattle.rail_model.specs.Name.{is_same}
 use Rattle.rail_model.specs.declared.edit.Kind.{Kind}
 use Rattle.rail_model.specs.declared.edit.Kind.TheVariants as kind
@@ -53,7 +53,8 @@ pub record Shape : Type 0 where
 
 abbrev pub kind_shape : Kind → Shape
 kind_shape kind.Block = record { sorts = Name ∷ Number ∷ []; more = Nothing }
-kind_shape kind.Signal = record { sorts = Name ∷ Name ∷ Number ∷ Number ∷ Number ∷ Number ∷ Number ∷ []; more = Nothing }
+kind_shape kind.Signal =
+    record { sorts = Name ∷ Name ∷ Number ∷ Number ∷ Number ∷ Number ∷ Number ∷ []; more = Nothing }
 kind_shape kind.Route = record { sorts = Name ∷ []; more = Names }
 kind_shape kind.Run = record { sorts = Name ∷ Name ∷ Number ∷ Number ∷ Time ∷ []; more = Times }
 kind_shape kind.Section = record { sorts = Name ∷ Time ∷ Time ∷ Rate ∷ []; more = Names }

@@ -2,6 +2,7 @@ ghost use Rattle.std.specs.Prelude.{◌≡◌, ◌+◌, ◌<◌, ◌≤◌, ◌^
 ghost use Rattle.csv.specs.Records.{cut_from, Rising, prev};
 ghost use Rattle.row_text.specs.Row.{field};
 
+use crate::put::{make_room, put_bytes};
 use rail_model::OutOfMemory;
 use std::alloc::Global;
 use std::marker::Model;
@@ -11,20 +12,24 @@ use std::marker::Model;
 /// The fields have fewer than 4,294,967,296 bytes together: a push past that finds no memory.
 #[derive(Drop)]
 pub struct Fields {
+    // The bytes of the fields, and room behind them.
     bytes: Vec<u8>,
+    // How many bytes the fields have.
+    used: usize,
     // Where each field ends.
     ends: Vec<u32>,
 }
 
 impl Model for Fields {
-    ghost use Rattle.std.specs.Prelude.{◌≡◌, List, ℕ, length};
-    ghost use Rattle.csv.specs.Records.{cut_from, Rising, last_end};
+    ghost use Rattle.std.specs.Prelude.{List, ℕ};
+    ghost use Rattle.csv.specs.Records.{cut_from};
+    ghost use Rattle.row_text.specs.Cuts.{EndAt};
 
     ghost Value = { List (List ℕ) };
 
     ghost view = { λ f. cut_from 0 f.ends.items f.bytes.items };
 
-    ghost invariant = { λ f. Rising 0 f.ends.items (length f.bytes.items) × (last_end 0 f.ends.items ≡ length f.bytes.items) };
+    ghost invariant = { λ f. EndAt f.ends.items f.bytes.items f.used };
 }
 
 impl Fields {
@@ -34,6 +39,7 @@ impl Fields {
     {
         Fields {
             bytes: Vec::new(alloc),
+            used: 0,
             ends: Vec::new(alloc),
         }
     }
@@ -43,14 +49,15 @@ impl Fields {
         ensures ok { OnOk result (self.new ≡ self.old ++ field.now ∷ []) }
         ensures err { OnErr result (self.new ≡ self.old) }
     {
-        let Some(end) = end_after(self.bytes.len(), field.len()) else {
+        let Some(end) = end_after(self.used, field.len()) else {
             return Err(OutOfMemory);
         };
         self.ends.push(end)?;
-        if self.bytes.extend_from_slice(field).is_err() {
+        if make_room(&mut self.bytes, self.used, field.len()).is_err() {
             self.ends.pop();
             return Err(OutOfMemory);
         }
+        self.used = put_bytes(&mut self.bytes, self.used, field);
         Ok(())
     }
 
@@ -183,10 +190,10 @@ pub(crate) fn span(ends: &[u32], i: usize) -> (usize, usize)
 fn end_after(bytes: usize, field: usize) -> Option<u32>
     ensures { IfSome result (λ end. end ≡ bytes + field) }
 {
-    if bytes >= MOST_BYTES || field >= MOST_BYTES - bytes {
-        return None;
+    match bytes.checked_add(field) {
+        Some(end) if end < MOST_BYTES => Some(end as u32),
+        _ => None,
     }
-    Some((bytes + field) as u32)
 }
 
 // The bytes of fields are fewer.

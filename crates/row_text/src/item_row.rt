@@ -75,8 +75,9 @@ fn route_of(alloc: Global, row: &Row<'_>) -> Result<Item, Unread>
     Ok(Item::Route(Route { name, signals }))
 }
 
-// In version 1 run,NAME,ROUTE,LENGTH,TAIL,START,RUNNING_1,DWELL_1,..,RUNNING_n, and in version 2
-// run,NAME,ROUTE,LENGTH,TAIL,D_0,A_1,D_1,..,A_n: the departure at the start, and each arrival and departure
+// run,NAME,ROUTE,LENGTH,TAIL,START,RUNNING_1,DWELL_1,..,RUNNING_n, or in version 2
+// run,NAME,ROUTE,LENGTH,TAIL,D_0,A_1,D_1,..,A_n: the departure at the start, and each arrival and
+// departure after it
 fn run_of(alloc: Global, version: u32, row: &Row<'_>) -> Result<Item, Unread>
     requires { IsTrue (allows (kind_shape kind.Run) (length row.now)) }
     ensures { Reads result (item_in version kind.Run row.now) }

@@ -22,12 +22,8 @@ pub(crate) fn leg_times(alloc: Global, legs: &[Leg]) -> Result<List<u32>, OutOfM
 }
 
 // The times at which steps end that begin at a time.
-pub(crate) fn sums(
-    alloc: Global,
-    start_s: u32,
-    steps: &[u32],
-) -> Result<List<u32>, OutOfMemory>
-    requires { IsTrue (list_all (λ time. nat_le time GREATEST_CLOCK_S) (spelling.sums start_s steps.now)) }
+pub(crate) fn sums(alloc: Global, start_s: u32, steps: &[u32]) -> Result<List<u32>, OutOfMemory>
+    requires { IsTrue (spelling.are_clock_times (spelling.sums start_s steps.now)) }
     ensures { IfOk result (λ times. times ≡ spelling.sums start_s steps.now) }
 {
     let mut times = List::new(alloc);
@@ -41,7 +37,7 @@ pub(crate) fn sums(
 
 // Whether all times at which steps end that begin at a time can be written as times of day.
 pub(crate) fn are_clock_times(start_s: u32, steps: &[u32]) -> bool
-    ensures { result ≡ list_all (λ time. nat_le time GREATEST_CLOCK_S) (spelling.sums start_s steps.now) }
+    ensures { result ≡ spelling.are_clock_times (spelling.sums start_s steps.now) }
 {
     let mut before = start_s;
     for step in steps {

@@ -1,5 +1,5 @@
-//! Rows of a planner's text to lines and back: what a row spells, or its first fault; the row that spells a
-//! line; and the text of rows that are written.
+//! Rows of a planner's text to lines and back: what a row spells, or its first fault; the row that
+//! spells a line; and the text of rows that are written.
 #![tactic(auto)]
 
 mod field;
@@ -12,7 +12,6 @@ mod lists;
 mod put;
 mod row_list;
 mod sheet;
-
 mod time_text;
 mod unread;
 mod word;
@@ -20,9 +19,9 @@ mod written;
 
 pub use field::{HOUR_DIGITS, NUMBER_DIGITS};
 pub use fields::{Fields, Row};
-pub use sheet::Sheet;
-pub use written::Written;
-pub use line_row::{has_times_in, spell, spell_in};
-pub use time_text::GREATEST_CLOCK_S;
-pub use row_list::{RowList, rows};
 pub use line::{Line, read_line, read_row, read_row_in};
+pub use line_row::{has_times_in, spell, spell_in};
+pub use row_list::{RowList, rows};
+pub use sheet::Sheet;
+pub use time_text::GREATEST_CLOCK_S;
+pub use written::Written;

@@ -19,17 +19,19 @@ use std::alloc::Global;
 /// The row that spells a line in version 1 of the rows.
 pub fn spell(alloc: Global, line: &Line) -> Result<Fields, OutOfMemory>
     ensures row { IfOk result (λ row. row ≡ spelling.row_in 1 line.now) }
-    ensures again { spelling.IsSpelled line.now → IfOk result (λ row. read_in 1 row ≡ Ok line.now) }
+    ensures again { spelling.IsSpelled line.now
+        → IfOk result (λ row. read_in 1 row ≡ Ok line.now) }
 {
     spell_in(alloc, 1, line)
 }
 
-/// The row that spells a line in a version of the rows, 1 or 2. In version 2 times of runs and sections are
-/// times of day, none above 359,999,999 s.
+/// The row that spells a line in a version of the rows, 1 or 2. In version 2 the times of runs and
+/// sections are times of day, none above 359,999,999 s: `has_times_in` is the test.
 pub fn spell_in(alloc: Global, version: u32, line: &Line) -> Result<Fields, OutOfMemory>
     requires { IsTrue (spelling.has_times_in version line.now) }
     ensures row { IfOk result (λ row. row ≡ spelling.row_in version line.now) }
-    ensures again { spelling.IsSpelled line.now → IfOk result (λ row. read_in version row ≡ Ok line.now) }
+    ensures again { spelling.IsSpelled line.now
+        → IfOk result (λ row. read_in version row ≡ Ok line.now) }
 {
     let mut row = Fields::new(alloc);
     push_line(&mut row, alloc, version, line)?;
@@ -48,7 +50,7 @@ pub fn has_times_in(alloc: Global, version: u32, line: &Line) -> Result<bool, Ou
 }
 
 fn has_item_times_in(alloc: Global, version: u32, item: &Item) -> Result<bool, OutOfMemory>
-    ensures { IfOk result (λ has. has ≡ (if version == 2 then spelling.has_clock_times item.now else true)) }
+    ensures { IfOk result (λ has. has ≡ spelling.has_item_times_in version item.now) }
 {
     if version != 2 {
         return Ok(true);
@@ -65,12 +67,7 @@ fn has_item_times_in(alloc: Global, version: u32, item: &Item) -> Result<bool, O
     }
 }
 
-fn push_line(
-    row: &mut Fields,
-    alloc: Global,
-    version: u32,
-    line: &Line,
-) -> Result<(), OutOfMemory>
+fn push_line(row: &mut Fields, alloc: Global, version: u32, line: &Line) -> Result<(), OutOfMemory>
     requires { IsTrue (spelling.has_times_in version line.now) }
     ensures { OnOk result (row.new ≡ row.old ++ spelling.row_in version line.now) }
 {
@@ -111,12 +108,7 @@ fn kind_of_item(item: &Item) -> Kind
     }
 }
 
-fn push_item(
-    row: &mut Fields,
-    alloc: Global,
-    version: u32,
-    item: &Item,
-) -> Result<(), OutOfMemory>
+fn push_item(row: &mut Fields, alloc: Global, version: u32, item: &Item) -> Result<(), OutOfMemory>
     requires { version ≡ 2 → IsTrue (spelling.has_clock_times item.now) }
     ensures { OnOk result (row.new ≡ row.old ++ spelling.item_fields version item.now) }
 {
@@ -158,12 +150,7 @@ fn push_route(row: &mut Fields, route: &Route) -> Result<(), OutOfMemory>
     push_names(row, route.signals.slice())
 }
 
-fn push_run(
-    row: &mut Fields,
-    alloc: Global,
-    version: u32,
-    run: &Run,
-) -> Result<(), OutOfMemory>
+fn push_run(row: &mut Fields, alloc: Global, version: u32, run: &Run) -> Result<(), OutOfMemory>
     requires { version ≡ 2 → IsTrue (spelling.has_clock_times (item.Run run.now)) }
     ensures { OnOk result (row.new ≡ row.old ++ spelling.item_fields version (item.Run run.now)) }
 {
@@ -187,7 +174,8 @@ fn push_section(
     version: u32,
     section: &Section,
 ) -> Result<(), OutOfMemory>
-    ensures { OnOk result (row.new ≡ row.old ++ spelling.item_fields version (item.Section section.now)) }
+    ensures { OnOk result (row.new
+        ≡ row.old ++ spelling.item_fields version (item.Section section.now)) }
 {
     row.push(section.name.bytes())?;
     push_time(row, alloc, version, section.from_s)?;
@@ -197,7 +185,8 @@ fn push_section(
 }
 
 fn push_connection(row: &mut Fields, connection: &Connection) -> Result<(), OutOfMemory>
-    ensures { OnOk result (row.new ≡ row.old ++ spelling.item_fields 1 (item.Connection connection.now)) }
+    ensures { OnOk result (row.new
+        ≡ row.old ++ spelling.item_fields 1 (item.Connection connection.now)) }
 {
     row.push(connection.name.bytes())?;
     row.push(connection.first.bytes())?;
@@ -228,12 +217,7 @@ fn push_times(
     Ok(())
 }
 
-fn push_time(
-    row: &mut Fields,
-    alloc: Global,
-    version: u32,
-    time: u32,
-) -> Result<(), OutOfMemory>
+fn push_time(row: &mut Fields, alloc: Global, version: u32, time: u32) -> Result<(), OutOfMemory>
     ensures { OnOk result (row.new ≡ row.old ++ spelling.time_text version time ∷ []) }
 {
     if version != 2 {

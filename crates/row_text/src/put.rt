@@ -41,12 +41,13 @@ fn grow(text: &mut Vec<u8>, used: usize, room: usize) -> Result<(), OutOfMemory>
 // The bytes that a text begins with.
 const LEAST_ROOM: usize = 256;
 
-// Writes a number after the bytes that are used, and a comma before it unless it is a row's first field.
-// Gives how many bytes are used then.
+// Writes a number after the bytes that are used, and a comma before it unless it is a row's first
+// field. Gives how many bytes are used then.
 #[inline]
 pub(crate) fn put_signed(text: &mut [u8], used: usize, has_field: bool, number: i64) -> usize
     requires { used + 22 ≤ length text.old }
-    ensures written { take result text.new ≡ take used text.old ++ (separator has_field ++ signed_decimal number) }
+    ensures written { take result text.new
+        ≡ take used text.old ++ (separator has_field ++ signed_decimal number) }
     ensures more { used ≤ result }
     ensures within { result ≤ used + 22 }
 {
@@ -61,7 +62,8 @@ pub(crate) fn put_signed(text: &mut [u8], used: usize, has_field: bool, number: 
 #[inline]
 pub(crate) fn put_unsigned(text: &mut [u8], used: usize, has_field: bool, number: u64) -> usize
     requires { used + 22 ≤ length text.old }
-    ensures written { take result text.new ≡ take used text.old ++ (separator has_field ++ decimal number) }
+    ensures written { take result text.new
+        ≡ take used text.old ++ (separator has_field ++ decimal number) }
     ensures more { used ≤ result }
     ensures within { result ≤ used + 22 }
 {
@@ -73,7 +75,8 @@ pub(crate) fn put_unsigned(text: &mut [u8], used: usize, has_field: bool, number
 #[inline]
 pub(crate) fn put_text(text: &mut [u8], used: usize, has_field: bool, bytes: &[u8]) -> usize
     requires { used + length bytes.now + 1 ≤ length text.old }
-    ensures written { take result text.new ≡ take used text.old ++ (separator has_field ++ bytes.now) }
+    ensures written { take result text.new
+        ≡ take used text.old ++ (separator has_field ++ bytes.now) }
     ensures more { used ≤ result }
     ensures within { result ≤ used + length bytes.now + 1 }
 {
@@ -84,7 +87,8 @@ pub(crate) fn put_text(text: &mut [u8], used: usize, has_field: bool, bytes: &[u
 // Writes what ends a row of so many bytes: two quotes for one empty field, and a line feed.
 pub(crate) fn put_end(text: &mut [u8], used: usize, is_blank: bool) -> usize
     requires { used + 3 ≤ length text.old }
-    ensures written { take result text.new ≡ take used text.old ++ ((if is_blank then 34 ∷ 34 ∷ [] else []) ++ 10 ∷ []) }
+    ensures written { take result text.new
+        ≡ take used text.old ++ ((if is_blank then 34 ∷ 34 ∷ [] else []) ++ 10 ∷ []) }
     ensures more { used ≤ result }
     ensures within { result ≤ used + 3 }
 {
@@ -96,14 +100,10 @@ pub(crate) fn put_end(text: &mut [u8], used: usize, is_blank: bool) -> usize
 
 // The same of several numbers.
 #[inline]
-pub(crate) fn put_numbers(
-    text: &mut [u8],
-    used: usize,
-    has_field: bool,
-    numbers: &[i64],
-) -> usize
+pub(crate) fn put_numbers(text: &mut [u8], used: usize, has_field: bool, numbers: &[i64]) -> usize
     requires { used + 22 * length numbers.now ≤ length text.old }
-    ensures written { take result text.new ≡ take used text.old ++ more_text has_field (map signed_decimal numbers.now) }
+    ensures written { take result text.new
+        ≡ take used text.old ++ more_text has_field (map signed_decimal numbers.now) }
     ensures more { used ≤ result }
     ensures within { result ≤ used + 22 * length numbers.now }
 {
@@ -128,7 +128,7 @@ fn put_comma(text: &mut [u8], used: usize, has_field: bool) -> usize
 }
 
 #[inline]
-fn put_bytes(text: &mut [u8], used: usize, bytes: &[u8]) -> usize
+pub(crate) fn put_bytes(text: &mut [u8], used: usize, bytes: &[u8]) -> usize
     requires { used + length bytes.now ≤ length text.old }
     ensures written { take result text.new ≡ take used text.old ++ bytes.now }
     ensures end { result ≡ used + length bytes.now }

@@ -80,8 +80,8 @@ impl RowList {
         read_line(alloc, version, &self.get(i))
     }
 
-    /// The version in which the rows are read, 1 or 2. A first row with the word `version` says it, and an
-    /// error is the fault of that row; without one it is 1.
+    /// The version in which the rows are read, 1 or 2. A first row with the word `version` says it,
+    /// and an error is the fault of that row; without one it is 1.
     pub fn version(&self) -> Result<u32, Form>
         ensures { result ≡ version_of self.now }
     {
@@ -133,10 +133,10 @@ struct Taken {
     ends: Vec<u32>,
 }
 
-ghost use Rattle.row_text.specs.Rows.{rows_of, HasTaken};
+ghost use Rattle.row_text.specs.Rows.{rows_of, Takes};
 
-/// The rows of a text as CSV reads them: commas, double quotes, no header row, rows of any lengths. A byte
-/// order mark at the start is left out. Any error of the reader over memory is want of memory.
+/// The rows of a text as CSV reads them: commas, double quotes, no header row, rows of any lengths.
+/// A byte order mark at the start is left out. Any error of the reader is that memory ran out.
 pub fn rows(alloc: Global, text: &[u8]) -> Result<RowList, OutOfMemory>
     ensures { IfOk result (λ rows. rows ≡ rows_of text.now) }
 {
@@ -162,7 +162,7 @@ pub fn rows(alloc: Global, text: &[u8]) -> Result<RowList, OutOfMemory>
 
 // Takes one row more.
 fn take(taken: &mut Taken, row: &ByteRecord) -> Result<(), OutOfMemory>
-    ensures { OnOk result ((rows : List TheRow) → HasTaken taken.old rows → HasTaken taken.new (rows ++ fields_of row.now ∷ [])) }
+    ensures { OnOk result (Takes taken.old taken.new (fields_of row.now)) }
 {
     take_fields(&mut taken.fields, row)?;
     let end = taken.fields.len();

@@ -10,11 +10,11 @@ use rail_model::OutOfMemory;
 use std::alloc::Global;
 use std::marker::Model;
 
-/// Rows as CSV writes them: commas, quotes only where needed, and a line feed after each row. Contracts see
-/// the rows that were ended, and the fields of the row that is being written.
+/// Rows as CSV writes them: commas, quotes only where needed, and a line feed after each row.
+/// Contracts see the rows that were ended, and the fields of the row that is being written.
 #[derive(Drop)]
 pub struct Sheet {
-    // The text, and room behind it.
+    // The text, and room after it.
     text: Vec<u8>,
     // How many bytes the ended rows have, and all that is written.
     ended: usize,
@@ -64,10 +64,15 @@ impl Sheet {
     /// Adds numbers in plain decimal, each a field.
     #[inline]
     pub fn push_numbers(&mut self, numbers: &[i64]) -> Result<(), OutOfMemory>
-        ensures ok { OnOk result (self.new ≡ with_fields self.old (map signed_decimal numbers.now)) }
+        ensures ok { OnOk result (self.new
+            ≡ with_fields self.old (map signed_decimal numbers.now)) }
         ensures err { OnErr result (self.new ≡ self.old) }
     {
-        make_room(&mut self.text, self.used, numbers.len().saturating_mul(NUMBER_ROOM))?;
+        make_room(
+            &mut self.text,
+            self.used,
+            numbers.len().saturating_mul(NUMBER_ROOM),
+        )?;
         self.used = put_numbers(&mut self.text, self.used, self.has_field, numbers);
         self.has_field |= !numbers.is_empty();
         Ok(())

@@ -8,8 +8,8 @@ use rail_model::OutOfMemory;
 use std::alloc::Global;
 use std::marker::Model;
 
-/// Fields with their text in a row, made once for many rows. Contracts see the fields, of which there is one
-/// at least.
+/// Fields with their text in a row, made once for many rows. Contracts see the fields, of which
+/// there is one at least.
 #[derive(Drop)]
 pub struct Written {
     fields: Fields,
@@ -24,7 +24,8 @@ impl Model for Written {
 
     ghost view = { λ w. w.fields };
 
-    ghost invariant = { λ w. (w.text.items ≡ row_body default_writer w.fields) × (0 < length w.fields) };
+    ghost invariant = { λ w. (w.text.items ≡ row_body default_writer w.fields)
+        × (0 < length w.fields) };
 }
 
 impl Written {
@@ -61,7 +62,8 @@ impl Written {
 
 // The text of a field in a row.
 pub(crate) fn field_text(alloc: Global, field: &[u8]) -> Result<Vec<u8>, OutOfMemory>
-    ensures { IfOk result (λ text. text.items ≡ writing.field_text writing.default_writer field.now) }
+    ensures { IfOk result (λ text. text.items
+        ≡ writing.field_text writing.default_writer field.now) }
 {
     if needs_quotes(field) {
         return quoted_text(alloc, field);
@@ -81,7 +83,8 @@ pub(crate) fn needs_quotes(field: &[u8]) -> bool
 // The text that CSV writes for a field. Any error of its writer over memory is want of memory.
 #[inline(never)]
 fn quoted_text(alloc: Global, field: &[u8]) -> Result<Vec<u8>, OutOfMemory>
-    ensures { IfOk result (λ text. text.items ≡ writing.field_text writing.default_writer field.now) }
+    ensures { IfOk result (λ text. text.items
+        ≡ writing.field_text writing.default_writer field.now) }
 {
     let mut writer = WriterBuilder::new().from_writer(Vec::new(alloc));
     if writer.write_field(field).is_err() {

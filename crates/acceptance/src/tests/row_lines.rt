@@ -1,6 +1,8 @@
-// Rows to lines and back: what a row spells or its first fault, and the text of rows that are written.
+// Rows to lines and back: what a row spells or its first fault, and the text of written rows.
 use rail_model::{Form, OutOfMemory};
-use row_text::{Fields, RowList, Sheet, Written, has_times_in, read_row, read_row_in, rows, spell, spell_in};
+use row_text::{
+    Fields, RowList, Sheet, Written, has_times_in, read_row, read_row_in, rows, spell, spell_in,
+};
 use std::alloc::Global;
 use std::test::Fail;
 
@@ -72,8 +74,14 @@ fn times_of_day(rt: HostRuntime) -> Result<(), Fail> {
     let alloc = rt.alloc();
     let rows: [(&[u8], Option<Form>); 6] = [
         (b"run,T1,R,100,10,0:01:40,0:02:40,0:02:40,0:03:40", None),
-        (b"run,T1,R,100,10,0:01:40,0:02:40,0:02:39,0:03:40", Some(Form::Order)),
-        (b"run,T1,R,100,10,0:01:40,0:02:40,0:02:39,0:3:40", Some(Form::Number)),
+        (
+            b"run,T1,R,100,10,0:01:40,0:02:40,0:02:39,0:03:40",
+            Some(Form::Order),
+        ),
+        (
+            b"run,T1,R,100,10,0:01:40,0:02:40,0:02:39,0:3:40",
+            Some(Form::Number),
+        ),
         (b"run,T1,R,100,0:00:10,100,160,160,220", Some(Form::Number)),
         (b"section,S,0:00:00,99999:59:59,33,A", None),
         (b"section,S,0:00:00,100000:00:00,33,A", Some(Form::Number)),
@@ -81,11 +89,15 @@ fn times_of_day(rt: HostRuntime) -> Result<(), Fail> {
     for (row, fault) in rows {
         assert_eq!(rt; fault_of(alloc, 2, row)?, fault, "{row:?}");
     }
-    assert_eq!(rt; fault_of(alloc, 1, b"section,S,0:00:00,9,33,A")?, Some(Form::Number));
+    assert_eq!(rt;
+        fault_of(alloc, 1, b"section,S,0:00:00,9,33,A")?,
+        Some(Form::Number)
+    );
     Ok(())
 }
 
-// The text of the row that spells the line of a row in version 1, or nothing where its times can't be written.
+// The lines of a text in version 1, as their rows in a version; a line with a time that the version
+// can't write is left out.
 fn spelled(alloc: Global, version: u32, row: &[u8]) -> Result<Vec<u8>, Fail> {
     let rows = rows(alloc, row)?;
     let mut sheet = Sheet::new(alloc);
@@ -112,7 +124,11 @@ fn lines_spelled(rt: HostRuntime) -> Result<(), Fail> {
     let alloc = rt.alloc();
     let rows: [(u32, &[u8], &[u8]); 8] = [
         (1, b"block,A,0042", b"block,A,42\n"),
-        (1, b"change-section,S,0,3600,mixed-day,A,B", b"change-section,S,0,3600,67,A,B\n"),
+        (
+            1,
+            b"change-section,S,0,3600,mixed-day,A,B",
+            b"change-section,S,0,3600,67,A,B\n",
+        ),
         (1, b"drop-connect,\"a,b\"", b"drop-connect,\"a,b\"\n"),
         (1, b"planner,007", b"planner,7\n"),
         (1, b"ask,S", b"ask,S\n"),
@@ -121,7 +137,11 @@ fn lines_spelled(rt: HostRuntime) -> Result<(), Fail> {
             b"run,T1,R,100,10,100,60,0,60",
             b"run,T1,R,100,10,00:01:40,00:02:40,00:02:40,00:03:40\n",
         ),
-        (2, b"section,S,0,359999999,33,A", b"section,S,00:00:00,99999:59:59,33,A\n"),
+        (
+            2,
+            b"section,S,0,359999999,33,A",
+            b"section,S,00:00:00,99999:59:59,33,A\n",
+        ),
         (2, b"section,S,0,360000000,33,A", b""),
     ];
     for (version, row, text) in rows {
@@ -147,8 +167,7 @@ fn rows_of_any_length(rt: HostRuntime) -> Result<(), Fail> {
     sheet.push_field(b"")?;
     sheet.end_row()?;
     sheet.push_field(b"dropped")?;
-    assert_eq!(
-        rt;
+    assert_eq!(rt;
         sheet.into_text().as_slice(),
         b"use,\"say \"\"x\"\"\",\"a,b\",-1,0,99,100,12345,-9223372036854775808,18446744073709551615\n\
             \"\"\n\

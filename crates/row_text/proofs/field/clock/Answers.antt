@@ -1,4 +1,4 @@
-use Rattle.std.proofs.Common.{◌≤◌, ◌<◌, ◌^◌, ◌-◌, ◌+◌, length, take, arith}
+use Rattle.std.proofs.Common.{◌<◌, ◌-◌, length, take, arith}
 use Rattle.std.proofs.Math.Nat.{pow-le-pow_right}
 use Rattle.std.proofs.lemmas.List.{length-take-le}
 use Rattle.row_text.proofs.field.clock.Goals as goal

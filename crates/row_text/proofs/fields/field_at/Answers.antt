@@ -1,4 +1,4 @@
-use Rattle.std.proofs.Common.{◌≤◌, get_or, length, refl, arith}
+use Rattle.std.proofs.Common.{length, refl, arith}
 use Rattle.csv.proofs.RecordFacts.{field-bounds}
 use Rattle.row_text.proofs.Cuts.{field-cut_from}
 use Rattle.row_text.proofs.fields.field_at.Goals as goal

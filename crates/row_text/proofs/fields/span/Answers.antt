@@ -1,4 +1,4 @@
-use Rattle.std.proofs.Common.{◌≡◌, sym}
+use Rattle.std.proofs.Common.{sym}
 use Rattle.row_text.proofs.Cuts.{prev-zero, prev-is}
 use Rattle.row_text.proofs.fields.span.Goals as goal
 

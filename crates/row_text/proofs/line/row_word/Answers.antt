@@ -1,6 +1,4 @@
-use Rattle.std.proofs.Common.{◌≡◌, [], List, ℕ, sym, ap, rules}
-use Rattle.row_text.specs.Row.{field}
-use Rattle.row_text.specs.Words.{word_of}
+use Rattle.std.proofs.Common.{◌≡◌, [], sym, rules}
 use Rattle.row_text.proofs.Words.{word_of-none}
 use Rattle.row_text.proofs.line.row_word.Goals as goal
 

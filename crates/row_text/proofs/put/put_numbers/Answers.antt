@@ -1,4 +1,4 @@
-use Rattle.std.proofs.Common.{◌≡◌, ℕ, ℤ, pos, get_or, w64, FitsSigned, sym, refl, ◌∙◌, append_assoc, rules, arith}
+use Rattle.std.proofs.Common.{pos, get_or, w64, FitsSigned, sym, refl, ◌∙◌, append_assoc, rules, arith}
 use Rattle.std.proofs.lemmas.Int.{to_z-of_z}
 use Rattle.row_text.proofs.PlainFields.{more_text-numbers, has_fields-numbers}
 use Rattle.row_text.proofs.put.put_numbers.Goals as goal

@@ -1,4 +1,4 @@
-use Rattle.std.proofs.Common.{◌≡◌, ◌+◌, ◌*◌, ◌≤◌, ◌++◌, ◌||◌, map, take, length}
+use Rattle.std.proofs.Common.{◌≡◌, ◌+◌, ◌*◌, ◌≤◌, ◌++◌, ◌||◌, map, take}
 use Rattle.std.specs.Fmt.{signed_decimal}
 use Rattle.row_text.specs.Put.{more_text}
 use Rattle.row_text.specs.SheetRows.{has_fields}

@@ -1,4 +1,3 @@
-use Rattle.std.proofs.Common.{sym, ap, ◌++◌, take, ◌∙◌}
 use Rattle.std.proofs.lemmas.Fmt.{decimal_digit}
 use Rattle.row_text.proofs.put.put_one.Goals as goal
 

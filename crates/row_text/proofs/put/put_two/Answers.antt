@@ -1,4 +1,4 @@
-use Rattle.std.proofs.Common.{◌++◌, ◌∷◌, [], ◌+◌, ◌/◌, ◌%◌, take, append_assoc, refl, ◌∙◌}
+use Rattle.std.proofs.Common.{append_assoc, refl, ◌∙◌}
 use Rattle.row_text.proofs.Digits.{decimal_two}
 use Rattle.row_text.proofs.put.put_two.Goals as goal
 

@@ -1,4 +1,4 @@
-use Rattle.std.proofs.Common.{[], ◌∙◌, sym, inr, inl, refl, ◌≡◌}
+use Rattle.std.proofs.Common.{[], ◌∙◌, sym, inr, refl}
 use Rattle.csv.specs.Reading.{Reached, strip_bom}
 use Rattle.csv.specs.Records.{fields_of}
 use Rattle.row_text.proofs.Records.{HasRead-more, HasRead-end}

@@ -1,4 +1,4 @@
-use Rattle.std.proofs.Common.{◌≡◌, ◌++◌, ◌∷◌, [], length, rules}
+use Rattle.std.proofs.Common.{◌≡◌, ◌++◌, ◌∷◌, [], length}
 use Rattle.csv.specs.Records.{fields_of}
 use Rattle.row_text.proofs.Taken.{HasTaken-more}
 use Rattle.row_text.proofs.row_list.take.Goals as goal

@@ -4,7 +4,7 @@ use Rattle.row_text.proofs.fields.Fields.new.Goals as goal
 
 pub invariant_of-result : goal.invariant_of-result
 unfolding Rising last_end
-invariant_of-result c = rw (c.new.ensures.items, c.new-2.ensures.items) (omega arith, refl)
+invariant_of-result c = rw (c.new.ensures.items, c.new-2.ensures.items) (record { rise = omega arith; last = refl; room = omega arith })
 
 pub returns : goal.returns
 unfolding cut_from

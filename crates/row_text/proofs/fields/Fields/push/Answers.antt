@@ -1,25 +1,29 @@
-use Rattle.std.proofs.Common.{◌≡◌, ◌+◌, ◌∷◌, ◌++◌, [], length, ◌∙◌, sym, true, rules, arith}
-use Rattle.std.specs.Result.{is_ok}
-use Rattle.row_text.proofs.Cuts.{cut_from-push, Rising-push}
-use Rattle.csv.proofs.RecordFacts.{last-append}
-use Rattle.std.proofs.lemmas.List.{length-append}
+use Rattle.std.proofs.Common.{◌≡◌, ◌≤◌, ◌+◌, ◌∷◌, ◌++◌, [], length, sym, ap, ◌∙◌, rules, arith}
+use Rattle.std.specs.Vec.{with_items}
+use Rattle.std.proofs.lemmas.List.{with_items_is}
+use Rattle.csv.specs.Records.{cut_from}
+use Rattle.row_text.specs.Cuts.{EndAt}
+use Rattle.row_text.proofs.Cuts.{cut_from-put}
 use Rattle.row_text.proofs.fields.Fields.push.Goals as goal
 
-pub invariant_of-self-else-is_err : goal.invariant_of-self-else-is_err
-invariant_of-self-else-is_err c =
-    let good : is_ok c.extend_from_slice.result ≡ true = search rules in
-    let bytes : c.extend_from_slice.new.self.items ≡ c.self.inside.bytes.items ++ c.args.field.now = rw good at c.extend_from_slice.ensures.items in
-    let ends : c.push.new.self.items ≡ c.self.inside.ends.items ++ c.in-Some.end ∷ [] = c.in_ok-push.ensures.items in
-    let at : c.in-Some.end ≡ length c.self.inside.bytes.items + length c.args.field.now = search rules in
-    rw (bytes, ends) (
-      Rising-push c.self.inside.ends.items c.self.inside.bytes.items c.args.field.now c.in-Some.end c.self.invariant.0 at,
-      last-append 0 c.self.inside.ends.items c.in-Some.end ∙ at ∙ sym (length-append c.self.inside.bytes.items c.args.field.now),
-    )
+-- the bytes with the field, and the places with its end
+put : (c : goal.After-self-2-1) → (cut_from 0 c.push.new.self.items (with_items c.make_room.new.text c.put_bytes-self-inside.new.text).items ≡ cut_from 0 c.self.inside.ends.items c.self.inside.bytes.items ++ c.args.field.now ∷ [])
+    × EndAt c.push.new.self.items (with_items c.make_room.new.text c.put_bytes-self-inside.new.text).items c.put_bytes-self-inside.result
+put c =
+    let own = c.self.inside in
+    let field = c.args.field.now in
+    let written = c.put_bytes-self-inside.ensures.written in
+    let end = c.put_bytes-self-inside.ensures.end in
+    let size = ap length c.deref_mut.ensures.value in
+    let same : (with_items c.make_room.new.text c.put_bytes-self-inside.new.text).items ≡ c.put_bytes-self-inside.new.text = with_items_is c.make_room.new.text c.put_bytes-self-inside.new.text (c.put_bytes-self-inside.auto.text ∙ size ∙ sym c.make_room.new.text.ok.0) in
+    let room : own.used + length field ≤ length c.make_room.new.text.items = search rules in
+    let told : c.in-Some.end ≡ own.used + length field = search rules in
+    let ends : c.push.new.self.items ≡ own.ends.items ++ c.put_bytes-self-inside.result ∷ [] = c.in_ok-push.ensures.items ∙ ap (λ n. own.ends.items ++ n ∷ []) (told ∙ sym end) in
+    rw (same, ends) (cut_from-put own.ends.items own.bytes.items c.put_bytes-self-inside.new.text field own.used c.put_bytes-self-inside.result c.self.invariant end
+    (omega (arith, end, room, c.put_bytes-self-inside.auto.text, size)) (written ∙ ap (λ bytes. bytes ++ field) (rw c.deref_mut.ensures.value c.make_room.ensures.kept)))
+
+pub invariant_of-self-2 : goal.invariant_of-self-2
+invariant_of-self-2 c = (put c).1
 
 pub returns-clause-ok : goal.returns-clause-ok
-returns-clause-ok c =
-    let good : is_ok c.extend_from_slice.result ≡ true = search rules in
-    let bytes : c.extend_from_slice.new.self.items ≡ c.self.inside.bytes.items ++ c.args.field.now = rw good at c.extend_from_slice.ensures.items in
-    let ends : c.push.new.self.items ≡ c.self.inside.ends.items ++ c.in-Some.end ∷ [] = c.in_ok-push.ensures.items in
-    let at : c.in-Some.end ≡ length c.self.inside.bytes.items + length c.args.field.now = search rules in
-    rw (bytes, ends, ← c.self.view_is) (cut_from-push c.self.inside.ends.items c.self.inside.bytes.items c.args.field.now c.in-Some.end c.self.invariant.0 c.self.invariant.1 at)
+returns-clause-ok c = rw (← c.self.view_is) (put c).0

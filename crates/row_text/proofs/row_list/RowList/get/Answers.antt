@@ -1,4 +1,4 @@
-use Rattle.std.proofs.Common.{◌<◌, ◌≤◌, length, [], ap, sym, arith, ◌∙◌}
+use Rattle.std.proofs.Common.{◌<◌, length, [], ap, sym, arith, ◌∙◌}
 use Rattle.csv.proofs.RecordFacts.{field-bounds}
 use Rattle.row_text.proofs.Pieces.{length-pieces, get_or-pieces}
 use Rattle.row_text.proofs.row_list.RowList.get.Goals as goal

@@ -1,13 +1,13 @@
-use Rattle.std.proofs.Common.{◌≡◌, ◌++◌, ◌∷◌, [], ◌||◌, length, map, decimal, w64, true, refl, sym, ap, ◌∙◌, arith}
+use Rattle.std.proofs.Common.{◌≡◌, ◌++◌, ◌∷◌, [], length, w64, true, refl, sym, ap, ◌∙◌, arith}
 use Rattle.std.specs.Fmt.{signed_decimal}
 use Rattle.std.proofs.lemmas.Int.{to_z-of_z}
-use Rattle.row_text.proofs.PlainFields.{field_text-decimal, field_text-signed_decimal}
+use Rattle.row_text.proofs.PlainFields.{field_text-signed_decimal}
 use Rattle.std.specs.Vec.{with_items}
-use Rattle.std.proofs.lemmas.List.{with_items_is, append-nil, length-append}
+use Rattle.std.proofs.lemmas.List.{with_items_is, append-nil}
 use Rattle.row_text.specs.declared.sheet.Sheet.TheInside.{Inside}
 use Rattle.row_text.specs.Sheet.{sheet_rows}
 use Rattle.row_text.specs.SheetText.{HoldsRows}
-use Rattle.row_text.proofs.SheetRows.{or_true, has_fields-some, more_text-body, sheet_rows-is, IsSheet-from}
+use Rattle.row_text.proofs.SheetRows.{or_true, sheet_rows-is, IsSheet-from}
 use Rattle.row_text.proofs.SheetSteps.{pushed}
 use Rattle.row_text.proofs.sheet.Sheet.push_number.Goals as goal
 
@@ -27,7 +27,7 @@ holds c =
     let size = ap length c.deref_mut.ensures.value in
     let same : (after c).text.items ≡ c.put_signed-self-inside.new.text = with_items_is c.make_room.new.text c.put_signed-self-inside.new.text (c.put_signed-self-inside.auto.text ∙ size ∙ sym c.make_room.new.text.ok.0) in
     pushed c.self.inside (after c) c.deref_mut.result.now (signed_decimal c.args.number ∷ []) c.self.invariant refl (sym (or_true c.self.inside.has_field))
-        (rw c.deref_mut.ensures.value room.kept) (rw same (rw (field_text-signed_decimal c.args.number c.ranges.number, append-nil) (rw (to_z-of_z w64 c.args.number c.ranges.number) at put.written))) put.more (rw same (omega (arith, put.within, room.ok, c.put_signed-self-inside.auto.text, size)))
+    (rw c.deref_mut.ensures.value room.kept) (rw same (rw (field_text-signed_decimal c.args.number c.ranges.number, append-nil) (rw (to_z-of_z w64 c.args.number c.ranges.number) at put.written))) put.more (rw same (omega (arith, put.within, room.ok, c.put_signed-self-inside.auto.text, size)))
 
 pub invariant_of-self-2 : goal.invariant_of-self-2
 invariant_of-self-2 c = IsSheet-from (after c) _ _ (holds c)

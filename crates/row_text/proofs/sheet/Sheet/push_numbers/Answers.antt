@@ -1,12 +1,12 @@
-use Rattle.std.proofs.Common.{◌≡◌, ◌++◌, ◌∷◌, [], ◌||◌, length, map, decimal, w64, not, refl, sym, ap, ◌∙◌, arith}
+use Rattle.std.proofs.Common.{◌≡◌, ◌++◌, ◌||◌, length, map, not, refl, sym, ap, ◌∙◌, arith}
 use Rattle.std.specs.Fmt.{signed_decimal}
 use Rattle.row_text.proofs.PlainFields.{has_fields-map}
 use Rattle.std.specs.Vec.{with_items}
-use Rattle.std.proofs.lemmas.List.{with_items_is, append-nil, length-append}
+use Rattle.std.proofs.lemmas.List.{with_items_is}
 use Rattle.row_text.specs.declared.sheet.Sheet.TheInside.{Inside}
 use Rattle.row_text.specs.Sheet.{sheet_rows}
 use Rattle.row_text.specs.SheetText.{HoldsRows}
-use Rattle.row_text.proofs.SheetRows.{or_true, has_fields-some, more_text-body, sheet_rows-is, IsSheet-from}
+use Rattle.row_text.proofs.SheetRows.{sheet_rows-is, IsSheet-from}
 use Rattle.row_text.proofs.SheetSteps.{pushed}
 use Rattle.row_text.proofs.sheet.Sheet.push_numbers.Goals as goal
 
@@ -26,7 +26,7 @@ holds c =
     let size = ap length c.deref_mut.ensures.value in
     let same : (after c).text.items ≡ c.put_numbers-self-inside.new.text = with_items_is c.make_room.new.text c.put_numbers-self-inside.new.text (c.put_numbers-self-inside.auto.text ∙ size ∙ sym c.make_room.new.text.ok.0) in
     pushed c.self.inside (after c) c.deref_mut.result.now (map signed_decimal c.args.numbers.now) c.self.invariant refl (ap (λ none. c.self.inside.has_field || none) (ap not c.is_empty.ensures ∙ sym (has_fields-map c.args.numbers.now)))
-        (rw c.deref_mut.ensures.value room.kept) (rw same (put.written)) put.more (rw same (omega (arith, put.within, room.ok, c.put_numbers-self-inside.auto.text, size)))
+    (rw c.deref_mut.ensures.value room.kept) (rw same (put.written)) put.more (rw same (omega (arith, put.within, room.ok, c.put_numbers-self-inside.auto.text, size)))
 
 pub invariant_of-self-2 : goal.invariant_of-self-2
 invariant_of-self-2 c = IsSheet-from (after c) _ _ (holds c)

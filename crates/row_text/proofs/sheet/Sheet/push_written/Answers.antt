@@ -1,6 +1,6 @@
-use Rattle.std.proofs.Common.{◌≡◌, ◌++◌, ◌∷◌, [], ◌||◌, length, map, decimal, w64, true, refl, sym, ap, ◌∙◌, arith}
+use Rattle.std.proofs.Common.{◌≡◌, ◌++◌, ◌||◌, length, true, refl, sym, ap, ◌∙◌, arith}
 use Rattle.std.specs.Vec.{with_items}
-use Rattle.std.proofs.lemmas.List.{with_items_is, append-nil, length-append}
+use Rattle.std.proofs.lemmas.List.{with_items_is, length-append}
 use Rattle.row_text.specs.declared.sheet.Sheet.TheInside.{Inside}
 use Rattle.row_text.specs.Sheet.{sheet_rows}
 use Rattle.row_text.specs.SheetText.{HoldsRows}
@@ -24,7 +24,7 @@ holds c =
     let size = ap length c.deref_mut.ensures.value in
     let same : (after c).text.items ≡ c.put_text-self-inside.new.text = with_items_is c.make_room.new.text c.put_text-self-inside.new.text (c.put_text-self-inside.auto.text ∙ size ∙ sym c.make_room.new.text.ok.0) in
     pushed c.self.inside (after c) c.deref_mut.result.now c.args.fields.now c.self.invariant refl (sym (ap (λ some. c.self.inside.has_field || some) (has_fields-some c.args.fields.now c.text-text.ensures.some) ∙ or_true c.self.inside.has_field))
-        (rw c.deref_mut.ensures.value room.kept) (rw same (rw (more_text-body c.self.inside.has_field c.args.fields.now (has_fields-some c.args.fields.now c.text-text.ensures.some), ← c.text-text.ensures.text) put.written)) put.more (rw same (omega (arith, put.within, room.ok, c.put_text-self-inside.auto.text, size)))
+    (rw c.deref_mut.ensures.value room.kept) (rw same (rw (more_text-body c.self.inside.has_field c.args.fields.now (has_fields-some c.args.fields.now c.text-text.ensures.some), ← c.text-text.ensures.text) put.written)) put.more (rw same (omega (arith, put.within, room.ok, c.put_text-self-inside.auto.text, size)))
 
 pub invariant_of-self-2 : goal.invariant_of-self-2
 invariant_of-self-2 c = IsSheet-from (after c) _ _ (holds c)
