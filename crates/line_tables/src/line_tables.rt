@@ -9,9 +9,7 @@ ghost use Rattle.line_tables.specs.Inside.{tables_of, parts, IsJoined};
 use crate::entry::Entry;
 use crate::named_table::{NamedTable, Stored};
 use crate::uses::Uses;
-use rail_model::{
-    Block, Connection, List, Name, OutOfMemory, Route, Run, Section, Signal, Tables,
-};
+use rail_model::{Block, Connection, List, Name, OutOfMemory, Route, Run, Section, Signal, Tables};
 use std::alloc::Global;
 use std::marker::Model;
 
@@ -198,9 +196,17 @@ impl LineTables {
 }
 
 // The tables of a line and of its timetable, and their counts.
-type Line = (NamedTable<Block>, NamedTable<Entry<Signal>>, NamedTable<Entry<Route>>);
+type Line = (
+    NamedTable<Block>,
+    NamedTable<Entry<Signal>>,
+    NamedTable<Entry<Route>>,
+);
 
-type Timetable = (NamedTable<Entry<Run>>, NamedTable<Entry<Section>>, NamedTable<Entry<Connection>>);
+type Timetable = (
+    NamedTable<Entry<Run>>,
+    NamedTable<Entry<Section>>,
+    NamedTable<Entry<Connection>>,
+);
 
 type Counts = (Uses, Uses, Uses, Uses);
 
@@ -224,10 +230,20 @@ fn copy_timetable(
     Ok((runs.copy()?, sections.copy()?, connections.copy()?))
 }
 
-fn copy_counts(blocks: &Uses, signals: &Uses, routes: &Uses, runs: &Uses) -> Result<Counts, OutOfMemory>
+fn copy_counts(
+    blocks: &Uses,
+    signals: &Uses,
+    routes: &Uses,
+    runs: &Uses,
+) -> Result<Counts, OutOfMemory>
     ensures { IfOk result (λ copies. copies ≡ (blocks.now, signals.now, routes.now, runs.now)) }
 {
-    Ok((blocks.copy()?, signals.copy()?, routes.copy()?, runs.copy()?))
+    Ok((
+        blocks.copy()?,
+        signals.copy()?,
+        routes.copy()?,
+        runs.copy()?,
+    ))
 }
 
 // The tables of these parts.
@@ -250,10 +266,7 @@ fn joined(alloc: Global, line: Line, timetable: Timetable, counts: Counts) -> Li
     }
 }
 
-fn plain_blocks(
-    alloc: Global,
-    table: &NamedTable<Block>,
-) -> Result<List<Block>, OutOfMemory>
+fn plain_blocks(alloc: Global, table: &NamedTable<Block>) -> Result<List<Block>, OutOfMemory>
     ensures { IfOk result (λ items. items ≡ map (λ e. e.1) table.now) }
 {
     let mut items = List::new(alloc);
