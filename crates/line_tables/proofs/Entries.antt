@@ -1,19 +1,19 @@
 -- Lists of items with their keys, in the order of names: what a look-up finds after an edit.
-use Rattle.std.proofs.Common.{◌≡◌, ◌≢◌, ℕ, zero, suc, ◌+◌, ◌<◌, ◌≤◌, ◌==◌, Bool, true, false, not, cond, if◌then◌else◌, List, [], ◌∷◌, ◌++◌, length, get_or, take, drop, insert, Option, Some, None, refl, sym, ap, ◌∙◌, subst, inl, inr, arith}
-use Rattle.std.specs.Prelude.{filter, map, option_map, All, AllPairs, is_some}
+use Rattle.std.proofs.Common.{◌≡◌, ℕ, ◌==◌, Bool, true, false, not, cond, List, [], ◌∷◌, take, drop, insert, Option, Some, None, refl, sym, ap, ◌∙◌, subst, inl, inr}
+use Rattle.std.specs.Prelude.{option_map, All, is_some}
 use Rattle.std.specs.Option.{option_or}
-use Rattle.std.specs.List.{list_any, find}
-use Rattle.std.proofs.lemmas.Bool.{cases_Bool, both_ways, eqb-true, or_parts}
+use Rattle.std.specs.List.{find}
+use Rattle.std.proofs.lemmas.Bool.{cases_Bool, eqb-true}
 use Rattle.std.proofs.lemmas.List.{take-append-drop}
-use Rattle.std.proofs.lemmas.List.Elements.{All-nil, All-cons, All-head, All-tail, All-take, All-weaker}
+use Rattle.std.proofs.lemmas.List.Elements.{All-head, All-tail, All-weaker}
 use Rattle.std.proofs.lemmas.List.Folds.{find-append}
 use Rattle.std.proofs.lemmas.List.Kept.{AllPairs-filter}
 use Rattle.rail_model.specs.Name.{IsBefore, is_same, NamesRise}
 use Rattle.rail_model.specs.Rules.{is_named}
 use Rattle.rail_model.specs.Edits.{with_item, without}
-use Rattle.rail_model.proofs.NameOrder.{same_name, is_same-from, is_same-sym, is_same-before}
+use Rattle.rail_model.proofs.NameOrder.{same_name, is_same-before}
 use Rattle.rail_model.proofs.Places.{IsPlace, place, with_item-place, NamesRise-insert}
-use Rattle.line_tables.specs.Table.{under, with_change, named, key_of, entry_of, item_of, IsTable}
+use Rattle.line_tables.specs.Table.{with_change, named, key_of}
 
 pub find_none : {X : Type 0} (p : X → Bool) (xs : List X) → All (λ x. p x ≡ false) xs → find p xs ≡ None
 find_none p [] h = refl

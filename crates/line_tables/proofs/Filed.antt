@@ -1,12 +1,10 @@
 -- The items under a list of keys: what a search along the keys finds, and what stands there after an edit.
-use Rattle.std.proofs.Common.{◌≡◌, ◌≢◌, ℕ, zero, suc, ◌+◌, ◌<◌, ◌≤◌, ◌==◌, Bool, true, false, cond, if◌then◌else◌, List, [], ◌∷◌, ◌++◌, length, get_or, take, drop, insert, Option, Some, None, refl, sym, ap, ◌∙◌, subst, inl, inr, arith}
-use Rattle.std.specs.Prelude.{filter, filter_map, map, option_map, unwrap_or, IsSome, All, remove}
-use Rattle.std.specs.List.{list_any, find}
-use Rattle.std.proofs.lemmas.Bool.{cases_Bool, both_ways, cases_eq, eqb-true, eq-eqb}
-use Rattle.std.proofs.lemmas.List.{take-append-drop, drop_more, get_or_default}
-use Rattle.std.proofs.lemmas.List.Elements.{All-nil, All-append, All-cons, All-head, All-tail, All-take, All-drop, All-weaker, filter-append, filter_map-append}
-use Rattle.rail_model.specs.Name.{IsBefore, is_same, NamesRise}
-use Rattle.line_tables.specs.Table.{filed, under, with_change, named, name_at, key_of, entry_of, IsTable, IsKept}
+use Rattle.std.proofs.Common.{◌≡◌, ℕ, zero, suc, ◌<◌, ◌==◌, if◌then◌else◌, List, [], ◌∷◌, ◌++◌, length, get_or, Option, Some, None, refl, sym, ap, ◌∙◌, subst, inl, inr, arith}
+use Rattle.std.specs.Prelude.{option_map, IsSome, All}
+use Rattle.std.specs.List.{list_any}
+use Rattle.std.proofs.lemmas.Bool.{cases_Bool, eqb-true}
+use Rattle.std.proofs.lemmas.List.Elements.{All-nil, All-cons, All-head, All-tail, filter_map-append}
+use Rattle.line_tables.specs.Table.{filed, under}
 
 -- what is there is some value
 pub stored_at : {X : Type 0} (o : Option X) → IsSome o → (x : X) × (o ≡ Some x)

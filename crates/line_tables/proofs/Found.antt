@@ -1,15 +1,12 @@
 -- What a table finds by name and by key, and what its edits leave of that.
-use Rattle.std.proofs.Common.{◌≡◌, ◌≢◌, ℕ, zero, suc, ◌+◌, ◌<◌, ◌≤◌, ◌==◌, Bool, true, false, not, cond, if◌then◌else◌, List, [], ◌∷◌, ◌++◌, length, get_or, Option, Some, None, refl, sym, ap, ◌∙◌, subst, inl, inr, arith}
-use Rattle.std.specs.Prelude.{filter, map, option_map, unwrap_or, All, AllPairs, is_some, slice_get, sum_by}
-use Rattle.std.specs.List.{list_any, find, position_or_len}
-use Rattle.std.proofs.lemmas.Bool.{cases_Bool, both_ways, eqb-true, eq-eqb, cases_order}
-use Rattle.std.proofs.lemmas.List.{get_or_default}
-use Rattle.std.proofs.lemmas.List.Elements.{All-nil, All-cons, All-head, All-tail}
-use Rattle.std.proofs.lemmas.List.Folds.{find_at, map_fixed}
+use Rattle.std.proofs.Common.{◌≡◌, ◌≢◌, ℕ, suc, ◌+◌, ◌==◌, Bool, true, false, not, if◌then◌else◌, List, [], ◌∷◌, get_or, Some, refl, sym, ap, ◌∙◌, subst, inl, inr, arith}
+use Rattle.std.specs.Prelude.{filter, map, option_map, All, AllPairs, is_some, sum_by}
+use Rattle.std.specs.List.{list_any, find}
+use Rattle.std.proofs.lemmas.Bool.{cases_Bool, both_ways, eqb-true}
+use Rattle.std.proofs.lemmas.List.Elements.{All-head, All-tail}
+use Rattle.std.proofs.lemmas.List.Folds.{map_fixed}
 use Rattle.std.proofs.lemmas.List.Sums.{sum_by-cons, sum_by-insert}
-use Rattle.std.proofs.lemmas.Option.{unwrap_or-slice_get}
-use Rattle.rail_model.specs.Name.{IsBefore, is_same, NamesRise}
-use Rattle.rail_model.specs.Tables.{number_of}
+use Rattle.rail_model.specs.Name.{is_same, NamesRise}
 use Rattle.rail_model.specs.Rules.{is_named}
 use Rattle.rail_model.specs.Edits.{with_item, without}
 use Rattle.rail_model.proofs.NameOrder.{same_name, is_same-from, is_same-before, is_same-after}
@@ -56,8 +53,7 @@ module _ {X : Type 0} (name : X → List ℕ) where
   found_by_key items n k table e =
       let entry = some_from_map (λ (e : ℕ × X). e.0) (entry_of name items n) k e in
       let some = find_some (λ (e : ℕ × X). is_same (name e.1) n) items entry.0 entry.1 in
-      let here = some.1 (λ e. under items e.0 ≡ Some e.1) table.keys in
-      (
+      let here = some.1 (λ e. under items e.0 ≡ Some e.1) table.keys in (
         entry.0.1,
         record {
           under = ap (under items) (sym entry.2) ∙ here;

@@ -1,6 +1,6 @@
 -- How the tables of a line still fit together after an edit that no rule refuses.
-use Rattle.std.proofs.Common.{◌≡◌, ℕ, ◌+◌, ◌≤◌, ◌==◌, Bool, true, false, not, ◌||◌, List, [], ◌∷◌, map, Option, Some, None, refl, sym, ap, ◌∙◌, inl, inr, arith}
-use Rattle.std.specs.Prelude.{option_map, All, is_some, nat_lt}
+use Rattle.std.proofs.Common.{◌≡◌, ℕ, ◌+◌, ◌≤◌, Bool, true, false, ◌||◌, List, [], ◌∷◌, map, Some, None, refl, sym, ap, ◌∙◌, inl, inr, arith}
+use Rattle.std.specs.Prelude.{option_map, nat_lt}
 use Rattle.std.specs.List.{list_any, list_all, find}
 use Rattle.std.proofs.lemmas.Bool.Decides.{nat_tests}
 use Rattle.std.proofs.lemmas.Bool.{cases_Bool, or_parts, and_parts, and_from, ltb-false}
@@ -14,18 +14,17 @@ use Rattle.rail_model.specs.declared.items.Item.TheVariants as item
 use Rattle.rail_model.specs.declared.edit.Kind.TheVariants as kind
 use Rattle.rail_model.specs.Name.{is_same}
 use Rattle.rail_model.specs.Rules.{is_named, has_block, has_run, lists, refers_to_known, is_used, rule_of_put, rule_of_change, rule_of_drop}
-use Rattle.rail_model.specs.Edits.{with_item, with_changed, without}
-use Rattle.rail_model.specs.Sound.{IsSound}
+use Rattle.rail_model.specs.Edits.{with_item, without}
 use Rattle.rail_model.proofs.Sound.{accepted, changeable, free, IsSound-after_put, IsSound-after_change, IsSound-after_drop}
 use Rattle.line_tables.specs.declared.entry.Entry.{Entry}
 use Rattle.line_tables.specs.declared.line_tables.LineTables.TheInside.{Inside}
 use Rattle.line_tables.specs.Table.{under, with_change, named, key_of, item_of, entry_of, IsTable}
 use Rattle.line_tables.specs.Uses.{count_of, times}
-use Rattle.line_tables.specs.Links.{IsLinked, references}
+use Rattle.line_tables.specs.Links.{references}
 use Rattle.line_tables.specs.Inside.{items_of, tables_of, names_of_signal, names_of_route, names_of_run, names_of_section, names_of_connection, IsJoined}
 use Rattle.line_tables.proofs.Filed.{stored_at, some_from_map}
 use Rattle.line_tables.proofs.Entries.{is_some-key_of}
-use Rattle.line_tables.proofs.Found.{found_by_key, key_after_put, key_after_change, key_after_drop, sum-with_item, sum-with_change, sum-without, list_any-map}
+use Rattle.line_tables.proofs.Found.{key_after_put, key_after_change, key_after_drop, sum-with_item, sum-with_change, sum-without, list_any-map}
 use Rattle.line_tables.proofs.Linked.{entry, linked_by_put, linked_by_change, linked_by_drop, linked_to_same, linked_to_rest, references_tell}
 use Rattle.line_tables.proofs.Views.{is_named-map, map-with_item, map-with_change, map-without, list_all_same, found_in_sum}
 

@@ -1,22 +1,20 @@
 -- References between two tables after an edit of either.
-use Rattle.std.proofs.Common.{◌≡◌, ◌≢◌, ℕ, zero, suc, ◌+◌, ◌<◌, ◌≤◌, ◌==◌, Bool, true, false, not, cond, if◌then◌else◌, List, [], ◌∷◌, ◌++◌, length, get_or, Option, Some, None, refl, sym, ap, ◌∙◌, subst, inl, inr, arith, zero-add}
-use Rattle.std.specs.Prelude.{filter, map, option_map, All, is_some, sum_by, nat_lt, ◌||◌}
+use Rattle.std.proofs.Common.{◌≡◌, ◌≢◌, ℕ, ◌+◌, ◌==◌, Bool, true, false, not, cond, if◌then◌else◌, List, [], ◌∷◌, get_or, Option, Some, refl, sym, ap, ◌∙◌, inl, inr, arith, zero-add}
+use Rattle.std.specs.Prelude.{map, All, sum_by, nat_lt}
 use Rattle.std.specs.List.{list_any}
-use Rattle.std.proofs.lemmas.Bool.{cases_Bool, both_ways, eqb-true, eq-eqb, lt-ltb}
+use Rattle.std.proofs.lemmas.Bool.{cases_Bool, both_ways, eqb-true, eq-eqb}
 use Rattle.std.proofs.lemmas.Bool.Decides.{nat_tests}
-use Rattle.std.proofs.lemmas.List.Elements.{All-nil, All-cons, All-head, All-tail, All-weaker, All-filter, All-map, All-contains}
+use Rattle.std.proofs.lemmas.List.Elements.{All-nil, All-cons, All-head, All-tail, All-weaker, All-filter, All-map}
 use Rattle.std.proofs.lemmas.List.Sums.{sum_by-cons}
-use Rattle.rail_model.specs.Name.{is_same, NamesRise}
-use Rattle.rail_model.specs.Rules.{is_named}
+use Rattle.rail_model.specs.Name.{is_same}
 use Rattle.rail_model.specs.Edits.{with_item, without}
 use Rattle.rail_model.proofs.NameOrder.{same_name, is_same-from}
 use Rattle.rail_model.proofs.Members.{All-with_item}
 use Rattle.line_tables.specs.declared.entry.Entry.{Entry}
-use Rattle.line_tables.specs.Table.{under, with_change, named, key_of, entry_of, item_of, IsTable}
+use Rattle.line_tables.specs.Table.{with_change, named, key_of, IsTable}
 use Rattle.line_tables.specs.Uses.{times}
 use Rattle.line_tables.specs.Links.{IsLinked, references, lists_key}
-use Rattle.line_tables.proofs.Filed.{some_from_map}
-use Rattle.line_tables.proofs.Found.{name_of_key, sum-with_item, sum-with_change, sum-without}
+use Rattle.line_tables.proofs.Found.{name_of_key}
 
 -- an item with the keys that it refers to
 abbrev pub entry : {A : Type 0} → A → List ℕ → Entry A

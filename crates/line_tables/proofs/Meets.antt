@@ -1,6 +1,6 @@
 -- Which blocks the signals of a route have, by names and by keys.
-use Rattle.std.proofs.Common.{◌≡◌, ◌≢◌, ℕ, ◌+◌, ◌<◌, ◌==◌, Bool, true, false, not, if◌then◌else◌, ◌||◌, List, [], ◌∷◌, length, get_or, map, Option, Some, None, refl, sym, ap, ◌∙◌, subst, inl, inr, arith}
-use Rattle.std.specs.Prelude.{◌&&◌, All, is_some, option_map}
+use Rattle.std.proofs.Common.{◌≡◌, ℕ, ◌<◌, ◌==◌, Bool, true, false, List, [], ◌∷◌, length, get_or, map, Option, Some, refl, sym, ap, ◌∙◌, subst, inl, inr, arith}
+use Rattle.std.specs.Prelude.{◌&&◌, All, is_some}
 use Rattle.std.specs.List.{list_any, find}
 use Rattle.std.proofs.lemmas.Bool.{cases_Bool, both_ways, eqb-true, eq-eqb, false_from_ne_true, not-true}
 use Rattle.std.proofs.lemmas.List.{get_or-map, length-map}
@@ -21,8 +21,8 @@ use Rattle.rail_model.proofs.Members.{first-with_changed, kept_by_change}
 use Rattle.line_tables.specs.declared.entry.Entry.{Entry}
 use Rattle.line_tables.specs.declared.line_tables.LineTables.TheInside.{Inside}
 use Rattle.line_tables.specs.Table.{under, key_of, IsTable}
-use Rattle.line_tables.specs.Links.{IsLinked, lists_key, repeats_key, block_of, meets, IsKey}
-use Rattle.line_tables.specs.Inside.{items_of, tables_of, names_of_signal, names_of_route, IsJoined}
+use Rattle.line_tables.specs.Links.{lists_key, repeats_key, block_of, meets, IsKey}
+use Rattle.line_tables.specs.Inside.{items_of, tables_of, names_of_signal, IsJoined}
 use Rattle.line_tables.proofs.Filed.{some_from_map}
 use Rattle.line_tables.proofs.Entries.{is_some-key_of}
 use Rattle.line_tables.proofs.Found.{find_some, found_by_key, name_of_key, list_any-map}

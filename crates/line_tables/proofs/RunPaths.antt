@@ -1,9 +1,8 @@
 -- The path of a run by keys is its path by names.
-use Rattle.std.proofs.Common.{◌≡◌, ℕ, ◌+◌, ◌<◌, List, [], ◌∷◌, ◌++◌, length, take, get_or, map, Option, Some, None, Result, Ok, Err, refl, sym, ap, ◌∙◌, subst, arith}
-use Rattle.std.specs.Prelude.{All, IfOk, IsSome, option_map, slice_get}
+use Rattle.std.proofs.Common.{◌≡◌, ℕ, ◌+◌, ◌<◌, List, [], ◌∷◌, ◌++◌, length, take, get_or, map, Option, Some, Result, Ok, Err, refl, sym, ap, ◌∙◌, subst, arith}
+use Rattle.std.specs.Prelude.{All, IfOk, option_map, slice_get}
 use Rattle.std.proofs.lemmas.List.{get_or-map, length-map, map_more}
 use Rattle.std.proofs.lemmas.Option.{get_or_from_slice_get, slice_get_within}
-use Rattle.rail_model.specs.declared.items.Block.{Block}
 use Rattle.rail_model.specs.declared.items.Signal.{Signal}
 use Rattle.rail_model.specs.declared.items.Route.{Route}
 use Rattle.rail_model.specs.declared.items.Run.{Run}
@@ -12,18 +11,17 @@ use Rattle.rail_model.specs.declared.path.Hop.{Hop}
 use Rattle.rail_model.specs.declared.path.Path.{Path}
 use Rattle.rail_model.specs.declared.tables.Tables.{Tables}
 use Rattle.rail_model.specs.Path.{Fits}
-use Rattle.rail_model.specs.Tables.{no_signal, no_route, number_of, route_named, signal_named, path_in}
+use Rattle.rail_model.specs.Tables.{no_signal, no_route, number_of, route_named, path_in}
 use Rattle.rail_model.specs.Sound.{IsSound, Stands}
 use Rattle.line_tables.specs.declared.entry.Entry.{Entry}
 use Rattle.line_tables.specs.declared.line_tables.LineTables.TheInside.{Inside}
 use Rattle.line_tables.specs.Table.{under, key_of, IsTable}
-use Rattle.line_tables.specs.Links.{IsKey}
 use Rattle.line_tables.specs.Inside.{items_of, tables_of, names_of_route, names_of_run, IsJoined}
 use Rattle.line_tables.specs.Hops.{no_run, run_at, untimed_hop, route_hops, hop_of, with_legs, path_over}
 use Rattle.line_tables.proofs.Filed.{some_from_map}
 use Rattle.line_tables.proofs.Found.{found_by_key}
 use Rattle.line_tables.proofs.Views.{item_named, number_of-map}
-use Rattle.line_tables.proofs.Meets.{under_passes, some_key, only_key, all_keys}
+use Rattle.line_tables.proofs.Meets.{under_passes, only_key}
 use Rattle.line_tables.proofs.Paths.{looked_up_first, path_fits, route_stands, hops_numbered}
 
 -- what names and their keys give alike

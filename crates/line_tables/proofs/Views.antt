@@ -1,7 +1,7 @@
 -- Edits of a list of entries as edits of the list of their items.
-use Rattle.std.proofs.Common.{◌≡◌, ◌≢◌, ℕ, ◌+◌, ◌<◌, ◌≤◌, ◌==◌, Bool, true, false, not, cond, if◌then◌else◌, List, [], ◌∷◌, ◌++◌, length, get_or, Option, Some, None, refl, sym, ap, ◌∙◌, subst, inl, inr, arith}
+use Rattle.std.proofs.Common.{◌≡◌, ℕ, ◌<◌, ◌≤◌, ◌==◌, Bool, false, not, if◌then◌else◌, List, [], ◌∷◌, length, get_or, Option, Some, None, refl, sym, ap, ◌∙◌, inl, inr, arith}
 use Rattle.std.specs.Prelude.{filter, map, option_map, unwrap_or, All, sum_by}
-use Rattle.std.specs.List.{list_any, list_all, find}
+use Rattle.std.specs.List.{list_all, find}
 use Rattle.std.proofs.lemmas.Bool.{cases_Bool, both_ways, eqb-true, eq-eqb, cases_order}
 use Rattle.std.proofs.lemmas.List.{map-append, get_or_default, get_or_past}
 use Rattle.std.proofs.lemmas.List.Elements.{All-head, All-tail}
@@ -11,13 +11,12 @@ use Rattle.std.proofs.lemmas.Option.{unwrap_or-slice_get}
 use Rattle.std.proofs.lemmas.List.Folds.{find_at}
 use Rattle.rail_model.specs.Tables.{number_of}
 use Rattle.rail_model.proofs.Places.{number_of-missing}
-use Rattle.rail_model.specs.Name.{IsBefore, is_before, is_same}
+use Rattle.rail_model.specs.Name.{is_before, is_same}
 use Rattle.rail_model.specs.Rules.{is_named}
 use Rattle.rail_model.specs.Edits.{with_item, with_changed, without}
 use Rattle.rail_model.proofs.NameOrder.{same_name, is_same-from, is_same-before}
-use Rattle.line_tables.specs.Table.{under, with_change, named, key_of, entry_of, IsTable}
+use Rattle.line_tables.specs.Table.{under, with_change, key_of, entry_of, IsTable}
 use Rattle.line_tables.proofs.Filed.{some_from_map}
-use Rattle.line_tables.proofs.Entries.{KeepsName}
 use Rattle.line_tables.proofs.Found.{find_some, find-map, list_any-map, filter-map, keeps_name, found_by_key}
 
 pub map_same : {X Y : Type 0} (f g : X → Y) (xs : List X) → All (λ x. f x ≡ g x) xs → map f xs ≡ map g xs

@@ -1,5 +1,7 @@
 -- How the tables of a line fit together.
 use Rattle.std.specs.Prelude.{◌≡◌, ℕ, ◌+◌, List, [], ◌∷◌, map}
+use Rattle.std.specs.declared.alloc.Global.{Global}
+use Rattle.rail_model.specs.declared.items.Block.{Block}
 use Rattle.rail_model.specs.declared.items.Signal.{Signal}
 use Rattle.rail_model.specs.declared.items.Route.{Route}
 use Rattle.rail_model.specs.declared.items.Run.{Run}
@@ -56,3 +58,19 @@ pub record IsJoined (t : Inside) : Type 0 where
   pub signal_uses : (k : ℕ) → count_of t.signal_uses k ≡ references t.routes k
   pub route_uses : (k : ℕ) → count_of t.route_uses k ≡ references t.runs k
   pub run_uses : (k : ℕ) → count_of t.run_uses k ≡ references t.connections k
+
+-- the inside of these tables and counts
+abbrev pub parts : Global → List (ℕ × Block) × List (ℕ × Entry Signal) × List (ℕ × Entry Route) → List (ℕ × Entry Run) × List (ℕ × Entry Section) × List (ℕ × Entry Connection) → List ℕ × List ℕ × List ℕ × List ℕ → Inside
+parts alloc line timetable counts = record {
+  alloc = alloc;
+  blocks = line.0;
+  signals = line.1;
+  routes = line.2;
+  runs = timetable.0;
+  sections = timetable.1;
+  connections = timetable.2;
+  block_uses = counts.0;
+  signal_uses = counts.1;
+  route_uses = counts.2;
+  run_uses = counts.3;
+}

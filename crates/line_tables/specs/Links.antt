@@ -1,5 +1,5 @@
 -- References between the items of two tables, by key.
-use Rattle.std.specs.Prelude.{◌≡◌, ℕ, ◌==◌, Bool, false, ◌&&◌, ◌||◌, Some, IsSome, List, [], ◌∷◌, length, map, sum_by, All, slice_index}
+use Rattle.std.specs.Prelude.{◌≡◌, ℕ, ◌==◌, Bool, false, ◌&&◌, ◌||◌, Some, IsSome, List, [], ◌∷◌, map, sum_by, All, slice_index}
 use Rattle.std.specs.List.{list_any}
 use Rattle.std.specs.Option.{option_map_or}
 use Rattle.rail_model.specs.declared.items.Signal.{Signal}

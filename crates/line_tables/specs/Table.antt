@@ -1,5 +1,5 @@
 -- A table of named items, each under a key that stays its own: the list of (key, item) in the order of names.
-use Rattle.std.specs.Prelude.{◌≡◌, ℕ, Bool, not, ◌==◌, if◌then◌else◌, Option, Some, None, List, [], map, filter, filter_map, All, unwrap_or, option_map, IsSome, length, ◌<◌, ◌≤◌, true, false, take, drop, slice_index_or}
+use Rattle.std.specs.Prelude.{◌≡◌, ℕ, ◌==◌, if◌then◌else◌, Option, Some, List, [], map, filter_map, All, unwrap_or, option_map, IsSome, length, ◌<◌, ◌≤◌, true, false, take, drop, slice_index_or}
 use Rattle.std.specs.List.{find}
 use Rattle.rail_model.specs.Name.{IsBefore, is_same, NamesRise}
 use Rattle.rail_model.specs.Tables.{number_of}

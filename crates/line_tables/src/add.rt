@@ -63,7 +63,11 @@ impl LineTables {
         ensures after { OnOk result (self.new ≡ after_put self.old (item.Connection connection)) }
         ensures kept { OnErr result (self.new ≡ self.old) }
     {
-        let refs = keys_of(self.alloc, &self.runs, &[connection.first, connection.second])?;
+        let refs = keys_of(
+            self.alloc,
+            &self.runs,
+            &[connection.first, connection.second],
+        )?;
         put_entry(&mut self.connections, &mut self.run_uses, connection, refs)?;
         Ok(())
     }

@@ -10,9 +10,7 @@ ghost use Rattle.line_tables.specs.declared.entry.Entry.{Entry};
 
 use crate::named_table::{NamedTable, Stored};
 use crate::uses::Uses;
-use rail_model::{
-    Block, Connection, List, Name, Named, OutOfMemory, Route, Run, Section, Signal,
-};
+use rail_model::{Block, Connection, List, Name, Named, OutOfMemory, Route, Run, Section, Signal};
 use std::alloc::Global;
 
 /// An item, and the keys of the items that it names, in its order.
@@ -44,22 +42,22 @@ impl Stored for Route {
 
 impl Stored for Run {
     ghost copies = { λ a b h. λ j. record {
-        name = h.0 j;
-        route = h.1.0 j;
-        length_m = h.1.1.0 j;
-        tail_s = h.1.1.1.0 j;
-        start_s = h.1.1.1.1.0 j;
-        legs = h.1.1.1.1.1 j;
+      name = h.0 j;
+      route = h.1.0 j;
+      length_m = h.1.1.0 j;
+      tail_s = h.1.1.1.0 j;
+      start_s = h.1.1.1.1.0 j;
+      legs = h.1.1.1.1.1 j;
     } };
 }
 
 impl Stored for Section {
     ghost copies = { λ a b h. λ j. record {
-        name = h.0 j;
-        from_s = h.1.0 j;
-        to_s = h.1.1.0 j;
-        add_percent = h.1.1.1.0 j;
-        blocks = h.1.1.1.1 j;
+      name = h.0 j;
+      from_s = h.1.0 j;
+      to_s = h.1.1.0 j;
+      add_percent = h.1.1.1.0 j;
+      blocks = h.1.1.1.1 j;
     } };
 }
 
@@ -141,11 +139,7 @@ pub(crate) fn change_entry<T: Stored>(
 }
 
 /// Takes the item of a name out, and what it refers to out of the counts.
-pub(crate) fn take_entry<T: Stored>(
-    table: &mut NamedTable<Entry<T>>,
-    uses: &mut Uses,
-    name: &Name,
-)
+pub(crate) fn take_entry<T: Stored>(table: &mut NamedTable<Entry<T>>, uses: &mut Uses, name: &Name)
     requires there { is_named (λ e. T.label e.1.item) table.old name.now ≡ true }
     requires counted_before { (e : Entry T) (k : ℕ)
         → tables.item_of (λ e. T.label e.item) table.old name.now ≡ Some e

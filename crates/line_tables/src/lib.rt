@@ -12,4 +12,5 @@ mod remove;
 mod replace;
 mod rules;
 mod uses;
+
 pub use line_tables::LineTables;

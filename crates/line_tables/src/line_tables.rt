@@ -4,13 +4,12 @@ ghost use Rattle.rail_model.specs.Tables.{number_of};
 ghost use Rattle.rail_model.specs.Rules.{has_block, has_run, has_section};
 ghost use Rattle.rail_model.specs.Edits.{no_tables};
 ghost use Rattle.rail_model.specs.Sound.{IsSound};
+ghost use Rattle.line_tables.specs.Inside.{tables_of, parts, IsJoined};
 
 use crate::entry::Entry;
 use crate::named_table::{NamedTable, Stored};
 use crate::uses::Uses;
-use rail_model::{
-    Block, Connection, List, Name, OutOfMemory, Route, Run, Section, Signal, Tables,
-};
+use rail_model::{Block, Connection, List, Name, OutOfMemory, Route, Run, Section, Signal, Tables};
 use std::alloc::Global;
 use std::marker::Model;
 
@@ -63,6 +62,21 @@ impl LineTables {
             route_uses: Uses::new(alloc),
             run_uses: Uses::new(alloc),
         }
+    }
+
+    /// Tables equal to these.
+    pub fn copy(&self) -> Result<LineTables, OutOfMemory>
+        ensures { IfOk result (λ other. other ≡ self.now) }
+    {
+        let counts = copy_counts(
+            &self.block_uses,
+            &self.signal_uses,
+            &self.route_uses,
+            &self.run_uses,
+        )?;
+        let line = copy_line(&self.blocks, &self.signals, &self.routes)?;
+        let timetable = copy_timetable(&self.runs, &self.sections, &self.connections)?;
+        Ok(joined(self.alloc, line, timetable, counts))
     }
 
     /// The items alone, as plain tables.
@@ -181,10 +195,78 @@ impl LineTables {
     }
 }
 
-fn plain_blocks(
-    alloc: Global,
-    table: &NamedTable<Block>,
-) -> Result<List<Block>, OutOfMemory>
+// The tables of a line and of its timetable, and their counts.
+type Line = (
+    NamedTable<Block>,
+    NamedTable<Entry<Signal>>,
+    NamedTable<Entry<Route>>,
+);
+
+type Timetable = (
+    NamedTable<Entry<Run>>,
+    NamedTable<Entry<Section>>,
+    NamedTable<Entry<Connection>>,
+);
+
+type Counts = (Uses, Uses, Uses, Uses);
+
+fn copy_line(
+    blocks: &NamedTable<Block>,
+    signals: &NamedTable<Entry<Signal>>,
+    routes: &NamedTable<Entry<Route>>,
+) -> Result<Line, OutOfMemory>
+    ensures { IfOk result (λ copies. copies ≡ (blocks.now, signals.now, routes.now)) }
+{
+    Ok((blocks.copy()?, signals.copy()?, routes.copy()?))
+}
+
+fn copy_timetable(
+    runs: &NamedTable<Entry<Run>>,
+    sections: &NamedTable<Entry<Section>>,
+    connections: &NamedTable<Entry<Connection>>,
+) -> Result<Timetable, OutOfMemory>
+    ensures { IfOk result (λ copies. copies ≡ (runs.now, sections.now, connections.now)) }
+{
+    Ok((runs.copy()?, sections.copy()?, connections.copy()?))
+}
+
+fn copy_counts(
+    blocks: &Uses,
+    signals: &Uses,
+    routes: &Uses,
+    runs: &Uses,
+) -> Result<Counts, OutOfMemory>
+    ensures { IfOk result (λ copies. copies ≡ (blocks.now, signals.now, routes.now, runs.now)) }
+{
+    Ok((
+        blocks.copy()?,
+        signals.copy()?,
+        routes.copy()?,
+        runs.copy()?,
+    ))
+}
+
+// The tables of these parts.
+fn joined(alloc: Global, line: Line, timetable: Timetable, counts: Counts) -> LineTables
+    requires { IsJoined (parts alloc line timetable counts) }
+    ensures { result ≡ tables_of (parts alloc line timetable counts) }
+{
+    LineTables {
+        alloc,
+        blocks: line.0,
+        signals: line.1,
+        routes: line.2,
+        runs: timetable.0,
+        sections: timetable.1,
+        connections: timetable.2,
+        block_uses: counts.0,
+        signal_uses: counts.1,
+        route_uses: counts.2,
+        run_uses: counts.3,
+    }
+}
+
+fn plain_blocks(alloc: Global, table: &NamedTable<Block>) -> Result<List<Block>, OutOfMemory>
     ensures { IfOk result (λ items. items ≡ map (λ e. e.1) table.now) }
 {
     let mut items = List::new(alloc);

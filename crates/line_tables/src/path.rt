@@ -18,11 +18,7 @@ use rail_model::{BLOCKS, Block, Hop, Leg, List, OutOfMemory, Path, Run, Signal};
 use std::alloc::Global;
 
 // The hop beyond the signal under a key, before any run has timed it.
-fn untimed_hop(
-    blocks: &NamedTable<Block>,
-    signals: &NamedTable<Entry<Signal>>,
-    key: usize,
-) -> Hop
+fn untimed_hop(blocks: &NamedTable<Block>, signals: &NamedTable<Entry<Signal>>, key: usize) -> Hop
     requires there { IsKey signals.now key }
     requires linked { IsLinked names_of_signal (λ b. b.name) signals.now blocks.now }
     requires few { length blocks.now ≤ BLOCKS }

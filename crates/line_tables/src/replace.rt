@@ -67,9 +67,19 @@ impl LineTables {
         ensures after { OnOk result (self.new ≡ after_change self.old (item.Connection connection)) }
         ensures kept { OnErr result (self.new ≡ self.old) }
     {
-        let refs = keys_of(self.alloc, &self.runs, &[connection.first, connection.second])?;
+        let refs = keys_of(
+            self.alloc,
+            &self.runs,
+            &[connection.first, connection.second],
+        )?;
         let key = self.connections.key_of(&connection.name).unwrap();
-        change_entry(&mut self.connections, &mut self.run_uses, key, connection, refs)?;
+        change_entry(
+            &mut self.connections,
+            &mut self.run_uses,
+            key,
+            connection,
+            refs,
+        )?;
         Ok(())
     }
 }

@@ -14,8 +14,8 @@ use crate::entry::{Entry, keys_of};
 use crate::key_set::repeats;
 use crate::named_table::NamedTable;
 use rail_model::{
-    BLOCKS, CONNECTIONS, Connection, Edit, Item, Kind, Name, OutOfMemory, ROUTES, RUNS, Route, Rule, Run, SECTIONS,
-    SIGNALS, Section, Signal, is_within, List,
+    BLOCKS, CONNECTIONS, Connection, Edit, Item, Kind, List, Name, OutOfMemory, ROUTES, RUNS,
+    Route, Rule, Run, SECTIONS, SIGNALS, Section, Signal, is_within,
 };
 use std::alloc::Global;
 
@@ -234,7 +234,8 @@ impl LineTables {
     {
         match item {
             Item::Route(route) => {
-                self.signal_count(&route.name) != route.signals.len() && self.is_route_used(&route.name)
+                self.signal_count(&route.name) != route.signals.len()
+                    && self.is_route_used(&route.name)
             }
             Item::Block(_)
             | Item::Signal(_)

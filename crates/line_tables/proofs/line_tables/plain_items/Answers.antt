@@ -1,4 +1,3 @@
-use Rattle.std.proofs.Common.{refl}
 use Rattle.line_tables.proofs.RunPaths.{images_more}
 use Rattle.line_tables.proofs.line_tables.plain_items.Goals as goal
 

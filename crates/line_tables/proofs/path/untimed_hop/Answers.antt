@@ -1,9 +1,8 @@
-use Rattle.std.proofs.Common.{◌≡◌, ℕ, List, [], ◌∷◌, length, get_or, map, Some, subst, sym, ap, ◌∙◌, refl, rules, arith}
-use Rattle.std.specs.Prelude.{is_some, Option}
+use Rattle.std.proofs.Common.{◌≡◌, ℕ, List, [], ◌∷◌, get_or, map, Some, subst, sym, ap, ◌∙◌, refl}
+use Rattle.std.specs.Prelude.{is_some}
 use Rattle.rail_model.specs.declared.items.Block.{Block}
 use Rattle.rail_model.specs.declared.items.Signal.{Signal}
-use Rattle.rail_model.specs.declared.path.Hop.{Hop}
-use Rattle.rail_model.specs.Tables.{no_block, number_of, block_named, hop_beyond}
+use Rattle.rail_model.specs.Tables.{no_block, number_of, hop_beyond}
 use Rattle.rail_model.specs.Within.{no_leg}
 use Rattle.rail_model.specs.Edits.{no_tables}
 use Rattle.line_tables.specs.declared.entry.Entry.{Entry}
@@ -12,7 +11,7 @@ use Rattle.line_tables.specs.Links.{IsLinked}
 use Rattle.line_tables.specs.Hops.{hop_of}
 use Rattle.line_tables.specs.Inside.{names_of_signal}
 use Rattle.line_tables.proofs.Entries.{is_some-key_of}
-use Rattle.line_tables.proofs.Found.{IsFound, found_by_key}
+use Rattle.line_tables.proofs.Found.{found_by_key}
 use Rattle.line_tables.proofs.Views.{item_named, number_of-map}
 use Rattle.line_tables.proofs.Meets.{under_passes, some_key, only_key}
 use Rattle.line_tables.proofs.path.untimed_hop.Goals as goal

@@ -1,6 +1,5 @@
-use Rattle.std.proofs.Common.{not, ◌∙◌, ap, sym, refl, eq-eqb}
+use Rattle.std.proofs.Common.{◌∙◌, ap, sym, refl, eq-eqb}
 use Rattle.std.proofs.lemmas.Bool.{false_from_ne_true, eqb-true}
-use Rattle.rail_model.specs.declared.items.Item.TheVariants as item
 use Rattle.rail_model.specs.Rules.{makes_miscount}
 use Rattle.line_tables.proofs.Legs.{makes_miscount_is}
 use Rattle.line_tables.proofs.line_tables.LineTables.makes_miscount.Goals as goal

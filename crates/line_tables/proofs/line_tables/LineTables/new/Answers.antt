@@ -1,9 +1,6 @@
-use Rattle.std.proofs.Common.{◌≡◌, ℕ, List, [], rules, refl, arith}
-use Rattle.std.specs.Prelude.{All}
-use Rattle.std.proofs.lemmas.List.Elements.{All-nil}
+use Rattle.std.proofs.Common.{ℕ, List, [], refl, arith}
 use Rattle.rail_model.specs.declared.items.Item.{Item}
-use Rattle.rail_model.specs.declared.tables.Tables.{Tables}
-use Rattle.rail_model.specs.Sound.{AreSound, IsSound}
+use Rattle.rail_model.specs.Sound.{AreSound}
 use Rattle.rail_model.specs.Edits.{no_tables}
 use Rattle.line_tables.proofs.line_tables.LineTables.new.Goals as goal
 

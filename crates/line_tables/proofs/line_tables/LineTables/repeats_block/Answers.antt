@@ -1,6 +1,4 @@
-use Rattle.std.proofs.Common.{◌≡◌, ℕ, ◌∙◌, sym, ap}
 use Rattle.rail_model.specs.declared.items.Signal.{Signal}
-use Rattle.rail_model.specs.Rules.{repeats_block}
 use Rattle.line_tables.specs.declared.entry.Entry.{Entry}
 use Rattle.line_tables.proofs.Joined.{route_knows}
 use Rattle.line_tables.proofs.Meets.{all_keys, repeats_by_key}

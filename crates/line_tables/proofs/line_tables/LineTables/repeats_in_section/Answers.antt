@@ -1,7 +1,4 @@
-use Rattle.std.proofs.Common.{◌≡◌, ℕ, ◌∙◌, sym, ap}
-use Rattle.std.specs.Prelude.{Result, Ok, Err, IfOk}
 use Rattle.rail_model.specs.declared.items.Block.{Block}
-use Rattle.rail_model.specs.Name.{has_repeat}
 use Rattle.line_tables.proofs.Joined.{section_knows}
 use Rattle.line_tables.proofs.Meets.{has_repeat_keyed}
 use Rattle.line_tables.proofs.line_tables.LineTables.repeats_in_section.Goals as goal

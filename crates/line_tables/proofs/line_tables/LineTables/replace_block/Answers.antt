@@ -1,4 +1,4 @@
-use Rattle.std.proofs.Common.{ℕ, ap, sym, ◌∙◌}
+use Rattle.std.proofs.Common.{ap, sym, ◌∙◌}
 use Rattle.rail_model.specs.declared.items.Block.{Block}
 use Rattle.line_tables.specs.Inside.{tables_of}
 use Rattle.line_tables.proofs.Found.{name_under}

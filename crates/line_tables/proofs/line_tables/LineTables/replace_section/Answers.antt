@@ -1,4 +1,4 @@
-use Rattle.std.proofs.Common.{ℕ, ◌==◌, ap, sym, ◌∙◌, arith}
+use Rattle.std.proofs.Common.{◌==◌, ap, sym, ◌∙◌, arith}
 use Rattle.rail_model.specs.declared.items.Item.TheVariants as item
 use Rattle.rail_model.proofs.Sound.{changeable}
 use Rattle.line_tables.specs.declared.entry.Entry.{Entry}

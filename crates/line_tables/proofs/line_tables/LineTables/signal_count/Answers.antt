@@ -1,5 +1,4 @@
-use Rattle.std.proofs.Common.{ℕ, length, ap, sym, ◌∙◌, refl}
-use Rattle.std.specs.Prelude.{is_some}
+use Rattle.std.proofs.Common.{length, ap, sym, ◌∙◌, refl}
 use Rattle.rail_model.specs.declared.items.Route.{Route}
 use Rattle.rail_model.specs.Tables.{no_route}
 use Rattle.line_tables.specs.declared.entry.Entry.{Entry}

@@ -1,4 +1,4 @@
-use Rattle.std.proofs.Common.{subst, ◌∙◌, sym, ap, Some, refl}
+use Rattle.std.proofs.Common.{◌∙◌, sym, ap, Some, refl}
 use Rattle.std.specs.Prelude.{IsSome}
 use Rattle.slab.specs.Slab.{get as slot, with_value}
 use Rattle.slab.proofs.SlabLemmas.{Updates-with_value}

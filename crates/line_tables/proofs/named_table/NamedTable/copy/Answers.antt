@@ -1,9 +1,6 @@
-use Rattle.std.proofs.Common.{◌≡◌, ℕ, List, Option, Some, None, ap, ◌∙◌, refl}
-use Rattle.std.specs.Prelude.{IsSomeAnd}
+use Rattle.std.proofs.Common.{◌≡◌, Option, Some, None, ap, ◌∙◌, refl}
 use Rattle.std.proofs.lemmas.List.Elements.{same_from_all_zip}
 use Rattle.slab.specs.Slab.{get as slot, IsSlotClone}
-use Rattle.line_tables.specs.Table.{filed}
-use Rattle.line_tables.proofs.Filed.{filed-same}
 use Rattle.line_tables.proofs.Kept.{kept_by_copy}
 use Rattle.line_tables.proofs.named_table.NamedTable.copy.Goals as goal
 

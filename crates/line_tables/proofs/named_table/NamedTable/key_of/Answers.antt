@@ -11,7 +11,7 @@ returns-clause-table g c =
     rw (← c.self.view_is) (table_is g.T.Named.label (slot c.self.inside.slots) c.self.inside.order.items _ c.self.invariant)
 
 pub returns-clause-there : goal.returns-clause-there
-returns-clause-there g c = 
+returns-clause-there g c =
     let items = filed (slot c.self.inside.slots) c.self.inside.order.items in
     rw (← c.self.view_is)
     (ap is_some (c.copied.ensures ∙ c.get.ensures.value ∙ c.self.invariant.found c.args.name.now)

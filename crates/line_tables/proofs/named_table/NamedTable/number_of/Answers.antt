@@ -1,4 +1,4 @@
-use Rattle.std.proofs.Common.{◌≡◌, ◌<◌, ℕ, List, Option, Result, Ok, Err, length, sym, ◌∙◌, ap, arith}
+use Rattle.std.proofs.Common.{◌≡◌, ◌<◌, ℕ, List, Option, Result, Ok, Err, length, arith}
 use Rattle.std.specs.Prelude.{IfSome, MatchResult}
 use Rattle.std.specs.Result.{result_ok}
 use Rattle.slab.specs.Slab.{get as slot}

@@ -1,4 +1,4 @@
-use Rattle.std.proofs.Common.{◌≡◌, ℕ, List, cond, Some, None, insert, subst, sym, ◌∙◌, ap, refl}
+use Rattle.std.proofs.Common.{◌≡◌, ℕ, Some, None, insert, subst, sym, ◌∙◌, refl}
 use Rattle.slab.specs.Slab.{get as slot, Updates}
 use Rattle.line_tables.specs.Table.{IsPlaceFor}
 use Rattle.line_tables.proofs.Filed.{under_vacant}

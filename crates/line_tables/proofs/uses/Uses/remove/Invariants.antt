@@ -1,4 +1,4 @@
-use Rattle.std.proofs.Common.{◌≡◌, ℕ, ◌+◌, length, take}
+use Rattle.std.proofs.Common.{◌≡◌, ℕ, ◌+◌, take}
 use Rattle.line_tables.specs.Uses.{count_of, times}
 use Rattle.line_tables.proofs.uses.Uses.remove.Given as goal
 
