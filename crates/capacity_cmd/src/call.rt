@@ -12,7 +12,7 @@ use crate::command::command_of;
 use crate::limit::INPUT_BYTES;
 use crate::reply::{Reply, refusal, reply_to};
 use crate::send::send;
-use crate::{Cause, Command, Status};
+use crate::{Cause, Command, RowForm, Status};
 use rail_outside::{Gate, Sink, Source, Taken, take_all};
 use std::alloc::Global;
 use std::sync::Wait;
@@ -32,7 +32,7 @@ pub fn run<R: AllocGlobal + Threads + Wait, S: Source, K: Sink, G: Gate>(
     words: &[String],
     source: &mut S,
     sink: &mut K,
-    _gate: &G,
+    gate: &G,
 ) -> Status
     ensures { Answers
         (map string_bytes words.now)
@@ -46,7 +46,31 @@ pub fn run<R: AllocGlobal + Threads + Wait, S: Source, K: Sink, G: Gate>(
           after = sink.new;
         }) }
 {
-    run_alone(rt, words, source, sink)
+    run_telling(rt, words, source, sink, gate, &mut RowForm::NONE)
+}
+
+/// Runs a command as `run` does, and tells what a refused row is to look like.
+pub fn run_telling<R: AllocGlobal + Threads + Wait, S: Source, K: Sink, G: Gate>(
+    rt: &R,
+    words: &[String],
+    source: &mut S,
+    sink: &mut K,
+    _gate: &G,
+    told: &mut RowForm,
+) -> Status
+    ensures { Answers
+        (map string_bytes words.now)
+        result
+        (record { left = S.left; faults = S.faults; before = source.old; after = source.new })
+        (record {
+          written = K.written;
+          flushed = K.flushed;
+          faults = K.faults;
+          before = sink.old;
+          after = sink.new;
+        }) }
+{
+    run_here(rt, words, source, sink, told)
 }
 
 /// Runs a command that waits for nobody. The words are those after the program's name.
@@ -69,11 +93,38 @@ pub fn run_alone<R: AllocGlobal, S: Source, K: Sink>(
           after = sink.new;
         }) }
 {
+    run_here(rt, words, source, sink, &mut RowForm::NONE)
+}
+
+// Runs a command on the caller's thread.
+fn run_here<R: AllocGlobal, S: Source, K: Sink>(
+    rt: &R,
+    words: &[String],
+    source: &mut S,
+    sink: &mut K,
+    told: &mut RowForm,
+) -> Status
+    requires { IsAlone (map string_bytes words.now) }
+    ensures { Answers
+        (map string_bytes words.now)
+        result
+        (record { left = S.left; faults = S.faults; before = source.old; after = source.new })
+        (record {
+          written = K.written;
+          flushed = K.flushed;
+          faults = K.faults;
+          before = sink.old;
+          after = sink.new;
+        }) }
+{
     let Some(command) = command_of(words) else {
         return Status::BadWords;
     };
     match reply_from(rt.alloc(), command, source) {
-        Ok(reply) => send(sink, reply),
+        Ok(reply) => {
+            *told = reply.told;
+            send(sink, reply)
+        }
         Err(status) => status,
     }
 }
@@ -90,7 +141,7 @@ fn reply_from<S: Source>(alloc: Global, command: Command, source: &mut S) -> Res
 {
     match take_all(alloc, source, INPUT_BYTES)? {
         Ok(input) => Ok(reply_to(alloc, command, input.slice())?),
-        Err(Taken::TooLong) => Ok(refusal(alloc, 0, Cause::TooLong)?),
+        Err(Taken::TooLong) => Ok(refusal(alloc, 0, Cause::TooLong, RowForm::NONE)?),
         Err(Taken::Failed) => Err(Status::ReadFault),
     }
 }

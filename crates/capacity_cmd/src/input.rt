@@ -1,6 +1,5 @@
 //! From the bytes of an input to tables, or to the row at which it is refused.
 ghost use Rattle.std.specs.Prelude.{◌≡◌, ◌+◌, ◌<◌, ◌^◌, length, slice_index_or, [], IfOk, OnOk, Ok, Some};
-ghost use Rattle.row_text.specs.Rows.{rows_of};
 ghost use Rattle.rail_model.specs.Edits.{no_tables};
 ghost use Rattle.capacity_cmd.specs.Input.{tables_of, tables_in, edit_of, edit_in};
 
@@ -8,21 +7,14 @@ use crate::Cause;
 use crate::refusal::Refusal;
 use line_tables::LineTables;
 use rail_model::{Edit, OutOfMemory};
-use row_text::{Line, RowList, rows};
+use row_text::{Line, RowList};
 use std::alloc::Global;
 
-// The tables that the rows of a text make, or the row at which the text is refused.
-pub(crate) fn tables_of_text(
+// The tables that rows make, or the row at which they are refused.
+pub(crate) fn tables_of_rows(
     alloc: Global,
-    text: &[u8],
+    rows: &RowList,
 ) -> Result<Result<LineTables, Refusal>, OutOfMemory>
-    ensures { IfOk result (λ made. made ≡ tables_of (rows_of text.now)) }
-{
-    let rows = rows(alloc, text)?;
-    tables_of_rows(alloc, &rows)
-}
-
-fn tables_of_rows(alloc: Global, rows: &RowList) -> Result<Result<LineTables, Refusal>, OutOfMemory>
     ensures { IfOk result (λ made. made ≡ tables_of rows.now) }
 {
     let version = match rows.version() {

@@ -10,8 +10,10 @@ mod refusal;
 mod reply;
 mod send;
 mod status;
+mod told;
 
-pub use call::{alone, run, run_alone};
+pub use call::{alone, run, run_alone, run_telling};
 pub use command::Command;
 pub use limit::INPUT_BYTES;
 pub use status::{Cause, Status};
+pub use told::RowForm;

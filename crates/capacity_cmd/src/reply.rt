@@ -6,20 +6,23 @@ ghost use Rattle.capacity_cmd.specs.Outcome as outcome;
 ghost use Rattle.capacity_cmd.specs.declared.command.Command.TheVariants as command;
 ghost use Rattle.capacity_cmd.specs.Reply.{Says, IsReplyTo};
 
-use crate::input::tables_of_text;
+use crate::input::tables_of_rows;
 use crate::limit::INPUT_BYTES;
+use crate::told::{RowForm, row_form};
 use crate::{Cause, Command, Status};
 use capacity_report::{conflict_rows, stairs_rows, stairways};
 use conflict_finder::conflicts;
 use line_tables::LineTables;
 use rail_model::{Form, OutOfMemory, Rule};
-use row_text::Sheet;
+use row_text::{Sheet, rows};
 use std::alloc::Global;
 
 #[derive(Drop)]
 pub(crate) struct Reply {
     pub(crate) text: Vec<u8>,
     pub(crate) status: Status,
+    // What a refused row is to look like.
+    pub(crate) told: RowForm,
 }
 
 // The reply of a command to an input that isn't too long.
@@ -27,12 +30,20 @@ pub(crate) fn reply_to(alloc: Global, command: Command, input: &[u8]) -> Result<
     requires { length input.now ≤ INPUT_BYTES }
     ensures { IfOk result (IsReplyTo command input.now) }
 {
-    match tables_of_text(alloc, input)? {
-        Ok(tables) => Ok(Reply {
-            text: text_of(alloc, command, &tables)?,
-            status: Status::Done,
-        }),
-        Err(refused) => refusal(alloc, refused.row, refused.cause),
+    let rows = rows(alloc, input)?;
+    match tables_of_rows(alloc, &rows)? {
+        Ok(tables) => {
+            drop(rows);
+            Ok(Reply {
+                text: text_of(alloc, command, &tables)?,
+                status: Status::Done,
+                told: RowForm::NONE,
+            })
+        }
+        Err(refused) => {
+            let told = row_form(&rows, refused.row);
+            refusal(alloc, refused.row, refused.cause, told)
+        }
     }
 }
 
@@ -65,12 +76,18 @@ fn check_text(alloc: Global, tables: &LineTables) -> Result<Vec<u8>, OutOfMemory
 }
 
 // The refusal of a row.
-pub(crate) fn refusal(alloc: Global, row: u64, cause: Cause) -> Result<Reply, OutOfMemory>
+pub(crate) fn refusal(
+    alloc: Global,
+    row: u64,
+    cause: Cause,
+    told: RowForm,
+) -> Result<Reply, OutOfMemory>
     ensures { IfOk result (Says (Refuses row cause)) }
 {
     Ok(Reply {
         text: refusal_text(alloc, row, cause)?,
         status: Status::Refused { row, cause },
+        told,
     })
 }
 

@@ -128,7 +128,7 @@ impl Sheet {
         Ok(())
     }
 
-    /// Takes the fields back of the row that is being written.
+    /// Takes back the fields of the row that is being written.
     pub fn drop_row(&mut self)
         ensures rows { self.new.rows ≡ self.old.rows }
         ensures row { self.new.row ≡ [] }
@@ -137,28 +137,14 @@ impl Sheet {
         self.has_field = false;
     }
 
-    /// Writes a whole row. Without memory the sheet stays as it was.
+    /// Writes a whole row. A row that is being written is dropped first; where memory runs out, the rows
+    /// stay as they were.
     pub fn write_row(&mut self, fields: &Fields) -> Result<(), OutOfMemory>
-        requires open { self.old.row ≡ [] }
-        requires some { 0 < length fields.now }
+        requires { 0 < length fields.now }
         ensures ok { OnOk result (self.new ≡ with_row self.old fields.now) }
-        ensures err { OnErr result (self.new ≡ self.old) }
+        ensures err { OnErr result (self.new.rows ≡ self.old.rows) }
     {
-        match self.push_row(fields) {
-            Ok(()) => Ok(()),
-            Err(error) => {
-                self.drop_row();
-                Err(error)
-            }
-        }
-    }
-
-    fn push_row(&mut self, fields: &Fields) -> Result<(), OutOfMemory>
-        requires open { self.old.row ≡ [] }
-        requires some { 0 < length fields.now }
-        ensures ok { OnOk result (self.new ≡ with_row self.old fields.now) }
-        ensures rows { OnErr result (self.new.rows ≡ self.old.rows) }
-    {
+        self.drop_row();
         for i in 0..fields.len() {
             self.push_field(fields.get(i))?;
         }

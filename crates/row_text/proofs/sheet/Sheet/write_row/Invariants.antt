@@ -1,5 +1,5 @@
 use Rattle.std.proofs.Common.{◌≡◌, take}
-use Rattle.row_text.proofs.sheet.Sheet.push_row.Given as goal
+use Rattle.row_text.proofs.sheet.Sheet.write_row.Given as goal
 
 abbrev pub invariant-loop-i : goal.invariant-loop-i
 invariant-loop-i l = record {

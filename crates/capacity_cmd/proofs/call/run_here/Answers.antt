@@ -1,5 +1,5 @@
 use Rattle.std.proofs.Common.{inl, inr, sym, rules}
-use Rattle.capacity_cmd.proofs.call.run_alone.Goals as goal
+use Rattle.capacity_cmd.proofs.call.run_here.Goals as goal
 
 -- a read failed, or memory ran out
 pub returns-in-Err : goal.returns-in-Err
