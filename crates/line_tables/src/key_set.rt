@@ -1,6 +1,5 @@
 //! Sets of keys.
-ghost use Rattle.std.specs.Prelude.{◌≡◌, ℕ, ◌+◌, ◌≤◌, ◌<◌, ◌==◌, ◌&&◌, ◌||◌, not, false, true, [], length, slice_index, IfOk, OnOk, OnErr, IsTrue, MatchBool};
-ghost use Rattle.std.specs.Prelude.{◌≢◌};
+ghost use Rattle.std.specs.Prelude.{◌≡◌, ◌≢◌, ℕ, ◌<◌, ◌==◌, ◌||◌, not, [], length, slice_index, IfOk, OnOk, OnErr};
 ghost use Rattle.std.specs.Int.{bit_at};
 ghost use Rattle.line_tables.specs.KeySet.{holds};
 ghost use Rattle.line_tables.specs.Links.{repeats_key};
@@ -88,12 +87,4 @@ fn with_bit(word: u64, bit: usize) -> u64
     ensures others { (i : ℕ) → i ≢ bit → bit_at result i ≡ bit_at word i }
 {
     word | (1 << bit)
-}
-
-fn without_bit(word: u64, bit: usize) -> u64
-    requires { bit < 64 }
-    ensures clear { bit_at result bit ≡ 0 }
-    ensures others { (i : ℕ) → i < 64 → i ≢ bit → bit_at result i ≡ bit_at word i }
-{
-    word & !(1 << bit)
 }
