@@ -74,7 +74,7 @@ impl Kept for Notes {
 
     ghost entries = { λ v. v.notes };
 
-    ghost maker = { λ n. n.by };
+    ghost pass_of = { λ n. n.by };
 
     ghost issued_by = { sum_by (λ n. n.draws) };
 
