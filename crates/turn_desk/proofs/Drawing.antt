@@ -1,5 +1,5 @@
 -- Entries and passes that are made one after the other.
-use Rattle.std.proofs.Common.{◌≡◌, ℕ, zero, suc, ◌+◌, ◌-◌, ◌<◌, ◌≤◌, List, [], ◌∷◌, ◌++◌, length, sym, refl, ap}
+use Rattle.std.proofs.Common.{◌≡◌, ℕ, zero, suc, ◌+◌, ◌-◌, ◌≤◌, List, [], ◌∷◌, ◌++◌, length, sym, refl, ap}
 use Rattle.std.proofs.Common.{◌∙◌, subst, append_assoc, append-nil, length-append, arith}
 use Rattle.std.specs.Prelude.{Option, All, Result, Ok, Err, OnErr}
 use Rattle.std.proofs.lemmas.List.Elements.{All-nil, All-cons, All-push}

@@ -19,7 +19,7 @@ use std::sync::Wait;
 #[derive(Clone, Copy, Debug)]
 pub struct Busy;
 
-/// There are too few numbers left for so many passes: no more than `MOST_PASSES` are issued.
+/// Too few numbers are left for so many passes: a desk issues no more than `MOST_PASSES`.
 #[derive(Clone, Copy, Debug)]
 pub struct Full;
 
@@ -44,7 +44,8 @@ impl<V: Kept> Model for Desk<V> {
 }
 
 impl<V: Kept> Desk<V> {
-    /// A desk for the value, and pass 0, which has seen all its entries.
+    /// A desk for the value, and pass 0, which has seen all its entries. The value has issued this
+    /// pass alone, and each of its entries carries 0.
     pub fn start(alloc: Global, value: V) -> Result<(Desk<V>, Pass<V>), OutOfMemory>
     where
         V: Drop,
@@ -92,7 +93,8 @@ impl<V: Kept> Desk<V> {
     }
 
     /// Takes the turn. It sleeps while another pass has it. What the value's list has beyond the
-    /// pass's seen part are entries of others.
+    /// pass's seen part are entries of others. Each try is one step, and the last found the turn
+    /// free.
     pub fn take<R: Wait>(&self, rt: &R, pass: &mut Pass<V>) -> Turn<V>
         requires { IsReady self.now pass.old }
         ensures pass { IsSamePass pass.old pass.new }
@@ -116,7 +118,7 @@ impl<V: Kept> Desk<V> {
     /// Draws `count` numbers in one turn, one after the other, and gives a new pass for each, in
     /// the order of the numbers. `Full` comes exactly where so many numbers are not left; no entry
     /// is then made. Out of memory, some of the entries may stand in the journal, and no pass has
-    /// their numbers.
+    /// their numbers. In each case the pass has taken the turn, and given it back by one more step.
     pub fn enter<R: Wait>(
         &self,
         rt: &R,
@@ -151,7 +153,8 @@ impl<V: Kept> Desk<V> {
 
     /// Takes another pass in: what either has seen is then seen by one, which has the numbers of
     /// both. One of the two seen parts began with the other, and what the longer had beyond it
-    /// carries none of the numbers of the pass with the shorter.
+    /// carries none of the numbers of the pass with the shorter. The steps of both are counted
+    /// together, and the word is that of one of the two; tries stay those of the pass.
     pub fn leave(&self, pass: &mut Pass<V>, other: Pass<V>)
         requires one { IsReady self.now pass.old }
         requires other { IsReady self.now other }

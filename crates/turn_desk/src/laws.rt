@@ -15,8 +15,8 @@ pub fn leaving_keeps_own_entries<V: Kept>()
     ensures { JoinKeepsOwn V.pass_of }
 {}
 
-/// Where all issued passes have left into one, and where each further entry of the journal would
-/// carry an issued number, the journal is what that one has seen.
+/// Where all issued passes have left into one, and where the next entry of the journal would carry
+/// an issued number, the journal is what that one has seen.
 pub fn all_is_seen_once_all_have_left<V: Kept>()
     ensures { AllHaveLeft V.pass_of V.issued_by }
 {}
