@@ -56,8 +56,8 @@ module _ {E : Type 0} (pass_of : E → ℕ) where
 
   pub adds_one : (number : ℕ) (found after : List E) (e : E) → after ≡ found ++ e ∷ [] → pass_of e ≡ number
       → AddsOwn pass_of number found after
-  adds_one number found after e is made = record
-      { own = e ∷ []; is = is; made = All-cons (λ e. pass_of e ≡ number) e [] made (All-nil (λ e. pass_of e ≡ number)) }
+  adds_one number found after e is made = let P = λ (e : E). pass_of e ≡ number in
+      record { own = e ∷ []; is = is; made = All-cons P e [] made (All-nil P) }
 
   pub goes_nowhere : (ns : List ℕ) (xs ys : List E) → xs ≡ ys → GoesOn pass_of ns xs ys
   goes_nowhere ns xs ys e = record {
@@ -78,8 +78,8 @@ module _ {E : Type 0} (pass_of : E → ℕ) where
         a.made);
   }
 
-  pub goes_on-goes_on : (ns : List ℕ) (seen log log' : List E) → GoesOn pass_of ns seen log → GoesOn pass_of ns log log'
-      → GoesOn pass_of ns seen log'
+  pub goes_on-goes_on : (ns : List ℕ) (seen log log' : List E) → GoesOn pass_of ns seen log
+      → GoesOn pass_of ns log log' → GoesOn pass_of ns seen log'
   goes_on-goes_on ns seen log log' g h = record {
     more = g.more ++ h.more;
     is = h.is ∙ (ap (λ xs. xs ++ h.more) g.is ∙ append_assoc seen g.more h.more);

@@ -86,7 +86,8 @@ module _ {E : Type 0} where
   -- one of two seen parts begins with the other, and what the longer has beyond it carries none of the
   -- numbers of the pass with the shorter
   abbrev pub AgreeOn : (E → ℕ) → Known E → Known E → Type 0
-  AgreeOn pass_of k other = GoesOn pass_of k.numbers k.seen other.seen ⊎ GoesOn pass_of other.numbers other.seen k.seen
+  AgreeOn pass_of k other =
+      GoesOn pass_of k.numbers k.seen other.seen ⊎ GoesOn pass_of other.numbers other.seen k.seen
 
   -- the two passes have no number in common
   abbrev pub HaveNoCommonNumber : Known E → Known E → Type 0

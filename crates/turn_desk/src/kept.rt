@@ -29,16 +29,16 @@ pub trait Kept {
         ensures number { result ≡ issued_by (entries self.now) }
         ensures legal { is_legal (entries self.now) };
 
-    /// Adds one entry that carries `by`, and answers the number that it issues: how many passes were
-    /// issued before. Out of memory, the list stays as it was.
+    /// Adds one entry that carries `by`, and answers the number that it issues: how many passes
+    /// were issued before. Out of memory, the list stays as it was.
     fn enter(&mut self, by: u32) -> Result<u32, OutOfMemory>
         requires issued { by < issued_by (entries self.old) }
         requires room { issued_by (entries self.old) < MOST_PASSES }
         ensures number { IfOk result (λ n. n ≡ issued_by (entries self.old)) }
         ensures issues { OnOk result
             (issued_by (entries self.new) ≡ issued_by (entries self.old) + 1) }
-        ensures entry { OnOk result
-            ((e : Self.Entry) × (entries self.new ≡ entries self.old ++ e ∷ []) × (pass_of e ≡ by)) }
+        ensures entry { OnOk result ((e : Self.Entry)
+            × (entries self.new ≡ entries self.old ++ e ∷ []) × (pass_of e ≡ by)) }
         ensures same { OnErr result (entries self.new ≡ entries self.old) };
 
     /// A longer list that begins with a list has issued no fewer passes.

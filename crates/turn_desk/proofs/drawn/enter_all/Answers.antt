@@ -9,8 +9,8 @@ loop-made-init g c = issues_none g.V.Kept.pass_of g.V.Kept.issued_by _ _
 pub loop-made-preserved : goal.loop-made-preserved
 loop-made-preserved g c =
     let did = c.in_ok-enter.ensures in
-    issues_more g.V.Kept.pass_of g.V.Kept.issued_by _ _ _ _ _ did.entry.0 c.loop-made.invariant did.entry.1 did.entry.2
-    did.issues
+    issues_more g.V.Kept.pass_of g.V.Kept.issued_by _ _ _ _ _ did.entry.0 c.loop-made.invariant did.entry.1
+    did.entry.2 did.issues
 
 pub returns : goal.returns
 returns g c =
