@@ -1,11 +1,12 @@
 -- Entries and passes that are made one after the other.
-use Rattle.std.proofs.Common.{◌≡◌, ℕ, zero, suc, ◌+◌, ◌-◌, ◌^◌, ◌<◌, ◌≤◌, List, [], ◌∷◌, ◌++◌, length, sym, refl, ap}
+use Rattle.std.proofs.Common.{◌≡◌, ℕ, zero, suc, ◌+◌, ◌-◌, ◌≤◌, List, [], ◌∷◌, ◌++◌, length, sym, refl, ap}
 use Rattle.std.proofs.Common.{◌∙◌, subst, append_assoc, append-nil, length-append, arith}
 use Rattle.std.specs.Prelude.{Option, All, Result, Ok, Err, OnErr}
 use Rattle.std.proofs.lemmas.List.Elements.{All-nil, All-cons, All-push}
 use Rattle.atomic_table.specs.Seated.{TableId}
 use Rattle.atomic_table.specs.declared.shared.Seat.{Seat}
 use Rattle.turn_desk.specs.declared.rule.View.{View}
+use Rattle.turn_desk.specs.declared.kept.TheConstants.{MOST_PASSES}
 use Rattle.turn_desk.specs.Entering.{Issues, EntersSome, EntersAll}
 use Rattle.turn_desk.specs.Journal.{GoesOn, AddsOwn, Calls}
 use Rattle.turn_desk.specs.Known.{Known, IsSamePass, new_pass, new_passes}
@@ -13,17 +14,17 @@ use Rattle.turn_desk.specs.Seats.{known, known_of}
 use Rattle.turn_desk.specs.Views.{newcomer, one_fewer, with_drawn}
 use Rattle.turn_desk.specs.Steps.{Mine}
 
-module _ {E : Type 0} (maker : E → ℕ) (issued_by : List E → ℕ) where
-  pub issues_none : (number : ℕ) (xs : List E) → Issues maker issued_by number 0 xs xs
+module _ {E : Type 0} (pass_of : E → ℕ) (issued_by : List E → ℕ) where
+  pub issues_none : (number : ℕ) (xs : List E) → Issues pass_of issued_by number 0 xs xs
   issues_none number xs = record {
-    adds_own = record { own = []; is = sym (append-nil xs); made = All-nil (λ e. maker e ≡ number) };
+    adds_own = record { own = []; is = sym (append-nil xs); made = All-nil (λ e. pass_of e ≡ number) };
     many = omega arith;
     issued = omega arith;
   }
 
-  pub issues_more : (number count : ℕ) (xs ys zs : List E) (e : E) → Issues maker issued_by number count xs ys
-      → zs ≡ ys ++ e ∷ [] → maker e ≡ number
-      → issued_by zs ≡ issued_by ys + 1 → Issues maker issued_by number (count + 1) xs zs
+  pub issues_more : (number count : ℕ) (xs ys zs : List E) (e : E) → Issues pass_of issued_by number count xs ys
+      → zs ≡ ys ++ e ∷ [] → pass_of e ≡ number
+      → issued_by zs ≡ issued_by ys + 1 → Issues pass_of issued_by number (count + 1) xs zs
   issues_more number count xs ys zs e i is made more =
       let a = i.adds_own in
       let many = i.many in
@@ -31,7 +32,7 @@ module _ {E : Type 0} (maker : E → ℕ) (issued_by : List E → ℕ) where
         adds_own = record {
           own = a.own ++ e ∷ [];
           is = is ∙ (ap (λ l. l ++ e ∷ []) a.is ∙ append_assoc xs a.own (e ∷ []));
-          made = All-push (λ e. maker e ≡ number) a.own e a.made made;
+          made = All-push (λ e. pass_of e ≡ number) a.own e a.made made;
         };
         many = omega (arith, length-append a.own (e ∷ []));
         issued = omega arith;
@@ -39,30 +40,30 @@ module _ {E : Type 0} (maker : E → ℕ) (issued_by : List E → ℕ) where
 
   -- the call of a pass that took the turn and drew numbers in it
   module _ (old mid taken new : Known E) (log : List E) (same : IsSamePass old mid)
-      (goes : GoesOn maker old.numbers old.seen log) (seen : mid.seen ≡ log) (is : taken ≡ mid) where
-    abbrev call_of : AddsOwn maker taken.number taken.seen new.seen
-        → Calls maker old.number old.numbers old.seen new.seen
+      (goes : GoesOn pass_of old.numbers old.seen log) (seen : mid.seen ≡ log) (is : taken ≡ mid) where
+    abbrev call_of : AddsOwn pass_of taken.number taken.seen new.seen
+        → Calls pass_of old.number old.numbers old.seen new.seen
     call_of a = record {
       found = taken.seen;
-      goes_on = subst (λ xs. GoesOn maker old.numbers old.seen xs) (sym (ap (λ (k : Known E). k.seen) is ∙ seen))
+      goes_on = subst (λ xs. GoesOn pass_of old.numbers old.seen xs) (sym (ap (λ (k : Known E). k.seen) is ∙ seen))
           goes;
       adds_own = record {
         own = a.own;
         is = a.is;
         made =
-            subst (λ n. All (λ e. maker e ≡ n) a.own) (ap (λ (k : Known E). k.number) is ∙ same.number) a.made;
+            subst (λ n. All (λ e. pass_of e ≡ n) a.own) (ap (λ (k : Known E). k.number) is ∙ same.number) a.made;
       };
     }
 
     pub enters_some : (count : ℕ) → ((made : ℕ) × (made ≤ count)
-        × Issues maker issued_by taken.number made taken.seen new.seen) → EntersSome maker issued_by old new count
+        × Issues pass_of issued_by taken.number made taken.seen new.seen) → EntersSome pass_of issued_by old new count
     enters_some count drew = let many = drew.2.many in let le = drew.1 in
         record { call = call_of drew.2.adds_own; few = omega arith }
 
-    pub enters_all : (count : ℕ) (given : List (Known E)) → issued_by log + count < 2 ^ 32
-        → Issues maker issued_by taken.number count taken.seen new.seen
+    pub enters_all : (count : ℕ) (given : List (Known E)) → issued_by log + count ≤ MOST_PASSES
+        → Issues pass_of issued_by taken.number count taken.seen new.seen
         × (given ≡ new_passes taken.desk new.seen (issued_by taken.seen) count)
-        → EntersAll maker issued_by old new count given
+        → EntersAll pass_of issued_by old new count given
     enters_all count given room drew =
         let found : issued_by taken.seen ≡ issued_by log = ap issued_by (ap (λ (k : Known E). k.seen) is ∙ seen) in
         let desk : taken.desk ≡ old.desk = ap (λ (k : Known E). k.desk) is ∙ same.desk in record {

@@ -80,10 +80,10 @@ module _ {E : Type 0} where
         ]
       ]
 
-module _ {E : Type 0} (maker : E → ℕ) (issued_by : List E → ℕ)
+module _ {E : Type 0} (pass_of : E → ℕ) (issued_by : List E → ℕ)
     (grows : (xs ys : List E) → issued_by xs ≤ issued_by (xs ++ ys)) where
   abbrev Fit : List E → View E → Type 0
-  Fit = Fits maker issued_by
+  Fit = Fits pass_of issued_by
 
   pub grown : (xs ys more : List E) → ys ≡ xs ++ more → issued_by xs ≤ issued_by ys
   grown xs ys more e = subst (λ zs. issued_by xs ≤ issued_by zs) (sym e) (grows xs more)
@@ -118,7 +118,7 @@ module _ {E : Type 0} (maker : E → ℕ) (issued_by : List E → ℕ)
   fits_won log all v moment e f =
       let le : issued_by v.seen ≤ issued_by all = grown v.seen all f.begins.more (e ∙ f.begins.is) in
       let d = f.drawn_below in record {
-        begins = goes_nowhere maker v.numbers all log e;
+        begins = goes_nowhere pass_of v.numbers all log e;
         below = below_more v.numbers v.seen all le f.below;
         drawn_below = omega arith;
         either = f.either;
@@ -127,15 +127,15 @@ module _ {E : Type 0} (maker : E → ℕ) (issued_by : List E → ℕ)
         apart = f.apart;
       }
 
-  pub fits_fresh : (log seen : List E) (number : ℕ) → GoesOn maker (number ∷ []) seen log → number < issued_by seen
+  pub fits_fresh : (log seen : List E) (number : ℕ) → GoesOn pass_of (number ∷ []) seen log → number < issued_by seen
       → Fit log (fresh number seen)
   fits_fresh log seen number g below = record {
     begins = g;
     below = All-cons (λ n. n < issued_by seen) number [] below (All-nil (λ n. n < issued_by seen));
     drawn_below = omega arith;
     either = λ n _ d. let a = d.1 in omega arith;
-    unused = all_of (λ e. IsDrawn (fresh number seen) (maker e) → ⊥) (λ e d. let a = d.1 in omega arith) log;
-    agree = inl (goes_nowhere maker [] [] [] refl);
+    unused = all_of (λ e. IsDrawn (fresh number seen) (pass_of e) → ⊥) (λ e d. let a = d.1 in omega arith) log;
+    agree = inl (goes_nowhere pass_of [] [] [] refl);
     apart = λ n c _. none_in_nil n c;
   }
 
@@ -145,12 +145,12 @@ module _ {E : Type 0} (maker : E → ℕ) (issued_by : List E → ℕ)
       more = log;
       is = refl;
       others =
-          all_of (λ e. Contains [] (maker e) → ⊥) (λ e c. none_in_nil (maker e) c) log;
+          all_of (λ e. Contains [] (pass_of e) → ⊥) (λ e c. none_in_nil (pass_of e) c) log;
     };
     below = All-nil (λ n. n < issued_by []);
     drawn_below = omega arith;
     either = λ n c _. none_in_nil n c;
-    unused = all_of (λ e. IsDrawn (spent {E = E}) (maker e) → ⊥) (λ e d. let a = d.1 in omega arith) log;
-    agree = inl (goes_nowhere maker [] [] [] refl);
+    unused = all_of (λ e. IsDrawn (spent {E = E}) (pass_of e) → ⊥) (λ e d. let a = d.1 in omega arith) log;
+    agree = inl (goes_nowhere pass_of [] [] [] refl);
     apart = λ n c _. none_in_nil n c;
   }

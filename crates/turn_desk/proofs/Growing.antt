@@ -49,64 +49,64 @@ module _ {E : Type 0} where
       elim [ true ↦ λ e. inr (refl, grind (arith, nat_tests)) | false ↦ λ e. inl (refl, grind (arith, nat_tests)) ] in
       go _ refl
 
-module _ {E : Type 0} (maker : E → ℕ) where
-  pub adds_nothing : (number : ℕ) (found after : List E) → after ≡ found → AddsOwn maker number found after
+module _ {E : Type 0} (pass_of : E → ℕ) where
+  pub adds_nothing : (number : ℕ) (found after : List E) → after ≡ found → AddsOwn pass_of number found after
   adds_nothing number found after e = record
-      { own = []; is = e ∙ sym (append-nil found); made = All-nil (λ e. maker e ≡ number) }
+      { own = []; is = e ∙ sym (append-nil found); made = All-nil (λ e. pass_of e ≡ number) }
 
-  pub adds_one : (number : ℕ) (found after : List E) (e : E) → after ≡ found ++ e ∷ [] → maker e ≡ number
-      → AddsOwn maker number found after
-  adds_one number found after e is made = record
-      { own = e ∷ []; is = is; made = All-cons (λ e. maker e ≡ number) e [] made (All-nil (λ e. maker e ≡ number)) }
+  pub adds_one : (number : ℕ) (found after : List E) (e : E) → after ≡ found ++ e ∷ [] → pass_of e ≡ number
+      → AddsOwn pass_of number found after
+  adds_one number found after e is made = let P = λ (e : E). pass_of e ≡ number in
+      record { own = e ∷ []; is = is; made = All-cons P e [] made (All-nil P) }
 
-  pub goes_nowhere : (ns : List ℕ) (xs ys : List E) → xs ≡ ys → GoesOn maker ns xs ys
+  pub goes_nowhere : (ns : List ℕ) (xs ys : List E) → xs ≡ ys → GoesOn pass_of ns xs ys
   goes_nowhere ns xs ys e = record {
     more = [];
     is = sym e ∙ sym (append-nil xs);
     others =
-        All-nil (IsOthers maker ns);
+        All-nil (IsOthers pass_of ns);
   }
 
   -- own entries of another are entries of others
-  pub goes_on-adds : (ns : List ℕ) (n : ℕ) (seen log log' : List E) → (Contains ns n → ⊥) → GoesOn maker ns seen log
-      → AddsOwn maker n log log' → GoesOn maker ns seen log'
+  pub goes_on-adds : (ns : List ℕ) (n : ℕ) (seen log log' : List E) → (Contains ns n → ⊥) → GoesOn pass_of ns seen log
+      → AddsOwn pass_of n log log' → GoesOn pass_of ns seen log'
   goes_on-adds ns n seen log log' out g a = record {
     more = g.more ++ a.own;
     is = a.is ∙ (ap (λ xs. xs ++ a.own) g.is ∙ append_assoc seen g.more a.own);
-    others = All-append (IsOthers maker ns) g.more a.own g.others
-        (All-weaker (λ e. maker e ≡ n) (IsOthers maker ns) (λ e is h. out (subst (λ k. Contains ns k) is h)) a.own
+    others = All-append (IsOthers pass_of ns) g.more a.own g.others
+        (All-weaker (λ e. pass_of e ≡ n) (IsOthers pass_of ns) (λ e is h. out (subst (λ k. Contains ns k) is h)) a.own
         a.made);
   }
 
-  pub goes_on-goes_on : (ns : List ℕ) (seen log log' : List E) → GoesOn maker ns seen log → GoesOn maker ns log log'
-      → GoesOn maker ns seen log'
+  pub goes_on-goes_on : (ns : List ℕ) (seen log log' : List E) → GoesOn pass_of ns seen log
+      → GoesOn pass_of ns log log' → GoesOn pass_of ns seen log'
   goes_on-goes_on ns seen log log' g h = record {
     more = g.more ++ h.more;
     is = h.is ∙ (ap (λ xs. xs ++ h.more) g.is ∙ append_assoc seen g.more h.more);
-    others = All-append (IsOthers maker ns) g.more h.more g.others h.others;
+    others = All-append (IsOthers pass_of ns) g.more h.more g.others h.others;
   }
 
   -- what has seen less goes on to what has seen more, where both go on to one journal
-  pub goes_on-within : (ns ms : List ℕ) (xs ys log : List E) → GoesOn maker ns xs log → GoesOn maker ms ys log
-      → length xs ≤ length ys → GoesOn maker ns xs ys
+  pub goes_on-within : (ns ms : List ℕ) (xs ys log : List E) → GoesOn pass_of ns xs log → GoesOn pass_of ms ys log
+      → length xs ≤ length ys → GoesOn pass_of ns xs ys
   goes_on-within ns ms xs ys log g h l =
-      let t = ahead (IsOthers maker ns) xs ys g.more h.more (sym g.is ∙ h.is) g.others l in
+      let t = ahead (IsOthers pass_of ns) xs ys g.more h.more (sym g.is ∙ h.is) g.others l in
       record { more = t.0; is = t.1; others = t.2 }
 
-  pub goes_on-later : (ns ms : List ℕ) (xs ys log : List E) → GoesOn maker ns xs log → GoesOn maker ms ys log
-      → length xs ≤ length ys → GoesOn maker ns ys log
+  pub goes_on-later : (ns ms : List ℕ) (xs ys log : List E) → GoesOn pass_of ns xs log → GoesOn pass_of ms ys log
+      → length xs ≤ length ys → GoesOn pass_of ns ys log
   goes_on-later ns ms xs ys log g h l =
       record {
         more = h.more;
         is = h.is;
-        others = rest_after (IsOthers maker ns) xs ys g.more h.more
+        others = rest_after (IsOthers pass_of ns) xs ys g.more h.more
             (sym g.is ∙ h.is) g.others l;
       }
 
-  pub goes_on-both : (ns ms : List ℕ) (seen log : List E) → GoesOn maker ns seen log → GoesOn maker ms seen log
-      → GoesOn maker (ns ++ ms) seen log
+  pub goes_on-both : (ns ms : List ℕ) (seen log : List E) → GoesOn pass_of ns seen log → GoesOn pass_of ms seen log
+      → GoesOn pass_of (ns ++ ms) seen log
   goes_on-both ns ms seen log g h =
-      let rest = rest_after (IsOthers maker ns) seen seen g.more h.more (sym g.is ∙ h.is) g.others (omega arith) in
+      let rest = rest_after (IsOthers pass_of ns) seen seen g.more h.more (sym g.is ∙ h.is) g.others (omega arith) in
       record {
         more = h.more;
         is = h.is;
@@ -115,34 +115,34 @@ module _ {E : Type 0} (maker : E → ℕ) where
       }
 
   -- where one seen part goes on from the other, the longer goes on from both
-  pub agreed : (ns ms : List ℕ) (xs ys : List E) → GoesOn maker ns xs ys ⊎ GoesOn maker ms ys xs
-      → GoesOn maker ns xs (longer xs ys) × GoesOn maker ms ys (longer xs ys)
+  pub agreed : (ns ms : List ℕ) (xs ys : List E) → GoesOn pass_of ns xs ys ⊎ GoesOn pass_of ms ys xs
+      → GoesOn pass_of ns xs (longer xs ys) × GoesOn pass_of ms ys (longer xs ys)
   agreed ns ms xs ys (inl g) = elim (longer_is xs ys) [
     | inl e ↦ let same : ys ≡ xs = g.is ∙ no_more xs g.more (subst (λ zs. length zs ≤ length xs) g.is e.1) in
         (goes_nowhere ns xs _ (sym e.0), goes_nowhere ms ys _ (same ∙ sym e.0))
-    | inr e ↦ (subst (λ zs. GoesOn maker ns xs zs) (sym e.0) g, goes_nowhere ms ys _ (sym e.0))
+    | inr e ↦ (subst (λ zs. GoesOn pass_of ns xs zs) (sym e.0) g, goes_nowhere ms ys _ (sym e.0))
   ]
   agreed ns ms xs ys (inr g) = elim (longer_is xs ys) [
-    | inl e ↦ (goes_nowhere ns xs _ (sym e.0), subst (λ zs. GoesOn maker ms ys zs) (sym e.0) g)
+    | inl e ↦ (goes_nowhere ns xs _ (sym e.0), subst (λ zs. GoesOn pass_of ms ys zs) (sym e.0) g)
     | inr e ↦ let same : xs ≡ ys = g.is ∙ no_more ys g.more (subst (λ zs. length zs ≤ length ys) g.is e.1) in
         (goes_nowhere ns xs _ (same ∙ sym e.0), goes_nowhere ms ys _ (sym e.0))
   ]
 
   -- two prefixes of one journal, of which the longer has seen what the other has
-  module _ (ns ms : List ℕ) (xs ys log : List E) (g : GoesOn maker ns xs log) (h : GoesOn maker ms ys log) where
-    pub longer_begins : GoesOn maker (ns ++ ms) (longer xs ys) log
+  module _ (ns ms : List ℕ) (xs ys log : List E) (g : GoesOn pass_of ns xs log) (h : GoesOn pass_of ms ys log) where
+    pub longer_begins : GoesOn pass_of (ns ++ ms) (longer xs ys) log
     longer_begins = elim (longer_is xs ys) [
-      | inl e ↦ subst (λ zs. GoesOn maker (ns ++ ms) zs log) (sym e.0)
+      | inl e ↦ subst (λ zs. GoesOn pass_of (ns ++ ms) zs log) (sym e.0)
           (goes_on-both ns ms xs log g (goes_on-later ms ns ys xs log h g e.1))
-      | inr e ↦ subst (λ zs. GoesOn maker (ns ++ ms) zs log) (sym e.0)
+      | inr e ↦ subst (λ zs. GoesOn pass_of (ns ++ ms) zs log) (sym e.0)
           (goes_on-both ns ms ys log (goes_on-later ns ms xs ys log g h e.1) h)
     ]
 
-    pub one_goes_on : GoesOn maker ns xs ys ⊎ GoesOn maker ms ys xs
+    pub one_goes_on : GoesOn pass_of ns xs ys ⊎ GoesOn pass_of ms ys xs
     one_goes_on = elim (longer_is xs ys) [
       | inl e ↦ inr (goes_on-within ms ns ys xs log h g e.1)
       | inr e ↦ inl (goes_on-within ns ms xs ys log g h e.1)
     ]
 
-    pub to_longer : GoesOn maker ns xs (longer xs ys) × GoesOn maker ms ys (longer xs ys)
+    pub to_longer : GoesOn pass_of ns xs (longer xs ys) × GoesOn pass_of ms ys (longer xs ys)
     to_longer = agreed ns ms xs ys one_goes_on

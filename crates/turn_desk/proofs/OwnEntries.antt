@@ -25,38 +25,38 @@ is_not m n h = grind (arith, nat_tests)
 is : (m n : ℕ) → m ≡ n → (m == n) ≡ true
 is m n h = grind (arith, nat_tests)
 
-module _ {E : Type 0} (maker : E → ℕ) where
+module _ {E : Type 0} (pass_of : E → ℕ) where
   -- entries of others are none of a pass's numbers
-  pub own_entries-goes_on : (number : ℕ) (numbers : List ℕ) (seen log : List E) → GoesOn maker numbers seen log
-      → Contains numbers number → own_entries maker number log ≡ own_entries maker number seen
+  pub own_entries-goes_on : (number : ℕ) (numbers : List ℕ) (seen log : List E) → GoesOn pass_of numbers seen log
+      → Contains numbers number → own_entries pass_of number log ≡ own_entries pass_of number seen
   own_entries-goes_on number numbers seen log g has =
-      let p = λ (e : E). maker e == number in
+      let p = λ (e : E). pass_of e == number in
       let none : filter p g.more ≡ [] = filter-none p g.more
-      (All-weaker (IsOthers maker numbers) (λ e. p e ≡ false)
-      (λ e out. is_not (maker e) number (λ same. out (subst (λ n. Contains numbers n) (sym same) has)))
+      (All-weaker (IsOthers pass_of numbers) (λ e. p e ≡ false)
+      (λ e out. is_not (pass_of e) number (λ same. out (subst (λ n. Contains numbers n) (sym same) has)))
       g.more g.others) in
       ap (filter p) g.is ∙ (filter-append p seen g.more
       ∙ (ap (λ l. filter p seen ++ l) none ∙ append-nil (filter p seen)))
 
-  pub own_entries-adds_own : (number : ℕ) (found after : List E) (a : AddsOwn maker number found after)
-      → own_entries maker number after ≡ own_entries maker number found ++ a.own
+  pub own_entries-adds_own : (number : ℕ) (found after : List E) (a : AddsOwn pass_of number found after)
+      → own_entries pass_of number after ≡ own_entries pass_of number found ++ a.own
   own_entries-adds_own number found after a =
-      let p = λ (e : E). maker e == number in
+      let p = λ (e : E). pass_of e == number in
       let all : filter p a.own ≡ a.own = filter-all p a.own
-      (All-weaker (λ e. maker e ≡ number) (λ e. p e ≡ true) (λ e same. is (maker e) number same) a.own a.made) in
+      (All-weaker (λ e. pass_of e ≡ number) (λ e. p e ≡ true) (λ e same. is (pass_of e) number same) a.own a.made) in
       ap (filter p) a.is ∙ (filter-append p found a.own ∙ ap (λ l. filter p found ++ l) all)
 
-  pub own_entries-adds_other : (number other : ℕ) (found after : List E) → AddsOwn maker number found after
-      → other ≢ number → own_entries maker other after ≡ own_entries maker other found
+  pub own_entries-adds_other : (number other : ℕ) (found after : List E) → AddsOwn pass_of number found after
+      → other ≢ number → own_entries pass_of other after ≡ own_entries pass_of other found
   own_entries-adds_other number other found after a ne =
-      let p = λ (e : E). maker e == other in
+      let p = λ (e : E). pass_of e == other in
       let none : filter p a.own ≡ [] = filter-none p a.own
-      (All-weaker (λ e. maker e ≡ number) (λ e. p e ≡ false)
-      (λ e same. is_not (maker e) other (λ e'. ne (sym e' ∙ same))) a.own a.made) in
+      (All-weaker (λ e. pass_of e ≡ number) (λ e. p e ≡ false)
+      (λ e same. is_not (pass_of e) other (λ e'. ne (sym e' ∙ same))) a.own a.made) in
       ap (filter p) a.is ∙ (filter-append p found a.own
       ∙ (ap (λ l. filter p found ++ l) none ∙ append-nil (filter p found)))
 
-  pub calls_keep_own : CallsKeepOwn maker
+  pub calls_keep_own : CallsKeepOwn pass_of
   calls_keep_own = record {
     mine = λ number numbers before after c has.
         own_entries-adds_own number c.found after c.adds_own
@@ -66,21 +66,21 @@ module _ {E : Type 0} (maker : E → ℕ) where
         ∙ own_entries-goes_on other numbers before c.found c.goes_on has;
   }
 
-  pub join_keeps_own : JoinKeepsOwn maker
+  pub join_keeps_own : JoinKeepsOwn pass_of
   join_keeps_own = record {
     mine = λ k other number agree has. own_entries-goes_on number k.numbers k.seen _
-        (agreed maker k.numbers other.numbers k.seen other.seen agree).0 has;
+        (agreed pass_of k.numbers other.numbers k.seen other.seen agree).0 has;
     theirs = λ k other number agree has. own_entries-goes_on number other.numbers other.seen _
-        (agreed maker k.numbers other.numbers k.seen other.seen agree).1 has;
+        (agreed pass_of k.numbers other.numbers k.seen other.seen agree).1 has;
   }
 
-  none_next : (numbers : List ℕ) (seen log more : List E) → log ≡ seen ++ more → All (IsOthers maker numbers) more
-      → ((e : E) (rest : List E) → more ≡ e ∷ rest → Contains numbers (maker e)) → log ≡ seen
+  none_next : (numbers : List ℕ) (seen log more : List E) → log ≡ seen ++ more → All (IsOthers pass_of numbers) more
+      → ((e : E) (rest : List E) → more ≡ e ∷ rest → Contains numbers (pass_of e)) → log ≡ seen
   none_next numbers seen log [] is others next = is ∙ append-nil seen
   none_next numbers seen log (e ∷ more) is others next =
-      absurd (All-head (IsOthers maker numbers) e more others (next e more refl))
+      absurd (All-head (IsOthers pass_of numbers) e more others (next e more refl))
 
-  pub all_have_left : (issued_by : List E → ℕ) → AllHaveLeft maker issued_by
+  pub all_have_left : (issued_by : List E → ℕ) → AllHaveLeft pass_of issued_by
   all_have_left issued_by numbers seen log g all next =
       none_next numbers seen log g.more g.is g.others
-      (λ e rest is. all (maker e) (next e rest (g.is ∙ ap (λ l. seen ++ l) is)))
+      (λ e rest is. all (pass_of e) (next e rest (g.is ∙ ap (λ l. seen ++ l) is)))

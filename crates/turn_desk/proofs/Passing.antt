@@ -21,13 +21,13 @@ use Rattle.turn_desk.proofs.Growing.{all_right, longer_is, longer_begins, one_go
 use Rattle.turn_desk.specs.Seats.{IsPass}
 use Rattle.turn_desk.proofs.Fitting.{none_in_nil, only_in, all_of, grown, below_more, fits_fresh, fits_spent}
 
-module _ {V E : Type 0} (entries : V → List E) (maker : E → ℕ) (issued_by : List E → ℕ) (is_legal : List E → Type 0)
+module _ {V E : Type 0} (entries : V → List E) (pass_of : E → ℕ) (issued_by : List E → ℕ) (is_legal : List E → Type 0)
     (grows : (xs ys : List E) → issued_by xs ≤ issued_by (xs ++ ys)) where
   abbrev Rule : State (Option V) (View E) → Type 0
-  Rule = rule.Standing entries maker issued_by is_legal
+  Rule = rule.Standing entries pass_of issued_by is_legal
 
   abbrev Fit : List E → View E → Type 0
-  Fit = rule.Fits maker issued_by
+  Fit = rule.Fits pass_of issued_by
 
   fits_fewer : (log : List E) (v : View E) → 0 < v.left → Fit log v → Fit log (one_fewer v)
   fits_fewer log v some_left f =
@@ -38,8 +38,8 @@ module _ {V E : Type 0} (entries : V → List E) (maker : E → ℕ) (issued_by 
         below = f.below;
         drawn_below = omega arith;
         either = λ n c b. f.either n c (within n b);
-        unused = All-weaker (λ e. IsDrawn v (maker e) → ⊥) (λ e. IsDrawn (one_fewer v) (maker e) → ⊥)
-            (λ e not b. not (within (maker e) b)) log f.unused;
+        unused = All-weaker (λ e. IsDrawn v (pass_of e) → ⊥) (λ e. IsDrawn (one_fewer v) (pass_of e) → ⊥)
+            (λ e not b. not (within (pass_of e) b)) log f.unused;
         agree = f.agree;
         apart = f.apart;
       }
@@ -47,13 +47,13 @@ module _ {V E : Type 0} (entries : V → List E) (maker : E → ℕ) (issued_by 
   fits_newcomer : (log : List E) (v : View E) → 0 < v.left → Fit log v → Fit log (newcomer v)
   fits_newcomer log v some_left f =
       let d = f.drawn_below in
-      let unused = λ (e : E). IsDrawn v (maker e) → ⊥ in
+      let unused = λ (e : E). IsDrawn v (pass_of e) → ⊥ in
       let rest : All unused f.begins.more = all_right unused v.seen f.begins.more
       (subst (All unused) f.begins.is f.unused) in
-      let others = All-weaker unused (IsOthers maker (v.drawn ∷ []))
-      (λ e not c. not (subst (λ n. IsDrawn v n) (only_in v.drawn (maker e) c) (omega arith, omega arith)))
+      let others = All-weaker unused (IsOthers pass_of (v.drawn ∷ []))
+      (λ e not c. not (subst (λ n. IsDrawn v n) (only_in v.drawn (pass_of e) c) (omega arith, omega arith)))
       f.begins.more rest in
-      fits_fresh maker issued_by grows log v.seen v.drawn record
+      fits_fresh pass_of issued_by grows log v.seen v.drawn record
       { more = f.begins.more; is = f.begins.is; others = others } (omega arith)
 
   owned_split : (views : List (View E)) (id : ℕ) (v : View E) → At views id v → 0 < v.left
@@ -89,7 +89,7 @@ module _ {V E : Type 0} (entries : V → List E) (maker : E → ℕ) (issued_by 
       omega (arith, steps_of-set s.views id v left at, steps_of-end views right) in
       let d = r.dated in record {
         log = r.log;
-        lawful = r.lawful;
+        legal = r.legal;
         issued = r.issued;
         turn = elim r.turn [
           | inl t ↦ inl record {
@@ -143,19 +143,19 @@ module _ {V E : Type 0} (entries : V → List E) (maker : E → ℕ) (issued_by 
   fits_joined : (log : List E) (v w : View E) → ((n : ℕ) → Contains v.numbers n → Contains w.numbers n → ⊥)
       → Fit log v → Fit log w → Fit log (joined v w)
   fits_joined log v w apart f g =
-      let to = to_longer maker v.numbers w.numbers v.seen w.seen log f.begins g.begins in
+      let to = to_longer pass_of v.numbers w.numbers v.seen w.seen log f.begins g.begins in
       let long = longer v.seen w.seen in
-      let le : issued_by v.seen ≤ issued_by long = grown maker issued_by grows v.seen long to.0.more to.0.is in
-      let le' : issued_by w.seen ≤ issued_by long = grown maker issued_by grows w.seen long to.1.more to.1.is in
+      let le : issued_by v.seen ≤ issued_by long = grown pass_of issued_by grows v.seen long to.0.more to.0.is in
+      let le' : issued_by w.seen ≤ issued_by long = grown pass_of issued_by grows w.seen long to.1.more to.1.is in
       record {
-        begins = longer_begins maker v.numbers w.numbers v.seen w.seen log f.begins g.begins;
+        begins = longer_begins pass_of v.numbers w.numbers v.seen w.seen log f.begins g.begins;
         below = All-append (λ n. n < issued_by long) v.numbers w.numbers
-            (below_more maker issued_by grows v.numbers v.seen long le f.below)
-            (below_more maker issued_by grows w.numbers w.seen long le' g.below);
+            (below_more pass_of issued_by grows v.numbers v.seen long le f.below)
+            (below_more pass_of issued_by grows w.numbers w.seen long le' g.below);
         drawn_below = omega arith;
         either = λ n _ d. let a = d.1 in omega arith;
-        unused = all_of (λ e. IsDrawn (joined v w) (maker e) → ⊥) (λ e d. let a = d.1 in omega arith) log;
-        agree = one_goes_on maker v.numbers w.numbers v.seen w.seen log f.begins g.begins;
+        unused = all_of (λ e. IsDrawn (joined v w) (pass_of e) → ⊥) (λ e d. let a = d.1 in omega arith) log;
+        agree = one_goes_on pass_of v.numbers w.numbers v.seen w.seen log f.begins g.begins;
         apart = apart;
       }
 
@@ -245,7 +245,7 @@ module _ {V E : Type 0} (entries : V → List E) (maker : E → ℕ) (issued_by 
       let last = last_joined s.views id other v w (steps_of s.views) at at' ne t.2 t.3 d.last in
       let latest : last.1.moment ≡ steps_of two = omega arith in record {
         log = r.log;
-        lawful = r.lawful;
+        legal = r.legal;
         issued = r.issued;
         turn = elim r.turn [
           | inl h ↦ inl record {
@@ -273,7 +273,7 @@ module _ {V E : Type 0} (entries : V → List E) (maker : E → ℕ) (issued_by 
         ];
         each = in_both (λ _ u. Fit r.log u) (fits_joined r.log v w
             (λ n c c'. ne (r.owned_once other id w v n at' at (inl c') (inl c))) f g)
-            (fits_spent maker issued_by grows r.log) (λ j u _ _ e. r.each j u e);
+            (fits_spent pass_of issued_by grows r.log) (λ j u _ _ e. r.each j u e);
         owned_once = owned_joined s.views id other v w at at' ne r.owned_once;
         dated = record {
           past = in_both (λ _ u. u.moment ≤ steps_of two) (let h = t.0 in omega arith) (omega arith)
@@ -287,7 +287,7 @@ module _ {V E : Type 0} (entries : V → List E) (maker : E → ℕ) (issued_by 
       }
 
   pub telling : (slots id : ℕ) (me : Mine V E) → Allows Rule slots id me 0 (λ n. n)
-      (steps.told entries maker issued_by is_legal (step slots 0 0 0 none) me)
+      (steps.told entries pass_of issued_by is_legal (step slots 0 0 0 none) me)
   telling slots id me s r _ at _ =
       let f = r.each id me.0 at in
       let put = λ (ws : List ℕ). set ws 0 (get_or ws 0 0) in
@@ -305,23 +305,23 @@ module _ {V E : Type 0} (entries : V → List E) (maker : E → ℕ) (issued_by 
 
   -- what holds of a pass still does after another has left into it
   pub pass_joined : (m o m' : Mine V E) (number other : ℕ) → m' ≡ (joined m.0 o.0, m.1)
-      → rule.Agree maker (sight m.0) (sight o.0)
+      → rule.Agree pass_of (sight m.0) (sight o.0)
       → IsPass issued_by is_legal m number → IsPass issued_by is_legal o other → IsPass issued_by is_legal m' number
   pass_joined m o m' number other is agree p q =
       let xs = m.0.seen in
       let ys = o.0.seen in
-      let to = agreed maker m.0.numbers o.0.numbers xs ys agree in
-      let le : issued_by xs ≤ issued_by (longer xs ys) = grown maker issued_by grows xs _ to.0.more to.0.is in
-      let le' : issued_by ys ≤ issued_by (longer xs ys) = grown maker issued_by grows ys _ to.1.more to.1.is in
+      let to = agreed pass_of m.0.numbers o.0.numbers xs ys agree in
+      let le : issued_by xs ≤ issued_by (longer xs ys) = grown pass_of issued_by grows xs _ to.0.more to.0.is in
+      let le' : issued_by ys ≤ issued_by (longer xs ys) = grown pass_of issued_by grows ys _ to.1.more to.1.is in
       subst (λ z. IsPass issued_by is_legal z number) (sym is) record {
         number_is = p.number_is;
         own = Contains-append_left m.0.numbers o.0.numbers number p.own;
         issued = All-append (λ n. n < issued_by (longer xs ys)) m.0.numbers o.0.numbers
-            (below_more maker issued_by grows m.0.numbers xs _ le p.issued)
-            (below_more maker issued_by grows o.0.numbers ys _ le' q.issued);
-        lawful = elim (longer_is xs ys) [
-          | inl e ↦ subst is_legal (sym e.0) p.lawful
-          | inr e ↦ subst is_legal (sym e.0) q.lawful
+            (below_more pass_of issued_by grows m.0.numbers xs _ le p.issued)
+            (below_more pass_of issued_by grows o.0.numbers ys _ le' q.issued);
+        legal = elim (longer_is xs ys) [
+          | inl e ↦ subst is_legal (sym e.0) p.legal
+          | inr e ↦ subst is_legal (sym e.0) q.legal
         ];
         hand = p.hand;
       }

@@ -1,13 +1,14 @@
 -- What `enter` does: one call by a pass, whose own entries stand side by side and issue one number each.
-use Rattle.std.specs.Prelude.{◌≡◌, ℕ, ◌+◌, ◌^◌, ◌<◌, ◌≤◌, List, length, Result, MatchResult}
+use Rattle.std.specs.Prelude.{◌≡◌, ℕ, ◌+◌, ◌<◌, ◌≤◌, List, length, Result, MatchResult}
 use Rattle.rail_model.specs.declared.memory.OutOfMemory.{OutOfMemory}
+use Rattle.turn_desk.specs.declared.kept.TheConstants.{MOST_PASSES}
 use Rattle.turn_desk.specs.Journal.{GoesOn, AddsOwn, Calls}
 use Rattle.turn_desk.specs.Known.{Known, new_passes}
 
-module _ {E : Type 0} (maker : E → ℕ) (issued_by : List E → ℕ) where
+module _ {E : Type 0} (pass_of : E → ℕ) (issued_by : List E → ℕ) where
   -- so many entries were made, and each issued one number more
   pub record Issues (number count : ℕ) (found after : List E) : Type 0 where
-    pub adds_own : AddsOwn maker number found after
+    pub adds_own : AddsOwn pass_of number found after
     pub many : length adds_own.own ≡ count
     pub issued : issued_by after ≡ issued_by found + count
 
@@ -21,18 +22,18 @@ module _ {E : Type 0} (maker : E → ℕ) (issued_by : List E → ℕ) where
   -- The call made so many entries, for which numbers enough were left. It gives a new pass for each number
   -- that they issued, in order
   pub record EntersAll (old new : Known E) (count : ℕ) (given : List (Known E)) : Type 0 where
-    pub call : Calls maker old.number old.numbers old.seen new.seen
-    pub room : issued_by call.found + count < 2 ^ 32
+    pub call : Calls pass_of old.number old.numbers old.seen new.seen
+    pub room : issued_by call.found + count ≤ MOST_PASSES
     pub many : length call.adds_own.own ≡ count
     pub issued : issued_by new.seen ≡ issued_by call.found + count
     pub passes : given ≡ new_passes old.desk new.seen (issued_by call.found) count
 
   -- the call found too few numbers left, and made no entry
   pub record EntersNone (old new : Known E) (count : ℕ) : Type 0 where
-    pub goes_on : GoesOn maker old.numbers old.seen new.seen
-    pub full : 2 ^ 32 ≤ issued_by new.seen + count
+    pub goes_on : GoesOn pass_of old.numbers old.seen new.seen
+    pub full : MOST_PASSES < issued_by new.seen + count
 
   -- the call made no more than so many entries
   pub record EntersSome (old new : Known E) (count : ℕ) : Type 0 where
-    pub call : Calls maker old.number old.numbers old.seen new.seen
+    pub call : Calls pass_of old.number old.numbers old.seen new.seen
     pub few : length call.adds_own.own ≤ count

@@ -9,10 +9,10 @@ NeverIssuesFewer {E} issued_by = (xs ys : List E) → issued_by xs ≤ issued_by
 abbrev pub HasLegalPrefixes : {E : Type 0} → (List E → Type 0) → Type 0
 HasLegalPrefixes {E} is_legal = (e : E) (xs ys : List E) → is_legal (e ∷ xs ++ ys) → is_legal (e ∷ xs)
 
-module _ {E : Type 0} (maker : E → ℕ) where
+module _ {E : Type 0} (pass_of : E → ℕ) where
   -- the entry carries none of the numbers
   abbrev pub IsOthers : List ℕ → E → Type 0
-  IsOthers numbers e = Contains numbers (maker e) → ⊥
+  IsOthers numbers e = Contains numbers (pass_of e) → ⊥
 
   -- the list is what was seen, and then entries of others alone: none carries one of the numbers
   pub record GoesOn (numbers : List ℕ) (seen log : List E) : Type 0 where
@@ -24,7 +24,7 @@ module _ {E : Type 0} (maker : E → ℕ) where
   pub record AddsOwn (number : ℕ) (found log : List E) : Type 0 where
     pub own : List E
     pub is : log ≡ found ++ own
-    pub made : All (λ e. maker e ≡ number) own
+    pub made : All (λ e. pass_of e ≡ number) own
 
   -- A call by a pass: what is seen afterwards is what was seen before, then entries of others, which the call
   -- found, then the call's own entries, or nothing

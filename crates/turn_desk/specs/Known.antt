@@ -14,7 +14,8 @@ pub record Known (E : Type 0) : Type 0 where
   pub seen : List E
   -- whether it holds the turn
   pub holds : Bool
-  -- how often it has tried to take the turn, and the word that its last try found: 1 where the turn was taken
+  -- How often it has tried to take the turn, and the word that its last try found: 1 where the turn was taken.
+  -- Each count stands in contracts alone, and has no greatest value
   pub tries : ℕ
   pub found : ℕ
   -- how many steps on the word it has made, with those of the passes that have left into it, and the word
@@ -61,7 +62,8 @@ module _ {E : Type 0} where
   abbrev pub without_turn : Known E → List E → Known E
   without_turn k seen = record k { seen = seen; holds = false; steps = k.steps + 1; word = 0 }
 
-  -- the pass after another has left into it, with the word after the later step of the two
+  -- The pass after another has left into it, with the word after the later step of the two. Its tries stay
+  -- its own
   abbrev pub with_other : Known E → Known E → ℕ → Known E
   with_other k other word = record k {
     numbers = k.numbers ++ other.numbers;
@@ -84,7 +86,8 @@ module _ {E : Type 0} where
   -- one of two seen parts begins with the other, and what the longer has beyond it carries none of the
   -- numbers of the pass with the shorter
   abbrev pub AgreeOn : (E → ℕ) → Known E → Known E → Type 0
-  AgreeOn maker k other = GoesOn maker k.numbers k.seen other.seen ⊎ GoesOn maker other.numbers other.seen k.seen
+  AgreeOn pass_of k other =
+      GoesOn pass_of k.numbers k.seen other.seen ⊎ GoesOn pass_of other.numbers other.seen k.seen
 
   -- the two passes have no number in common
   abbrev pub HaveNoCommonNumber : Known E → Known E → Type 0

@@ -28,7 +28,7 @@ module _ {E : Type 0} where
 
   -- one seen part begins with the other, and goes on by entries of others
   abbrev pub Agree : (E → ℕ) → Sight E → Sight E → Type 0
-  Agree maker one two = GoesOn maker one.numbers one.seen two.seen ⊎ GoesOn maker two.numbers two.seen one.seen
+  Agree pass_of one two = GoesOn pass_of one.numbers one.seen two.seen ⊎ GoesOn pass_of two.numbers two.seen one.seen
 
   -- the view at this seat
   abbrev pub At : List (View E) → ℕ → View E → Type 0
@@ -38,17 +38,17 @@ module _ {E : Type 0} where
   abbrev pub OwnedOnce : List (View E) → Type 0
   OwnedOnce views = (i j : ℕ) (v w : View E) (n : ℕ) → At views i v → At views j w → Owns v n → Owns w n → i ≡ j
 
-module _ {E : Type 0} (maker : E → ℕ) (issued_by : List E → ℕ) where
+module _ {E : Type 0} (pass_of : E → ℕ) (issued_by : List E → ℕ) where
   -- What the journal says of one pass. What it has seen is a prefix of the journal, which goes on by entries
   -- of others; its numbers are below those issued by then; no entry carries a number that it has drawn; and
   -- the two seen parts of its last join agree
   pub record Fits (log : List E) (v : View E) : Type 0 where
-    pub begins : GoesOn maker v.numbers v.seen log
+    pub begins : GoesOn pass_of v.numbers v.seen log
     pub below : All (λ n. n < issued_by v.seen) v.numbers
     pub drawn_below : v.drawn + v.left ≤ issued_by v.seen
     pub either : (n : ℕ) → Contains v.numbers n → IsDrawn v n → ⊥
-    pub unused : All (λ e. IsDrawn v (maker e) → ⊥) log
-    pub agree : Agree maker v.one v.two
+    pub unused : All (λ e. IsDrawn v (pass_of e) → ⊥) log
+    pub agree : Agree pass_of v.one v.two
     pub apart : Apart v.one v.two
 
 module _ {V E : Type 0} where
@@ -84,13 +84,13 @@ module _ {V E : Type 0} (entries : V → List E) where
 
 -- There is one legal journal, each of whose entries carries an issued number. It is that of the value at
 -- home, or what the holder has seen. Each pass fits it, and no number is owned by two passes
-pub record Standing {V E : Type 0} (entries : V → List E) (maker : E → ℕ) (issued_by : List E → ℕ)
+pub record Standing {V E : Type 0} (entries : V → List E) (pass_of : E → ℕ) (issued_by : List E → ℕ)
     (is_legal : List E → Type 0)
     (s : State (Option V) (View E)) : Type 0 where
   pub log : List E
-  pub lawful : is_legal log
-  pub issued : All (λ e. maker e < issued_by log) log
+  pub legal : is_legal log
+  pub issued : All (λ e. pass_of e < issued_by log) log
   pub turn : Free entries s log ⊎ Taken s log
-  pub each : (seat : ℕ) (v : View E) → At s.views seat v → Fits maker issued_by log v
+  pub each : (seat : ℕ) (v : View E) → At s.views seat v → Fits pass_of issued_by log v
   pub owned_once : OwnedOnce s.views
   pub dated : Dated s

@@ -39,5 +39,5 @@ module _ {V E : Type 0} (issued_by : List E → ℕ) (is_legal : List E → Type
     pub number_is : me.0.number ≡ number
     pub own : Contains me.0.numbers number
     pub issued : All (λ n. n < issued_by me.0.seen) me.0.numbers
-    pub lawful : is_legal me.0.seen
+    pub legal : is_legal me.0.seen
     pub hand : me.1 ≡ hand_of me.0.holds

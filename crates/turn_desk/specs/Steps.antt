@@ -10,14 +10,14 @@ use Rattle.turn_desk.specs.Rule.{Agree, Apart}
 abbrev pub Mine : Type 0 → Type 0 → Type 0
 Mine V E = Me (Option V) (View E)
 
-module _ {V E : Type 0} (entries : V → List E) (maker : E → ℕ) (issued_by : List E → ℕ) (is_legal : List E → Type 0)
+module _ {V E : Type 0} (entries : V → List E) (pass_of : E → ℕ) (issued_by : List E → ℕ) (is_legal : List E → Type 0)
   where
     -- the turn is taken, with this value, whose list goes on from what was seen by entries of others
     pub record Finds (value : V) (v w : View E) : Type 0 where
       pub moment : ℕ
       pub is : w ≡ won moment (entries value) v
-      pub goes_on : GoesOn maker v.numbers v.seen (entries value)
-      pub lawful : is_legal (entries value)
+      pub goes_on : GoesOn pass_of v.numbers v.seen (entries value)
+      pub legal : is_legal (entries value)
       pub below : All (λ n. n < issued_by (entries value)) v.numbers
 
     -- take: the word 0 becomes 1, and the value comes into hand; or the word was 1
@@ -37,4 +37,4 @@ module _ {V E : Type 0} (entries : V → List E) (maker : E → ℕ) (issued_by 
 
     -- tell: the two seen parts of the last join agree, and have no number in common
     abbrev pub told : Step (Option V) → Mine V E → ℕ → Mine V E → Type 0
-    told st m found m' = (m' ≡ m) × Agree maker m.0.one m.0.two × Apart m.0.one m.0.two
+    told st m found m' = (m' ≡ m) × Agree pass_of m.0.one m.0.two × Apart m.0.one m.0.two

@@ -1,4 +1,4 @@
-ghost use Rattle.std.specs.Prelude.{◌≡◌, ℕ, ◌+◌, true, false, All, IfOk, OnErr};
+ghost use Rattle.std.specs.Prelude.{◌≡◌, ◌⊎◌, ℕ, ◌+◌, ◌-◌, ◌<◌, true, false, All, IfOk, OnErr};
 ghost use Rattle.turn_desk.specs.Entering.{EntersAll, EntersNone, EntersSome};
 ghost use Rattle.turn_desk.specs.Journal.{GoesOn, AddsOwn};
 ghost use Rattle.turn_desk.specs.Known.{IsReady, IsSamePass, AgreeOn, HaveNoCommonNumber, new_pass};
@@ -7,7 +7,7 @@ ghost use Rattle.turn_desk.specs.Known.{with_turn, refused, without_turn, with_o
 use crate::drawn::draw_all;
 use crate::rule::{Law, View};
 use crate::steps::{give_back, join_one, shut_down, try_turn};
-use crate::{Kept, Pass, Turn};
+use crate::{Kept, MOST_PASSES, Pass, Turn};
 use atomic_table::Table;
 use rail_model::{List, OutOfMemory};
 use std::alloc::Global;
@@ -19,7 +19,7 @@ use std::sync::Wait;
 #[derive(Clone, Copy, Debug)]
 pub struct Busy;
 
-/// There are too few numbers left for so many passes: the numbers are below 2^32.
+/// Too few numbers are left for so many passes: a desk issues no more than `MOST_PASSES`.
 #[derive(Clone, Copy, Debug)]
 pub struct Full;
 
@@ -44,12 +44,13 @@ impl<V: Kept> Model for Desk<V> {
 }
 
 impl<V: Kept> Desk<V> {
-    /// A desk for the value, and pass 0, which has seen all its entries.
+    /// A desk for the value, and pass 0, which has seen all its entries. The value has issued this
+    /// pass alone, and each of its entries carries 0.
     pub fn start(alloc: Global, value: V) -> Result<(Desk<V>, Pass<V>), OutOfMemory>
     where
         V: Drop,
         requires alone { V.issued_by (V.entries value) ≡ 1 }
-        requires zero { All (λ e. V.maker e ≡ 0) (V.entries value) }
+        requires zero { All (λ e. V.pass_of e ≡ 0) (V.entries value) }
         ensures { IfOk result (λ r. r.1 ≡ new_pass r.0 0 (V.entries value)) }
     {
         let _issued = value.issued();
@@ -68,7 +69,7 @@ impl<V: Kept> Desk<V> {
     pub fn try_take(&self, pass: &mut Pass<V>) -> Result<Turn<V>, Busy>
         requires { IsReady self.now pass.old }
         ensures goes_on { IfOk result
-            (λ turn. GoesOn V.maker pass.old.numbers pass.old.seen (V.entries turn)) }
+            (λ turn. GoesOn V.pass_of pass.old.numbers pass.old.seen (V.entries turn)) }
         ensures ok { IfOk result (λ turn. pass.new ≡ with_turn pass.old (V.entries turn)) }
         ensures busy { OnErr result (pass.new ≡ refused pass.old) }
     {
@@ -83,7 +84,7 @@ impl<V: Kept> Desk<V> {
     pub fn give(&self, pass: &mut Pass<V>, turn: Turn<V>)
         requires desk { pass.old.desk ≡ self.now }
         requires holds { pass.old.holds ≡ true }
-        requires own { AddsOwn V.maker pass.old.number pass.old.seen (V.entries turn) }
+        requires own { AddsOwn V.pass_of pass.old.number pass.old.seen (V.entries turn) }
         ensures { pass.new ≡ without_turn pass.old (V.entries turn) }
     {
         let value = turn.into_value();
@@ -92,14 +93,18 @@ impl<V: Kept> Desk<V> {
     }
 
     /// Takes the turn. It sleeps while another pass has it. What the value's list has beyond the
-    /// pass's seen part are entries of others.
+    /// pass's seen part are entries of others. Each try is one step, and the last found the turn
+    /// free.
     pub fn take<R: Wait>(&self, rt: &R, pass: &mut Pass<V>) -> Turn<V>
         requires { IsReady self.now pass.old }
         ensures pass { IsSamePass pass.old pass.new }
-        ensures goes_on { GoesOn V.maker pass.old.numbers pass.old.seen (V.entries result) }
+        ensures goes_on { GoesOn V.pass_of pass.old.numbers pass.old.seen (V.entries result) }
         ensures seen { pass.new.seen ≡ V.entries result }
         ensures holds { pass.new.holds ≡ true }
+        ensures tries { pass.old.tries < pass.new.tries }
         ensures found { pass.new.found ≡ 0 }
+        ensures steps { pass.new.steps ≡ pass.old.steps + (pass.new.tries - pass.old.tries) }
+        ensures word { pass.new.word ≡ 1 }
     {
         for _ in rt.forever() {
             if let Ok(turn) = self.try_take(pass) {
@@ -112,8 +117,8 @@ impl<V: Kept> Desk<V> {
 
     /// Draws `count` numbers in one turn, one after the other, and gives a new pass for each, in
     /// the order of the numbers. `Full` comes exactly where so many numbers are not left; no entry
-    /// is then made. After want of memory some of the entries may stand in the journal, and no pass
-    /// has their numbers.
+    /// is then made. Out of memory, some of the entries may stand in the journal, and no pass has
+    /// their numbers. In each case the pass has taken the turn, and given it back by one more step.
     pub fn enter<R: Wait>(
         &self,
         rt: &R,
@@ -124,15 +129,19 @@ impl<V: Kept> Desk<V> {
         requires { IsReady self.now pass.old }
         ensures pass { IsSamePass pass.old pass.new }
         ensures idle { pass.new.holds ≡ false }
+        ensures tries { pass.old.tries < pass.new.tries }
+        ensures found { pass.new.found ≡ 0 }
+        ensures steps { pass.new.steps ≡ pass.old.steps + (pass.new.tries - pass.old.tries) + 1 }
+        ensures word { pass.new.word ≡ 0 }
         ensures ok { IfOk result
-            (λ r. IfOk r (EntersAll V.maker V.issued_by pass.old pass.new count)) }
+            (λ r. IfOk r (EntersAll V.pass_of V.issued_by pass.old pass.new count)) }
         ensures full { IfOk result
-            (λ r. OnErr r (EntersNone V.maker V.issued_by pass.old pass.new count)) }
-        ensures err { OnErr result (EntersSome V.maker V.issued_by pass.old pass.new count) }
+            (λ r. OnErr r (EntersNone V.pass_of V.issued_by pass.old pass.new count)) }
+        ensures err { OnErr result (EntersSome V.pass_of V.issued_by pass.old pass.new count) }
     {
         let turn = self.take(rt, pass);
         let first = turn.value().issued();
-        if count > u32::MAX - first {
+        if count > MOST_PASSES - first {
             self.give(pass, turn);
             return Ok(Err(Full));
         }
@@ -144,13 +153,15 @@ impl<V: Kept> Desk<V> {
 
     /// Takes another pass in: what either has seen is then seen by one, which has the numbers of
     /// both. One of the two seen parts began with the other, and what the longer had beyond it
-    /// carries none of the numbers of the pass with the shorter.
+    /// carries none of the numbers of the pass with the shorter. The steps of both are counted
+    /// together, and the word is that of one of the two; tries stay those of the pass.
     pub fn leave(&self, pass: &mut Pass<V>, other: Pass<V>)
         requires one { IsReady self.now pass.old }
         requires other { IsReady self.now other }
-        ensures agree { AgreeOn V.maker pass.old other }
+        ensures agree { AgreeOn V.pass_of pass.old other }
         ensures apart { HaveNoCommonNumber pass.old other }
         ensures joined { pass.new ≡ with_other pass.old other pass.new.word }
+        ensures word { (pass.new.word ≡ pass.old.word) ⊎ (pass.new.word ≡ other.word) }
     {
         join_one(&self.table.shared, &mut pass.seat, other.into_seat());
     }
@@ -159,8 +170,8 @@ impl<V: Kept> Desk<V> {
     /// entries of others.
     pub fn close<R: Wait>(self, rt: &R, pass: Pass<V>) -> V
         requires { IsReady self pass }
-        ensures goes_on { GoesOn V.maker pass.numbers pass.seen (V.entries result) }
-        ensures lawful { V.is_legal (V.entries result) }
+        ensures goes_on { GoesOn V.pass_of pass.numbers pass.seen (V.entries result) }
+        ensures legal { V.is_legal (V.entries result) }
     {
         let mut pass = pass;
         let value = self.take(rt, &mut pass).into_value();

@@ -1,23 +1,23 @@
 //! Numbers that a pass draws in its turn, and the new passes that get them.
-ghost use Rattle.std.specs.Prelude.{◌≡◌, ℕ, ◌+◌, ◌^◌, ◌<◌, ◌≤◌, true, MatchResult, IfOk};
+ghost use Rattle.std.specs.Prelude.{◌≡◌, ℕ, ◌+◌, ◌<◌, ◌≤◌, true, MatchResult, IfOk};
 ghost use Rattle.turn_desk.specs.Entering.{Issues, HasDrawn};
 ghost use Rattle.turn_desk.specs.Known.{new_passes, without_turn};
 ghost use Rattle.turn_desk.specs.Seats.{IsSmall, IsPass, known};
 ghost use Rattle.turn_desk.specs.Views.{with_drawn};
 
 use crate::steps::{Seat, Shared, cut_one, give_back};
-use crate::{Kept, Pass};
+use crate::{Kept, MOST_PASSES, Pass};
 use rail_model::{List, OutOfMemory};
 use std::alloc::Global;
 
 // Makes this many entries that carry `by`, one after the other.
 pub(crate) fn enter_all<V: Kept>(value: &mut V, by: u32, count: u32) -> Result<(), OutOfMemory>
     requires issued { by < V.issued_by (V.entries value.old) }
-    requires room { V.issued_by (V.entries value.old) + count < 2 ^ 32 }
+    requires room { V.issued_by (V.entries value.old) + count ≤ MOST_PASSES }
     ensures { MatchResult result
-        (λ _. Issues V.maker V.issued_by by count (V.entries value.old) (V.entries value.new))
+        (λ _. Issues V.pass_of V.issued_by by count (V.entries value.old) (V.entries value.new))
         (λ _. (made : ℕ) × (made ≤ count)
-        × Issues V.maker V.issued_by by made (V.entries value.old) (V.entries value.new)) }
+        × Issues V.pass_of V.issued_by by made (V.entries value.old) (V.entries value.new)) }
 {
     for _made in 0..count {
         value.enter(by)?;
@@ -35,9 +35,9 @@ pub(crate) fn cut_all<V: Kept>(
 ) -> Result<List<Pass<V>>, OutOfMemory>
     requires table { (seat.old.table_id ≡ shared.now.table_id) × IsSmall shared.now.table_id }
     requires drawn { (seat.old.me.0.drawn ≡ first) × (seat.old.me.0.left ≡ count) }
-    requires room { first + count < 2 ^ 32 }
+    requires room { first + count ≤ MOST_PASSES }
     requires issued { first + count ≤ V.issued_by seat.old.me.0.seen }
-    requires lawful { V.is_legal seat.old.me.0.seen }
+    requires legal { V.is_legal seat.old.me.0.seen }
     ensures table { seat.new.table_id ≡ seat.old.table_id }
     ensures seat { (drawn left : ℕ)
         × (seat.new.me ≡ (with_drawn drawn left seat.old.me.0, seat.old.me.1)) }
@@ -69,10 +69,10 @@ pub(crate) fn draw_all<V: Kept>(
     requires pass { IsPass V.issued_by V.is_legal seat.old.me number }
     requires holds { seat.old.me.0.holds ≡ true }
     requires found { seat.old.me.0.seen ≡ V.entries value }
-    requires room { V.issued_by (V.entries value) + count < 2 ^ 32 }
+    requires room { V.issued_by (V.entries value) + count ≤ MOST_PASSES }
     ensures pass { IsPass V.issued_by V.is_legal seat.new.me number }
     ensures given { known seat.new ≡ without_turn (known seat.old) seat.new.me.0.seen }
-    ensures drawn { HasDrawn V.maker V.issued_by (known seat.old) (known seat.new) count result }
+    ensures drawn { HasDrawn V.pass_of V.issued_by (known seat.old) (known seat.new) count result }
 {
     let mut value = value;
     let first = value.issued();

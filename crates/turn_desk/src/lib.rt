@@ -15,7 +15,7 @@ mod steps;
 mod turn;
 
 pub use desk::{Busy, Desk, Full};
-pub use kept::Kept;
+pub use kept::{Kept, MOST_PASSES};
 pub use laws::{all_is_seen_once_all_have_left, calls_keep_own_entries, leaving_keeps_own_entries};
 pub use pass::Pass;
 pub use turn::Turn;

@@ -5,10 +5,9 @@ use crate::Kept;
 use crate::steps::Seat;
 use std::marker::Model;
 
-/// What one thread, or one part of a program, comes to a desk with. Contracts see what it knows:
-/// its number, its numbers, which are its own and those of the passes that have left into it, the
-/// prefix of the desk's journal that it has seen, whether it holds the turn, and counts of what it
-/// did.
+/// A thread's access to a desk. Contracts see what it knows: its number, its numbers, which are its
+/// own and those of the passes that have left into it, the prefix of the desk's journal that it has
+/// seen, whether it holds the turn, and counts of its tries and its steps.
 pub struct Pass<V: Kept> {
     pub(crate) seat: Seat<V>,
     pub(crate) number: u32,
@@ -33,7 +32,7 @@ impl<V: Kept> Pass<V> {
         ensures own { Contains self.now.numbers result }
         ensures issued { All (λ n. n < V.issued_by self.now.seen) self.now.numbers }
         ensures below { result < V.issued_by self.now.seen }
-        ensures lawful { V.is_legal self.now.seen }
+        ensures legal { V.is_legal self.now.seen }
     {
         let _seat = &self.seat;
         self.number

@@ -10,28 +10,28 @@ use atomic_table::{Join, Play, Split};
 pub(crate) struct Take;
 
 impl<V: Kept> Play<Option<V>, View<V::Entry>> for Take {
-    ghost then = { took V.entries V.maker V.issued_by V.is_legal };
+    ghost then = { took V.entries V.pass_of V.issued_by V.is_legal };
 }
 
 /// The turn is given back.
 pub(crate) struct Give;
 
 impl<V: Kept> Play<Option<V>, View<V::Entry>> for Give {
-    ghost then = { gave V.entries V.maker V.issued_by V.is_legal };
+    ghost then = { gave V.entries V.pass_of V.issued_by V.is_legal };
 }
 
 /// The turn is kept for ever, and the empty slot goes home.
 pub(crate) struct Shut;
 
 impl<V: Kept> Play<Option<V>, View<V::Entry>> for Shut {
-    ghost then = { shut V.entries V.maker V.issued_by V.is_legal };
+    ghost then = { shut V.entries V.pass_of V.issued_by V.is_legal };
 }
 
 /// What was seen by the two passes of the last join agrees.
 pub(crate) struct Tell;
 
 impl<V: Kept> Play<Option<V>, View<V::Entry>> for Tell {
-    ghost then = { told V.entries V.maker V.issued_by V.is_legal };
+    ghost then = { told V.entries V.pass_of V.issued_by V.is_legal };
 }
 
 /// A drawn number goes to a new pass.

@@ -46,7 +46,7 @@ impl<V: Kept> TableRule<Option<V>, View<V::Entry>, Snapshot<V>> for Law<V> {
     ghost use Rattle.turn_desk.specs.Rule.{Standing};
     ghost use Rattle.turn_desk.specs.Views.{first_view};
 
-    ghost holds = { λ _. Standing V.entries V.maker V.issued_by V.is_legal };
+    ghost holds = { λ _. Standing V.entries V.pass_of V.issued_by V.is_legal };
 
     ghost first = { λ key. first_view (V.entries key.value) };
 }

@@ -27,7 +27,7 @@ pub(crate) fn try_turn<V: Kept>(shared: &Shared<V>, seat: &mut Seat<V>) -> Optio
     ensures table { seat.new.table_id ≡ seat.old.table_id }
     ensures turn { MatchOption result
         ((moment : ℕ) × (seat.new.me ≡ (lost moment seat.old.me.0, [])))
-        (λ v. Finds V.entries V.maker V.issued_by V.is_legal v seat.old.me.0 seat.new.me.0
+        (λ v. Finds V.entries V.pass_of V.issued_by V.is_legal v seat.old.me.0 seat.new.me.0
         × (seat.new.me.1 ≡ (0, None) ∷ [])) }
 {
     if shared.compare_exchange::<Take>(seat, 0, 0, 1) != 0 {
@@ -41,8 +41,8 @@ pub(crate) fn give_back<V: Kept>(shared: &Shared<V>, seat: &mut Seat<V>, number:
     requires table { (seat.old.table_id ≡ shared.now.table_id) × IsSmall shared.now.table_id }
     requires holds { (seat.old.me.0.holds ≡ true) × (seat.old.me.1 ≡ (0, None) ∷ []) }
     requires number { Contains seat.old.me.0.numbers number }
-    requires own { AddsOwn V.maker number seat.old.me.0.seen (V.entries value) }
-    requires lawful { V.is_legal (V.entries value) }
+    requires own { AddsOwn V.pass_of number seat.old.me.0.seen (V.entries value) }
+    requires legal { V.is_legal (V.entries value) }
     ensures table { seat.new.table_id ≡ seat.old.table_id }
     ensures given { (moment : ℕ)
         × (seat.new.me ≡ (given V.issued_by moment (V.entries value) seat.old.me.0, [])) }
@@ -82,7 +82,7 @@ pub(crate) fn join_one<V: Kept>(shared: &Shared<V>, seat: &mut Seat<V>, other: S
     requires idle { (seat.old.me.0.holds ≡ false) × (other.me.0.holds ≡ false) × (other.me.1 ≡ []) }
     ensures table { seat.new.table_id ≡ seat.old.table_id }
     ensures joined { seat.new.me ≡ (joined seat.old.me.0 other.me.0, seat.old.me.1) }
-    ensures agree { Agree V.maker (sight seat.old.me.0) (sight other.me.0) }
+    ensures agree { Agree V.pass_of (sight seat.old.me.0) (sight other.me.0) }
     ensures apart { Apart (sight seat.old.me.0) (sight other.me.0) }
 {
     shared.join_seat::<Glue>(seat, other);

@@ -32,7 +32,7 @@ impl<V> Turn<V> {
         value
     }
 
-    /// The value.
+    /// The value, for reading.
     pub fn value(&self) -> &V
         ensures { result.now ≡ self.now }
     {

@@ -74,7 +74,7 @@ impl Kept for Notes {
 
     ghost entries = { λ v. v.notes };
 
-    ghost maker = { λ n. n.by };
+    ghost pass_of = { λ n. n.by };
 
     ghost issued_by = { sum_by (λ n. n.draws) };
 
@@ -237,7 +237,7 @@ fn first_drawn<R: Wait>(
     }
 }
 
-// The numbers end below 2^32: of these there are two left.
+// No more than 2^32 - 1 passes are issued, and two numbers are left.
 #[test]
 fn too_few_numbers_are_left(rt: HostRuntime) -> Result<(), Fail> {
     let (desk, mut main, others) = started(&rt, rt.alloc(), 0)?;

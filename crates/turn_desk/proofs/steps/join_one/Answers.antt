@@ -10,7 +10,7 @@ join_seat-requires g c = let kept = g.V.Kept in let seat = c.args.seat.now in (
   search rules,
   search rules,
   search rules,
-  joining kept.entries kept.maker kept.issued_by kept.is_legal g.met.V.Kept.longer_issues_no_fewer seat.id seat.me.0
+  joining kept.entries kept.pass_of kept.issued_by kept.is_legal g.met.V.Kept.longer_issues_no_fewer seat.id seat.me.0
       c.args.other.id c.args.other.me.0 c.requires.idle.0 c.requires.idle.1,
 )
 
@@ -19,7 +19,7 @@ load-requires g c = let kept = g.V.Kept in
     let seat = c.join_seat.new.seat in (
       search rules,
       search rules,
-      telling kept.entries kept.maker kept.issued_by kept.is_legal
+      telling kept.entries kept.pass_of kept.issued_by kept.is_legal
           g.met.V.Kept.longer_issues_no_fewer c.args.shared.now.table_id.slots seat.id seat.me,
     )
 

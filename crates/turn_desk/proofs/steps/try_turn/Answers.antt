@@ -7,7 +7,7 @@ compare_exchange-requires g c = let kept = g.V.Kept in
     let seat = c.args.seat.now in (
       search rules,
       search rules,
-      taking kept.entries kept.maker kept.issued_by kept.is_legal
+      taking kept.entries kept.pass_of kept.issued_by kept.is_legal
           g.met.V.Kept.longer_issues_no_fewer c.args.shared.now.table_id.slots seat.id seat.me c.requires.idle.0,
     )
 

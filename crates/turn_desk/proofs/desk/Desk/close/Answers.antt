@@ -13,6 +13,6 @@ unreachable-requires g c =
     let on = ap me shut.1 ∙ (ap (λ (k : Known g.row.V-Entry.Denot). k.holds) c.into_seat-seat.ensures.known
     ∙ c.take.ensures.holds) in
     let closes = ap (λ (m : Mine g.row.V.Denot g.row.V-Entry.Denot). m.0.closes) shut.1 in
-    let empty = empty_home kept.entries kept.maker kept.issued_by kept.is_legal g.met.V.Kept.longer_issues_no_fewer _
-    _ _ _ on closes c.close_with-closed.ensures.values.2 in
+    let empty = empty_home kept.entries kept.pass_of kept.issued_by kept.is_legal g.met.V.Kept.longer_issues_no_fewer
+    _ _ _ _ on closes c.close_with-closed.ensures.values.2 in
     c.in_default.not-None (some-injective _ _ (sym c.take-left.ensures.value ∙ empty))

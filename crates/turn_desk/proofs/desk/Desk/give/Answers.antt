@@ -11,8 +11,8 @@ invariant_of-pass g c =
     let number = sym (ap (λ (k : Known g.row.V-Entry.Denot). k.number) c.pass.view_is) ∙ c.pass.invariant.number_is in
     let seen = sym (ap (λ (k : Known g.row.V-Entry.Denot). k.seen) c.pass.view_is) in
     let log = ap kept.entries (sym c.into_value-value.ensures) in
-    let adds = subst (λ (z : ℕ × List g.row.V-Entry.Denot × List g.row.V-Entry.Denot). AddsOwn kept.maker z.0 z.1
+    let adds = subst (λ (z : ℕ × List g.row.V-Entry.Denot × List g.row.V-Entry.Denot). AddsOwn kept.pass_of z.0 z.1
     z.2) (λ i. (number i, seen i, log i)) c.requires.own in
-    pass_given kept.maker kept.issued_by kept.is_legal g.met.V.Kept.longer_issues_no_fewer s.me
+    pass_given kept.pass_of kept.issued_by kept.is_legal g.met.V.Kept.longer_issues_no_fewer s.me
     c.give_back.new.seat.me c.pass.inside.number _ _ c.give_back.ensures.given.1 adds
-    c.issued-issued.ensures.lawful c.pass.invariant
+    c.issued-issued.ensures.legal c.pass.invariant

@@ -7,7 +7,7 @@ pub invariant_of-pass : goal.invariant_of-pass
 invariant_of-pass g c =
     let kept = g.V.Kept in
     let did = c.join_one.ensures in
-    pass_joined kept.entries kept.maker kept.issued_by kept.is_legal g.met.V.Kept.longer_issues_no_fewer
+    pass_joined kept.entries kept.pass_of kept.issued_by kept.is_legal g.met.V.Kept.longer_issues_no_fewer
     c.pass.inside.seat.me c.into_seat.result.me c.join_one.new.seat.me c.pass.inside.number
     c.args.other.number did.joined did.agree c.pass.invariant c.into_seat.ensures.pass
 

@@ -11,8 +11,8 @@ new-requires g c =
     let kept = g.V.Kept in
     let items : c.push.new.self.items ≡ Some c.args.value ∷ [] = search rules in
     let key : c.of-key.result.value ≡ c.args.value = search rules in
-    subst (λ (z : List (Option g.row.V.Denot) × g.row.V.Denot). Standing kept.entries kept.maker kept.issued_by
+    subst (λ (z : List (Option g.row.V.Denot) × g.row.V.Denot). Standing kept.entries kept.pass_of kept.issued_by
     kept.is_legal (opening (0 ∷ []) z.0 (first_view (kept.entries z.1))))
     (λ i. (sym items i, sym key i))
-    (opens kept.entries kept.maker kept.issued_by kept.is_legal g.met.V.Kept.longer_issues_no_fewer c.args.value
-    c.issued-issued.ensures.lawful c.requires.alone c.requires.zero)
+    (opens kept.entries kept.pass_of kept.issued_by kept.is_legal g.met.V.Kept.longer_issues_no_fewer c.args.value
+    c.issued-issued.ensures.legal c.requires.alone c.requires.zero)
