@@ -1,6 +1,7 @@
 //! What the tests share: the rows of a small line, and a call of the program over bytes in memory.
 mod checks;
 mod desk;
+mod edits;
 mod faults;
 mod lines;
 mod names;

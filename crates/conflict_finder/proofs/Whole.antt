@@ -64,7 +64,7 @@ module _ (blocked : List Blocked) (swept : IsSwept blocked) where
   pub at : ℕ → Blocked
   at i = get_or blocked i no_blocked
 
-  -- those behind i in their order, up to the first that doesn't meet it
+  -- those after i in their order, up to the first that doesn't meet it
   pub met : ℕ → List Blocked
   met i = take_while (meets (get_or blocked i no_blocked)) (drop (i + 1) blocked)
 

@@ -8,7 +8,7 @@ use Rattle.rail_model.specs.declared.stair.Stair.{Stair}
 use Rattle.conflict_finder.specs.declared.ranked.Ranked.{Ranked}
 use Rattle.conflict_finder.specs.declared.blocked.Blocked.{Blocked}
 
--- stand where there is none
+-- placeholders where there is none
 abbrev pub no_stair : Stair
 no_stair = record { run = []; uses = [] }
 

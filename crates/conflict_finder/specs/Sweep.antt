@@ -31,7 +31,7 @@ conflict_of runs one other = record {
   to = int_min one.«end» other.«end»;
 }
 
--- stands where there is none
+-- a placeholder where there is none
 abbrev pub no_blocked : Blocked
 no_blocked = record { start = pos 0; «end» = pos 0; block = 0; run = 0 }
 

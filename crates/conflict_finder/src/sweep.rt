@@ -13,8 +13,7 @@ use crate::ranked::{Ranked, by_name};
 use rail_model::{List, OutOfMemory, Stair};
 use std::alloc::Global;
 
-/// The conflicts of a timetable's stairways: the first `LISTED`, and the number of the rest. It costs what
-/// sorting the blocked times costs, however many conflicts there are.
+/// The conflicts of a timetable's stairways: the first `LISTED`, and the number of the rest.
 pub fn conflicts(alloc: Global, stairs: &List<Stair>) -> Result<Conflicts, OutOfMemory>
     requires { IsTimetable stairs.now }
     ensures { IfOk result (λ found. IsFound stairs.now found) }
@@ -24,7 +23,8 @@ pub fn conflicts(alloc: Global, stairs: &List<Stair>) -> Result<Conflicts, OutOf
     sweep(alloc, &runs, &blocked)
 }
 
-// Walks over what is blocked, in order. What one conflicts with follows it, up to the first that it doesn't meet.
+// Walks over what is blocked, in order. Each overlaps a run of those after it, and none past the first that
+// it doesn't overlap.
 fn sweep(alloc: Global, runs: &[Ranked], blocked: &[Blocked]) -> Result<Conflicts, OutOfMemory>
     requires most { length blocked.now ≤ 524_288 }
     requires there { All (λ b. b.run < length runs.now) blocked.now }

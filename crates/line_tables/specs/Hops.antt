@@ -32,14 +32,6 @@ with_leg h leg = record h { running_s = leg.running_s; dwell_s = leg.dwell_s }
 abbrev pub with_legs : List Hop → List Leg → List Hop
 with_legs hops legs = map (λ p. with_leg p.0 p.1) (zip hops legs)
 
--- stands where there is no run
-abbrev pub no_run : Run
-no_run = record { name = []; route = []; length_m = 0; tail_s = 0; start_s = 0; legs = [] }
-
--- the run of a number
-abbrev pub run_at : Tables → ℕ → Run
-run_at tables n = slice_index_or tables.runs n no_run
-
 -- the signal under a key
 abbrev pub signal_under : List (ℕ × Entry Signal) → ℕ → Signal
 signal_under signals k = option_map_or (λ e. e.item) (under signals k) no_signal

@@ -4,12 +4,11 @@
 //! once for each route, and `run_path` adds the times of a run's legs.
 ghost use Rattle.std.specs.Prelude.{◌≡◌, ◌≤◌, ◌<◌, IfOk, length, map, All};
 ghost use Rattle.rail_model.specs.Path.{Fits};
-ghost use Rattle.rail_model.specs.Tables.{path_in};
+ghost use Rattle.rail_model.specs.Tables.{path_in, run_at};
 ghost use Rattle.line_tables.specs.Table as tables;
 ghost use Rattle.line_tables.specs.Links.{IsKey, IsLinked};
 ghost use Rattle.line_tables.specs.Inside.{names_of_signal};
 ghost use Rattle.line_tables.specs.Hops as hops_in;
-ghost use Rattle.line_tables.specs.Hops.{run_at};
 
 use crate::LineTables;
 use crate::entry::Entry;

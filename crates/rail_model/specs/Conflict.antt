@@ -28,7 +28,7 @@ pub record Conflict : Type 0 where
   pub from : ℤ
   pub to : ℤ
 
--- uses u of run i and v of run j are this conflict
+-- uses u of run i and v of run j make this conflict
 pub record Makes (i : Stair) (u : Use) (j : Stair) (v : Use) (c : Conflict) : Type 0 where
   pub overlap : Overlap u v
   pub precedes : Precedes i u j v

@@ -4,7 +4,7 @@ use Rattle.rail_model.specs.declared.path.Hop.{Hop}
 use Rattle.rail_model.specs.declared.path.Path.{Path}
 use Rattle.rail_model.specs.declared.limits.TheConstants.{BLOCKS, PATH_HOPS, GREATEST_LENGTH_M, GREATEST_START_S, GREATEST_TIME_S}
 
--- stands where a path has no hop
+-- a placeholder where a path has no hop
 abbrev pub no_hop : Hop
 no_hop = record {
   block = 0;

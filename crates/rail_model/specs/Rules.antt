@@ -64,7 +64,7 @@ is_there tables (item.Run r) = has_run tables r.name
 is_there tables (item.Section s) = has_section tables s.name
 is_there tables (item.Connection c) = has_connection tables c.name
 
--- a new item may not have the item's name: it is there, or a block and a connection would share it
+-- the item's name is taken: it is there in its kind, or a block and a connection would share it
 abbrev pub is_taken : Tables → Item → Bool
 is_taken tables (item.Block b) = has_block tables b.name || has_connection tables b.name
 is_taken tables (item.Signal s) = has_signal tables s.name

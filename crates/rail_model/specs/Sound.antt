@@ -8,7 +8,7 @@ use Rattle.rail_model.specs.Name.{NamesRise}
 use Rattle.rail_model.specs.Within.{is_within}
 use Rattle.rail_model.specs.Rules.{has_block, refers_to_known, repeats, miscounts_legs}
 
--- an item that stands in tables breaks no rule there but that its name is there
+-- no rule but that of its own name being there would refuse an item of the tables
 pub record Stands (tables : Tables) (x : Item) : Type 0 where
   pub within : IsTrue (is_within x)
   pub known : IsTrue (refers_to_known tables x)

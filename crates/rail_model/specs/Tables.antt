@@ -15,7 +15,7 @@ use Rattle.rail_model.specs.Name.{is_same}
 abbrev pub number_of : {X : Type 0} → (X → List ℕ) → List X → List ℕ → ℕ
 number_of name items n = position_or_len (λ x. is_same (name x) n) items
 
--- stand where a name isn't there
+-- placeholders where a name isn't there
 abbrev pub no_block : Block
 no_block = record { name = []; length_m = 0 }
 

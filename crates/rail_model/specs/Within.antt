@@ -16,7 +16,7 @@ use Rattle.rail_model.specs.declared.limits.TheConstants.{PATH_HOPS, GREATEST_LE
 abbrev pub is_from_one : ℕ → ℕ → Bool
 is_from_one n most = nat_lt 0 n && nat_le n most
 
--- stands where a run has no leg
+-- a placeholder where a run has no leg
 abbrev pub no_leg : Leg
 no_leg = record { running_s = 0; dwell_s = 0 }
 

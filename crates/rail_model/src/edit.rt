@@ -27,7 +27,8 @@ pub enum Edit {
 pub enum Rule {
     /// A number, or the length of a list, is outside its limit.
     Range,
-    /// The name is there, or an item names something twice: a route or a section its block, a connection its run.
+    /// The name is there, or a block and a connection would share it; or an item names something twice: a
+    /// route or a section a block, also after a change of a signal, or a connection a run.
     Twice,
     /// A name isn't there.
     Unknown,

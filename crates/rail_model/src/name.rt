@@ -17,8 +17,8 @@ pub const NAME_BYTES: usize = 64;
 #[derive(Clone, Copy, Debug, PartialEq, Eq)]
 pub struct BadName;
 
-/// The name of a block, signal, route, run or section: 1 to 64 bytes of UTF-8 without a control
-/// character of ASCII. Contracts see its bytes, and names are ordered by their bytes.
+/// The name of a block, signal, route, run, section or connection: 1 to 64 bytes of UTF-8 without a
+/// control character of ASCII. Contracts see its bytes, and names are ordered by their bytes.
 #[derive(Clone, Copy)]
 pub struct Name {
     len: usize,

@@ -4,7 +4,8 @@ use crate::{List, Name};
 /// `end`, in seconds from the timetable's origin.
 #[derive(Clone, Copy)]
 pub struct Use {
-    /// In a stairway the block's number; in a cut its place in the section's list of blocks.
+    /// In a stairway the block's number; in a cut a place among its places: the section's blocks, then
+    /// connections.
     pub block: u32,
     pub start: i64,
     pub end: i64,

@@ -12,7 +12,7 @@ use std::marker::Model;
 /// The fields have fewer than 4,294,967,296 bytes together: a push past that finds no memory.
 #[derive(Drop)]
 pub struct Fields {
-    // The bytes of the fields, and room behind them.
+    // The bytes of the fields, and spare room after them.
     bytes: Vec<u8>,
     // How many bytes the fields have.
     used: usize,

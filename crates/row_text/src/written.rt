@@ -80,7 +80,7 @@ pub(crate) fn needs_quotes(field: &[u8]) -> bool
         .any(|b| *b == b',' || *b == b'"' || *b == b'\r' || *b == b'\n')
 }
 
-// The text that CSV writes for a field. Any error of its writer over memory is want of memory.
+// The text that CSV writes for a field. Any error of its writer over memory is that memory ran out.
 #[inline(never)]
 fn quoted_text(alloc: Global, field: &[u8]) -> Result<Vec<u8>, OutOfMemory>
     ensures { IfOk result (λ text. text.items
