@@ -1,0 +1,11 @@
+pub mod Places
+pub mod Members
+pub mod Precedence
+pub mod Cut
+pub mod SectionCut
+pub mod Disorder
+pub mod Schedule
+pub mod Tie
+pub mod Occupancy
+pub mod Rates
+pub mod Answer

@@ -1,0 +1,14 @@
+//! What a planner asks of a section and gets: the cut of a section, its readings, and the answer.
+//!
+//! The definitions stand in `specs/`, for all crates above: what a section's cut is, what precedes what,
+//! what a schedule is and which is the least, what disorder is, what the occupancy time is, and which
+//! answer a cut has.
+#![tactic(auto)]
+
+mod answer;
+mod cut;
+mod limits;
+
+pub use answer::{Answer, Done, Link, Placed, Plan, Tie};
+pub use cut::{Cut, CutRow};
+pub use limits::MEMBERS;
