@@ -44,8 +44,8 @@ pub record IsMoment (t : ℤ) : Type 0 where
 pub record IsSoundUse (cut : Cut) (u : Use) : Type 0 where
   pub place : u.block < place_count cut
   pub some_time : u.start <ℤ u.«end»
-  pub start : IsMoment u.start
-  pub end_ : IsMoment u.«end»
+  pub starts : IsMoment u.start
+  pub ends : IsMoment u.«end»
 
 -- a row of a sound cut: it has 1 to 256 uses of blocks and then those of connections, each of another place; its entry is the
 -- least start on a block, and lies in the window

@@ -9,3 +9,4 @@ pub mod Tie
 pub mod Occupancy
 pub mod Rates
 pub mod Answer
+pub mod Reading

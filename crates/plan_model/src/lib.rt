@@ -8,7 +8,11 @@
 mod answer;
 mod cut;
 mod limits;
+mod reading;
+mod rows;
 
 pub use answer::{Answer, Done, Link, Placed, Plan, Tie};
 pub use cut::{Cut, CutRow};
 pub use limits::MEMBERS;
+pub use reading::Reading;
+pub use rows::Rows;
