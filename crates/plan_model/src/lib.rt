@@ -6,6 +6,7 @@
 #![tactic(auto)]
 
 mod answer;
+mod copies;
 mod cut;
 mod limits;
 mod reading;
