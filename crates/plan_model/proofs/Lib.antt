@@ -1,2 +1,5 @@
 mod Examples
 pub mod ScheduleTest
+pub mod Order
+pub mod Unique
+pub mod Reduced

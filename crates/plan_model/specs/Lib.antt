@@ -10,3 +10,4 @@ pub mod Occupancy
 pub mod Rates
 pub mod Answer
 pub mod Reading
+pub mod Laws

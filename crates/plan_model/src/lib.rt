@@ -8,12 +8,14 @@
 mod answer;
 mod copies;
 mod cut;
+mod laws;
 mod limits;
 mod reading;
 mod rows;
 
 pub use answer::{Answer, Done, Link, Placed, Plan, Tie};
 pub use cut::{Cut, CutRow};
+pub use laws::{answer_is_unique, fraction_is_reduced, least_is_unique, uses_are_apart};
 pub use limits::MEMBERS;
 pub use reading::Reading;
 pub use rows::Rows;

@@ -1,0 +1,35 @@
+-- Laws of cuts, schedules and answers.
+use Rattle.std.specs.Prelude.{◌≡◌, ◌≢◌, ◌⊎◌, ℕ, ◌<◌, ℤ, ◌≤ℤ◌, List, IsTrue}
+use Rattle.plan_model.specs.declared.cut.Cut.{Cut}
+use Rattle.plan_model.specs.declared.answer.Answer.{Answer}
+use Rattle.plan_model.specs.Members.{member, member_count, uses_place}
+use Rattle.plan_model.specs.Precedence.{precedes}
+use Rattle.plan_model.specs.Cut.{IsSoundCut}
+use Rattle.plan_model.specs.Schedule.{start_by, end_by, IsSchedule, IsLeast}
+use Rattle.plan_model.specs.Answer.{IsAnswer}
+use Rattle.plan_model.specs.Rates.{reduced, IsReduced}
+
+-- a cut has at most one least schedule
+abbrev pub LeastIsUnique : Type 0
+LeastIsUnique = (cut : Cut) (entries other : List ℤ) → IsLeast cut entries → IsLeast cut other → entries ≡ other
+
+-- a cut has at most one answer
+abbrev pub AnswerIsUnique : Type 0
+AnswerIsUnique = (cut : Cut) (answer other : Answer) → IsAnswer cut answer → IsAnswer cut other → answer ≡ other
+
+-- member i precedes member j at a place, and leaves it before j starts there, or as j starts
+pub record IsClearOf (cut : Cut) (entries : List ℤ) (i j place : ℕ) : Type 0 where
+  pub precedes : IsTrue (precedes (member cut i) (member cut j) place)
+  pub apart : end_by cut entries i place ≤ℤ start_by cut entries j place
+
+-- by a schedule of a sound cut, two trains at one place keep it one after the other, in the order of precedence
+abbrev pub UsesAreApart : Type 0
+UsesAreApart =
+    (cut : Cut) (entries : List ℤ) → IsSoundCut cut → IsSchedule cut entries
+    → (i j place : ℕ) → i < member_count cut → j < member_count cut → i ≢ j
+    → IsTrue (uses_place (member cut i) place) → IsTrue (uses_place (member cut j) place)
+    → IsClearOf cut entries i j place ⊎ IsClearOf cut entries j i place
+
+-- the fraction a over b is reduced
+abbrev pub FractionIsReduced : Type 0
+FractionIsReduced = (a b : ℕ) → 0 < b → IsReduced (reduced a b) a b
