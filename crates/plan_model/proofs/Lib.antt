@@ -1,5 +1,7 @@
 mod Examples
+pub mod MemberTests
 pub mod ScheduleTest
 pub mod Order
+pub mod Tied
 pub mod Unique
 pub mod Reduced

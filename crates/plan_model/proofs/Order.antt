@@ -1,6 +1,6 @@
 -- The order of two moments with names, and of two uses of one place.
-use Rattle.std.proofs.Common.{◌≡◌, ℕ, ◌<◌, ◌⊎◌, true, false, ◌&&◌, ◌||◌, List, inl, inr, sym, arith}
-use Rattle.std.specs.Prelude.{◌≢◌, ℤ, ◌≤ℤ◌, int_lt, IsTrue}
+use Rattle.std.proofs.Common.{◌≡◌, ℕ, ◌<◌, ◌⊎◌, true, false, ◌&&◌, List, inl, inr, arith}
+use Rattle.std.specs.Prelude.{ℤ, int_lt, IsTrue}
 use Rattle.std.specs.Ordering.{int_eq}
 use Rattle.std.proofs.lemmas.Bool.{cases_Bool, cases_order, or_left, or_right, and_from}
 use Rattle.std.proofs.lemmas.Bool.Decides.{Decides-int_eq}

@@ -1,9 +1,9 @@
 -- Dividing both parts by their greatest common divisor reduces a fraction.
-use Rattle.std.proofs.Common.{◌≡◌, ℕ, zero, suc, ◌*◌, ◌/◌, ◌%◌, ◌<◌, ◌≤◌, refl, sym, subst, arith}
+use Rattle.std.proofs.Common.{◌≡◌, ℕ, zero, suc, ◌*◌, ◌/◌, ◌%◌, ◌<◌, ◌≤◌, refl, subst, arith}
 use Rattle.std.specs.Int.{IsGcd, ◌∣◌}
 use Rattle.std.proofs.Math.Nat.{one-dvd, dvd-mul_left, mul-dvd-mul_left, dvd_of_mul-dvd-mul_left, mul-div_cancel', pos_of_dvd_of_pos}
 use Rattle.std.proofs.lemmas.Nat.Gcd.{IsGcd-from_zero, IsGcd-from_mod}
-use Rattle.plan_model.specs.Rates.{common_divisor, reduced, IsReduced}
+use Rattle.plan_model.specs.Rates.{common_divisor}
 use Rattle.plan_model.specs.Laws.{FractionIsReduced}
 
 -- the divisions find the greatest common divisor

@@ -1,36 +1,18 @@
 -- A test that shows a list of entries to be a schedule.
-use Rattle.std.proofs.Common.{◌≡◌, ℕ, ◌<◌, Bool, true, not, ◌&&◌, ◌||◌, List, length, get_or, inl, inr, ◌∙◌, subst, arith}
+use Rattle.std.proofs.Common.{◌≡◌, ℕ, ◌<◌, Bool, true, not, ◌&&◌, ◌||◌, List, length, inl, inr, arith}
 use Rattle.std.specs.Prelude.{ℤ, ◌==◌, ◌≤ℤ◌, int_le, IsTrue}
 use Rattle.std.specs.List.{list_all}
 use Rattle.std.proofs.lemmas.Bool.{and_parts, or_cases, not-true, eqb-true, both_ways}
 use Rattle.std.proofs.lemmas.Int.{ints}
-use Rattle.std.proofs.lemmas.List.Sums.{AllPass-from_list_all}
-use Rattle.std.proofs.lemmas.List.Folds.{Any-from_list_any}
-use Rattle.std.proofs.lemmas.List.FromFn.{length-range_with_len, get_or-range_with_len}
 use Rattle.rail_model.specs.declared.stair.Use.{Use}
-use Rattle.plan_model.specs.declared.cut.CutRow.{CutRow}
 use Rattle.plan_model.specs.declared.cut.Cut.{Cut}
-use Rattle.plan_model.specs.Members.{member, member_count, members, uses_place}
+use Rattle.plan_model.specs.Members.{member, member_count, members}
 use Rattle.plan_model.specs.Precedence.{precedes}
+use Rattle.plan_model.proofs.MemberTests.{at_member, at_use}
 use Rattle.plan_model.specs.Schedule.{window_start, entry_at, start_by, end_by, IsSchedule}
 
 le_from_test : (a b : ℤ) → int_le a b ≡ true → a ≤ℤ b
 le_from_test a b h = grind (arith, ints)
-
--- what a test finds of all members holds of each
-at_member : (cut : Cut) (test : ℕ → Bool) (i : ℕ) → list_all test (members cut) ≡ true → i < member_count cut → test i ≡ true
-at_member cut test i h l =
-    let at : get_or (members cut) i 0 ≡ i = get_or-range_with_len 0 (member_count cut) i 0 l ∙ omega arith in
-    let long = length-range_with_len 0 (member_count cut) in
-    subst (λ k. test k ≡ true) at (AllPass-from_list_all test (members cut) h i 0 (omega arith))
-
--- what a test finds of the places of all uses holds of each place that is used
-at_use : (row : CutRow) (test : ℕ → Bool) (place : ℕ) → list_all (λ (u : Use). test u.block) row.uses ≡ true → uses_place row place ≡ true → test place ≡ true
-at_use row test place h used =
-    let some = Any-from_list_any (λ (u : Use). u.block == place) row.uses used in
-    let is : some.1.block ≡ place = eqb-true some.1.block place some.4 in
-    subst (λ p. test p ≡ true) is
-    (subst (λ (u : Use). test u.block ≡ true) some.3 (AllPass-from_list_all (λ (u : Use). test u.block) row.uses h some.0 some.1 some.2))
 
 module _ (cut : Cut) (entries : List ℤ) where
   -- member i keeps its order with member j at a place

@@ -1,5 +1,5 @@
 -- A cut has at most one least schedule and one answer.
-use Rattle.std.proofs.Common.{◌≡◌, ℕ, ◌<◌, ◌≤◌, List, [], sym, ap, ◌∙◌, subst, arith}
+use Rattle.std.proofs.Common.{◌≡◌, ◌<◌, sym, ap, ◌∙◌, arith}
 use Rattle.std.specs.Prelude.{ℤ, pos, ◌≤ℤ◌, Option, Some, None}
 use Rattle.std.proofs.lemmas.Int.{ints}
 use Rattle.std.proofs.lemmas.List.{ext_get_or}
@@ -8,9 +8,9 @@ use Rattle.plan_model.specs.declared.answer.Plan.{Plan}
 use Rattle.plan_model.specs.declared.answer.Answer.{Answer}
 use Rattle.plan_model.specs.declared.answer.Answer.TheVariants as answer
 use Rattle.plan_model.specs.Members.{member_count}
-use Rattle.plan_model.specs.Disorder.{Opposite, opposite, ring}
-use Rattle.plan_model.specs.Schedule.{entry_at, IsLeast}
-use Rattle.plan_model.specs.Answer.{plan_of, IsCompressed, IsAnswer}
+use Rattle.plan_model.specs.Disorder.{Opposite}
+use Rattle.plan_model.specs.Schedule.{entry_at}
+use Rattle.plan_model.specs.Answer.{plan_of, IsCompressed}
 use Rattle.plan_model.specs.Laws.{LeastIsUnique, AnswerIsUnique}
 
 both_ways : (a b : ℤ) → a ≤ℤ b → b ≤ℤ a → a ≡ b

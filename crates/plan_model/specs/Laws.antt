@@ -1,11 +1,15 @@
 -- Laws of cuts, schedules and answers.
-use Rattle.std.specs.Prelude.{◌≡◌, ◌≢◌, ◌⊎◌, ℕ, ◌<◌, ℤ, ◌≤ℤ◌, List, IsTrue}
+use Rattle.std.specs.Prelude.{◌≡◌, ◌≢◌, ◌⊎◌, ℕ, ◌<◌, ℤ, ◌≤ℤ◌, List, [], IsTrue}
+use Rattle.std.specs.List.{list_any}
 use Rattle.plan_model.specs.declared.cut.Cut.{Cut}
 use Rattle.plan_model.specs.declared.answer.Answer.{Answer}
+use Rattle.plan_model.specs.Places.{places}
 use Rattle.plan_model.specs.Members.{member, member_count, uses_place}
 use Rattle.plan_model.specs.Precedence.{precedes}
 use Rattle.plan_model.specs.Cut.{IsSoundCut}
-use Rattle.plan_model.specs.Schedule.{start_by, end_by, IsSchedule, IsLeast}
+use Rattle.plan_model.specs.Disorder.{remaining}
+use Rattle.plan_model.specs.Schedule.{window_start, entry_at, start_by, end_by, IsSchedule, IsLeast}
+use Rattle.plan_model.specs.Tie.{touches}
 use Rattle.plan_model.specs.Answer.{IsAnswer}
 use Rattle.plan_model.specs.Rates.{reduced, IsReduced}
 
@@ -29,6 +33,18 @@ UsesAreApart =
     → (i j place : ℕ) → i < member_count cut → j < member_count cut → i ≢ j
     → IsTrue (uses_place (member cut i) place) → IsTrue (uses_place (member cut j) place)
     → IsClearOf cut entries i j place ⊎ IsClearOf cut entries j i place
+
+-- member j enters at the window's start, or touches a member that precedes it
+abbrev pub IsTied : Cut → List ℤ → ℕ → Type 0
+IsTied cut entries j =
+    (entry_at entries j ≡ window_start cut)
+    ⊎ ((i : ℕ) × (i < member_count cut) × IsTrue (list_any (touches cut entries i j) (places cut)))
+
+-- where no member remains, a schedule in which each train is tied is the least
+abbrev pub TiedIsLeast : Type 0
+TiedIsLeast =
+    (cut : Cut) (entries : List ℤ) → remaining cut ≡ [] → IsSchedule cut entries
+    → ((j : ℕ) → j < member_count cut → IsTied cut entries j) → IsLeast cut entries
 
 -- the fraction a over b is reduced
 abbrev pub FractionIsReduced : Type 0

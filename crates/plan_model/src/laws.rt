@@ -1,5 +1,5 @@
 //! Laws of the definitions: each function does nothing, and its contract is the law.
-ghost use Rattle.plan_model.specs.Laws.{LeastIsUnique, AnswerIsUnique, UsesAreApart, FractionIsReduced};
+ghost use Rattle.plan_model.specs.Laws.{LeastIsUnique, AnswerIsUnique, UsesAreApart, TiedIsLeast, FractionIsReduced};
 
 /// A cut has at most one least schedule.
 pub fn least_is_unique()
@@ -17,6 +17,13 @@ pub fn answer_is_unique()
 /// precedence.
 pub fn uses_are_apart()
     ensures { UsesAreApart }
+{
+}
+
+/// Where no member remains, a schedule in which each train enters at the window's start or touches a train
+/// that precedes it is the least.
+pub fn tied_is_least()
+    ensures { TiedIsLeast }
 {
 }
 

@@ -15,7 +15,9 @@ mod rows;
 
 pub use answer::{Answer, Done, Link, Placed, Plan, Tie};
 pub use cut::{Cut, CutRow};
-pub use laws::{answer_is_unique, fraction_is_reduced, least_is_unique, uses_are_apart};
+pub use laws::{
+    answer_is_unique, fraction_is_reduced, least_is_unique, tied_is_least, uses_are_apart,
+};
 pub use limits::MEMBERS;
 pub use reading::Reading;
 pub use rows::Rows;
