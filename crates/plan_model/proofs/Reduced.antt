@@ -17,12 +17,15 @@ crosswise g p q a b e f = rw (← e, ← f) (omega arith)
 
 -- a divisor of both quotients, times g, divides both numbers, and so g
 lowest : (g p q a b : ℕ) → 0 < g → g * p ≡ a → g * q ≡ b → IsGcd a b g → IsGcd p q 1
-lowest g p q a b some e f h =
-    (one-dvd p, one-dvd q, λ d dp dq.
-    let da : g * d ∣ a = subst (λ x. g * d ∣ x) e (mul-dvd-mul_left d g dp) in
-    let db : g * d ∣ b = subst (λ x. g * d ∣ x) f (mul-dvd-mul_left d g dq) in
-    let one : g ≡ g * 1 = omega arith in
-    dvd_of_mul-dvd-mul_left d some (subst (λ x. g * d ∣ x) one (h.2 (g * d) da db)))
+lowest g p q a b some e f h = (
+  one-dvd p,
+  one-dvd q,
+  λ d dp dq.
+      let da : g * d ∣ a = subst (λ x. g * d ∣ x) e (mul-dvd-mul_left d g dp) in
+      let db : g * d ∣ b = subst (λ x. g * d ∣ x) f (mul-dvd-mul_left d g dq) in
+      let one : g ≡ g * 1 = omega arith in
+      dvd_of_mul-dvd-mul_left d some (subst (λ x. g * d ∣ x) one (h.2 (g * d) da db)),
+)
 
 pub fraction_is_reduced : FractionIsReduced
 fraction_is_reduced a b pos =

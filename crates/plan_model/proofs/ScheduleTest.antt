@@ -1,15 +1,22 @@
--- A test that shows a list of entries to be a schedule.
-use Rattle.std.proofs.Common.{◌≡◌, ℕ, ◌<◌, Bool, true, not, ◌&&◌, ◌||◌, List, length, inl, inr, arith}
+-- Tests that show a list of entries to be a schedule, and the least.
+use Rattle.std.proofs.Common.{◌≡◌, ℕ, ◌<◌, Bool, true, not, ◌&&◌, ◌||◌, List, [], length, inl, inr, arith}
 use Rattle.std.specs.Prelude.{ℤ, ◌==◌, ◌≤ℤ◌, int_le, IsTrue}
-use Rattle.std.specs.List.{list_all}
+use Rattle.std.specs.List.{list_all, list_any}
 use Rattle.std.proofs.lemmas.Bool.{and_parts, or_cases, not-true, eqb-true, both_ways}
 use Rattle.std.proofs.lemmas.Int.{ints}
 use Rattle.rail_model.specs.declared.stair.Use.{Use}
 use Rattle.plan_model.specs.declared.cut.Cut.{Cut}
 use Rattle.plan_model.specs.Members.{member, member_count, members}
 use Rattle.plan_model.specs.Precedence.{precedes}
-use Rattle.plan_model.proofs.MemberTests.{at_member, at_use}
-use Rattle.plan_model.specs.Schedule.{window_start, entry_at, start_by, end_by, IsSchedule}
+use Rattle.plan_model.proofs.MemberTests.{at_member, some_member, at_use}
+use Rattle.plan_model.specs.Disorder.{remaining}
+use Rattle.plan_model.specs.Schedule.{window_start, entry_at, start_by, end_by, IsSchedule, IsLeast}
+use Rattle.plan_model.specs.Tie.{touches}
+use Rattle.plan_model.specs.Places.{places}
+use Rattle.plan_model.specs.Laws.{IsTied}
+use Rattle.plan_model.proofs.Tied.{tied_is_least}
+use Rattle.std.specs.Ordering.{int_eq}
+use Rattle.std.proofs.lemmas.Bool.Decides.{Decides-int_eq}
 
 le_from_test : (a b : ℤ) → int_le a b ≡ true → a ≤ℤ b
 le_from_test a b h = grind (arith, ints)
@@ -50,3 +57,19 @@ module _ (cut : Cut) (entries : List ℤ) where
             (at_member cut (λ i. int_le (window_start cut) (entry_at entries i)) i rest.0 l);
         order = in_order rest.1;
       }
+
+  -- member j is tied
+  abbrev pub is_tied : ℕ → Bool
+  is_tied j =
+      int_eq (entry_at entries j) (window_start cut)
+      || list_any (λ i. list_any (touches cut entries i j) (places cut)) (members cut)
+
+  tied : list_all is_tied (members cut) ≡ true → (j : ℕ) → j < member_count cut → IsTied cut entries j
+  tied h j l =
+      elim (or_cases _ _ (at_member cut is_tied j h l)) [
+        | inl e ↦ inl ((Decides-int_eq (entry_at entries j) (window_start cut)).0 e)
+        | inr t ↦ inr (some_member cut (λ i. list_any (touches cut entries i j) (places cut)) t)
+      ]
+
+  pub least : remaining cut ≡ [] → is_schedule ≡ true → list_all is_tied (members cut) ≡ true → IsLeast cut entries
+  least none h t = tied_is_least cut entries none (schedule h) (tied t)

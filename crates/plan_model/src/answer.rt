@@ -72,7 +72,9 @@ pub enum Answer {
     /// Trains of which each precedes the next, and the last the first.
     Ring(List<Link>),
     /// More members than are compressed.
-    Crowded { count: u32 },
+    Crowded {
+        count: u32,
+    },
 }
 
 /// An answer of a section, with the number of the last edit that it speaks of.
