@@ -64,7 +64,8 @@ kept place from to = record { block = place; start = pos from; «end» = pos to 
 abbrev row : List ℕ → ℤ → List Use → CutRow
 row name entry uses = record { name = name; stamp = 0; entry = entry; uses = uses }
 
--- a compressed timetable over these places, with its trains, its occupancy time, its busiest block and its critical train
+-- a compressed timetable over these places, with its trains, its occupancy time, its busiest block and its critical
+-- train
 abbrev plan : List (List ℕ) → List Placed → ℕ → Option ℕ → Option ℕ → Answer
 plan places trains time busiest critical = answer.Ordered (record {
   from_s = 0;
@@ -82,7 +83,9 @@ abbrev placed : List ℕ → ℕ → ℕ → Tie → Placed
 placed name planned entry tie = record { train = name; planned = pos planned; entry = pos entry; tie = tie }
 
 -- the least schedule gives the answer of a cut without disorder
-pub compressed : (cut : Cut) (entries : List ℤ) → member_count cut ≤ 768 → opposite cut ≡ None → remaining cut ≡ [] → is_schedule cut entries ≡ true → list_all (is_tied cut entries) (members cut) ≡ true → IsAnswer cut (answer.Ordered (plan_of cut entries))
+pub compressed : (cut : Cut) (entries : List ℤ) → member_count cut ≤ 768 → opposite cut ≡ None → remaining cut ≡ []
+    → is_schedule cut entries ≡ true → list_all (is_tied cut entries) (members cut) ≡ true
+    → IsAnswer cut (answer.Ordered (plan_of cut entries))
 compressed cut entries few none left schedule tied = (few, none, left, (entries, least cut entries left schedule tied, refl))
 
 -- ---- a line of two blocks, with a train at 100 and a train at 400
@@ -129,7 +132,8 @@ second_follows = refl
 abbrev pressed : List ℤ
 pressed = pos 0 ∷ pos 150 ∷ []
 
-two_trains_answer : IsAnswer two_trains (plan (codes "A" ∷ codes "B" ∷ []) (placed (codes "T1") 85 0 Start ∷ placed (codes "T2") 385 150 (After 0 1) ∷ []) 300 (Some 1) (Some 1))
+two_trains_answer : IsAnswer two_trains (plan (codes "A" ∷ codes "B" ∷ []) (placed (codes "T1") 85 0 Start
+    ∷ placed (codes "T2") 385 150 (After 0 1) ∷ []) 300 (Some 1) (Some 1))
 two_trains_answer = compressed two_trains pressed (lit≤ tt) refl refl refl refl
 
 one_second_less : is_schedule two_trains (pos 0 ∷ pos 149 ∷ []) ≡ false
@@ -156,10 +160,12 @@ second_alone = record {
   rows = row (codes "T2") (pos 385) (kept 0 385 471 ∷ kept 1 385 535 ∷ []) ∷ [];
 }
 
-early_train : cut_of (line (train (codes "T1") (codes "R") 0 (60 ∷ 60 ∷ []) ∷ t2 ∷ []) []) (codes "S") ≡ Some second_alone
+early_train : cut_of (line (train (codes "T1") (codes "R") 0 (60 ∷ 60 ∷ []) ∷ t2 ∷ []) []) (codes "S")
+    ≡ Some second_alone
 early_train = refl
 
-second_alone_answer : IsAnswer second_alone (plan (codes "A" ∷ codes "B" ∷ []) (placed (codes "T2") 385 0 Start ∷ []) 150 (Some 1) (Some 0))
+second_alone_answer : IsAnswer second_alone (plan (codes "A" ∷ codes "B" ∷ []) (placed (codes "T2") 385 0 Start
+    ∷ []) 150 (Some 1) (Some 0))
 second_alone_answer = compressed second_alone (pos 0 ∷ []) (lit≤ tt) refl refl refl refl
 
 second_alone_rate : rate second_alone.section 150 ≡ record { num = 1; den = 24 }
@@ -192,16 +198,20 @@ four_trains = record {
   section = section (codes "A" ∷ codes "B" ∷ []);
   connections = [];
   rows =
-      nth_row (codes "t0001") 85 ∷ nth_row (codes "t0002") 86 ∷ nth_row (codes "t0003") 87 ∷ nth_row (codes "t0004") 88 ∷ [];
+      nth_row (codes "t0001") 85 ∷ nth_row (codes "t0002") 86 ∷ nth_row (codes "t0003") 87
+      ∷ nth_row (codes "t0004") 88 ∷ [];
 }
 
-four_trains_cut : cut_of (line (nth (codes "t0001") 100 ∷ nth (codes "t0002") 101 ∷ nth (codes "t0003") 102 ∷ nth (codes "t0004") 103 ∷ []) []) (codes "S") ≡ Some four_trains
+four_trains_cut : cut_of (line (nth (codes "t0001") 100 ∷ nth (codes "t0002") 101 ∷ nth (codes "t0003") 102
+    ∷ nth (codes "t0004") 103 ∷ []) []) (codes "S") ≡ Some four_trains
 four_trains_cut = refl
 
 abbrev four_pressed : List ℤ
 four_pressed = pos 0 ∷ pos 150 ∷ pos 300 ∷ pos 450 ∷ []
 
-four_trains_answer : IsAnswer four_trains (plan (codes "A" ∷ codes "B" ∷ []) (placed (codes "t0001") 85 0 Start ∷ placed (codes "t0002") 86 150 (After 0 1) ∷ placed (codes "t0003") 87 300 (After 1 1) ∷ placed (codes "t0004") 88 450 (After 2 1) ∷ []) 600 (Some 1) (Some 3))
+four_trains_answer : IsAnswer four_trains (plan (codes "A" ∷ codes "B" ∷ []) (placed (codes "t0001") 85 0 Start
+    ∷ placed (codes "t0002") 86 150 (After 0 1) ∷ placed (codes "t0003") 87 300 (After 1 1)
+    ∷ placed (codes "t0004") 88 450 (After 2 1) ∷ []) 600 (Some 1) (Some 3))
 four_trains_answer = compressed four_trains four_pressed (lit≤ tt) refl refl refl refl
 
 four_trains_rate : rate four_trains.section 600 ≡ record { num = 1; den = 6 }
@@ -228,7 +238,8 @@ connected_cut = refl
 abbrev connected_pressed : List ℤ
 connected_pressed = pos 0 ∷ pos 180 ∷ []
 
-connected_answer : IsAnswer connected (plan (codes "A" ∷ codes "B" ∷ codes "C" ∷ []) (placed (codes "T1") 85 0 Start ∷ placed (codes "T2") 385 180 (After 0 2) ∷ []) 330 (Some 1) (Some 1))
+connected_answer : IsAnswer connected (plan (codes "A" ∷ codes "B" ∷ codes "C" ∷ [])
+    (placed (codes "T1") 85 0 Start ∷ placed (codes "T2") 385 180 (After 0 2) ∷ []) 330 (Some 1) (Some 1))
 connected_answer = compressed connected connected_pressed (lit≤ tt) refl refl refl refl
 
 connection_missed : is_schedule connected (pos 0 ∷ pos 179 ∷ []) ≡ false
@@ -252,7 +263,11 @@ plain_line signals runs connections = record {
   blocks = block (codes "A") ∷ block (codes "B") ∷ [];
   signals = signal (codes "SA") (codes "A") 0 ∷ signal (codes "SB") (codes "B") 0 ∷ [];
   routes =
-      record { name = codes "Q"; signals = signals } ∷ record { name = codes "R"; signals = codes "SA" ∷ codes "SB" ∷ [] } ∷ [];
+      record { name = codes "Q"; signals = signals } ∷ record {
+        name = codes "R";
+        signals = codes "SA"
+            ∷ codes "SB" ∷ [];
+      } ∷ [];
   runs = runs;
   sections = section (codes "A" ∷ codes "B" ∷ []) ∷ [];
   connections = connections;
@@ -268,7 +283,8 @@ against = record {
       ∷ [];
 }
 
-against_cut : cut_of (plain_line (codes "SB" ∷ codes "SA" ∷ []) (t1 ∷ train (codes "T2") (codes "Q") 100 (60 ∷ 60 ∷ []) ∷ []) []) (codes "S") ≡ Some against
+against_cut : cut_of (plain_line (codes "SB" ∷ codes "SA" ∷ []) (t1 ∷ train (codes "T2") (codes "Q") 100 (60 ∷ 60
+    ∷ []) ∷ []) []) (codes "S") ≡ Some against
 against_cut = refl
 
 against_answer : IsAnswer against (answer.Opposite (codes "T1") (codes "T2") (codes "A") (codes "B"))
@@ -281,7 +297,8 @@ joining = record {
   section = section (codes "A" ∷ codes "B" ∷ []);
   connections = [];
   rows =
-      row (codes "T1") (pos 85) (kept 0 85 311 ∷ kept 1 285 375 ∷ []) ∷ row (codes "T2") (pos 135) (kept 1 135 225 ∷ []) ∷ [];
+      row (codes "T1") (pos 85) (kept 0 85 311 ∷ kept 1 285 375 ∷ []) ∷ row (codes "T2") (pos 135) (kept 1 135 225
+      ∷ []) ∷ [];
 }
 
 abbrev joining_runs : List Run
@@ -293,7 +310,8 @@ joining_cut = refl
 joining_precedes : precedes (member joining 1) (member joining 0) 1 ≡ true
 joining_precedes = refl
 
-joining_answer : IsAnswer joining (plan (codes "A" ∷ codes "B" ∷ []) (placed (codes "T1") 85 0 Start ∷ placed (codes "T2") 135 0 Start ∷ []) 290 (Some 1) (Some 0))
+joining_answer : IsAnswer joining (plan (codes "A" ∷ codes "B" ∷ []) (placed (codes "T1") 85 0 Start
+    ∷ placed (codes "T2") 135 0 Start ∷ []) 290 (Some 1) (Some 0))
 joining_answer = compressed joining (pos 0 ∷ pos 0 ∷ []) (lit≤ tt) refl refl refl refl
 
 joining_rate : rate joining.section 290 ≡ record { num = 29; den = 360 }
@@ -313,7 +331,8 @@ crossed = record {
       ∷ [];
 }
 
-crossed_cut : cut_of (plain_line (codes "SB" ∷ []) joining_runs (connect (codes "T1") (codes "T2") 0 ∷ [])) (codes "S") ≡ Some crossed
+crossed_cut : cut_of (plain_line (codes "SB" ∷ []) joining_runs (connect (codes "T1") (codes "T2") 0
+    ∷ [])) (codes "S") ≡ Some crossed
 crossed_cut = refl
 
 crossed_answer : IsAnswer crossed (answer.Opposite (codes "T1") (codes "T2") (codes "C") (codes "B"))
@@ -328,7 +347,8 @@ abbrev three_blocks : Tables
 three_blocks = record {
   blocks = block (codes "K1") ∷ block (codes "K2") ∷ block (codes "K3") ∷ [];
   signals =
-      signal (codes "G1") (codes "K1") 0 ∷ signal (codes "G2") (codes "K2") 0 ∷ signal (codes "G3") (codes "K3") 0 ∷ [];
+      signal (codes "G1") (codes "K1") 0 ∷ signal (codes "G2") (codes "K2") 0 ∷ signal (codes "G3") (codes "K3") 0
+      ∷ [];
   routes =
       record { name = codes "R1"; signals = codes "G1" ∷ codes "G2" ∷ [] }
       ∷ record { name = codes "R2"; signals = codes "G2" ∷ codes "G3" ∷ [] }
@@ -359,7 +379,8 @@ circling_remaining = refl
 abbrev link : List ℕ → List ℕ → List ℕ → Link
 link train block next = record { train = train; block = block; next = next }
 
-circling_answer : IsAnswer circling (answer.Ring (link (codes "T1") (codes "K1") (codes "T3") ∷ link (codes "T3") (codes "K3") (codes "T2") ∷ link (codes "T2") (codes "K2") (codes "T1") ∷ []))
+circling_answer : IsAnswer circling (answer.Ring (link (codes "T1") (codes "K1") (codes "T3")
+    ∷ link (codes "T3") (codes "K3") (codes "T2") ∷ link (codes "T2") (codes "K2") (codes "T1") ∷ []))
 circling_answer = (lit≤ tt, refl, λ e. cc, refl)
 
 -- ---- more members than are compressed

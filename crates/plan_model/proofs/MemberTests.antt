@@ -15,13 +15,15 @@ position : (cut : Cut) (i : ℕ) → i < member_count cut → get_or (members cu
 position cut i l = get_or-range_with_len 0 (member_count cut) i 0 l ∙ omega arith
 
 -- what a test finds of all members holds of each
-pub at_member : (cut : Cut) (test : ℕ → Bool) (i : ℕ) → list_all test (members cut) ≡ true → i < member_count cut → test i ≡ true
+pub at_member : (cut : Cut) (test : ℕ → Bool) (i : ℕ) → list_all test (members cut) ≡ true → i < member_count cut
+    → test i ≡ true
 at_member cut test i h l =
     let long = length-range_with_len 0 (member_count cut) in
     subst (λ k. test k ≡ true) (position cut i l) (AllPass-from_list_all test (members cut) h i 0 (omega arith))
 
 -- what a test finds of some member holds of one
-pub some_member : (cut : Cut) (test : ℕ → Bool) → list_any test (members cut) ≡ true → (i : ℕ) × (i < member_count cut) × (test i ≡ true)
+pub some_member : (cut : Cut) (test : ℕ → Bool) → list_any test (members cut) ≡ true
+    → (i : ℕ) × (i < member_count cut) × (test i ≡ true)
 some_member cut test h =
     let some = Any-from_list_any test (members cut) h in
     let here : some.0 < member_count cut = omega (arith, some.2, length-range_with_len 0 (member_count cut)) in
@@ -29,7 +31,8 @@ some_member cut test h =
     (some.0, here, subst (λ k. test k ≡ true) (sym some.3 ∙ at) some.4)
 
 -- what a test finds of the places of all uses holds of each place that is used
-pub at_use : (row : CutRow) (test : ℕ → Bool) (place : ℕ) → list_all (λ (u : Use). test u.block) row.uses ≡ true → uses_place row place ≡ true → test place ≡ true
+pub at_use : (row : CutRow) (test : ℕ → Bool) (place : ℕ) → list_all (λ (u : Use). test u.block) row.uses ≡ true
+    → uses_place row place ≡ true → test place ≡ true
 at_use row test place h used =
     let some = Any-from_list_any (λ (u : Use). u.block == place) row.uses used in
     let is : some.1.block ≡ place = eqb-true some.1.block place some.4 in
@@ -47,14 +50,16 @@ has-members cut i l =
     list_any_at (λ k. k == i) (members cut) i 0 (omega arith) (eq-eqb _ i (position cut i l))
 
 -- one of some that pass a test shows that some do
-pub has_any : (test : ℕ → Bool) (some : List ℕ) (i : ℕ) → has some i ≡ true → test i ≡ true → list_any test some ≡ true
+pub has_any : (test : ℕ → Bool) (some : List ℕ) (i : ℕ) → has some i ≡ true → test i ≡ true
+    → list_any test some ≡ true
 has_any test some i h p =
     let at = Any-from_list_any (λ k. k == i) some h in
     let is : at.1 ≡ i = eqb-true at.1 i at.4 in
     list_any_at test some at.0 at.1 at.2 (subst (λ k. test k ≡ true) (sym is ∙ sym at.3) p)
 
 -- one of some that passes a test stands among those that do
-pub has-filter : (test : ℕ → Bool) (some : List ℕ) (i : ℕ) → has some i ≡ true → test i ≡ true → has (filter test some) i ≡ true
+pub has-filter : (test : ℕ → Bool) (some : List ℕ) (i : ℕ) → has some i ≡ true → test i ≡ true
+    → has (filter test some) i ≡ true
 has-filter test [] i h p = absurd (cc)
 has-filter test (k ∷ some) i h p =
     elim (cases_Bool (k == i)) [

@@ -31,10 +31,12 @@ ordered s t a b h =
     ]
 
 module _ (cut : Cut) (entries : List ℤ) (sound : IsSoundCut cut) (schedule : IsSchedule cut entries) where
-  clear : (i j place : ℕ) → i < member_count cut → j < member_count cut → IsTrue (precedes (member cut i) (member cut j) place) → IsClearOf cut entries i j place
+  clear : (i j place : ℕ) → i < member_count cut → j < member_count cut
+      → IsTrue (precedes (member cut i) (member cut j) place) → IsClearOf cut entries i j place
   clear i j place li lj p = record { precedes = p; apart = schedule.order i j place li lj p }
 
-  apart_if_less : (i j place : ℕ) → i < j → j < member_count cut → IsTrue (uses_place (member cut i) place) → IsTrue (uses_place (member cut j) place) → IsClearOf cut entries i j place ⊎ IsClearOf cut entries j i place
+  apart_if_less : (i j place : ℕ) → i < j → j < member_count cut → IsTrue (uses_place (member cut i) place)
+      → IsTrue (uses_place (member cut j) place) → IsClearOf cut entries i j place ⊎ IsClearOf cut entries j i place
   apart_if_less i j place l lj p q =
       let a = member cut i in
       let b = member cut j in

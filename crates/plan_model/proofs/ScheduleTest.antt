@@ -36,7 +36,9 @@ module _ (cut : Cut) (entries : List ℤ) where
       (length entries == member_count cut)
       && (list_all (λ i. int_le (window_start cut) (entry_at entries i)) (members cut) && list_all keeps_order (members cut))
 
-  in_order : list_all keeps_order (members cut) ≡ true → (i j place : ℕ) → i < member_count cut → j < member_count cut → IsTrue (precedes (member cut i) (member cut j) place) → end_by cut entries i place ≤ℤ start_by cut entries j place
+  in_order : list_all keeps_order (members cut) ≡ true → (i j place : ℕ) → i < member_count cut
+      → j < member_count cut → IsTrue (precedes (member cut i) (member cut j) place)
+      → end_by cut entries i place ≤ℤ start_by cut entries j place
   in_order h i j place li lj p =
       let of_i = at_member cut keeps_order i h li in
       let of_j = at_member cut (λ j. list_all (λ (u : Use). keeps_order_at i j u.block) (member cut i).uses) j of_i lj in

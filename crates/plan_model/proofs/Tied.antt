@@ -1,4 +1,5 @@
--- Where no member remains, a schedule in which each train is tied is the least: along the rounds, no train can enter earlier.
+-- Where no member remains, a schedule in which each train is tied is the least: along the rounds, no train can
+-- enter earlier.
 use Rattle.std.proofs.Common.{◌≡◌, ℕ, zero, suc, ◌<◌, true, false, List, [], inl, inr, sym, ap, subst, arith}
 use Rattle.std.specs.Prelude.{ℤ, ◌+ℤ◌, ◌-ℤ◌, ◌≤ℤ◌}
 use Rattle.std.specs.List.{list_any}
@@ -17,7 +18,8 @@ use Rattle.plan_model.specs.Laws.{IsTied, TiedIsLeast}
 use Rattle.plan_model.proofs.MemberTests.{has, has-members, has_any, has-filter}
 
 -- a train that touches another enters no later than it must, if the other does
-no_later : (end e x y start f u v : ℤ) → (end -ℤ e +ℤ x) ≡ (start -ℤ f +ℤ u) → (end -ℤ e +ℤ y) ≤ℤ (start -ℤ f +ℤ v) → x ≤ℤ y → u ≤ℤ v
+no_later : (end e x y start f u v : ℤ) → (end -ℤ e +ℤ x) ≡ (start -ℤ f +ℤ u) → (end -ℤ e +ℤ y) ≤ℤ (start -ℤ f +ℤ v)
+    → x ≤ℤ y → u ≤ℤ v
 no_later end e x y start f u v t o h = omega (arith, ints)
 
 module _ (cut : Cut) (entries other : List ℤ) (schedule : IsSchedule cut other) (tied : (j : ℕ) → j < member_count cut → IsTied cut entries j) where
@@ -29,7 +31,8 @@ module _ (cut : Cut) (entries other : List ℤ) (schedule : IsSchedule cut other
   abbrev OthersEarly : List ℕ → Type 0
   OthersEarly some = (j : ℕ) → j < member_count cut → has some j ≡ false → Early j
 
-  touching : (i j place : ℕ) → i < member_count cut → j < member_count cut → touches cut entries i j place ≡ true → Early i → Early j
+  touching : (i j place : ℕ) → i < member_count cut → j < member_count cut → touches cut entries i j place ≡ true
+      → Early i → Early j
   touching i j place li lj t early =
       let parts = and_parts _ _ t in
       let a = member cut i in
@@ -38,14 +41,16 @@ module _ (cut : Cut) (entries other : List ℤ) (schedule : IsSchedule cut other
       ((Decides-int_eq (end_by cut entries i place) (start_by cut entries j place)).0 parts.1)
       (schedule.order i j place li lj parts.0) early
 
-  precedes_where_touches : (i j : ℕ) → list_any (touches cut entries i j) (places cut) ≡ true → precedes_somewhere cut i j ≡ true
+  precedes_where_touches : (i j : ℕ) → list_any (touches cut entries i j) (places cut) ≡ true
+      → precedes_somewhere cut i j ≡ true
   precedes_where_touches i j t =
       let at = Any-from_list_any (touches cut entries i j) (places cut) t in
       list_any_at (precedes (member cut i) (member cut j)) (places cut) at.0 at.1 at.2
       (subst (λ b. precedes (member cut i) (member cut j) b ≡ true) (sym at.3) (and_parts _ _ at.4).0)
 
   -- a member of some that none of them precedes is tied to one that isn't among them
-  first_early : (some : List ℕ) → OthersEarly some → (j : ℕ) → j < member_count cut → list_any (λ i. precedes_somewhere cut i j) some ≡ false → Early j
+  first_early : (some : List ℕ) → OthersEarly some → (j : ℕ) → j < member_count cut
+      → list_any (λ i. precedes_somewhere cut i j) some ≡ false → Early j
   first_early some early j lj first =
       elim (tied j lj) [
         | inl e ↦ rw e (schedule.window j lj)

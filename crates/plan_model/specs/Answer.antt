@@ -39,8 +39,8 @@ plan_of cut entries = record {
 abbrev pub IsCompressed : Cut → Plan → Type 0
 IsCompressed cut plan = (entries : List ℤ) × IsLeast cut entries × (plan ≡ plan_of cut entries)
 
--- the answer of a cut: that it is crowded; else its opposite trains; else its ring, where members remain; else its compressed
--- timetable
+-- the answer of a cut: that it is crowded; else its opposite trains; else its ring, where members remain; else its
+-- compressed timetable
 abbrev pub IsAnswer : Cut → Answer → Type 0
 IsAnswer cut (answer.Crowded count) = (MEMBERS < member_count cut) × (count ≡ member_count cut)
 IsAnswer cut (answer.Opposite first second block1 block2) =

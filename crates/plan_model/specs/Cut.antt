@@ -47,8 +47,8 @@ pub record IsSoundUse (cut : Cut) (u : Use) : Type 0 where
   pub starts : IsMoment u.start
   pub ends : IsMoment u.«end»
 
--- a row of a sound cut: it has 1 to 256 uses of blocks and then those of connections, each of another place; its entry is the
--- least start on a block, and lies in the window
+-- a row of a sound cut: it has 1 to 256 uses of blocks and then those of connections, each of another place; its
+-- entry is the least start on a block, and lies in the window
 pub record IsSoundRow (cut : Cut) (row : CutRow) : Type 0 where
   pub some_block : 0 < length (block_uses cut row)
   pub most_blocks : length (block_uses cut row) ≤ PATH_HOPS
@@ -59,8 +59,8 @@ pub record IsSoundRow (cut : Cut) (row : CutRow) : Type 0 where
   pub from_window : pos cut.section.from_s ≤ℤ row.entry
   pub to_window : row.entry <ℤ pos cut.section.to_s
 
--- a sound cut: its window, its places and its rows are within the limits, the names of places differ, the names of rows rise,
--- each row is sound, and each connection is used by two rows
+-- a sound cut: its window, its places and its rows are within the limits, the names of places differ, the names of
+-- rows rise, each row is sound, and each connection is used by two rows
 pub record IsSoundCut (cut : Cut) : Type 0 where
   pub window : cut.section.from_s < cut.section.to_s
   pub window_start : pos cut.section.from_s ≤ℤ GREATEST_MOMENT_S

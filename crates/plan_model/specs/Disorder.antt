@@ -25,7 +25,8 @@ pairs n = flat_map (λ i. map (λ j. (i, j)) (range_with_len (i + 1) (n - (i + 1
 abbrev pub opposite_pair : Cut → Option (ℕ × ℕ)
 opposite_pair cut = find (λ p. are_opposite cut p.0 p.1) (pairs (member_count cut))
 
--- two opposite trains, with a place at which the first precedes the second, and one at which the second precedes the first
+-- two opposite trains, with a place at which the first precedes the second, and one at which the second precedes
+-- the first
 pub record Opposite : Type 0 where
   pub first : List ℕ
   pub second : List ℕ

@@ -30,16 +30,16 @@ abbrev pub last_end : Cut → List ℤ → ℕ → ℤ
 last_end cut entries place = greatest (map (λ i. end_by cut entries i place) (users cut place))
 
 -- how long a block is kept: from the first start to the last end, which comes after it
-abbrev pub kept : Cut → List ℤ → ℕ → ℕ
-kept cut entries block = nat_abs (last_end cut entries block -ℤ first_start cut entries block)
+abbrev pub time_kept : Cut → List ℤ → ℕ → ℕ
+time_kept cut entries block = nat_abs (last_end cut entries block -ℤ first_start cut entries block)
 
 -- the occupancy time: how long the block that is kept longest is kept, 0 with no member
 abbrev pub occupancy : Cut → List ℤ → ℕ
-occupancy cut entries = fold max 0 (map (kept cut entries) (used_blocks cut))
+occupancy cut entries = fold max 0 (map (time_kept cut entries) (used_blocks cut))
 
 -- the busiest block: the first by name that is kept so long
 abbrev pub busiest : Cut → List ℤ → Option ℕ
-busiest cut entries = first_by_name cut (filter (λ b. kept cut entries b == occupancy cut entries) (used_blocks cut))
+busiest cut entries = first_by_name cut (filter (λ b. time_kept cut entries b == occupancy cut entries) (used_blocks cut))
 
 -- the first by name of the members that end a block's use last
 abbrev pub last_member : Cut → List ℤ → ℕ → Option ℕ

@@ -1,4 +1,5 @@
--- The cut of a section by tables: the members of its window, with their entries and uses, and the connections between them.
+-- The cut of a section by tables: the members of its window, with their entries and uses, and the connections
+-- between them.
 use Rattle.std.specs.Prelude.{ℕ, ◌+◌, ℤ, pos, Bool, ◌&&◌, nat_lt, int_lt, int_le, if◌then◌else◌, List, [], ◌++◌, length, map, filter, find, Option, None, Some, option_map, slice_index_or}
 use Rattle.std.specs.List.{filter_map, enumerate_from}
 use Rattle.rail_model.specs.declared.items.Run.{Run}
@@ -49,7 +50,8 @@ module _ (tables : Tables) (section : Section) where
   -- a run is a member where it uses a block of the section and enters within the window
   abbrev pub is_member : Run → Bool
   is_member run =
-      nat_lt 0 (length (section_uses run)) && int_le (pos section.from_s) (entry_of run) && int_lt (entry_of run) (pos section.to_s)
+      nat_lt 0 (length (section_uses run))
+      && int_le (pos section.from_s) (entry_of run) && int_lt (entry_of run) (pos section.to_s)
 
   -- a connection binds where both its runs are members and the first enters before the second starts
   abbrev pub binds : Connection → Bool
@@ -60,8 +62,8 @@ module _ (tables : Tables) (section : Section) where
   abbrev pub binding_connections : List Connection
   binding_connections = filter binds tables.connections
 
-  -- a run's use of a connection at a place of the cut: as the first run from its entry until the minimum after its last arrival,
-  -- as the second run the one second at its start
+  -- a run's use of a connection at a place of the cut: as the first run from its entry until the minimum after its
+  -- last arrival, as the second run the one second at its start
   abbrev pub connection_use : Run → ℕ × Connection → Option Use
   connection_use run (place, c) =
       if is_same c.first run.name

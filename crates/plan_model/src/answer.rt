@@ -25,8 +25,8 @@ pub struct Placed {
     pub tie: Tie,
 }
 
-/// The compressed timetable of a section: the compression of UIC Code 406, with running times, dwell times
-/// and order kept.
+/// The compressed timetable of a section: the compression of UIC Code 406, with running times,
+/// dwell times and order kept.
 #[derive(Drop)]
 pub struct Plan {
     /// The window's start and end: seconds from the timetable's origin.

@@ -11,14 +11,14 @@ pub fn answer_is_unique()
     ensures { AnswerIsUnique }
 {}
 
-/// By a schedule of a sound cut, two trains at one place keep it one after the other, in the order of
-/// precedence.
+/// By a schedule of a sound cut, two trains at one place keep it one after the other, in the
+/// order of precedence.
 pub fn uses_are_apart()
     ensures { UsesAreApart }
 {}
 
-/// Where no member remains, a schedule in which each train enters at the window's start or touches a train
-/// that precedes it is the least.
+/// Where no member remains, a schedule in which each train enters at the window's start or
+/// touches a train that precedes it is the least.
 pub fn tied_is_least()
     ensures { TiedIsLeast }
 {}

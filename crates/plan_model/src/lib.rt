@@ -1,8 +1,8 @@
 //! What a planner asks of a section and gets: the cut of a section, its readings, and the answer.
 //!
-//! The definitions stand in `specs/`, for all crates above: what a section's cut is, what precedes what,
-//! what a schedule is and which is the least, what disorder is, what the occupancy time is, and which
-//! answer a cut has.
+//! The definitions stand in `specs/`, for all crates above: what a section's cut is, what
+//! precedes what, what a schedule is and which is the least, what disorder is, what the occupancy
+//! time is, and which answer a cut has.
 #![tactic(auto)]
 
 mod answer;

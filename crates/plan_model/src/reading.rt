@@ -6,8 +6,8 @@ use crate::{Cut, CutRow, Rows};
 use rail_model::{List, Name, Section, Use};
 use std::marker::Model;
 
-/// A sound cut that is read, with the number of the last edit before it was read. It counts the uses that
-/// are taken of it, up to 2^64 - 1.
+/// A sound cut that is read, with the number of the last edit before it was read. It counts the
+/// uses that are taken of it, up to 2^64 - 1.
 #[derive(Drop)]
 pub struct Reading {
     cut: Cut,
@@ -95,7 +95,8 @@ impl Reading {
     /// Takes the uses of row `i`, in their order.
     pub fn take(&mut self, i: u32) -> &[Use]
         requires { i < member_count self.old.cut }
-        ensures* takes { sem 𝓛 (Takes the_row self.entry (λ r. r) self.old (length (uses_of self.old i))) }
+        ensures* takes { sem 𝓛 (Takes the_row self.entry (λ r. r) self.old
+            (length (uses_of self.old i))) }
         ensures uses { result.now ≡ uses_of self.old i }
     {
         let uses = self.cut.rows.slice()[i as usize].uses.slice();

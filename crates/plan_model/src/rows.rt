@@ -8,8 +8,8 @@ ghost use Rattle.plan_model.specs.Reading.{Shown, Takes, uses_of, use_count};
 use crate::Cut;
 use rail_model::{List, Name, Section, Use};
 
-/// A sound cut that is read row by row. It counts the uses that are taken of it, up to 2^64 - 1; no call
-/// changes the cut or its number.
+/// A sound cut that is read row by row. It counts the uses that are taken of it, up to 2^64 - 1;
+/// no call changes the cut or its number.
 pub trait Rows {
     /// The cut, its number, and how many uses were taken.
     ghost shown: { Self → Shown };
