@@ -86,7 +86,8 @@ placed name planned entry tie = record { train = name; planned = pos planned; en
 pub compressed : (cut : Cut) (entries : List ℤ) → member_count cut ≤ 768 → opposite cut ≡ None → remaining cut ≡ []
     → is_schedule cut entries ≡ true → list_all (is_tied cut entries) (members cut) ≡ true
     → IsAnswer cut (answer.Ordered (plan_of cut entries))
-compressed cut entries few none left schedule tied = (few, none, left, (entries, least cut entries left schedule tied, refl))
+compressed cut entries few none left schedule tied =
+    (few, none, left, (entries, least cut entries left schedule tied, refl))
 
 -- ---- a line of two blocks, with a train at 100 and a train at 400
 

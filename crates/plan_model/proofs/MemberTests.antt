@@ -27,7 +27,8 @@ pub some_member : (cut : Cut) (test : ℕ → Bool) → list_any test (members c
 some_member cut test h =
     let some = Any-from_list_any test (members cut) h in
     let here : some.0 < member_count cut = omega (arith, some.2, length-range_with_len 0 (member_count cut)) in
-    let at : get_or (members cut) some.0 some.1 ≡ some.0 = get_or-range_with_len 0 (member_count cut) some.0 some.1 here ∙ omega arith in
+    let at : get_or (members cut) some.0 some.1 ≡ some.0 =
+    get_or-range_with_len 0 (member_count cut) some.0 some.1 here ∙ omega arith in
     (some.0, here, subst (λ k. test k ≡ true) (sym some.3 ∙ at) some.4)
 
 -- what a test finds of the places of all uses holds of each place that is used
@@ -37,7 +38,8 @@ at_use row test place h used =
     let some = Any-from_list_any (λ (u : Use). u.block == place) row.uses used in
     let is : some.1.block ≡ place = eqb-true some.1.block place some.4 in
     subst (λ p. test p ≡ true) is
-    (subst (λ (u : Use). test u.block ≡ true) some.3 (AllPass-from_list_all (λ (u : Use). test u.block) row.uses h some.0 some.1 some.2))
+    (subst (λ (u : Use). test u.block ≡ true) some.3
+    (AllPass-from_list_all (λ (u : Use). test u.block) row.uses h some.0 some.1 some.2))
 
 -- ---- whether a number is among some
 

@@ -26,7 +26,8 @@ ordered s t a b h =
         | inl l ↦ inr (or_left (int_lt t s) (int_eq t s && is_before b a) l)
         | inr e ↦
             inl (or_right (int_lt s t) (int_eq s t && is_before a b)
-            (and_from (int_eq s t) (is_before a b) ((Decides-int_eq s t).1 (same_moment s t g e)) (is_before-from a b h)))
+            (and_from (int_eq s t) (is_before a b) ((Decides-int_eq s t).1 (same_moment s t g e))
+            (is_before-from a b h)))
       ]
     ]
 
@@ -40,7 +41,8 @@ module _ (cut : Cut) (entries : List ℤ) (sound : IsSoundCut cut) (schedule : I
   apart_if_less i j place l lj p q =
       let a = member cut i in
       let b = member cut j in
-      elim (ordered (use_at a place).start (use_at b place).start a.name b.name (sound.names_rise i j no_member l lj)) [
+      elim (ordered (use_at a place).start (use_at b place).start a.name b.name
+      (sound.names_rise i j no_member l lj)) [
         | inl e ↦ inl (clear i j place (omega arith) lj (and_from _ _ (and_from _ _ p q) e))
         | inr e ↦ inr (clear j i place lj (omega arith) (and_from _ _ (and_from _ _ q p) e))
       ]

@@ -10,7 +10,8 @@ use Rattle.plan_model.specs.Laws.{FractionIsReduced}
 pub common_divisor_is : (n a b : ℕ) → b ≤ n → IsGcd a b (common_divisor n a b)
 common_divisor_is zero a b l = IsGcd-from_zero a b (omega arith)
 common_divisor_is (suc n) a zero l = IsGcd-from_zero a zero refl
-common_divisor_is (suc n) a (suc b) l = IsGcd-from_mod a (suc b) _ (common_divisor_is n (suc b) (a % suc b) (omega arith))
+common_divisor_is (suc n) a (suc b) l =
+    IsGcd-from_mod a (suc b) _ (common_divisor_is n (suc b) (a % suc b) (omega arith))
 
 crosswise : (g p q a b : ℕ) → g * p ≡ a → g * q ≡ b → p * b ≡ a * q
 crosswise g p q a b e f = rw (← e, ← f) (omega arith)

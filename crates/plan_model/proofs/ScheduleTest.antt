@@ -25,7 +25,8 @@ module _ (cut : Cut) (entries : List ℤ) where
   -- member i keeps its order with member j at a place
   abbrev pub keeps_order_at : ℕ → ℕ → ℕ → Bool
   keeps_order_at i j place =
-      not (precedes (member cut i) (member cut j) place) || int_le (end_by cut entries i place) (start_by cut entries j place)
+      not (precedes (member cut i) (member cut j) place)
+      || int_le (end_by cut entries i place) (start_by cut entries j place)
 
   -- member i keeps its order with all others at the places that it uses
   abbrev pub keeps_order : ℕ → Bool
@@ -34,14 +35,16 @@ module _ (cut : Cut) (entries : List ℤ) where
   abbrev pub is_schedule : Bool
   is_schedule =
       (length entries == member_count cut)
-      && (list_all (λ i. int_le (window_start cut) (entry_at entries i)) (members cut) && list_all keeps_order (members cut))
+      && (list_all (λ i. int_le (window_start cut) (entry_at entries i)) (members cut)
+      && list_all keeps_order (members cut))
 
   in_order : list_all keeps_order (members cut) ≡ true → (i j place : ℕ) → i < member_count cut
       → j < member_count cut → IsTrue (precedes (member cut i) (member cut j) place)
       → end_by cut entries i place ≤ℤ start_by cut entries j place
   in_order h i j place li lj p =
       let of_i = at_member cut keeps_order i h li in
-      let of_j = at_member cut (λ j. list_all (λ (u : Use). keeps_order_at i j u.block) (member cut i).uses) j of_i lj in
+      let of_j =
+      at_member cut (λ j. list_all (λ (u : Use). keeps_order_at i j u.block) (member cut i).uses) j of_i lj in
       let used = and_parts _ _ (and_parts _ _ p).0 in
       elim (or_cases _ _ (at_use (member cut i) (keeps_order_at i j) place of_j used.0)) [
         | inl not_so ↦ absurd (both_ways _ (not-true _ not_so) p)

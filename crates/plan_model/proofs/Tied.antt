@@ -22,7 +22,8 @@ no_later : (end e x y start f u v : ℤ) → (end -ℤ e +ℤ x) ≡ (start -ℤ
     → x ≤ℤ y → u ≤ℤ v
 no_later end e x y start f u v t o h = omega (arith, ints)
 
-module _ (cut : Cut) (entries other : List ℤ) (schedule : IsSchedule cut other) (tied : (j : ℕ) → j < member_count cut → IsTied cut entries j) where
+module _ (cut : Cut) (entries other : List ℤ) (schedule : IsSchedule cut other)
+    (tied : (j : ℕ) → j < member_count cut → IsTied cut entries j) where
   -- a member enters no later than by the other schedule
   abbrev Early : ℕ → Type 0
   Early j = entry_at entries j ≤ℤ entry_at other j
@@ -57,7 +58,9 @@ module _ (cut : Cut) (entries other : List ℤ) (schedule : IsSchedule cut other
         | inr (i, li, t) ↦
             let at = Any-from_list_any (touches cut entries i j) (places cut) t in
             elim (cases_Bool (has some i)) [
-              | inl h ↦ absurd (both_ways _ first (has_any (λ k. precedes_somewhere cut k j) some i h (precedes_where_touches i j t)))
+              | inl h ↦
+                  absurd (both_ways _ first
+                  (has_any (λ k. precedes_somewhere cut k j) some i h (precedes_where_touches i j t)))
               | inr h ↦ touching i j at.1 li lj at.4 (early i li h)
             ]
       ]
@@ -68,7 +71,8 @@ module _ (cut : Cut) (entries other : List ℤ) (schedule : IsSchedule cut other
         | inr h ↦ early j lj h
         | inl h ↦ elim (cases_Bool (list_any (λ i. precedes_somewhere cut i j) some)) [
           | inr first ↦ first_early some early j lj first
-          | inl p ↦ absurd (both_ways _ out (has-filter (λ k. list_any (λ i. precedes_somewhere cut i k) some) some j h p))
+          | inl p ↦
+              absurd (both_ways _ out (has-filter (λ k. list_any (λ i. precedes_somewhere cut i k) some) some j h p))
         ]
       ]
 

@@ -21,7 +21,8 @@ least_is_unique cut entries other p q =
     ext_get_or (pos 0) entries other (p.schedule.count ∙ sym q.schedule.count)
     (λ i l.
     let here : i < member_count cut = omega (arith, l, p.schedule.count) in
-    both_ways (entry_at entries i) (entry_at other i) (p.least other q.schedule i here) (q.least entries p.schedule i here))
+    both_ways (entry_at entries i) (entry_at other i) (p.least other q.schedule i here)
+    (q.least entries p.schedule i here))
 
 plan_is_unique : (cut : Cut) (plan other : Plan) → IsCompressed cut plan → IsCompressed cut other → plan ≡ other
 plan_is_unique cut plan other p q =
@@ -33,12 +34,14 @@ told None other = other
 told (Some o) other = answer.Opposite o.first o.second o.block1 o.block2
 
 pub answer_is_unique : AnswerIsUnique
-answer_is_unique cut (answer.Ordered plan) (answer.Ordered other) p q = ap answer.Ordered (plan_is_unique cut plan other p.3 q.3)
+answer_is_unique cut (answer.Ordered plan) (answer.Ordered other) p q =
+    ap answer.Ordered (plan_is_unique cut plan other p.3 q.3)
 answer_is_unique cut (answer.Ordered plan) (answer.Opposite a b c d) p q = absurd (let e = sym p.1 ∙ q.1 in cc)
 answer_is_unique cut (answer.Ordered plan) (answer.Ring links) p q = absurd (q.2 p.2)
 answer_is_unique cut (answer.Ordered plan) (answer.Crowded n) p q = absurd (omega (arith, p.0, q.0))
 answer_is_unique cut (answer.Opposite a b c d) (answer.Ordered plan) p q = absurd (let e = sym p.1 ∙ q.1 in cc)
-answer_is_unique cut (answer.Opposite a b c d) (answer.Opposite a' b' c' d') p q = ap (λ o. told o (answer.Crowded 0)) (sym p.1 ∙ q.1)
+answer_is_unique cut (answer.Opposite a b c d) (answer.Opposite a' b' c' d') p q =
+    ap (λ o. told o (answer.Crowded 0)) (sym p.1 ∙ q.1)
 answer_is_unique cut (answer.Opposite a b c d) (answer.Ring links) p q = absurd (let e = sym p.1 ∙ q.1 in cc)
 answer_is_unique cut (answer.Opposite a b c d) (answer.Crowded n) p q = absurd (omega (arith, p.0, q.0))
 answer_is_unique cut (answer.Ring links) (answer.Ordered plan) p q = absurd (p.2 q.2)

@@ -7,7 +7,7 @@ use Rattle.plan_model.specs.Places.{places}
 use Rattle.plan_model.specs.Members.{member, member_count, uses_place}
 use Rattle.plan_model.specs.Precedence.{precedes}
 use Rattle.plan_model.specs.Cut.{IsSoundCut}
-use Rattle.plan_model.specs.Disorder.{remaining}
+use Rattle.plan_model.specs.Disorder.{preceded, remaining}
 use Rattle.plan_model.specs.Schedule.{window_start, entry_at, start_by, end_by, IsSchedule, IsLeast}
 use Rattle.plan_model.specs.Tie.{touches}
 use Rattle.plan_model.specs.Answer.{IsAnswer}
@@ -33,6 +33,10 @@ UsesAreApart =
     → (i j place : ℕ) → i < member_count cut → j < member_count cut → i ≢ j
     → IsTrue (uses_place (member cut i) place) → IsTrue (uses_place (member cut j) place)
     → IsClearOf cut entries i j place ⊎ IsClearOf cut entries j i place
+
+-- a further round takes out none of the members that remain: each is preceded by one that remains
+abbrev pub RemainingIsLeft : Type 0
+RemainingIsLeft = (cut : Cut) → preceded cut (remaining cut) ≡ remaining cut
 
 -- member j enters at the window's start, or touches a member that precedes it
 abbrev pub IsTied : Cut → List ℤ → ℕ → Type 0

@@ -39,7 +39,8 @@ occupancy cut entries = fold max 0 (map (time_kept cut entries) (used_blocks cut
 
 -- the busiest block: the first by name that is kept so long
 abbrev pub busiest : Cut → List ℤ → Option ℕ
-busiest cut entries = first_by_name cut (filter (λ b. time_kept cut entries b == occupancy cut entries) (used_blocks cut))
+busiest cut entries =
+    first_by_name cut (filter (λ b. time_kept cut entries b == occupancy cut entries) (used_blocks cut))
 
 -- the first by name of the members that end a block's use last
 abbrev pub last_member : Cut → List ℤ → ℕ → Option ℕ

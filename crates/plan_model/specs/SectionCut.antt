@@ -74,7 +74,8 @@ module _ (tables : Tables) (section : Section) where
 
   -- its uses of the connections that bind, which follow the section's blocks
   abbrev pub uses_of_connections : Run → List Use
-  uses_of_connections run = filter_map (connection_use run) (enumerate_from (length section.blocks) binding_connections)
+  uses_of_connections run =
+      filter_map (connection_use run) (enumerate_from (length section.blocks) binding_connections)
 
   -- a member's row
   abbrev pub row_of : Run → CutRow

@@ -1,5 +1,5 @@
 //! Laws of the definitions: each function does nothing, and its contract is the law.
-ghost use Rattle.plan_model.specs.Laws.{LeastIsUnique, AnswerIsUnique, UsesAreApart, TiedIsLeast, FractionIsReduced};
+ghost use Rattle.plan_model.specs.Laws.{LeastIsUnique, AnswerIsUnique, UsesAreApart, RemainingIsLeft, TiedIsLeast, FractionIsReduced};
 
 /// A cut has at most one least schedule.
 pub fn least_is_unique()
@@ -15,6 +15,11 @@ pub fn answer_is_unique()
 /// order of precedence.
 pub fn uses_are_apart()
     ensures { UsesAreApart }
+{}
+
+/// Each member that remains is preceded by one that remains.
+pub fn remaining_is_left()
+    ensures { RemainingIsLeft }
 {}
 
 /// Where no member remains, a schedule in which each train enters at the window's start or
