@@ -5,4 +5,8 @@ pub mod Order
 pub mod Remaining
 pub mod Tied
 pub mod Unique
+pub mod Uses
+pub mod Planned
+pub mod Greatest
+pub mod Closing
 pub mod Reduced

@@ -1,8 +1,8 @@
 -- Tests of all members, of some, and of all places that a member uses.
-use Rattle.std.proofs.Common.{◌≡◌, ℕ, ◌<◌, Bool, true, List, [], ◌∷◌, get_or, ◌∙◌, sym, ap, subst, inl, inr, arith}
+use Rattle.std.proofs.Common.{zero, suc, ◌+◌, ◌≡◌, ℕ, ◌<◌, Bool, true, List, [], ◌∷◌, get_or, ◌∙◌, sym, ap, subst, inl, inr, arith}
 use Rattle.std.specs.Prelude.{◌==◌, filter}
-use Rattle.std.specs.List.{list_all, list_any}
-use Rattle.std.proofs.lemmas.Bool.{cases_Bool, eqb-true, eq-eqb, or_left}
+use Rattle.std.specs.List.{list_all, list_any, range_with_len}
+use Rattle.std.proofs.lemmas.Bool.{cases_Bool, eqb-true, eq-eqb, or_left, or_right, or_cases}
 use Rattle.std.proofs.lemmas.List.Sums.{AllPass-from_list_all}
 use Rattle.std.proofs.lemmas.List.Folds.{Any-from_list_any, list_any_at}
 use Rattle.std.proofs.lemmas.List.FromFn.{length-range_with_len, get_or-range_with_len}
@@ -46,10 +46,19 @@ at_use row test place h used =
 abbrev pub has : List ℕ → ℕ → Bool
 has some i = list_any (λ k. k == i) some
 
-pub has-members : (cut : Cut) (i : ℕ) → i < member_count cut → has (members cut) i ≡ true
-has-members cut i l =
-    let long = length-range_with_len 0 (member_count cut) in
-    list_any_at (λ k. k == i) (members cut) i 0 (omega arith) (eq-eqb _ i (position cut i l))
+pub has-range : (n i : ℕ) → i < n → has (range_with_len 0 n) i ≡ true
+has-range n i l =
+    let long = length-range_with_len 0 n in
+    let at : get_or (range_with_len 0 n) i 0 ≡ i = get_or-range_with_len 0 n i 0 l ∙ omega arith in
+    list_any_at (λ k. k == i) (range_with_len 0 n) i 0 (omega arith) (eq-eqb _ i at)
+
+pub in_range : (a n i : ℕ) → has (range_with_len a n) i ≡ true → i < a + n
+in_range a zero i h = absurd (cc)
+in_range a (suc n) i h =
+    elim (or_cases (a == i) (has (range_with_len (a + 1) n) i) h) [
+      | inl e ↦ omega (arith, eqb-true a i e)
+      | inr e ↦ omega (arith, in_range (a + 1) n i e)
+    ]
 
 -- one of some that pass a test shows that some do
 pub has_any : (test : ℕ → Bool) (some : List ℕ) (i : ℕ) → has some i ≡ true → test i ≡ true
@@ -74,5 +83,20 @@ has-filter test (k ∷ some) i h p =
           elim (cases_Bool (test k)) [
             | inl passes ↦ rw passes (rw n (has-filter test some i rest p))
             | inr fails ↦ rw fails (has-filter test some i rest p)
+          ]
+    ]
+
+pub filter-has : (test : ℕ → Bool) (some : List ℕ) (i : ℕ) → has (filter test some) i ≡ true
+    → (has some i ≡ true) × (test i ≡ true)
+filter-has test [] i h = absurd (cc)
+filter-has test (k ∷ some) i h =
+    elim (cases_Bool (test k)) [
+      | inr fails ↦
+          let rest = filter-has test some i (rw fails at h) in
+          (or_right (k == i) (has some i) rest.0, rest.1)
+      | inl passes ↦
+          elim (or_cases (k == i) (has (filter test some) i) (rw passes at h)) [
+            | inl e ↦ (or_left (k == i) (has some i) e, subst (λ m. test m ≡ true) (eqb-true k i e) passes)
+            | inr e ↦ let rest = filter-has test some i e in (or_right (k == i) (has some i) rest.0, rest.1)
           ]
     ]

@@ -11,7 +11,8 @@ use Rattle.plan_model.specs.Disorder.{preceded, after_rounds}
 use Rattle.plan_model.specs.Laws.{RemainingIsLeft}
 
 -- a test takes some out, or passes all
-fewer_or_same : (test : ℕ → Bool) (some : List ℕ) → (length (filter test some) < length some) ⊎ (filter test some ≡ some)
+fewer_or_same : (test : ℕ → Bool) (some : List ℕ)
+    → (length (filter test some) < length some) ⊎ (filter test some ≡ some)
 fewer_or_same test [] = inr refl
 fewer_or_same test (k ∷ some) =
     elim (cases_Bool (test k)) [
@@ -40,4 +41,5 @@ module _ (cut : Cut) where
       ]
 
 pub remaining_is_left : RemainingIsLeft
-remaining_is_left cut = left cut (member_count cut) (members cut) (omega (arith, length-range_with_len 0 (member_count cut)))
+remaining_is_left cut = left cut (member_count cut) (members cut)
+    (omega (arith, length-range_with_len 0 (member_count cut)))

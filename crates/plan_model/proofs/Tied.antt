@@ -15,7 +15,7 @@ use Rattle.plan_model.specs.Disorder.{preceded, after_rounds, remaining}
 use Rattle.plan_model.specs.Schedule.{entry_at, start_by, end_by, IsSchedule}
 use Rattle.plan_model.specs.Tie.{touches}
 use Rattle.plan_model.specs.Laws.{IsTied, TiedIsLeast}
-use Rattle.plan_model.proofs.MemberTests.{has, has-members, has_any, has-filter}
+use Rattle.plan_model.proofs.MemberTests.{has, has-range, has_any, has-filter}
 
 -- a train that touches another enters no later than it must, if the other does
 no_later : (end e x y start f u v : ℤ) → (end -ℤ e +ℤ x) ≡ (start -ℤ f +ℤ u) → (end -ℤ e +ℤ y) ≤ℤ (start -ℤ f +ℤ v)
@@ -82,7 +82,8 @@ module _ (cut : Cut) (entries other : List ℤ) (schedule : IsSchedule cut other
 
   all_early : remaining cut ≡ [] → (j : ℕ) → j < member_count cut → Early j
   all_early none j lj =
-      rounds (member_count cut) (members cut) (λ k lk out. absurd (both_ways _ out (has-members cut k lk))) j lj
+      rounds (member_count cut) (members cut)
+      (λ k lk out. absurd (both_ways _ out (has-range (member_count cut) k lk))) j lj
       (ap (λ some. has some j) none)
 
 pub tied_is_least : TiedIsLeast

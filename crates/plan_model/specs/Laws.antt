@@ -1,5 +1,5 @@
 -- Laws of cuts, schedules and answers.
-use Rattle.std.specs.Prelude.{◌≡◌, ◌≢◌, ◌⊎◌, ℕ, ◌<◌, ℤ, ◌≤ℤ◌, List, [], IsTrue}
+use Rattle.std.specs.Prelude.{◌≡◌, ◌≢◌, ◌⊎◌, ℕ, ◌<◌, ℤ, pos, ◌-ℤ◌, ◌≤ℤ◌, List, [], IsTrue}
 use Rattle.std.specs.List.{list_any}
 use Rattle.plan_model.specs.declared.cut.Cut.{Cut}
 use Rattle.plan_model.specs.declared.answer.Answer.{Answer}
@@ -11,6 +11,9 @@ use Rattle.plan_model.specs.Disorder.{preceded, remaining}
 use Rattle.plan_model.specs.Schedule.{window_start, entry_at, start_by, end_by, IsSchedule, IsLeast}
 use Rattle.plan_model.specs.Tie.{touches}
 use Rattle.plan_model.specs.Answer.{IsAnswer}
+use Rattle.plan_model.specs.Occupancy.{occupancy}
+use Rattle.plan_model.specs.Planned.{IsFreeOfConflict, KeepsConnections}
+use Rattle.plan_model.specs.Closing.{OpensAllBlocks, IsClosingEntry}
 use Rattle.plan_model.specs.Rates.{reduced, IsReduced}
 
 -- a cut has at most one least schedule
@@ -49,6 +52,20 @@ abbrev pub TiedIsLeast : Type 0
 TiedIsLeast =
     (cut : Cut) (entries : List ℤ) → remaining cut ≡ [] → IsSchedule cut entries
     → ((j : ℕ) → j < member_count cut → IsTied cut entries j) → IsLeast cut entries
+
+-- where the planned timetable is free of conflict and keeps its connections, the least schedule has no train later
+abbrev pub NoneIsLater : Type 0
+NoneIsLater =
+    (cut : Cut) (entries : List ℤ) → IsSoundCut cut → IsFreeOfConflict cut → KeepsConnections cut
+    → IsLeast cut entries
+    → (i : ℕ) → i < member_count cut → entry_at entries i ≤ℤ (member cut i).entry
+
+-- where a train opens all blocks, the occupancy time is what lies between its entry and that of its closing copy
+abbrev pub OccupancyIsToClosing : Type 0
+OccupancyIsToClosing =
+    (cut : Cut) (entries : List ℤ) (c : ℕ) (entry : ℤ) → IsSoundCut cut → IsSchedule cut entries
+    → OpensAllBlocks cut c
+    → IsClosingEntry cut entries c entry → pos (occupancy cut entries) ≡ entry -ℤ entry_at entries c
 
 -- the fraction a over b is reduced
 abbrev pub FractionIsReduced : Type 0

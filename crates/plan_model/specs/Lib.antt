@@ -10,4 +10,6 @@ pub mod Occupancy
 pub mod Rates
 pub mod Answer
 pub mod Reading
+pub mod Planned
+pub mod Closing
 pub mod Laws

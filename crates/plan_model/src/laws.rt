@@ -1,5 +1,5 @@
 //! Laws of the definitions: each function does nothing, and its contract is the law.
-ghost use Rattle.plan_model.specs.Laws.{LeastIsUnique, AnswerIsUnique, UsesAreApart, RemainingIsLeft, TiedIsLeast, FractionIsReduced};
+ghost use Rattle.plan_model.specs.Laws.{LeastIsUnique, AnswerIsUnique, UsesAreApart, RemainingIsLeft, TiedIsLeast, NoneIsLater, OccupancyIsToClosing, FractionIsReduced};
 
 /// A cut has at most one least schedule.
 pub fn least_is_unique()
@@ -26,6 +26,18 @@ pub fn remaining_is_left()
 /// touches a train that precedes it is the least.
 pub fn tied_is_least()
     ensures { TiedIsLeast }
+{}
+
+/// Where the planned timetable is free of conflict and keeps its connections, the least schedule
+/// has no train later.
+pub fn none_is_later()
+    ensures { NoneIsLater }
+{}
+
+/// Where a train uses each block that is used and precedes every other there, the occupancy time
+/// is what lies between its entry and that of a closing copy of it, which comes after all others.
+pub fn occupancy_is_to_closing()
+    ensures { OccupancyIsToClosing }
 {}
 
 /// A rate is a reduced fraction.
