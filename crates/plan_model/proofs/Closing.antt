@@ -101,7 +101,8 @@ module _ (cut : Cut) (entries : List ℤ) (c : ℕ) (entry : ℤ) (sound : IsSou
         elim (cases_eq j c) [
           | inl e ↦ subst (λ k. start_by cut entries c b ≤ℤ start_by cut entries k b) (sym e) (omega (arith, ints))
           | inr ne ↦
-              starts_before (use_at (member cut c) b).start (use_at (member cut c) b).«end» (member cut c).entry opening _
+              starts_before (use_at (member cut c) b).start (use_at (member cut c) b).«end»
+              (member cut c).entry opening _
               (takes_time cut sound c b opens.is_there u)
               (schedule.order c j b opens.is_there at.0 (opens.first j b at.0 ne lb at.1))
         ]

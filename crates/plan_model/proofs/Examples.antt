@@ -23,6 +23,8 @@ use Rattle.plan_model.specs.SectionCut.{cut_of}
 use Rattle.plan_model.specs.Disorder.{opposite, remaining}
 use Rattle.plan_model.specs.Rates.{rate, consumption}
 use Rattle.plan_model.specs.Answer.{plan_of, IsAnswer}
+use Rattle.plan_model.specs.Cut.{IsSoundCut}
+use Rattle.plan_model.proofs.SoundTest.{sound}
 use Rattle.plan_model.proofs.ScheduleTest.{is_schedule, is_tied, least}
 
 -- ---- items
@@ -123,6 +125,9 @@ two_trains_cut = refl
 no_such_section : cut_of (line (t1 ∷ t2 ∷ []) []) (codes "X") ≡ None
 no_such_section = refl
 
+two_trains_sound : IsSoundCut two_trains
+two_trains_sound = sound two_trains refl
+
 first_precedes : precedes (member two_trains 0) (member two_trains 1) 0 ≡ true
 first_precedes = refl
 
@@ -165,6 +170,9 @@ early_train : cut_of (line (train (codes "T1") (codes "R") 0 (60 ∷ 60 ∷ []) 
     ≡ Some second_alone
 early_train = refl
 
+second_alone_sound : IsSoundCut second_alone
+second_alone_sound = sound second_alone refl
+
 second_alone_answer : IsAnswer second_alone (plan (codes "A" ∷ codes "B" ∷ []) (placed (codes "T2") 385 0 Start
     ∷ []) 150 (Some 1) (Some 0))
 second_alone_answer = compressed second_alone (pos 0 ∷ []) (lit≤ tt) refl refl refl refl
@@ -182,6 +190,9 @@ no_trains = record { section = section (codes "A" ∷ codes "B" ∷ []); connect
 
 no_trains_cut : cut_of (line [] []) (codes "S") ≡ Some no_trains
 no_trains_cut = refl
+
+no_trains_sound : IsSoundCut no_trains
+no_trains_sound = sound no_trains refl
 
 no_trains_answer : IsAnswer no_trains (plan (codes "A" ∷ codes "B" ∷ []) ([]) 0 (None) (None))
 no_trains_answer = compressed no_trains [] (lit≤ tt) refl refl refl refl
@@ -206,6 +217,9 @@ four_trains = record {
 four_trains_cut : cut_of (line (nth (codes "t0001") 100 ∷ nth (codes "t0002") 101 ∷ nth (codes "t0003") 102
     ∷ nth (codes "t0004") 103 ∷ []) []) (codes "S") ≡ Some four_trains
 four_trains_cut = refl
+
+four_trains_sound : IsSoundCut four_trains
+four_trains_sound = sound four_trains refl
 
 abbrev four_pressed : List ℤ
 four_pressed = pos 0 ∷ pos 150 ∷ pos 300 ∷ pos 450 ∷ []
@@ -235,6 +249,9 @@ connected = record {
 
 connected_cut : cut_of (line (t1 ∷ t2 ∷ []) (connect (codes "T1") (codes "T2") 60 ∷ [])) (codes "S") ≡ Some connected
 connected_cut = refl
+
+connected_sound : IsSoundCut connected
+connected_sound = sound connected refl
 
 abbrev connected_pressed : List ℤ
 connected_pressed = pos 0 ∷ pos 180 ∷ []
@@ -288,6 +305,9 @@ against_cut : cut_of (plain_line (codes "SB" ∷ codes "SA" ∷ []) (t1 ∷ trai
     ∷ []) ∷ []) []) (codes "S") ≡ Some against
 against_cut = refl
 
+against_sound : IsSoundCut against
+against_sound = sound against refl
+
 against_answer : IsAnswer against (answer.Opposite (codes "T1") (codes "T2") (codes "A") (codes "B"))
 against_answer = (lit≤ tt, refl)
 
@@ -307,6 +327,9 @@ joining_runs = train (codes "T1") (codes "R") 100 (200 ∷ 60 ∷ []) ∷ train 
 
 joining_cut : cut_of (plain_line (codes "SB" ∷ []) joining_runs []) (codes "S") ≡ Some joining
 joining_cut = refl
+
+joining_sound : IsSoundCut joining
+joining_sound = sound joining refl
 
 joining_precedes : precedes (member joining 1) (member joining 0) 1 ≡ true
 joining_precedes = refl
@@ -335,6 +358,9 @@ crossed = record {
 crossed_cut : cut_of (plain_line (codes "SB" ∷ []) joining_runs (connect (codes "T1") (codes "T2") 0
     ∷ [])) (codes "S") ≡ Some crossed
 crossed_cut = refl
+
+crossed_sound : IsSoundCut crossed
+crossed_sound = sound crossed refl
 
 crossed_answer : IsAnswer crossed (answer.Opposite (codes "T1") (codes "T2") (codes "C") (codes "B"))
 crossed_answer = (lit≤ tt, refl)
@@ -373,6 +399,9 @@ circling = record {
 
 circling_cut : cut_of three_blocks (codes "S") ≡ Some circling
 circling_cut = refl
+
+circling_sound : IsSoundCut circling
+circling_sound = sound circling refl
 
 circling_remaining : remaining circling ≡ 0 ∷ 1 ∷ 2 ∷ []
 circling_remaining = refl

@@ -1,5 +1,6 @@
 mod Examples
 pub mod MemberTests
+pub mod SoundTest
 pub mod ScheduleTest
 pub mod Order
 pub mod Remaining

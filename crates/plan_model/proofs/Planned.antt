@@ -80,7 +80,8 @@ module _ (cut : Cut) (sound : IsSoundCut cut) (free : IsFreeOfConflict cut) (kee
             let used = and_parts _ _ parts.0 in
             let apart : i ≢ j = λ e.
             not_itself (member cut j) place (subst (λ k. precedes (member cut k) (member cut j) place ≡ true) e p) in
-            let first = lt_through a.start b.start b.«end» (no_later a.start b.start (member cut i).name (member cut j).name parts.1)
+            let first = lt_through a.start b.start b.«end»
+            (no_later a.start b.start (member cut i).name (member cut j).name parts.1)
             (takes_time cut sound j place lj used.1) in
             elim (cases_Bool (int_lt b.start a.«end»)) [
               | inr clear ↦ le_from_not b.start a.«end» clear
