@@ -1,4 +1,5 @@
 //! What the tests share: the rows of a small line, and a call of the program over bytes in memory.
+mod cuts;
 mod faults;
 mod refusals;
 mod statuses;
