@@ -8,6 +8,7 @@ pub mod Tied
 pub mod Unique
 pub mod Uses
 pub mod Planned
+pub mod LeastTied
 pub mod Greatest
 pub mod Closing
 pub mod Reduced

@@ -88,7 +88,8 @@ module _ (cut : Cut) where
   abbrev pub is_sound_use : Use → Bool
   is_sound_use u =
       nat_lt u.block (place_count cut) && int_lt u.start u.«end» && int_le (pos 0 -ℤ GREATEST_MOMENT_S) u.start
-      && int_le u.start GREATEST_MOMENT_S && int_le (pos 0 -ℤ GREATEST_MOMENT_S) u.«end» && int_le u.«end» GREATEST_MOMENT_S
+      && int_le u.start GREATEST_MOMENT_S && int_le (pos 0 -ℤ GREATEST_MOMENT_S) u.«end»
+      && int_le u.«end» GREATEST_MOMENT_S
 
   sound_use : (u : Use) → is_sound_use u ≡ true → IsSoundUse cut u
   sound_use u h =
@@ -137,7 +138,8 @@ module _ (cut : Cut) where
   abbrev pub is_sound : Bool
   is_sound =
       nat_lt cut.section.from_s cut.section.to_s && int_le (pos cut.section.from_s) GREATEST_MOMENT_S
-      && nat_lt 0 (block_count cut) && nat_le (block_count cut) PATH_HOPS && nat_le (length cut.connections) CONNECTIONS
+      && nat_lt 0 (block_count cut) && nat_le (block_count cut) PATH_HOPS && nat_le
+      (length cut.connections) CONNECTIONS
       && nat_le (length cut.rows) RUNS && all_pairs (λ a b. not (is_same a b)) (place_names cut)
       && all_pairs (λ (r : CutRow) (s : CutRow). is_before r.name s.name) cut.rows && list_all is_sound_row cut.rows
       && list_all (λ c. is_block cut c || (count_by (λ r. uses_place r c) cut.rows == 2)) (places cut)

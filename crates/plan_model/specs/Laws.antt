@@ -47,6 +47,12 @@ IsTied cut entries j =
     (entry_at entries j ≡ window_start cut)
     ⊎ ((i : ℕ) × (i < member_count cut) × IsTrue (list_any (touches cut entries i j) (places cut)))
 
+-- by the least schedule of a sound cut each train is tied
+abbrev pub LeastIsTied : Type 0
+LeastIsTied =
+    (cut : Cut) (entries : List ℤ) → IsSoundCut cut → IsLeast cut entries
+    → (j : ℕ) → j < member_count cut → IsTied cut entries j
+
 -- where no member remains, a schedule in which each train is tied is the least
 abbrev pub TiedIsLeast : Type 0
 TiedIsLeast =

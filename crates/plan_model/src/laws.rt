@@ -1,5 +1,5 @@
 //! Laws of the definitions: each function does nothing, and its contract is the law.
-ghost use Rattle.plan_model.specs.Laws.{LeastIsUnique, AnswerIsUnique, UsesAreApart, RemainingIsLeft, TiedIsLeast, NoneIsLater, OccupancyIsToClosing, FractionIsReduced};
+ghost use Rattle.plan_model.specs.Laws.{LeastIsUnique, AnswerIsUnique, UsesAreApart, RemainingIsLeft, TiedIsLeast, LeastIsTied, NoneIsLater, OccupancyIsToClosing, FractionIsReduced};
 
 /// A cut has at most one least schedule.
 pub fn least_is_unique()
@@ -26,6 +26,12 @@ pub fn remaining_is_left()
 /// touches a train that precedes it is the least.
 pub fn tied_is_least()
     ensures { TiedIsLeast }
+{}
+
+/// By the least schedule of a sound cut each train enters at the window's start or touches a train
+/// that precedes it.
+pub fn least_is_tied()
+    ensures { LeastIsTied }
 {}
 
 /// Where the planned timetable is free of conflict and keeps its connections, the least schedule
