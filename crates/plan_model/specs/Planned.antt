@@ -22,8 +22,7 @@ IsFreeOfConflict cut =
     (i j block : ℕ) → i < member_count cut → j < member_count cut → i ≢ j → block < block_count cut
     → conflicts (member cut i) (member cut j) block ≡ false
 
--- on each connection, what the one train takes up to its last arrival and the minimum ends before the other starts,
--- or
+-- on each connection, the first train's last arrival and the minimum after it end before the second train starts, or
 -- as it starts
 abbrev pub KeepsConnections : Cut → Type 0
 KeepsConnections cut =

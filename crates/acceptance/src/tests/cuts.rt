@@ -40,8 +40,9 @@ fn one_train(alloc: Global, name: Name) -> Result<Cut, OutOfMemory>
     })
 }
 
-// Takes the first row, then the whole cut. Gives the number of the reading, the stamp of the first row
-// and how many uses it gave, the count of taken uses, how many rows the cut has, and the count again.
+// Takes the first row, then the whole cut. Gives the number of the reading, the stamp of the first
+// row and how many uses it gave, the count of taken uses, how many rows the cut has, and the count
+// again.
 fn first_then_whole<R: Rows>(reading: &mut R) -> Option<[u64; 6]> {
     if reading.count() == 0 {
         return None;
