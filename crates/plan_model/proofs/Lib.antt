@@ -1,0 +1,14 @@
+mod Examples
+pub mod MemberTests
+pub mod SoundTest
+pub mod ScheduleTest
+pub mod Order
+pub mod Remaining
+pub mod Tied
+pub mod Unique
+pub mod Uses
+pub mod Planned
+pub mod LeastTied
+pub mod Greatest
+pub mod Closing
+pub mod Reduced

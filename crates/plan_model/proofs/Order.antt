@@ -1,0 +1,62 @@
+-- The order of two moments with names, and of two uses of one place.
+use Rattle.std.proofs.Common.{◌≡◌, ℕ, ◌<◌, ◌⊎◌, true, false, ◌&&◌, List, inl, inr, arith}
+use Rattle.std.specs.Prelude.{ℤ, int_lt, IsTrue}
+use Rattle.std.specs.Ordering.{int_eq}
+use Rattle.std.proofs.lemmas.Bool.{cases_Bool, cases_order, or_left, or_right, and_from}
+use Rattle.std.proofs.lemmas.Bool.Decides.{Decides-int_eq}
+use Rattle.std.proofs.lemmas.Int.{ints}
+use Rattle.rail_model.specs.Name.{IsBefore, is_before}
+use Rattle.rail_model.proofs.NameOrder.{is_before-from}
+use Rattle.plan_model.specs.declared.cut.Cut.{Cut}
+use Rattle.plan_model.specs.Members.{member, member_count, uses_place, use_at, no_member}
+use Rattle.plan_model.specs.Precedence.{precedes, comes_before}
+use Rattle.plan_model.specs.Cut.{IsSoundCut}
+use Rattle.plan_model.specs.Schedule.{IsSchedule}
+use Rattle.plan_model.specs.Laws.{UsesAreApart, IsClearOf}
+
+same_moment : (s t : ℤ) → int_lt s t ≡ false → int_lt t s ≡ false → s ≡ t
+same_moment s t p q = grind (arith, ints)
+
+-- of two moments with different names, one comes before the other
+ordered : (s t : ℤ) (a b : List ℕ) → IsBefore a b → (comes_before s a t b ≡ true) ⊎ (comes_before t b s a ≡ true)
+ordered s t a b h =
+    elim (cases_Bool (int_lt s t)) [
+      | inl l ↦ inl (or_left (int_lt s t) (int_eq s t && is_before a b) l)
+      | inr g ↦ elim (cases_Bool (int_lt t s)) [
+        | inl l ↦ inr (or_left (int_lt t s) (int_eq t s && is_before b a) l)
+        | inr e ↦
+            inl (or_right (int_lt s t) (int_eq s t && is_before a b)
+            (and_from (int_eq s t) (is_before a b) ((Decides-int_eq s t).1 (same_moment s t g e))
+            (is_before-from a b h)))
+      ]
+    ]
+
+module _ (cut : Cut) (entries : List ℤ) (sound : IsSoundCut cut) (schedule : IsSchedule cut entries) where
+  clear : (i j place : ℕ) → i < member_count cut → j < member_count cut
+      → IsTrue (precedes (member cut i) (member cut j) place) → IsClearOf cut entries i j place
+  clear i j place li lj p = record { precedes = p; apart = schedule.order i j place li lj p }
+
+  apart_if_less : (i j place : ℕ) → i < j → j < member_count cut → IsTrue (uses_place (member cut i) place)
+      → IsTrue (uses_place (member cut j) place) → IsClearOf cut entries i j place ⊎ IsClearOf cut entries j i place
+  apart_if_less i j place l lj p q =
+      let a = member cut i in
+      let b = member cut j in
+      elim (ordered (use_at a place).start (use_at b place).start a.name b.name
+      (sound.names_rise i j no_member l lj)) [
+        | inl e ↦ inl (clear i j place (omega arith) lj (and_from _ _ (and_from _ _ p q) e))
+        | inr e ↦ inr (clear j i place lj (omega arith) (and_from _ _ (and_from _ _ q p) e))
+      ]
+
+swap_cases : {A B : Type 0} → A ⊎ B → B ⊎ A
+swap_cases (inl a) = inr a
+swap_cases (inr b) = inl b
+
+pub uses_are_apart : UsesAreApart
+uses_are_apart cut entries sound schedule i j place li lj ne p q =
+    elim (cases_order i j) [
+      | inl e ↦ absurd (ne e)
+      | inr d ↦ elim d [
+        | inl l ↦ apart_if_less cut entries sound schedule i j place l lj p q
+        | inr g ↦ swap_cases (apart_if_less cut entries sound schedule j i place g li q p)
+      ]
+    ]

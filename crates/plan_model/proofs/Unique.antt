@@ -1,0 +1,54 @@
+-- A cut has at most one least schedule and one answer.
+use Rattle.std.proofs.Common.{◌≡◌, ◌<◌, sym, ap, ◌∙◌, arith}
+use Rattle.std.specs.Prelude.{ℤ, pos, ◌≤ℤ◌, Option, Some, None}
+use Rattle.std.proofs.lemmas.Int.{ints}
+use Rattle.std.proofs.lemmas.List.{ext_get_or}
+use Rattle.plan_model.specs.declared.cut.Cut.{Cut}
+use Rattle.plan_model.specs.declared.answer.Plan.{Plan}
+use Rattle.plan_model.specs.declared.answer.Answer.{Answer}
+use Rattle.plan_model.specs.declared.answer.Answer.TheVariants as answer
+use Rattle.plan_model.specs.Members.{member_count}
+use Rattle.plan_model.specs.Disorder.{Opposite}
+use Rattle.plan_model.specs.Schedule.{entry_at}
+use Rattle.plan_model.specs.Answer.{plan_of, IsCompressed}
+use Rattle.plan_model.specs.Laws.{LeastIsUnique, AnswerIsUnique}
+
+both_ways : (a b : ℤ) → a ≤ℤ b → b ≤ℤ a → a ≡ b
+both_ways a b p q = omega (arith, ints)
+
+pub least_is_unique : LeastIsUnique
+least_is_unique cut entries other p q =
+    ext_get_or (pos 0) entries other (p.schedule.count ∙ sym q.schedule.count)
+    (λ i l.
+    let here : i < member_count cut = omega (arith, l, p.schedule.count) in
+    both_ways (entry_at entries i) (entry_at other i) (p.least other q.schedule i here)
+    (q.least entries p.schedule i here))
+
+plan_is_unique : (cut : Cut) (plan other : Plan) → IsCompressed cut plan → IsCompressed cut other → plan ≡ other
+plan_is_unique cut plan other p q =
+    p.2 ∙ ap (plan_of cut) (least_is_unique cut p.0 q.0 p.1 q.1) ∙ sym q.2
+
+-- the answer that speaks of opposite trains
+abbrev told : Option Opposite → Answer → Answer
+told None other = other
+told (Some o) other = answer.Opposite o.first o.second o.block1 o.block2
+
+pub answer_is_unique : AnswerIsUnique
+answer_is_unique cut (answer.Ordered plan) (answer.Ordered other) p q =
+    ap answer.Ordered (plan_is_unique cut plan other p.3 q.3)
+answer_is_unique cut (answer.Ordered plan) (answer.Opposite a b c d) p q = absurd (let e = sym p.1 ∙ q.1 in cc)
+answer_is_unique cut (answer.Ordered plan) (answer.Ring links) p q = absurd (q.2 p.2)
+answer_is_unique cut (answer.Ordered plan) (answer.Crowded n) p q = absurd (omega (arith, p.0, q.0))
+answer_is_unique cut (answer.Opposite a b c d) (answer.Ordered plan) p q = absurd (let e = sym p.1 ∙ q.1 in cc)
+answer_is_unique cut (answer.Opposite a b c d) (answer.Opposite a' b' c' d') p q =
+    ap (λ o. told o (answer.Crowded 0)) (sym p.1 ∙ q.1)
+answer_is_unique cut (answer.Opposite a b c d) (answer.Ring links) p q = absurd (let e = sym p.1 ∙ q.1 in cc)
+answer_is_unique cut (answer.Opposite a b c d) (answer.Crowded n) p q = absurd (omega (arith, p.0, q.0))
+answer_is_unique cut (answer.Ring links) (answer.Ordered plan) p q = absurd (p.2 q.2)
+answer_is_unique cut (answer.Ring links) (answer.Opposite a b c d) p q = absurd (let e = sym p.1 ∙ q.1 in cc)
+answer_is_unique cut (answer.Ring links) (answer.Ring others) p q = ap answer.Ring (p.3 ∙ sym q.3)
+answer_is_unique cut (answer.Ring links) (answer.Crowded n) p q = absurd (omega (arith, p.0, q.0))
+answer_is_unique cut (answer.Crowded m) (answer.Ordered plan) p q = absurd (omega (arith, p.0, q.0))
+answer_is_unique cut (answer.Crowded m) (answer.Opposite a b c d) p q = absurd (omega (arith, p.0, q.0))
+answer_is_unique cut (answer.Crowded m) (answer.Ring links) p q = absurd (omega (arith, p.0, q.0))
+answer_is_unique cut (answer.Crowded m) (answer.Crowded n) p q = ap answer.Crowded (p.1 ∙ sym q.1)

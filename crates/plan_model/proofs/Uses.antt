@@ -1,0 +1,42 @@
+-- The use of a place that a member uses: one of its uses, which in a sound cut takes some time.
+use Rattle.std.proofs.Common.{◌≡◌, ℕ, suc, ◌<◌, Bool, true, List, [], ◌∷◌, length, get_or, inl, inr, refl, subst, arith}
+use Rattle.std.specs.Prelude.{◌<ℤ◌, ◌==◌, find, unwrap_or}
+use Rattle.std.specs.List.{list_any}
+use Rattle.std.proofs.lemmas.Bool.{cases_Bool, eqb-true}
+use Rattle.std.proofs.lemmas.List.Folds.{Any-from_list_any}
+use Rattle.plan_model.specs.Places.{place_count}
+use Rattle.rail_model.specs.declared.stair.Use.{Use}
+use Rattle.plan_model.specs.declared.cut.Cut.{Cut}
+use Rattle.plan_model.specs.Members.{member, member_count, no_member, uses_place, use_at, no_use}
+use Rattle.plan_model.specs.Cut.{IsSoundCut}
+
+-- what passes a test is found at some place
+found_there : {X : Type 0} (test : X → Bool) (xs : List X) (none : X) → list_any test xs ≡ true
+    → (k : ℕ) × (k < length xs) × (get_or xs k none ≡ unwrap_or (find test xs) none)
+found_there test [] none h = absurd (cc)
+found_there test (x ∷ xs) none h =
+    elim (cases_Bool (test x)) [
+      | inl e ↦ (0, omega arith, rw e refl)
+      | inr e ↦
+          let rest = found_there test xs none (rw e at h) in
+          (suc rest.0, omega (arith, rest.1), rw e rest.2)
+    ]
+
+-- a use of a sound cut takes some time
+pub takes_time : (cut : Cut) → IsSoundCut cut → (i place : ℕ) → i < member_count cut
+    → uses_place (member cut i) place ≡ true
+    → (use_at (member cut i) place).start <ℤ (use_at (member cut i) place).«end»
+takes_time cut sound i place l h =
+    let row = member cut i in
+    let at = found_there (λ (u : Use). u.block == place) row.uses no_use h in
+    subst (λ (u : Use). u.start <ℤ u.«end») at.2 ((sound.each i no_member l).each at.0 no_use at.1).some_time
+
+-- a place that a member uses is one of the cut's
+pub place_there : (cut : Cut) → IsSoundCut cut → (i place : ℕ) → i < member_count cut
+    → uses_place (member cut i) place ≡ true → place < place_count cut
+place_there cut sound i place l h =
+    let row = member cut i in
+    let at = Any-from_list_any (λ (u : Use). u.block == place) row.uses h in
+    let is : at.1.block ≡ place = eqb-true at.1.block place at.4 in
+    let here = ((sound.each i no_member l).each at.0 at.1 at.2).place in
+    subst (λ b. b < place_count cut) is (subst (λ (u : Use). u.block < place_count cut) at.3 here)

@@ -1,0 +1,74 @@
+-- The value of a cut, and which cuts are sound.
+use Rattle.std.specs.Prelude.{◌≡◌, ◌≢◌, ℕ, ◌<◌, ◌≤◌, ℤ, pos, ◌-ℤ◌, ◌<ℤ◌, ◌≤ℤ◌, Bool, not, nat_lt, List, [], ◌∷◌, ◌++◌, length, map, filter, count_by, fold, All, AllPairs}
+use Rattle.std.specs.Int.{int_min}
+use Rattle.rail_model.specs.declared.stair.Use.{Use}
+use Rattle.rail_model.specs.declared.limits.TheConstants.{RUNS, CONNECTIONS, PATH_HOPS, GREATEST_MOMENT_S}
+use Rattle.rail_model.specs.Name.{NamesRise}
+use Rattle.plan_model.specs.declared.cut.CutRow.{CutRow}
+use Rattle.plan_model.specs.declared.cut.Cut.{Cut}
+use Rattle.plan_model.specs.Places.{place_names, block_count, place_count}
+use Rattle.plan_model.specs.Members.{uses_place}
+
+-- a row, and a cut at each row, with this stamp
+abbrev pub stamped_row : ℕ → CutRow → CutRow
+stamped_row stamp row = record row { stamp = stamp }
+
+abbrev pub stamped : ℕ → Cut → Cut
+stamped stamp cut = record cut { rows = map (stamped_row stamp) cut.rows }
+
+-- stamps are no part of a cut's value: two cuts have one value where they are equal with all stamps set to 0
+abbrev pub IsSameCut : Cut → Cut → Type 0
+IsSameCut a b = stamped 0 a ≡ stamped 0 b
+
+-- the least of some numbers, and 0 of none
+abbrev pub least : List ℤ → ℤ
+least [] = pos 0
+least (x ∷ xs) = fold int_min x xs
+
+-- the uses of blocks, and of connections
+abbrev pub is_block : Cut → ℕ → Bool
+is_block cut place = nat_lt place (block_count cut)
+
+abbrev pub block_uses : Cut → CutRow → List Use
+block_uses cut row = filter (λ u. is_block cut u.block) row.uses
+
+abbrev pub connection_uses : Cut → CutRow → List Use
+connection_uses cut row = filter (λ u. not (is_block cut u.block)) row.uses
+
+-- a moment is at most 50,000,000 seconds from 0
+pub record IsMoment (t : ℤ) : Type 0 where
+  pub after : (pos 0 -ℤ GREATEST_MOMENT_S) ≤ℤ t
+  pub before : t ≤ℤ GREATEST_MOMENT_S
+
+-- a use of a sound cut: it is of a place of the cut, keeps it for some time, and its moments are within the limit
+pub record IsSoundUse (cut : Cut) (u : Use) : Type 0 where
+  pub place : u.block < place_count cut
+  pub some_time : u.start <ℤ u.«end»
+  pub starts : IsMoment u.start
+  pub ends : IsMoment u.«end»
+
+-- a row of a sound cut: it has 1 to 256 uses of blocks and then those of connections, each of another place; its
+-- entry is the least start on a block, and lies in the window
+pub record IsSoundRow (cut : Cut) (row : CutRow) : Type 0 where
+  pub some_block : 0 < length (block_uses cut row)
+  pub most_blocks : length (block_uses cut row) ≤ PATH_HOPS
+  pub blocks_first : row.uses ≡ block_uses cut row ++ connection_uses cut row
+  pub places_differ : AllPairs (λ u v. u.block ≢ v.block) row.uses
+  pub each : All (IsSoundUse cut) row.uses
+  pub entry : row.entry ≡ least (map (λ u. u.start) (block_uses cut row))
+  pub from_window : pos cut.section.from_s ≤ℤ row.entry
+  pub to_window : row.entry <ℤ pos cut.section.to_s
+
+-- a sound cut: its window, its places and its rows are within the limits, the names of places differ, the names of
+-- rows rise, each row is sound, and each connection is used by two rows
+pub record IsSoundCut (cut : Cut) : Type 0 where
+  pub window : cut.section.from_s < cut.section.to_s
+  pub window_start : pos cut.section.from_s ≤ℤ GREATEST_MOMENT_S
+  pub some_block : 0 < block_count cut
+  pub most_blocks : block_count cut ≤ PATH_HOPS
+  pub most_connections : length cut.connections ≤ CONNECTIONS
+  pub most_rows : length cut.rows ≤ RUNS
+  pub places_differ : AllPairs (λ a b. a ≢ b) (place_names cut)
+  pub names_rise : NamesRise (λ r. r.name) cut.rows
+  pub each : All (IsSoundRow cut) cut.rows
+  pub two_rows : (c : ℕ) → block_count cut ≤ c → c < place_count cut → count_by (λ r. uses_place r c) cut.rows ≡ 2

@@ -1,0 +1,106 @@
+-- Disorder: members whose order differs from place to place, so that no train comes first.
+use Rattle.std.specs.Prelude.{ℕ, zero, suc, ◌+◌, ◌-◌, Bool, ◌&&◌, ◌==◌, nat_le, List, [], ◌∷◌, ◌++◌, length, map, filter, find, take, drop, reverse, zip, Option, option_map, unwrap_or, slice_index}
+use Rattle.std.specs.List.{list_any, list_all, flat_map, range_with_len, position_or_len}
+use Rattle.plan_model.specs.declared.cut.Cut.{Cut}
+use Rattle.plan_model.specs.declared.answer.Link.{Link}
+use Rattle.plan_model.specs.Places.{place_name, place_count, first_by_name}
+use Rattle.plan_model.specs.Members.{member, member_count, members}
+use Rattle.plan_model.specs.Precedence.{places_of_precedence, precedes_somewhere}
+
+-- the name of the first place by name at which member i precedes member j
+abbrev pub link_place : Cut → ℕ → ℕ → List ℕ
+link_place cut i j = place_name cut (unwrap_or (first_by_name cut (places_of_precedence cut i j)) (place_count cut))
+
+-- ---- opposite members
+
+-- two members are opposite: each precedes the other somewhere
+abbrev pub are_opposite : Cut → ℕ → ℕ → Bool
+are_opposite cut i j = precedes_somewhere cut i j && precedes_somewhere cut j i
+
+-- the pairs of numbers below n, the lesser first, in their order
+abbrev pub pairs : ℕ → List (ℕ × ℕ)
+pairs n = flat_map (λ i. map (λ j. (i, j)) (range_with_len (i + 1) (n - (i + 1)))) (range_with_len 0 n)
+
+-- the least opposite pair, by names
+abbrev pub opposite_pair : Cut → Option (ℕ × ℕ)
+opposite_pair cut = find (λ p. are_opposite cut p.0 p.1) (pairs (member_count cut))
+
+-- two opposite trains, with a place at which the first precedes the second, and one at which the second precedes
+-- the first
+pub record Opposite : Type 0 where
+  pub first : List ℕ
+  pub second : List ℕ
+  pub block1 : List ℕ
+  pub block2 : List ℕ
+
+-- what is said of two opposite members
+abbrev pub opposite_of : Cut → ℕ × ℕ → Opposite
+opposite_of cut (i, j) = record {
+  first = (member cut i).name;
+  second = (member cut j).name;
+  block1 = link_place cut i j;
+  block2 = link_place cut j i;
+}
+
+-- the opposite trains of a cut, if there are any
+abbrev pub opposite : Cut → Option Opposite
+opposite cut = option_map (opposite_of cut) (opposite_pair cut)
+
+-- ---- members that remain
+
+-- one round: of some members, those that another of them precedes somewhere
+abbrev pub preceded : Cut → List ℕ → List ℕ
+preceded cut some = filter (λ j. list_any (λ i. precedes_somewhere cut i j) some) some
+
+-- some members after n rounds
+abbrev pub after_rounds : Cut → ℕ → List ℕ → List ℕ
+after_rounds cut zero some = some
+after_rounds cut (suc n) some = after_rounds cut n (preceded cut some)
+
+-- the members that remain: as many rounds as there are members leave nothing to take out
+abbrev pub remaining : Cut → List ℕ
+remaining cut = after_rounds cut (member_count cut) (members cut)
+
+-- ---- the ring
+
+-- the first by name of the remaining members that precede member j, which remains
+abbrev pub predecessor : Cut → ℕ → ℕ
+predecessor cut j = unwrap_or (find (λ i. precedes_somewhere cut i j) (remaining cut)) j
+
+-- the first n trains of the walk from member j, each time to the predecessor
+abbrev pub walk_from : Cut → ℕ → ℕ → List ℕ
+walk_from cut zero j = []
+walk_from cut (suc n) j = j ∷ walk_from cut n (predecessor cut j)
+
+-- the walk from the least remaining member, so long that a train comes a second time
+abbrev pub walk : Cut → List ℕ
+walk cut = walk_from cut (member_count cut + 1) (slice_index (remaining cut) 0)
+
+-- the train at a step of a walk came before
+abbrev pub came_before : List ℕ → ℕ → Bool
+came_before walk k = list_any (λ m. m == slice_index walk k) (take k walk)
+
+-- the first step at which a train comes a second time
+abbrev pub return_step : List ℕ → ℕ
+return_step walk = position_or_len (came_before walk) (range_with_len 0 (length walk))
+
+-- the trains from its first visit on
+abbrev pub circuit : List ℕ → List ℕ
+circuit walk =
+    let k = return_step walk in drop (position_or_len (λ m. m == slice_index walk k) walk) (take k walk)
+
+-- a ring, told from its least train on
+abbrev pub from_least : List ℕ → List ℕ
+from_least ring = let k = position_or_len (λ m. list_all (nat_le m) ring) ring in drop k ring ++ take k ring
+
+-- the ring in the direction of precedence
+abbrev pub ring_members : Cut → List ℕ
+ring_members cut = from_least (reverse (circuit (walk cut)))
+
+-- one member precedes the next, at the first place by name where it does
+abbrev pub link_of : Cut → ℕ × ℕ → Link
+link_of cut (i, j) = record { train = (member cut i).name; block = link_place cut i j; next = (member cut j).name }
+
+-- the ring's links: of each train to the next, and of the last to the first
+abbrev pub ring : Cut → List Link
+ring cut = let r = ring_members cut in map (link_of cut) (zip r (drop 1 r ++ take 1 r))

@@ -1,0 +1,78 @@
+-- Laws of cuts, schedules and answers.
+use Rattle.std.specs.Prelude.{◌≡◌, ◌≢◌, ◌⊎◌, ℕ, ◌<◌, ℤ, pos, ◌-ℤ◌, ◌≤ℤ◌, List, [], IsTrue}
+use Rattle.std.specs.List.{list_any}
+use Rattle.plan_model.specs.declared.cut.Cut.{Cut}
+use Rattle.plan_model.specs.declared.answer.Answer.{Answer}
+use Rattle.plan_model.specs.Places.{places}
+use Rattle.plan_model.specs.Members.{member, member_count, uses_place}
+use Rattle.plan_model.specs.Precedence.{precedes}
+use Rattle.plan_model.specs.Cut.{IsSoundCut}
+use Rattle.plan_model.specs.Disorder.{preceded, remaining}
+use Rattle.plan_model.specs.Schedule.{window_start, entry_at, start_by, end_by, IsSchedule, IsLeast}
+use Rattle.plan_model.specs.Tie.{touches}
+use Rattle.plan_model.specs.Answer.{IsAnswer}
+use Rattle.plan_model.specs.Occupancy.{occupancy}
+use Rattle.plan_model.specs.Planned.{IsFreeOfConflict, KeepsConnections}
+use Rattle.plan_model.specs.Closing.{OpensAllBlocks, IsClosingEntry}
+use Rattle.plan_model.specs.Rates.{reduced, IsReduced}
+
+-- a cut has at most one least schedule
+abbrev pub LeastIsUnique : Type 0
+LeastIsUnique = (cut : Cut) (entries other : List ℤ) → IsLeast cut entries → IsLeast cut other → entries ≡ other
+
+-- a cut has at most one answer
+abbrev pub AnswerIsUnique : Type 0
+AnswerIsUnique = (cut : Cut) (answer other : Answer) → IsAnswer cut answer → IsAnswer cut other → answer ≡ other
+
+-- member i precedes member j at a place, and leaves it before j starts there, or as j starts
+pub record IsClearOf (cut : Cut) (entries : List ℤ) (i j place : ℕ) : Type 0 where
+  pub precedes : IsTrue (precedes (member cut i) (member cut j) place)
+  pub apart : end_by cut entries i place ≤ℤ start_by cut entries j place
+
+-- by a schedule of a sound cut, two trains at one place keep it one after the other, in the order of precedence
+abbrev pub UsesAreApart : Type 0
+UsesAreApart =
+    (cut : Cut) (entries : List ℤ) → IsSoundCut cut → IsSchedule cut entries
+    → (i j place : ℕ) → i < member_count cut → j < member_count cut → i ≢ j
+    → IsTrue (uses_place (member cut i) place) → IsTrue (uses_place (member cut j) place)
+    → IsClearOf cut entries i j place ⊎ IsClearOf cut entries j i place
+
+-- a further round takes out none of the members that remain: each is preceded by one that remains
+abbrev pub RemainingIsLeft : Type 0
+RemainingIsLeft = (cut : Cut) → preceded cut (remaining cut) ≡ remaining cut
+
+-- member j enters at the window's start, or touches a member that precedes it
+abbrev pub IsTied : Cut → List ℤ → ℕ → Type 0
+IsTied cut entries j =
+    (entry_at entries j ≡ window_start cut)
+    ⊎ ((i : ℕ) × (i < member_count cut) × IsTrue (list_any (touches cut entries i j) (places cut)))
+
+-- by the least schedule of a sound cut each train is tied
+abbrev pub LeastIsTied : Type 0
+LeastIsTied =
+    (cut : Cut) (entries : List ℤ) → IsSoundCut cut → IsLeast cut entries
+    → (j : ℕ) → j < member_count cut → IsTied cut entries j
+
+-- where no member remains, a schedule in which each train is tied is the least
+abbrev pub TiedIsLeast : Type 0
+TiedIsLeast =
+    (cut : Cut) (entries : List ℤ) → remaining cut ≡ [] → IsSchedule cut entries
+    → ((j : ℕ) → j < member_count cut → IsTied cut entries j) → IsLeast cut entries
+
+-- where the planned timetable is free of conflict and keeps its connections, the least schedule has no train later
+abbrev pub NoneIsLater : Type 0
+NoneIsLater =
+    (cut : Cut) (entries : List ℤ) → IsSoundCut cut → IsFreeOfConflict cut → KeepsConnections cut
+    → IsLeast cut entries
+    → (i : ℕ) → i < member_count cut → entry_at entries i ≤ℤ (member cut i).entry
+
+-- where a train opens all blocks, the occupancy time is what lies between its entry and that of its closing copy
+abbrev pub OccupancyIsToClosing : Type 0
+OccupancyIsToClosing =
+    (cut : Cut) (entries : List ℤ) (c : ℕ) (entry : ℤ) → IsSoundCut cut → IsSchedule cut entries
+    → OpensAllBlocks cut c
+    → IsClosingEntry cut entries c entry → pos (occupancy cut entries) ≡ entry -ℤ entry_at entries c
+
+-- the fraction a over b is reduced
+abbrev pub FractionIsReduced : Type 0
+FractionIsReduced = (a b : ℕ) → 0 < b → IsReduced (reduced a b) a b

@@ -1,0 +1,15 @@
+pub mod Places
+pub mod Members
+pub mod Precedence
+pub mod Cut
+pub mod SectionCut
+pub mod Disorder
+pub mod Schedule
+pub mod Tie
+pub mod Occupancy
+pub mod Rates
+pub mod Answer
+pub mod Reading
+pub mod Planned
+pub mod Closing
+pub mod Laws

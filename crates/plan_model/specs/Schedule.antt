@@ -1,0 +1,43 @@
+-- Schedules: lists of entries that keep running times, dwell times and the given order; and the least of them.
+use Rattle.std.specs.Prelude.{◌≡◌, ℕ, ◌<◌, ℤ, pos, ◌+ℤ◌, ◌-ℤ◌, ◌≤ℤ◌, List, length, slice_index_or, IsTrue}
+use Rattle.plan_model.specs.declared.cut.CutRow.{CutRow}
+use Rattle.plan_model.specs.declared.cut.Cut.{Cut}
+use Rattle.plan_model.specs.Members.{member, member_count, use_at}
+use Rattle.plan_model.specs.Precedence.{precedes}
+
+-- the start of the section's window, before which no train enters
+abbrev pub window_start : Cut → ℤ
+window_start cut = pos cut.section.from_s
+
+-- the entry of member i by a list of entries
+abbrev pub entry_at : List ℤ → ℕ → ℤ
+entry_at entries i = slice_index_or entries i (pos 0)
+
+-- when a member that enters at a moment starts and ends its use of a place: its times there, moved with its entry
+abbrev pub start_at : CutRow → ℤ → ℕ → ℤ
+start_at row entry place = (use_at row place).start -ℤ row.entry +ℤ entry
+
+abbrev pub end_at : CutRow → ℤ → ℕ → ℤ
+end_at row entry place = (use_at row place).«end» -ℤ row.entry +ℤ entry
+
+-- the same of member i by a list of entries
+abbrev pub start_by : Cut → List ℤ → ℕ → ℕ → ℤ
+start_by cut entries i place = start_at (member cut i) (entry_at entries i) place
+
+abbrev pub end_by : Cut → List ℤ → ℕ → ℕ → ℤ
+end_by cut entries i place = end_at (member cut i) (entry_at entries i) place
+
+-- a schedule has an entry for each member, none before the window; where one member precedes another, it ends its
+-- use of the place before the other starts there, or as it starts
+pub record IsSchedule (cut : Cut) (entries : List ℤ) : Type 0 where
+  pub count : length entries ≡ member_count cut
+  pub window : (i : ℕ) → i < member_count cut → window_start cut ≤ℤ entry_at entries i
+  pub order : (i j place : ℕ) → i < member_count cut → j < member_count cut
+      → IsTrue (precedes (member cut i) (member cut j) place)
+      → end_by cut entries i place ≤ℤ start_by cut entries j place
+
+-- the least schedule: in no schedule does any train enter earlier
+pub record IsLeast (cut : Cut) (entries : List ℤ) : Type 0 where
+  pub schedule : IsSchedule cut entries
+  pub least : (other : List ℤ) → IsSchedule cut other → (i : ℕ) → i < member_count cut
+      → entry_at entries i ≤ℤ entry_at other i

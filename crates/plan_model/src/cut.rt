@@ -1,0 +1,28 @@
+use rail_model::{List, Name, Section, Use};
+
+/// A member of a cut: a run that enters the section within its window.
+#[derive(Drop)]
+pub struct CutRow {
+    /// The run's.
+    pub name: Name,
+    /// The number of the last edit at which the row became new or changed its value.
+    pub stamp: u64,
+    /// The least start of the run's uses of the section's blocks: seconds from the timetable's
+    /// origin.
+    pub entry: i64,
+    /// Of the section's blocks in the order of the run's path, then of the cut's connections in
+    /// their order. The block of a use is its position among the places of the cut.
+    pub uses: List<Use>,
+}
+
+/// What a timetable holds of a section in its window. Its places are the section's blocks, in the
+/// order of the section, and then the connections, in the order of their names.
+#[derive(Drop)]
+pub struct Cut {
+    pub section: Section,
+    /// Those of which both runs are members and the first comes before the second, in the order
+    /// of names.
+    pub connections: List<Name>,
+    /// In the order of their names.
+    pub rows: List<CutRow>,
+}

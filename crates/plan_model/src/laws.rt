@@ -1,0 +1,52 @@
+//! Laws of the definitions: each function does nothing, and its contract is the law.
+ghost use Rattle.plan_model.specs.Laws.{LeastIsUnique, AnswerIsUnique, UsesAreApart, RemainingIsLeft, TiedIsLeast, LeastIsTied, NoneIsLater, OccupancyIsToClosing, FractionIsReduced};
+
+/// A cut has at most one least schedule.
+pub fn least_is_unique()
+    ensures { LeastIsUnique }
+{}
+
+/// A cut has at most one answer.
+pub fn answer_is_unique()
+    ensures { AnswerIsUnique }
+{}
+
+/// By a schedule of a sound cut, two trains at one place keep it one after the other, in the
+/// order of precedence.
+pub fn uses_are_apart()
+    ensures { UsesAreApart }
+{}
+
+/// Each member that remains is preceded by one that remains.
+pub fn remaining_is_left()
+    ensures { RemainingIsLeft }
+{}
+
+/// Where no member remains, a schedule in which each train enters at the window's start or
+/// touches a train that precedes it is the least.
+pub fn tied_is_least()
+    ensures { TiedIsLeast }
+{}
+
+/// By the least schedule of a sound cut each train enters at the window's start or touches a train
+/// that precedes it.
+pub fn least_is_tied()
+    ensures { LeastIsTied }
+{}
+
+/// Where the planned timetable is free of conflict and keeps its connections, the least schedule
+/// has no train later.
+pub fn none_is_later()
+    ensures { NoneIsLater }
+{}
+
+/// Where a train uses each block that is used and precedes every other there, the occupancy time
+/// is what lies between its entry and that of a closing copy of it, which comes after all others.
+pub fn occupancy_is_to_closing()
+    ensures { OccupancyIsToClosing }
+{}
+
+/// A rate is a reduced fraction.
+pub fn fraction_is_reduced()
+    ensures { FractionIsReduced }
+{}

@@ -1,0 +1,24 @@
+//! What a planner asks of a section and gets: the cut of a section, its readings, and the answer.
+//!
+//! The definitions stand in `specs/`, for all crates above: what a section's cut is, what
+//! precedes what, what a schedule is and which is the least, what disorder is, what the occupancy
+//! time is, and which answer a cut has.
+#![tactic(auto)]
+
+mod answer;
+mod copies;
+mod cut;
+mod laws;
+mod limits;
+mod reading;
+mod rows;
+
+pub use answer::{Answer, Done, Link, Placed, Plan, Tie};
+pub use cut::{Cut, CutRow};
+pub use laws::{
+    answer_is_unique, fraction_is_reduced, least_is_tied, least_is_unique, none_is_later,
+    occupancy_is_to_closing, remaining_is_left, tied_is_least, uses_are_apart,
+};
+pub use limits::MEMBERS;
+pub use reading::Reading;
+pub use rows::Rows;

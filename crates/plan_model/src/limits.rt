@@ -1,0 +1,2 @@
+/// The greatest number of members of a cut that is compressed.
+pub const MEMBERS: usize = 768;
