@@ -13,20 +13,18 @@ use row_text::{Sheet, Written};
 use std::alloc::Global;
 
 /// Adds the rows of all runs, in the order of their names: one for each block of the run's path, in the
-/// order of the path. A row that is open is dropped first. Where memory runs out, the first rows stand.
-pub fn stairs_rows(
-    alloc: Global,
-    sheet: &mut Sheet,
-    tables: &LineTables,
-) -> Result<(), OutOfMemory>
+/// order of the path. A row that is open is dropped first. Where memory runs out, some of the rows are
+/// added, from the first on, and the next may be open.
+pub fn stairs_rows(alloc: Global, sheet: &mut Sheet, tables: &LineTables) -> Result<(), OutOfMemory>
     ensures ok { OnOk result (sheet.new.rows ≡ sheet.old.rows ++ rows.stairs_rows tables.now) }
-    ensures ended { OnOk result (sheet.new.row ≡ []) }
+    ensures closed { OnOk result (sheet.new.row ≡ []) }
     ensures err { OnErr result (AddsPrefix sheet.old sheet.new (rows.stairs_rows tables.now)) }
 {
     sheet.drop_row();
     let names = block_names(alloc, tables)?;
     let routes = tables.route_hops()?;
-    for run in 0..tables.runs() {
+    let count = tables.runs();
+    for run in 0..count {
         let path = tables.run_path(routes.slice(), run)?;
         run_rows(alloc, sheet, &names, &path)?;
     }
@@ -54,7 +52,7 @@ fn run_rows(
     requires fits { Fits path.now }
     requires there { All (λ h. h.block < length names.now) path.now.hops }
     ensures ok { OnOk result (sheet.new.rows ≡ sheet.old.rows ++ rows_by_names names.now path.now) }
-    ensures ended { OnOk result (sheet.new.row ≡ []) }
+    ensures closed { OnOk result (sheet.new.row ≡ []) }
     ensures err { OnErr result (AddsPrefix sheet.old sheet.new (rows_by_names names.now path.now)) }
 {
     let head = head(alloc, path)?;
@@ -79,7 +77,7 @@ fn blocking_rows(
     requires { All (λ b. b.used.block < length names.now) all.now }
     ensures ok { OnOk result (sheet.new.rows
         ≡ sheet.old.rows ++ map (named_row names.now head.now) all.now) }
-    ensures ended { OnOk result (sheet.new.row ≡ []) }
+    ensures closed { OnOk result (sheet.new.row ≡ []) }
     ensures err { OnErr result (AddsPrefix sheet.old sheet.new
         (map (named_row names.now head.now) all.now)) }
 {
@@ -90,7 +88,8 @@ fn blocking_rows(
     Ok(())
 }
 
-// Adds the row of a run's use of a block with its six parts.
+// Adds the row of a run's use of a block with its six parts. A row that is open is dropped first. Where
+// memory runs out, no row is added.
 fn blocking_row(
     sheet: &mut Sheet,
     head: &Written,
