@@ -12,9 +12,9 @@ use line_tables::LineTables;
 use rail_model::OutOfMemory;
 use row_text::Sheet;
 
-/// Adds the rows of the conflicts that were found, in their order, and their count. A row that is open is
-/// dropped first. Where memory runs out, some of the rows are added, from the first on, and the next may be
-/// open.
+/// Adds the rows of the conflicts that were found, in their order, and their count. A row that is
+/// open is dropped first. Where memory runs out, only a prefix of the rows is added, and the next row
+/// may be open.
 pub fn conflict_rows(
     sheet: &mut Sheet,
     tables: &LineTables,
@@ -34,7 +34,8 @@ pub fn conflict_rows(
     count_row(sheet, found.list.len() as u64, found.more)
 }
 
-// Adds the row of a conflict. A row that is open is dropped first. Where memory runs out, no row is added.
+// Adds the row of a conflict. A row that is open is dropped first. Where memory runs out, no row is
+// added.
 fn conflict_row(
     sheet: &mut Sheet,
     tables: &LineTables,

@@ -1,5 +1,6 @@
 //! The rows of `stairs`.
-ghost use Rattle.std.specs.Prelude.{◌≡◌, ◌<◌, ◌∷◌, ◌++◌, [], length, map, All, OnOk, OnErr, IfOk, codes};
+ghost use Rattle.std.specs.Prelude.{◌≡◌, ◌<◌, ◌∷◌, ◌++◌, [], length, map, All, codes};
+ghost use Rattle.std.specs.Prelude.{OnOk, OnErr, IfOk};
 ghost use Rattle.rail_model.specs.Path.{Fits};
 ghost use Rattle.row_text.specs.SheetRows.{with_row};
 ghost use Rattle.capacity_report.specs.Added.{AddsPrefix};
@@ -12,9 +13,9 @@ use rail_model::{OutOfMemory, Path};
 use row_text::{Sheet, Written};
 use std::alloc::Global;
 
-/// Adds the rows of all runs, in the order of their names: one for each block of the run's path, in the
-/// order of the path. A row that is open is dropped first. Where memory runs out, some of the rows are
-/// added, from the first on, and the next may be open.
+/// Adds the rows of all runs, in the order of their names: one for each block of the run's path, in
+/// the order of the path. A row that is open is dropped first. Where memory runs out, only a prefix
+/// of the rows is added, and the next row may be open.
 pub fn stairs_rows(alloc: Global, sheet: &mut Sheet, tables: &LineTables) -> Result<(), OutOfMemory>
     ensures ok { OnOk result (sheet.new.rows ≡ sheet.old.rows ++ rows.stairs_rows tables.now) }
     ensures closed { OnOk result (sheet.new.row ≡ []) }
@@ -88,8 +89,8 @@ fn blocking_rows(
     Ok(())
 }
 
-// Adds the row of a run's use of a block with its six parts. A row that is open is dropped first. Where
-// memory runs out, no row is added.
+// Adds the row of a run's use of a block with its six parts. A row that is open is dropped first.
+// Where memory runs out, no row is added.
 fn blocking_row(
     sheet: &mut Sheet,
     head: &Written,
