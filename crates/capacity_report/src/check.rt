@@ -13,8 +13,8 @@ use rail_model::OutOfMemory;
 use row_text::Sheet;
 
 /// Adds the rows of the conflicts that were found, in their order, and their count. A row that is
-/// open is dropped first. Where memory runs out, only a prefix of the rows is added, and the next row
-/// may be open.
+/// open is dropped first. Where memory runs out, only a prefix of the rows is added, and the next
+/// row may be open.
 pub fn conflict_rows(
     sheet: &mut Sheet,
     tables: &LineTables,
