@@ -1,7 +1,7 @@
 -- The rows of the conflicts that were found are those of the definition.
-use Rattle.std.proofs.Common.{◌≡◌, ℕ, ◌+◌, ◌-◌, ◌<◌, ◌≤◌, List, [], ◌∷◌, ◌++◌, length, map, take, drop, get_or, refl, sym, ap, ◌∙◌, append_assoc, subst, arith}
+use Rattle.std.proofs.Common.{◌≡◌, ℕ, ◌<◌, [], ◌∷◌, ◌++◌, length, map, take, drop, get_or, refl, sym, ap, ◌∙◌, append_assoc, subst, arith}
 use Rattle.std.specs.Prelude.{pos}
-use Rattle.std.specs.List.{All, Contains}
+use Rattle.std.specs.List.{Contains}
 use Rattle.std.proofs.lemmas.List.{length-map, get_or-map, get_or-take, length-take, map-append, take-append-drop}
 use Rattle.std.proofs.lemmas.List.Elements.{Contains-get_or}
 use Rattle.std.proofs.lemmas.Simd.{map-map}
@@ -52,4 +52,4 @@ first_found tables found f before after i so_far =
     let split : map (found_row tables) found.list ≡ past ++ rest =
     ap (map (found_row tables)) (sym (take-append-drop i found.list)) ∙ map-append (found_row tables) (take i found.list) (drop i found.list) in
     prefix_from before after past (rest ++ count) (check_rows tables f.all)
-      (sym (rows_found tables found f) ∙ ap (λ rows. rows ++ count) split ∙ append_assoc past rest count) so_far
+    (sym (rows_found tables found f) ∙ ap (λ rows. rows ++ count) split ∙ append_assoc past rest count) so_far

@@ -1,5 +1,5 @@
 -- Rows that are added to a sheet one after the other.
-use Rattle.std.proofs.Common.{◌≡◌, ℕ, zero, suc, ◌+◌, ◌<◌, List, [], ◌∷◌, ◌++◌, length, map, take, drop, get_or, refl, sym, ap, ◌∙◌, append_assoc, append-nil, arith}
+use Rattle.std.proofs.Common.{◌≡◌, ℕ, ◌+◌, ◌<◌, List, [], ◌∷◌, ◌++◌, length, map, take, drop, get_or, sym, ap, ◌∙◌, append_assoc, append-nil, arith}
 use Rattle.std.specs.List.{flat_map}
 use Rattle.std.proofs.lemmas.List.{take_more, take-append-drop}
 use Rattle.std.proofs.Math.Seq.{take-append_seam}
@@ -64,7 +64,7 @@ module _ {X : Type 0} (rows_of : X → List Row) (before : SheetRows) (xs : List
       let whole : flat_map rows_of xs ≡ (past ++ take n next) ++ (drop n next ++ rest) =
       split (i + 1) ∙ ap (λ rows. rows ++ rest) (one_more d lt ∙ ap (λ rows. past ++ rows) cut) ∙ simp append_assoc in
       prefix_from before last (past ++ take n next) (drop n next ++ rest) (flat_map rows_of xs) whole
-        (step.1 ∙ ap (λ rows. rows ++ take n next) so_far ∙ append_assoc before.rows past (take n next))
+      (step.1 ∙ ap (λ rows. rows ++ take n next) so_far ∙ append_assoc before.rows past (take n next))
 
 -- the block of each blocking is among the names where that of each hop is
 pub blockings_there : (count : ℕ) (path : Path) (all : List Blocking) → all ≡ map (blocking_of path) (range_with_len 1 (hop_count path)) → All (λ (h : Hop). h.block < count) path.hops → All (λ (b : Blocking). b.used.block < count) all
@@ -77,6 +77,6 @@ rows_named tables names path is =
     ap (λ all. rows_by_names all path) is
     ∙ map-map (named_row (names_of tables) (codes "use" ∷ path.run ∷ [])) (blocking_of path) (range_with_len 1 (hop_count path))
     ∙ ap (λ (row_of : ℕ → Row). map row_of (range_with_len 1 (hop_count path))) (λ j k. row_is k j)
- where
-  row_is : (k : ℕ) → named_row (names_of tables) (codes "use" ∷ path.run ∷ []) (blocking_of path k) ≡ hop_row tables path k
-  row_is k = ap (λ (block : Row). blocking_row (codes "use" ∷ path.run ∷ []) block (blocking_of path k)) (get_or-map-any (λ (b : Block). b.name ∷ []) tables.blocks (hop path k).block no_block)
+  where
+    row_is : (k : ℕ) → named_row (names_of tables) (codes "use" ∷ path.run ∷ []) (blocking_of path k) ≡ hop_row tables path k
+    row_is k = ap (λ (block : Row). blocking_row (codes "use" ∷ path.run ∷ []) block (blocking_of path k)) (get_or-map-any (λ (b : Block). b.name ∷ []) tables.blocks (hop path k).block no_block)

@@ -1,17 +1,15 @@
 -- The stairways of sound tables are a timetable.
-use Rattle.std.proofs.Common.{◌≡◌, ◌≢◌, ℕ, ◌+◌, ◌-◌, ◌<◌, ◌≤◌, List, [], ◌∷◌, ◌++◌, length, map, take, get_or, refl, sym, ap, ◌∙◌, subst, arith}
-use Rattle.std.specs.Prelude.{ℤ, ◌<ℤ◌}
-use Rattle.std.specs.List.{All, AllPairs, Contains, range_with_len}
+use Rattle.std.proofs.Common.{◌≡◌, ℕ, ◌+◌, ◌-◌, ◌<◌, [], ◌∷◌, ◌++◌, length, take, get_or, sym, ap, ◌∙◌, subst, arith}
+use Rattle.std.specs.Prelude.{◌<ℤ◌}
+use Rattle.std.specs.List.{All, Contains}
 use Rattle.std.proofs.lemmas.List.{take_more, length-map, get_or-map}
 use Rattle.std.proofs.lemmas.List.Elements.{All-contains}
 use Rattle.std.proofs.lemmas.List.FromFn.{length-map-range_with_len}
-use Rattle.rail_model.specs.declared.items.Run.{Run}
-use Rattle.rail_model.specs.declared.path.Hop.{Hop}
 use Rattle.rail_model.specs.declared.path.Path.{Path}
 use Rattle.rail_model.specs.declared.stair.Use.{Use}
 use Rattle.rail_model.specs.declared.stair.Stair.{Stair}
 use Rattle.rail_model.specs.declared.tables.Tables.{Tables}
-use Rattle.rail_model.specs.Path.{hop, hop_count, no_hop, Fits}
+use Rattle.rail_model.specs.Path.{hop_count, no_hop, Fits}
 use Rattle.rail_model.specs.Blocking.{use_of, stairway, stair_of}
 use Rattle.rail_model.specs.Tables.{no_run, run_at, path_in}
 use Rattle.rail_model.specs.Sound.{IsSound}

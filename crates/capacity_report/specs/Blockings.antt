@@ -1,5 +1,5 @@
 -- The rows of `stairs` as the program makes them: what stands at the head, the block's name in a list, and the times.
-use Rattle.std.specs.Prelude.{ℕ, List, [], ◌∷◌, ◌++◌, map, codes, slice_index_or}
+use Rattle.std.specs.Prelude.{List, [], ◌∷◌, ◌++◌, map, codes, slice_index_or}
 use Rattle.std.specs.List.{range_with_len}
 use Rattle.std.specs.Fmt.{signed_decimal}
 use Rattle.blocking_time.specs.declared.walk.Blocking.{Blocking}

@@ -12,8 +12,9 @@ use line_tables::LineTables;
 use rail_model::OutOfMemory;
 use row_text::Sheet;
 
-/// Adds the rows of the conflicts that were found, in their order, and their count. A row that is open is
-/// dropped first. Where memory runs out, the first rows stand.
+/// Adds the rows of the conflicts that were found, in their order, and their count. A row that is
+/// open is dropped first. Where memory runs out, only a prefix of the rows is added, and the next
+/// row may be open.
 pub fn conflict_rows(
     sheet: &mut Sheet,
     tables: &LineTables,
@@ -22,7 +23,7 @@ pub fn conflict_rows(
     requires { IsFound (timetable tables.now) found.now }
     ensures ok { OnOk result ((all : List Whole) × AreConflicts (timetable tables.now) all
         × (sheet.new.rows ≡ sheet.old.rows ++ rows.check_rows tables.now all)) }
-    ensures ended { OnOk result (sheet.new.row ≡ []) }
+    ensures closed { OnOk result (sheet.new.row ≡ []) }
     ensures err { OnErr result ((all : List Whole) × AreConflicts (timetable tables.now) all
         × AddsPrefix sheet.old sheet.new (rows.check_rows tables.now all)) }
 {
@@ -33,6 +34,8 @@ pub fn conflict_rows(
     count_row(sheet, found.list.len() as u64, found.more)
 }
 
+// Adds the row of a conflict. A row that is open is dropped first. Where memory runs out, no row is
+// added.
 fn conflict_row(
     sheet: &mut Sheet,
     tables: &LineTables,
@@ -53,6 +56,7 @@ fn conflict_row(
     sheet.end_row()
 }
 
+// Adds the row of the two counts in the same way.
 fn count_row(sheet: &mut Sheet, listed: u64, more: u64) -> Result<(), OutOfMemory>
     ensures ok { OnOk result (sheet.new ≡ with_row sheet.old (rows.count_row listed more)) }
     ensures err { OnErr result (sheet.new.rows ≡ sheet.old.rows) }

@@ -1,5 +1,6 @@
 //! The rows of `stairs`.
-ghost use Rattle.std.specs.Prelude.{◌≡◌, ◌<◌, ◌∷◌, ◌++◌, [], length, map, All, OnOk, OnErr, IfOk, codes};
+ghost use Rattle.std.specs.Prelude.{◌≡◌, ◌<◌, ◌∷◌, ◌++◌, [], length, map, All, codes};
+ghost use Rattle.std.specs.Prelude.{OnOk, OnErr, IfOk};
 ghost use Rattle.rail_model.specs.Path.{Fits};
 ghost use Rattle.row_text.specs.SheetRows.{with_row};
 ghost use Rattle.capacity_report.specs.Added.{AddsPrefix};
@@ -12,21 +13,19 @@ use rail_model::{OutOfMemory, Path};
 use row_text::{Sheet, Written};
 use std::alloc::Global;
 
-/// Adds the rows of all runs, in the order of their names: one for each block of the run's path, in the
-/// order of the path. A row that is open is dropped first. Where memory runs out, the first rows stand.
-pub fn stairs_rows(
-    alloc: Global,
-    sheet: &mut Sheet,
-    tables: &LineTables,
-) -> Result<(), OutOfMemory>
+/// Adds the rows of all runs, in the order of their names: one for each block of the run's path, in
+/// the order of the path. A row that is open is dropped first. Where memory runs out, only a prefix
+/// of the rows is added, and the next row may be open.
+pub fn stairs_rows(alloc: Global, sheet: &mut Sheet, tables: &LineTables) -> Result<(), OutOfMemory>
     ensures ok { OnOk result (sheet.new.rows ≡ sheet.old.rows ++ rows.stairs_rows tables.now) }
-    ensures ended { OnOk result (sheet.new.row ≡ []) }
+    ensures closed { OnOk result (sheet.new.row ≡ []) }
     ensures err { OnErr result (AddsPrefix sheet.old sheet.new (rows.stairs_rows tables.now)) }
 {
     sheet.drop_row();
     let names = block_names(alloc, tables)?;
     let routes = tables.route_hops()?;
-    for run in 0..tables.runs() {
+    let count = tables.runs();
+    for run in 0..count {
         let path = tables.run_path(routes.slice(), run)?;
         run_rows(alloc, sheet, &names, &path)?;
     }
@@ -54,7 +53,7 @@ fn run_rows(
     requires fits { Fits path.now }
     requires there { All (λ h. h.block < length names.now) path.now.hops }
     ensures ok { OnOk result (sheet.new.rows ≡ sheet.old.rows ++ rows_by_names names.now path.now) }
-    ensures ended { OnOk result (sheet.new.row ≡ []) }
+    ensures closed { OnOk result (sheet.new.row ≡ []) }
     ensures err { OnErr result (AddsPrefix sheet.old sheet.new (rows_by_names names.now path.now)) }
 {
     let head = head(alloc, path)?;
@@ -79,7 +78,7 @@ fn blocking_rows(
     requires { All (λ b. b.used.block < length names.now) all.now }
     ensures ok { OnOk result (sheet.new.rows
         ≡ sheet.old.rows ++ map (named_row names.now head.now) all.now) }
-    ensures ended { OnOk result (sheet.new.row ≡ []) }
+    ensures closed { OnOk result (sheet.new.row ≡ []) }
     ensures err { OnErr result (AddsPrefix sheet.old sheet.new
         (map (named_row names.now head.now) all.now)) }
 {
@@ -90,7 +89,8 @@ fn blocking_rows(
     Ok(())
 }
 
-// Adds the row of a run's use of a block with its six parts.
+// Adds the row of a run's use of a block with its six parts. A row that is open is dropped first.
+// Where memory runs out, no row is added.
 fn blocking_row(
     sheet: &mut Sheet,
     head: &Written,

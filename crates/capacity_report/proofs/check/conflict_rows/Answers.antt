@@ -1,4 +1,4 @@
-use Rattle.std.proofs.Common.{◌≡◌, ◌<◌, ◌++◌, ◌∷◌, [], length, map, take, get_or, sym, ap, ◌∙◌, append_assoc, subst}
+use Rattle.std.proofs.Common.{◌≡◌, ◌<◌, ◌++◌, ◌∷◌, [], length, map, get_or, sym, ap, ◌∙◌, append_assoc, subst}
 use Rattle.std.proofs.lemmas.List.{take_all}
 use Rattle.std.proofs.lemmas.Result.{on_ok_weaker, on_err_weaker}
 use Rattle.conflict_finder.specs.declared.found.Conflict.{Conflict}
@@ -24,7 +24,7 @@ returns-in_err-conflict_row-clause-err c =
       c.requires.all,
       c.requires.are,
       first_found c.args.tables.now c.args.found.now c.requires c.args.sheet.now c.conflict_row.new.sheet c.loop-conflict.conflict-index
-        (c.in_err-conflict_row.ensures.err ∙ c.loop-conflict.invariant),
+          (c.in_err-conflict_row.ensures.err ∙ c.loop-conflict.invariant),
     )
 
 pub returns-clause-ok : goal.returns-clause-ok
@@ -39,7 +39,7 @@ returns-clause-ok c =
       c.requires.all,
       c.requires.are,
       ap (λ (s : SheetRows). s.rows) counted ∙ rw (so_far, c.len.ensures.count) (append_assoc before rows (count_row (length found.list) found.more ∷ []))
-      ∙ ap (λ added. before ++ added) (rows_found tables found c.requires),
+          ∙ ap (λ added. before ++ added) (rows_found tables found c.requires),
     )) c.count_row.ensures.ok
 
 pub returns-clause-err : goal.returns-clause-err

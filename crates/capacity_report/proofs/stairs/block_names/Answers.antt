@@ -4,7 +4,6 @@ use Rattle.std.proofs.lemmas.List.{take_more, length-map, get_or-map}
 use Rattle.std.proofs.lemmas.Option.{unwrap_or-slice_get}
 use Rattle.rail_model.specs.declared.items.Block.{Block}
 use Rattle.rail_model.specs.Tables.{no_block}
-use Rattle.row_text.specs.Row.{Row}
 use Rattle.capacity_report.specs.Blockings.{names_of}
 use Rattle.capacity_report.proofs.stairs.block_names.Goals as goal
 

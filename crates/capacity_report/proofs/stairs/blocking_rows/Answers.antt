@@ -10,5 +10,5 @@ returns-in_err-blocking_row-clause-err c =
     at_error c.from_residual.result (
       i,
       c.in_err-blocking_row.ensures.err ∙ c.loop-blocking.invariant.rows
-      ∙ ap (λ rows. c.args.sheet.now.rows ++ rows) (sym (take-map (named_row c.args.names.now c.args.head.now) i c.args.all.now)),
+          ∙ ap (λ rows. c.args.sheet.now.rows ++ rows) (sym (take-map (named_row c.args.names.now c.args.head.now) i c.args.all.now)),
     )

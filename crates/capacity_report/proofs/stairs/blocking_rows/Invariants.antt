@@ -5,5 +5,5 @@ use Rattle.capacity_report.proofs.stairs.blocking_rows.Given as goal
 abbrev pub invariant-loop-blocking : goal.invariant-loop-blocking
 invariant-loop-blocking l = record {
   rows : l.sheet.rows ≡ l.fn.sheet.rows ++ map (named_row l.names l.head) (take l.blocking-index l.all);
-  ended : l.sheet.row ≡ [];
+  closed : l.sheet.row ≡ [];
 }

@@ -15,7 +15,7 @@ pub returns-in_err-path-clause-err : goal.returns-in_err-path-clause-err
 returns-in_err-path-clause-err c =
     let tables = c.args.tables.now in
     at_error c.from_residual-in_err-path.result
-      (prefix_flat (λ run. run_rows tables (path_in tables run)) c.args.sheet.now tables.runs c.loop-run.run c.loop-run.sheet c.loop-run.invariant.rows)
+    (prefix_flat (λ run. run_rows tables (path_in tables run)) c.args.sheet.now tables.runs c.loop-run.run c.loop-run.sheet c.loop-run.invariant.rows)
 
 pub returns-in_err-run_rows-clause-err : goal.returns-in_err-run_rows-clause-err
 returns-in_err-run_rows-clause-err c =
@@ -23,10 +23,10 @@ returns-in_err-run_rows-clause-err c =
     let names = c.deref.result.now in
     let path = c.in_ok-path.path in
     at_error c.from_residual-in_err-run_rows.result
-      (prefix_within (λ run. run_rows tables (path_in tables run)) c.args.sheet.now tables.runs c.loop-run.run c.loop-run.sheet c.run_rows.new.sheet no_run (rows_by_names names path)
-        (omega (arith, c.loop-run-test.true, c.runs-run-end.ensures.count))
-        (rows_named tables names path (c.deref.ensures.value ∙ c.in_ok-names.ensures) ∙ ap (run_rows tables) c.in_ok-path.ensures.same)
-        c.loop-run.invariant.rows c.in_err-run_rows.ensures.err)
+    (prefix_within (λ run. run_rows tables (path_in tables run)) c.args.sheet.now tables.runs c.loop-run.run c.loop-run.sheet c.run_rows.new.sheet no_run (rows_by_names names path)
+    (omega (arith, c.loop-run-test.true, c.runs-count.ensures.count))
+    (rows_named tables names path (c.deref.ensures.value ∙ c.in_ok-names.ensures) ∙ ap (run_rows tables) c.in_ok-path.ensures.same)
+    c.loop-run.invariant.rows c.in_err-run_rows.ensures.err)
 
 pub loop-run-preserved : goal.loop-run-preserved
 loop-run-preserved c =
@@ -35,8 +35,8 @@ loop-run-preserved c =
     let path = c.in_ok-path.path in
     record {
       rows = flat_rows (λ run. run_rows tables (path_in tables run)) c.args.sheet.now tables.runs c.loop-run.run c.loop-run.sheet c.run_rows.new.sheet no_run (rows_by_names names path)
-        (omega (arith, c.loop-run-test.true, c.runs-run-end.ensures.count))
-        (rows_named tables names path (c.deref.ensures.value ∙ c.in_ok-names.ensures) ∙ ap (run_rows tables) c.in_ok-path.ensures.same)
-        c.loop-run.invariant.rows c.in_ok-run_rows.ensures.ok;
-      ended = c.in_ok-run_rows.ensures.ended;
+          (omega (arith, c.loop-run-test.true, c.runs-count.ensures.count))
+          (rows_named tables names path (c.deref.ensures.value ∙ c.in_ok-names.ensures) ∙ ap (run_rows tables) c.in_ok-path.ensures.same)
+          c.loop-run.invariant.rows c.in_ok-run_rows.ensures.ok;
+      closed = c.in_ok-run_rows.ensures.closed;
     }

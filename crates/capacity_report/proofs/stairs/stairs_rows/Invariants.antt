@@ -7,5 +7,5 @@ use Rattle.capacity_report.proofs.stairs.stairs_rows.Given as goal
 abbrev pub invariant-loop-run : goal.invariant-loop-run
 invariant-loop-run l = record {
   rows : l.sheet.rows ≡ l.fn.sheet.rows ++ flat_map (λ run. run_rows l.tables (path_in l.tables run)) (take l.run l.tables.runs);
-  ended : l.sheet.row ≡ [];
+  closed : l.sheet.row ≡ [];
 }
