@@ -9,7 +9,7 @@ pub record SheetRows : Type 0 where
   pub rows : List Row
   pub row : Row
 
--- a sheet with one field more, with several, with its row ended, and with several rows more
+-- a sheet with one field more, with several, and with a row ended
 abbrev pub with_field : SheetRows → List ℕ → SheetRows
 with_field sheet text = record sheet { row = sheet.row ++ text ∷ [] }
 
@@ -18,9 +18,6 @@ with_fields sheet fields = record sheet { row = sheet.row ++ fields }
 
 abbrev pub with_row : SheetRows → Row → SheetRows
 with_row sheet row = record { rows = sheet.rows ++ row ∷ []; row = [] }
-
-abbrev pub with_rows : SheetRows → List Row → SheetRows
-with_rows sheet rows = record sheet { rows = sheet.rows ++ rows }
 
 -- the text of a row as CSV writes it: commas, quotes only where needed, and a line feed
 unfoldable pub text_of_row : Row → List ℕ
