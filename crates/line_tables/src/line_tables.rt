@@ -15,7 +15,6 @@ use std::marker::Model;
 
 /// A line and its timetable, seen as `Tables`, which take edits. Each item stands under a key that stays
 /// its own, and what it refers to was found once, when it was put or changed.
-#[derive(Drop)]
 pub struct LineTables {
     pub(crate) alloc: Global,
     pub(crate) blocks: NamedTable<Block>,
@@ -30,6 +29,25 @@ pub struct LineTables {
     pub(crate) signal_uses: Uses,
     pub(crate) route_uses: Uses,
     pub(crate) run_uses: Uses,
+}
+
+// Dropping the tables is one call for whoever holds them.
+impl Drop for LineTables {
+    fn drop(self) {
+        let LineTables {
+            alloc: _,
+            blocks: _,
+            signals: _,
+            routes: _,
+            runs: _,
+            sections: _,
+            connections: _,
+            block_uses: _,
+            signal_uses: _,
+            route_uses: _,
+            run_uses: _,
+        } = self;
+    }
 }
 
 impl Model for LineTables {

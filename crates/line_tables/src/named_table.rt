@@ -23,7 +23,6 @@ pub(crate) trait Stored: Named + Clone {
 }
 
 /// Items of one kind, seen as the list of (key, item) in the order of names.
-#[derive(Drop)]
 pub(crate) struct NamedTable<T: Stored> {
     // The key of each name.
     by_name: IndexMap<Name, usize>,
@@ -31,6 +30,16 @@ pub(crate) struct NamedTable<T: Stored> {
     slots: Slab<T>,
     // The keys in the order of their items' names.
     order: Vec<usize>,
+}
+
+impl<T: Stored> Drop for NamedTable<T> {
+    fn drop(self) {
+        let NamedTable {
+            by_name: _,
+            slots: _,
+            order: _,
+        } = self;
+    }
 }
 
 impl<T: Stored> Model for NamedTable<T> {

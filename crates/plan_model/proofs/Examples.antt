@@ -311,7 +311,7 @@ against_sound = sound against refl
 against_answer : IsAnswer against (answer.Opposite (codes "T1") (codes "T2") (codes "A") (codes "B"))
 against_answer = (lit≤ tt, refl)
 
--- ---- a long train time on the first block, and a train that joins at the second
+-- ---- a long running time on the first block, and a train that joins at the second
 
 abbrev joining : Cut
 joining = record {

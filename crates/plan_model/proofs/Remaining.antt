@@ -1,4 +1,4 @@
--- What remains: a further round takes nothing out, and members that precede one another in turn remain.
+-- What remains: a further round takes nothing out.
 use Rattle.std.proofs.Common.{◌≡◌, ℕ, zero, suc, ◌<◌, ◌≤◌, ◌⊎◌, Bool, List, [], ◌∷◌, length, inl, inr, refl, ap, arith}
 use Rattle.std.specs.Prelude.{filter}
 use Rattle.std.specs.List.{list_any}

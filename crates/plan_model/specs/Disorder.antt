@@ -1,4 +1,4 @@
--- Disorder: members whose order differs from place to place, so that no train comes first.
+-- Disorder: members whose order differs from place to place, so that they have no order in time.
 use Rattle.std.specs.Prelude.{ℕ, zero, suc, ◌+◌, ◌-◌, Bool, ◌&&◌, ◌==◌, nat_le, List, [], ◌∷◌, ◌++◌, length, map, filter, find, take, drop, reverse, zip, Option, option_map, unwrap_or, slice_index}
 use Rattle.std.specs.List.{list_any, list_all, flat_map, range_with_len, position_or_len}
 use Rattle.plan_model.specs.declared.cut.Cut.{Cut}

@@ -53,7 +53,8 @@ module _ (tables : Tables) (section : Section) where
       nat_lt 0 (length (section_uses run))
       && int_le (pos section.from_s) (entry_of run) && int_lt (entry_of run) (pos section.to_s)
 
-  -- a connection binds where both its runs are members and the first enters before the second starts
+  -- a connection binds where both its runs are members and the first's entry here is before the second's own start or,
+  -- at one moment, its name is the lesser
   abbrev pub binds : Connection → Bool
   binds c =
       is_member (run_named tables c.first) && is_member (run_named tables c.second)

@@ -28,7 +28,8 @@ abbrev pub touch : Cut → List ℤ → ℕ → Option Tie
 touch cut entries j =
     option_and_then (λ i. option_map (After i) (touching_place cut entries i j)) (touching_member cut entries j)
 
--- the tie of member j: the window's start where it enters then, else this pair, which there is in a least schedule
+-- the tie of member j: the window's start where it enters then, else this pair, which there is in the least schedule of
+-- a sound cut
 abbrev pub tie_of : Cut → List ℤ → ℕ → Tie
 tie_of cut entries j =
     if int_eq (entry_at entries j) (window_start cut) then Start else unwrap_or (touch cut entries j) Start

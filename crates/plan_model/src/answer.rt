@@ -40,7 +40,7 @@ pub struct Plan {
     pub placed: List<Placed>,
     /// The occupancy time: seconds.
     pub occupancy: u64,
-    /// The position of the busiest block, if there is a train.
+    /// The position of the busiest block, the first by name of several, if there is a train.
     pub busiest: Option<u32>,
     /// The position of the critical train, if there is a train.
     pub critical: Option<u32>,

@@ -5,7 +5,8 @@ use rail_model::{List, Name, Section, Use};
 pub struct CutRow {
     /// The run's.
     pub name: Name,
-    /// The number of the last edit at which the row became new or changed its value.
+    /// The number of the last edit at which the row became new or changed its value, or of the
+    /// opening.
     pub stamp: u64,
     /// The least start of the run's uses of the section's blocks: seconds from the timetable's
     /// origin.
@@ -20,8 +21,8 @@ pub struct CutRow {
 #[derive(Drop)]
 pub struct Cut {
     pub section: Section,
-    /// Those of which both runs are members and the first comes before the second, in the order
-    /// of names.
+    /// Those of which both runs are members and the first's entry here is before the second's own
+    /// start or, at one moment, its name is the lesser; in the order of names.
     pub connections: List<Name>,
     /// In the order of their names.
     pub rows: List<CutRow>,
