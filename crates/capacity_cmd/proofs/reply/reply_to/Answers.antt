@@ -1,4 +1,5 @@
-use Rattle.std.proofs.Common.{refl, sym, ◌∙◌}
+use Rattle.std.proofs.Common.{refl, sym, ap, ◌∙◌}
+use Rattle.capacity_cmd.specs.Input.{tables_of}
 use Rattle.std.proofs.lemmas.Result.{IfOk-weaker}
 use Rattle.capacity_cmd.specs.Outcome.{Writes, Refuses}
 use Rattle.capacity_cmd.specs.Reply.{Says, IsReplyTo}
@@ -10,7 +11,7 @@ returns-in_ok-text_of-in-Ok c =
     let text = c.in_ok-text_of-in-Ok.field-0.items in
     record {
       outcome = Writes text;
-      ends = ends_with_text c.args.command c.args.input.now c.in-Ok.tables text c.requires (sym c.in_ok-tables.ensures ∙ c.in-Ok.is) c.in_ok-text_of-in-Ok.ensures;
+      ends = ends_with_text c.args.command c.args.input.now c.in-Ok.tables text c.requires (ap tables_of (sym c.in_ok-rows.ensures) ∙ sym c.in_ok-tables.ensures ∙ c.in-Ok.is) c.in_ok-text_of-in-Ok.ensures;
       said = record { text = refl; status = refl };
     }
 
@@ -20,6 +21,6 @@ returns-in-Err c =
     IfOk-weaker c.refusal.result (Says (Refuses refused.row refused.cause)) (IsReplyTo c.args.command c.args.input.now)
     (λ reply said. record {
       outcome = Refuses refused.row refused.cause;
-      ends = ends_refused c.args.command c.args.input.now refused c.requires (sym c.in_ok-tables.ensures ∙ c.in-Err.is);
+      ends = ends_refused c.args.command c.args.input.now refused c.requires (ap tables_of (sym c.in_ok-rows.ensures) ∙ sym c.in_ok-tables.ensures ∙ c.in-Err.is);
       said = said;
     }) c.refusal.ensures
