@@ -1,5 +1,5 @@
 #!/usr/bin/env python3
-"""Builds the program and measures `stairs` on large lines: bench/measure.py [RUNSxBLOCKS ...]
+"""Builds the program and measures `stairs` and `check` on large lines: bench/measure.py [RUNSxBLOCKS ...]
 
 Prints for each line the size of its input, the wall time (best of five), the peak memory and, where
 valgrind is there, the instructions of the whole program for each hop, reading and writing included.
@@ -32,11 +32,11 @@ def make_line(runs, blocks, path):
         subprocess.run(make, stdout=out, check=True)
 
 
-def run_once(line, before=()):
+def run_once(line, command, before=()):
     """The wall seconds of one call, and what is said on standard error."""
     with open(line, "rb") as source:
         begun = time.perf_counter()
-        ended = subprocess.run([*before, PROGRAM, "stairs"], stdin=source, stdout=subprocess.DEVNULL, stderr=subprocess.PIPE)
+        ended = subprocess.run([*before, PROGRAM, command], stdin=source, stdout=subprocess.DEVNULL, stderr=subprocess.PIPE)
         seconds = time.perf_counter() - begun
     said = ended.stderr.decode()
     if ended.returncode != 0:
@@ -44,18 +44,18 @@ def run_once(line, before=()):
     return seconds, said
 
 
-def peak_bytes(line):
+def peak_bytes(line, command):
     """By GNU time: a child of this script would count the script's own memory."""
     if shutil.which("time") is None:
         return None
-    return int(run_once(line, ["time", "-f", "%M"])[1]) * 1024
+    return int(run_once(line, command, ["time", "-f", "%M"])[1]) * 1024
 
 
-def instructions(line, folder):
+def instructions(line, command, folder):
     if shutil.which("valgrind") is None:
         return None
     tool = ["valgrind", "--tool=callgrind", "--callgrind-out-file=%s" % (folder / "callgrind.out")]
-    said = run_once(line, tool)[1]
+    said = run_once(line, command, tool)[1]
     return int(re.search(r"refs:\s+([\d,]+)", said).group(1).replace(",", ""))
 
 
@@ -64,13 +64,14 @@ def measure(size, folder):
     line = folder / ("%s.csv" % size)
     make_line(runs, blocks, line)
     hops, input_bytes = runs * blocks, line.stat().st_size
-    seconds = min(run_once(line)[0] for _ in range(5))
-    peak = peak_bytes(line)
-    count = instructions(line, folder)
     print("%s runs x blocks: %d hops, %d bytes" % (size, hops, input_bytes))
-    print("  %.3f s" % seconds)
-    print("  no GNU time for the peak" if peak is None else "  peak %.1f MB, %.1f times the input" % (peak / 1e6, peak / input_bytes))
-    print("  no valgrind for the count" if count is None else "  %d instructions a hop" % round(count / hops))
+    for command in ["stairs", "check"]:
+        seconds = min(run_once(line, command)[0] for _ in range(5))
+        peak = peak_bytes(line, command)
+        count = instructions(line, command, folder)
+        print("  %s: %.3f s" % (command, seconds))
+        print("    no GNU time for the peak" if peak is None else "    peak %.1f MB, %.1f times the input" % (peak / 1e6, peak / input_bytes))
+        print("    no valgrind for the count" if count is None else "    %d instructions a hop" % round(count / hops))
 
 
 def main():

@@ -57,8 +57,8 @@ pub(crate) fn end_of_call<R: AllocGlobal + Env + Eprint + Threads + Wait, S: Sou
     }
 }
 
-// A call with the runtime's words, which tells what a refused row is to look like. No contract tells which words
-// they are.
+// A call with the runtime's words, which tells what a refused row is to look like. No contract tells
+// which words they are.
 fn call<R: AllocGlobal + Env + Threads + Wait, S: Source, K: Sink>(
     rt: &R,
     source: &mut S,

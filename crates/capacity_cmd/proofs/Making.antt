@@ -32,10 +32,10 @@ unfolding made_by
 made_step number made e (Err refusal) = refl
 made_step number (Err refusal) e (Ok es) = refl
 made_step number (Ok tables) e (Ok es) = by_rule number (rule_of tables e) (after tables e) es
- where
-  by_rule : (number : ℕ) (rule : Option Rule) (tables : Tables) (es : List Edit) → unless_refused number rule (tables_after (number + 1) tables es) ≡ made_by (number + 1) (unless_refused number rule (Ok tables)) (Ok es)
-  by_rule number None tables es = refl
-  by_rule number (Some rule) tables es = refl
+  where
+    by_rule : (number : ℕ) (rule : Option Rule) (tables : Tables) (es : List Edit) → unless_refused number rule (tables_after (number + 1) tables es) ≡ made_by (number + 1) (unless_refused number rule (Ok tables)) (Ok es)
+    by_rule number None tables es = refl
+    by_rule number (Some rule) tables es = refl
 
 nothing_left : (number : ℕ) (made : Result Tables Refusal) → made_by number made (Ok []) ≡ made
 unfolding made_by
@@ -47,19 +47,19 @@ unfolding goes_on then_made made_by
 went_on version number made [] = nothing_left number made
 went_on version number made (row ∷ rows) =
     by_edit version number made rows (λ e. went_on version (number + 1) (after_one_more number made e) rows) (edit_in version row)
- where
-  by_edit : (version number : ℕ) (made : Result Tables Refusal) (rows : List Row) → ((e : Edit) → made_by (number + 1) (after_one_more number made e) (edits_from version (number + 1) rows) ≡ goes_on version (number + 1) (after_one_more number made e) rows) → (found : Result Edit Cause) → made_by number made (edit_then number found (edits_from version (number + 1) rows)) ≡ then_made number found (λ e. goes_on version (number + 1) (after_one_more number made e) rows)
-  by_edit version number made rows later (Err why) = refl
-  by_edit version number made rows later (Ok e) = made_step number made e (edits_from version (number + 1) rows) ∙ later e
+  where
+    by_edit : (version number : ℕ) (made : Result Tables Refusal) (rows : List Row) → ((e : Edit) → made_by (number + 1) (after_one_more number made e) (edits_from version (number + 1) rows) ≡ goes_on version (number + 1) (after_one_more number made e) rows) → (found : Result Edit Cause) → made_by number made (edit_then number found (edits_from version (number + 1) rows)) ≡ then_made number found (λ e. goes_on version (number + 1) (after_one_more number made e) rows)
+    by_edit version number made rows later (Err why) = refl
+    by_edit version number made rows later (Ok e) = made_step number made e (edits_from version (number + 1) rows) ∙ later e
 
 -- what the whole makes is what its rows make one after the other
 pub made_in_order : (version number : ℕ) (rows : List Row) → tables_by number (edits_from version number rows) ≡ goes_on version number (Ok no_tables) rows
 unfolding made_by
 made_in_order version number rows = by_edits (edits_from version number rows) ∙ went_on version number (Ok no_tables) rows
- where
-  by_edits : (edits : Result (List Edit) Refusal) → tables_by number edits ≡ made_by number (Ok no_tables) edits
-  by_edits (Err refusal) = refl
-  by_edits (Ok es) = refl
+  where
+    by_edits : (edits : Result (List Edit) Refusal) → tables_by number edits ≡ made_by number (Ok no_tables) edits
+    by_edits (Err refusal) = refl
+    by_edits (Ok es) = refl
 
 -- at a row that spells an edit, and at one that doesn't
 pub goes_on-edit : (version number : ℕ) (made : Result Tables Refusal) (row : Row) (rows : List Row) (e : Edit) → edit_in version row ≡ Ok e → goes_on version number made (row ∷ rows) ≡ goes_on version (number + 1) (after_one_more number made e) rows

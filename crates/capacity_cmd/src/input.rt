@@ -19,7 +19,10 @@ pub(crate) fn tables_of_rows(
 {
     let version = match rows.version() {
         Ok(version) => version,
-        Err(form) => return Ok(Err(Refusal { row: 1, cause: Cause::Form(form) })),
+        Err(form) => return Ok(Err(Refusal {
+            row: 1,
+            cause: Cause::Form(form),
+        })),
     };
     let mut made = Made {
         tables: LineTables::new(alloc),
@@ -79,7 +82,10 @@ impl Made {
     {
         for i in rows.first_line()..rows.len() {
             if let Some(cause) = self.take_row(alloc, rows, version, i)? {
-                return Ok(Some(Refusal { row: i as u64 + 1, cause }));
+                return Ok(Some(Refusal {
+                    row: i as u64 + 1,
+                    cause,
+                }));
             }
         }
         Ok(None)
@@ -111,7 +117,10 @@ impl Made {
             return Ok(());
         }
         if let Err(rule) = self.tables.apply(edit)? {
-            self.refused = Some(Refusal { row, cause: Cause::Rule(rule) });
+            self.refused = Some(Refusal {
+                row,
+                cause: Cause::Rule(rule),
+            });
         }
         Ok(())
     }

@@ -6,8 +6,8 @@ use row_text::RowList;
 pub struct RowForm {
     /// What stands before the word: nothing, `change-` or `drop-`.
     pub verb: &'static str,
-    /// The word that the row begins with, and the fields after it. Both are empty where the first field is no word
-    /// of a row.
+    /// The word that the row begins with, and the fields after it. Both are empty where the first field
+    /// is no word of a row.
     pub word: &'static str,
     pub fields: &'static str,
     /// The limits of its numbers.
@@ -59,7 +59,8 @@ const KINDS: [Known; 6] = [
     Known {
         word: "section",
         fields: ",NAME,FROM,TO,RATE,BLOCK_1,..,BLOCK_n",
-        limits: "FROM is 0 to 604,800, TO greater than FROM and at most 1,209,600, and RATE 0 to 1,000",
+        limits: "FROM is 0 to 604,800, TO greater than FROM and at most 1,209,600, \
+            and RATE 0 to 1,000",
     },
     Known {
         word: "connect",

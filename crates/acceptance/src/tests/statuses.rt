@@ -3,6 +3,7 @@ use super::{FIRST_RUN, FIRST_USES, LINE, REST, REST_USES, joined, only, source_o
 use capacity_cmd::{Cause, Status, alone, run, run_alone};
 use rail_model::{Form, List, Rule};
 use rail_outside::{Failed, MemorySink, OpenGate, Source};
+use std::process::Abort;
 use std::sync::Wait;
 use std::test::Fail;
 use std::thread::Threads;
@@ -53,7 +54,7 @@ fn commands_run_alone(rt: HostRuntime) -> Result<(), Fail> {
     Ok(())
 }
 
-fn runs_alone<R: AllocGlobal>(rt: &R, word: &str, text: &str) -> Result<(), Fail> {
+fn runs_alone<R: Abort + AllocGlobal>(rt: &R, word: &str, text: &str) -> Result<(), Fail> {
     let words = words_of(rt.alloc(), &[word])?;
     let input = joined(rt.alloc(), &[LINE, FIRST_RUN, REST])?;
     let mut source = source_of(rt.alloc(), input.as_bytes(), 16, 0)?;
