@@ -1,3 +1,4 @@
+//! Where and why an input is refused.
 use crate::Cause;
 
 // At which row an input is refused, counted from 1, or with row 0 as a whole, and why.

@@ -1,3 +1,4 @@
+//! The answer of a section: its compressed timetable, or why it has none.
 use rail_model::{List, Name};
 
 /// Why a train enters no earlier in the compressed timetable.

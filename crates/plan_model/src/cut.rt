@@ -1,3 +1,4 @@
+//! The cut of a section: the trains that enter it within its window, with their uses of its places.
 use rail_model::{List, Name, Section, Use};
 
 /// A member of a cut: a run that enters the section within its window.

@@ -1,3 +1,4 @@
+//! Changes of the tables, and the rules that refuse them.
 use crate::{Item, Name};
 
 /// The kinds of items. Each has names of its own, but blocks and connections share theirs.

@@ -1,3 +1,5 @@
+//! Faults in the form of a row.
+
 /// What is wrong with the form of a row.
 #[derive(Clone, Copy, Debug, PartialEq, Eq)]
 pub enum Form {

@@ -1,3 +1,4 @@
+//! The items of a line and its timetable.
 use crate::{List, Name};
 
 /// A stretch of track that one train may block at a time.

@@ -1,3 +1,4 @@
+//! Lists, whose growth may find no memory.
 ghost use Rattle.std.specs.Prelude.{◌≡◌, ℕ, ◌+◌, ◌<◌, ◌≤◌, ◌^◌, ◌↔◌, [], ◌∷◌, ◌++◌, length, insert, remove, slice_index_or, IsTrue, IsSome, OnOk, OnErr, IfOk};
 ghost use Rattle.std.specs.Option.{option_to_list, option_copied};
 ghost use Rattle.std.specs.Prelude.{slice_get, Some};

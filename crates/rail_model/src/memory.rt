@@ -1,3 +1,4 @@
+//! Want of memory.
 use std::alloc::{AllocError, AllocFailed};
 
 /// Memory ran out. It is the one free answer: no clause says when it comes.

@@ -1,3 +1,4 @@
+//! Paths of runs, with all that their blocks and signals say of them.
 use crate::{List, Name};
 
 /// One block of a run's path, with all that the block, its entry signal and the run's leg say of it.

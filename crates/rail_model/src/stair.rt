@@ -1,3 +1,4 @@
+//! Blocking times and stairways.
 use crate::{List, Name};
 
 /// A run's blocking of one block, which is Pachl's blocking time: the half-open interval from `start` to

@@ -1,3 +1,4 @@
+//! A line and its timetable as lists of items.
 use crate::{Block, Connection, List, Route, Run, Section, Signal};
 
 /// A line and its timetable. Each list is in the order of its items' names, and the number of an item is

@@ -1,4 +1,4 @@
-// What the fields of a row say.
+//! What the fields of a row say.
 ghost use Rattle.std.specs.Prelude.{◌≡◌, ◌<◌, ◌^◌, length, IfSome};
 ghost use Rattle.row_text.specs.Row.{field};
 ghost use Rattle.row_text.specs.Sorts.{name_in, number_in, rate_in, time_in, number_of, class_rate, rate_of, clock_of, time_of};

@@ -1,3 +1,4 @@
+//! The fields of a row, kept as one text with the ends of the fields.
 ghost use Rattle.std.specs.Prelude.{◌≡◌, ◌+◌, ◌<◌, ◌≤◌, ◌^◌, ◌↔◌, [], ◌∷◌, ◌++◌, length, slice_index, slice_range, IsTrue, IfSome, IfOk, OnOk, OnErr};
 ghost use Rattle.csv.specs.Records.{cut_from, Rising, prev};
 ghost use Rattle.row_text.specs.Row.{field};

@@ -1,4 +1,4 @@
-// The items that rows put and change.
+//! The items that rows put and change.
 ghost use Rattle.std.specs.Prelude.{◌<◌, length, IsTrue};
 ghost use Rattle.rail_model.specs.declared.edit.Kind.TheVariants as kind;
 ghost use Rattle.row_text.specs.Words.{kind_shape, allows};

@@ -1,4 +1,4 @@
-// The times of a run's legs as the row has them.
+//! The times of a run's legs as the row has them.
 ghost use Rattle.std.specs.Prelude.{◌≡◌, ◌≤◌, nat_le, IfOk, IsTrue};
 ghost use Rattle.std.specs.List.{list_all};
 ghost use Rattle.row_text.specs.Spelling as spelling;

@@ -1,4 +1,4 @@
-// The fields that stand at the end of a row: names, or the times of a run.
+//! The fields that stand at the end of a row: names, or the times of a run.
 ghost use Rattle.std.specs.Prelude.{◌≡◌, ◌+◌, ◌<◌, ◌≤◌, ◌^◌, length, drop, IfOk};
 ghost use Rattle.row_text.specs.Reads.{Reads};
 ghost use Rattle.row_text.specs.Sorts.{name_in, time_in};

@@ -1,4 +1,4 @@
-// Writing into the room of a text.
+//! Writing into the room of a text.
 ghost use Rattle.std.specs.Prelude.{◌≡◌, ◌+◌, ◌*◌, ◌<◌, ◌≤◌, ◌++◌, ◌∷◌, [], length, take, map, decimal, if◌then◌else◌, OnOk, OnErr};
 ghost use Rattle.std.specs.Fmt.{signed_decimal};
 ghost use Rattle.row_text.specs.Put.{separator, more_text};

@@ -1,4 +1,4 @@
-// Times in the fields that are written.
+//! Times in the fields that are written.
 ghost use Rattle.std.specs.Prelude.{◌≡◌, ◌<◌, ◌≤◌, ◌++◌, ◌∷◌, IfOk, OnOk, if◌then◌else◌};
 ghost use Rattle.row_text.specs.Spelling as spelling;
 

@@ -1,3 +1,4 @@
+//! Why a row is not read: a fault of its form, or want of memory.
 use rail_model::{Form, OutOfMemory};
 use std::alloc::{AllocError, AllocFailed};
 

@@ -1,4 +1,4 @@
-// The words that rows begin with.
+//! The words that rows begin with.
 ghost use Rattle.std.specs.Prelude.{◌≡◌};
 ghost use Rattle.row_text.specs.Words as words;
 ghost use Rattle.row_text.specs.declared.word.Word.TheVariants as word;

@@ -1,3 +1,4 @@
+//! The desk at which a value is handed from thread to thread.
 ghost use Rattle.std.specs.Prelude.{◌≡◌, ◌⊎◌, ℕ, ◌+◌, ◌-◌, ◌<◌, true, false, All, IfOk, OnErr};
 ghost use Rattle.turn_desk.specs.Entering.{EntersAll, EntersNone, EntersSome};
 ghost use Rattle.turn_desk.specs.Journal.{GoesOn, AddsOwn};

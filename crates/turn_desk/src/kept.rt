@@ -1,3 +1,4 @@
+//! Values that a desk keeps.
 ghost use Rattle.std.specs.Prelude.{◌≡◌, ℕ, ◌+◌, ◌<◌, List, [], ◌∷◌, ◌++◌, IfOk, OnOk, OnErr};
 ghost use Rattle.turn_desk.specs.Journal.{NeverIssuesFewer, HasLegalPrefixes};
 

@@ -1,3 +1,4 @@
+//! A thread's access to a desk.
 ghost use Rattle.std.specs.Prelude.{◌≡◌, ◌<◌, All, Contains};
 ghost use Rattle.turn_desk.specs.Seats.{known, IsPass};
 

@@ -1,3 +1,4 @@
+//! The turn at a desk.
 ghost use Rattle.std.specs.Prelude.{◌≡◌};
 
 use std::marker::Model;

@@ -1,4 +1,4 @@
-// A desk over a value that keeps a list of numbers, which several passes share.
+//! A desk over a value that keeps a list of numbers, which several passes share.
 ghost use Rattle.std.specs.Prelude.{◌≡◌, ℕ, ◌+◌, ◌^◌, ◌<◌, length, sum_by, All, IfOk, IfSome};
 ghost use Rattle.turn_desk.specs.Journal.{AddsOwn};
 ghost use Rattle.turn_desk.specs.Known.{IsReady};

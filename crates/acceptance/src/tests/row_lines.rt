@@ -1,4 +1,4 @@
-// Rows to lines and back: what a row spells or its first fault, and the text of written rows.
+//! Rows to lines and back: what a row spells or its first fault, and the text of written rows.
 use rail_model::{Form, OutOfMemory};
 use row_text::{
     Fields, RowList, Sheet, Written, has_times_in, read_row, read_row_in, rows, spell, spell_in,
