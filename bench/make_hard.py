@@ -4,7 +4,7 @@
 together: 2,048 runs over the same 256 blocks, all at one moment.
 falling: 4,096 blocks, 8,192 signals and 4,096 routes, names in falling order.
 changes: 500,000 changes of one signal that 4,096 routes list; its block stays.
-moves: 20,000 changes of it, each to the other of two blocks."""
+moves: 400,000 changes of it, each to the other of two blocks."""
 import sys
 
 
@@ -45,7 +45,7 @@ def changes():
 
 def moves():
     yield from shared_signal()
-    for k in range(20_000):
+    for k in range(400_000):
         yield "change-signal,S0,B%d,1000,10,5,0,5" % (3 * (k % 2))
 
 

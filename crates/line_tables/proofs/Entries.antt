@@ -1,17 +1,17 @@
 -- Lists of items with their keys, in the order of names: what a look-up finds after an edit.
-use Rattle.std.proofs.Common.{◌≡◌, ℕ, ◌==◌, Bool, true, false, not, cond, List, [], ◌∷◌, take, drop, insert, Option, Some, None, refl, sym, ap, ◌∙◌, subst, inl, inr}
-use Rattle.std.specs.Prelude.{option_map, All, is_some}
+use Rattle.std.proofs.Common.{◌≡◌, ℕ, ◌==◌, Bool, true, false, not, cond, List, [], ◌∷◌, ◌++◌, take, drop, insert, Option, Some, None, refl, sym, ap, ◌∙◌, subst, inl, inr}
+use Rattle.std.specs.Prelude.{option_map, filter, All, is_some}
 use Rattle.std.specs.Option.{option_or}
 use Rattle.std.specs.List.{find}
-use Rattle.std.proofs.lemmas.Bool.{cases_Bool, eqb-true}
+use Rattle.std.proofs.lemmas.Bool.{cases_Bool, eqb-true, or_parts}
 use Rattle.std.proofs.lemmas.List.{take-append-drop}
-use Rattle.std.proofs.lemmas.List.Elements.{All-head, All-tail, All-weaker}
+use Rattle.std.proofs.lemmas.List.Elements.{All-head, All-tail, All-weaker, filter-append}
 use Rattle.std.proofs.lemmas.List.Folds.{find-append}
 use Rattle.std.proofs.lemmas.List.Kept.{AllPairs-filter}
 use Rattle.rail_model.specs.Name.{IsBefore, is_same, NamesRise}
 use Rattle.rail_model.specs.Rules.{is_named}
 use Rattle.rail_model.specs.Edits.{with_item, without}
-use Rattle.rail_model.proofs.NameOrder.{same_name, is_same-before}
+use Rattle.rail_model.proofs.NameOrder.{same_name, is_same-from, is_same-before}
 use Rattle.rail_model.proofs.Places.{IsPlace, place, with_item-place, NamesRise-insert}
 use Rattle.line_tables.specs.Table.{with_change, named, key_of}
 
@@ -106,3 +106,25 @@ module _ {X : Type 0} (name : X → List ℕ) where
   is_some-key_of [] n = refl
   is_some-key_of (y ∷ items) n =
       elim (cases_Bool (is_same (name y.1) n)) [ inl e ↦ rw e refl | inr e ↦ rw e (is_some-key_of items n) ]
+
+  -- ---- an item that is put in and taken out again
+
+  without_none : (items : List (ℕ × X)) (n : List ℕ) → is_named (named name) items n ≡ false → without (named name) items n ≡ items
+  without_none [] n h = refl
+  without_none (y ∷ items) n h =
+      let parts = or_parts (is_same (name y.1) n) (is_named (named name) items n) h in
+      rw parts.0 (ap (λ l. y ∷ l) (without_none items n parts.1))
+
+  pub without-with_item : (items : List (ℕ × X)) (k : ℕ) (x : X) → NamesRise (named name) items → is_named (named name) items (name x) ≡ false → without (named name) (with_item (named name) items (k, x)) (name x) ≡ items
+  without-with_item items k x rise new =
+      let stays : ℕ × X → Bool = λ e. not (is_same (name e.1) (name x)) in
+      let here = place (named name) items (name x) rise new in
+      let front = take here.0 items in
+      let back = drop here.0 items in
+      let gone : filter stays ((k, x) ∷ back) ≡ filter stays back = rw (is_same-from (name x) (name x) refl) refl in
+      ap (λ l. without (named name) l (name x)) (with_item-place (named name) items (k, x) (name x) here.0 refl here.1)
+      ∙ filter-append stays front ((k, x) ∷ back) ∙ ap (λ l. filter stays front ++ l) gone ∙ sym (filter-append stays front back)
+      ∙ ap (filter stays) (take-append-drop here.0 items) ∙ without_none items (name x) new
+
+  pub key_of-put : (items : List (ℕ × X)) (k : ℕ) (x : X) → NamesRise (named name) items → is_named (named name) items (name x) ≡ false → key_of name (with_item (named name) items (k, x)) (name x) ≡ Some k
+  key_of-put items k x rise new = key_of-with_item items k x (name x) rise new ∙ rw (is_same-from (name x) (name x) refl) refl

@@ -105,6 +105,15 @@ module _ (t : Inside) (j : IsJoined t) (signals : IsTable (λ (e : Entry Signal)
       has_repeat_keyed block_name t.blocks blocks (map (λ n. (signal_named (tables_of t) n).block) r.signals) (map (block_of t.signals) refs)
       (map_keyed (key_of signal_name t.signals) (key_of block_name t.blocks) (λ n. (signal_named (tables_of t) n).block) (block_of t.signals) r.signals refs block_keyed e)
 
+  all_stand : All (λ u. Stands (tables_of t) (item.Route u.1.item)) t.routes
+  all_stand = All-unmap (λ r. Stands (tables_of t) (item.Route r)) (λ (u : ℕ × Entry Route). u.1.item) t.routes j.sound.routes.each
+
+  -- no route has two signals of one block
+  pub none_repeats : All (λ u. repeats_key (map (block_of t.signals) u.1.refs) ≡ false) t.routes
+  none_repeats i d l =
+      let u = get_or t.routes i d in
+      sym (repeats_by_key u.1.item u.1.refs (j.routes i d l)) ∙ not-true (repeats_block (tables_of t) u.1.item) (all_stand i d l).no_repeat
+
   module _ (s : Signal) (key b : ℕ) (here : key_of signal_name t.signals s.name ≡ Some key) (known : key_of block_name t.blocks s.block ≡ Some b) where
     -- the tables with the changed signal
     abbrev changed : Tables
@@ -173,9 +182,6 @@ module _ (t : Inside) (j : IsJoined t) (signals : IsTable (λ (e : Entry Signal)
         let r = u.1.item in
         let no_repeat = sym (repeats_by_key r u.1.refs linked) ∙ not-true (repeats_block (tables_of t) r) stands.no_repeat in
         rw (route_moved r u.1.refs linked, stays_put stays u.1.refs, no_repeat) (and_false (lists r.signals s.name))
-
-    all_stand : All (λ u. Stands (tables_of t) (item.Route u.1.item)) t.routes
-    all_stand = All-unmap (λ r. Stands (tables_of t) (item.Route r)) (λ (u : ℕ × Entry Route). u.1.item) t.routes j.sound.routes.each
 
     by_entries : makes_repeat (tables_of t) (item.Signal s) ≡ list_any WouldRepeat t.routes
     by_entries = list_any-map (λ (u : ℕ × Entry Route). u.1.item) (λ r. lists r.signals s.name && repeats_block changed r) t.routes

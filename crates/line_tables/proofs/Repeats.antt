@@ -95,7 +95,7 @@ module _ (f : ℕ → ℕ) (key b : ℕ) where
         | inr t ↦ rw (t, apart.0) rest
       ]
 
-  key_once : (keys : List ℕ) (q : ℕ) → (q == key) ≡ true → lists_key (map f keys) (f q) ≡ false → lists_key keys key ≡ false
+  pub key_once : (keys : List ℕ) (q : ℕ) → (q == key) ≡ true → lists_key (map f keys) (f q) ≡ false → lists_key keys key ≡ false
   key_once keys q t h =
       false_from_ne_true (lists_key keys key)
       (λ listed. both_ways (lists_key (map f keys) (f q)) h (listed_image keys listed (ap f (eqb-true q key t))))

@@ -53,7 +53,7 @@ module _ {X Y : Type 0} (f : X → Y) (name : Y → List ℕ) where
   map-without xs n = sym (filter-map f (λ y. not (is_same (name y) n)) xs)
 
   -- of two items of one name in a table the keys are one
-  key_by_name : (items : List (ℕ × X)) (i j : ℕ) (d : ℕ × X) → IsTable (λ x. name (f x)) items → i < length items → j < length items → name (f (get_or items i d).1) ≡ name (f (get_or items j d).1) → (get_or items i d).0 ≡ (get_or items j d).0
+  pub key_by_name : (items : List (ℕ × X)) (i j : ℕ) (d : ℕ × X) → IsTable (λ x. name (f x)) items → i < length items → j < length items → name (f (get_or items i d).1) ≡ name (f (get_or items j d).1) → (get_or items i d).0 ≡ (get_or items j d).0
   key_by_name items i j d table li lj same =
       let a = name (f (get_or items i d).1) in
       let b = name (f (get_or items j d).1) in

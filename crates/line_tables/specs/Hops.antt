@@ -1,5 +1,5 @@
 -- The hops of routes and of runs.
-use Rattle.std.specs.Prelude.{ℕ, List, [], map, slice_index_or}
+use Rattle.std.specs.Prelude.{ℕ, List, map}
 use Rattle.std.specs.List.{zip}
 use Rattle.rail_model.specs.declared.items.Leg.{Leg}
 use Rattle.rail_model.specs.declared.items.Route.{Route}

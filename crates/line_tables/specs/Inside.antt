@@ -12,7 +12,9 @@ use Rattle.rail_model.specs.Sound.{IsSound}
 use Rattle.line_tables.specs.declared.entry.Entry.{Entry}
 use Rattle.line_tables.specs.declared.line_tables.LineTables.TheInside.{Inside}
 use Rattle.line_tables.specs.Uses.{count_of}
-use Rattle.line_tables.specs.Links.{IsLinked, references}
+use Rattle.line_tables.specs.Links.{IsLinked, references, block_of}
+use Rattle.line_tables.specs.RouteSets.{AreSetsOf}
+use Rattle.line_tables.specs.declared.route_sets.RouteSets.{RouteSets}
 
 -- the items alone
 abbrev pub items_of : {A : Type 0} → List (ℕ × Entry A) → List A
@@ -45,8 +47,9 @@ names_of_section s = s.blocks
 abbrev pub names_of_connection : Connection → List (List ℕ)
 names_of_connection c = c.first ∷ c.second ∷ []
 
--- the tables are sound, each reference is the key of what the item names, and each item is counted as often as others
--- refer to it
+-- the tables are sound, each reference is the key of what the item names, each item is counted as often as others
+-- refer to it, and the set at each signal has the keys of the routes that list it, that at each block the keys of the
+-- routes that have a signal of it
 pub record IsJoined (t : Inside) : Type 0 where
   pub sound : IsSound (tables_of t)
   pub signals : IsLinked names_of_signal (λ b. b.name) t.signals t.blocks
@@ -58,10 +61,12 @@ pub record IsJoined (t : Inside) : Type 0 where
   pub signal_uses : (k : ℕ) → count_of t.signal_uses k ≡ references t.routes k
   pub route_uses : (k : ℕ) → count_of t.route_uses k ≡ references t.runs k
   pub run_uses : (k : ℕ) → count_of t.run_uses k ≡ references t.connections k
+  pub signal_routes : AreSetsOf (λ q. q) t.routes t.route_sets.of_signals
+  pub block_routes : AreSetsOf (block_of t.signals) t.routes t.route_sets.of_blocks
 
 -- the inside of these tables and counts
-abbrev pub parts : Global → List (ℕ × Block) × List (ℕ × Entry Signal) × List (ℕ × Entry Route) → List (ℕ × Entry Run) × List (ℕ × Entry Section) × List (ℕ × Entry Connection) → List ℕ × List ℕ × List ℕ × List ℕ → Inside
-parts alloc line timetable counts = record {
+abbrev pub parts : Global → List (ℕ × Block) × List (ℕ × Entry Signal) × List (ℕ × Entry Route) → List (ℕ × Entry Run) × List (ℕ × Entry Section) × List (ℕ × Entry Connection) → List ℕ × List ℕ × List ℕ × List ℕ → RouteSets → Inside
+parts alloc line timetable counts sets = record {
   alloc = alloc;
   blocks = line.0;
   signals = line.1;
@@ -73,4 +78,5 @@ parts alloc line timetable counts = record {
   signal_uses = counts.1;
   route_uses = counts.2;
   run_uses = counts.3;
+  route_sets = sets;
 }

@@ -2,5 +2,7 @@ pub mod Table
 pub mod Uses
 pub mod KeySet
 pub mod Links
+pub mod RouteSets
+pub mod References
 pub mod Inside
 pub mod Hops

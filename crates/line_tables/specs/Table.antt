@@ -1,5 +1,5 @@
 -- A table of named items, each under a key that stays its own: the list of (key, item) in the order of names.
-use Rattle.std.specs.Prelude.{◌≡◌, ℕ, ◌==◌, if◌then◌else◌, Option, Some, List, [], map, filter_map, All, unwrap_or, option_map, IsSome, length, ◌<◌, ◌≤◌, true, false, take, drop, slice_index_or}
+use Rattle.std.specs.Prelude.{◌≡◌, ℕ, ◌==◌, if◌then◌else◌, Option, Some, List, [], map, filter_map, All, unwrap_or, option_map, IsSome, slice_get, length, ◌<◌, ◌≤◌, true, false, take, drop, slice_index_or}
 use Rattle.std.specs.List.{find}
 use Rattle.rail_model.specs.Name.{IsBefore, is_same, NamesRise}
 use Rattle.rail_model.specs.Tables.{number_of}
@@ -17,6 +17,10 @@ module _ {X : Type 0} where
   -- the items with another one under a key
   abbrev pub with_change : List (ℕ × X) → ℕ → X → List (ℕ × X)
   with_change items k x = map (λ e. if e.0 == k then (k, x) else e) items
+
+  -- each of the first n items has its number at its key
+  abbrev pub AreNumbered : ℕ → List (ℕ × X) → List ℕ → Type 0
+  AreNumbered n items numbers = (i : ℕ) (e : ℕ × X) → i < n → slice_get items i ≡ Some e → slice_get numbers e.0 ≡ Some i
 
   module _ (name : X → List ℕ) where
     -- the name of an item that stands under a key

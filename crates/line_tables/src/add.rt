@@ -5,7 +5,7 @@ ghost use Rattle.rail_model.specs.Rules.{rule_of_put};
 ghost use Rattle.rail_model.specs.Edits.{after_put};
 
 use crate::LineTables;
-use crate::entry::{keys_of, put_entry};
+use crate::entry::{keys_of, put_entry, take_entry};
 use rail_model::{Block, Connection, OutOfMemory, Route, Run, Section, Signal};
 
 impl LineTables {
@@ -34,7 +34,15 @@ impl LineTables {
         ensures kept { OnErr result (self.new ≡ self.old) }
     {
         let refs = keys_of(self.alloc, &self.signals, route.signals.slice())?;
-        put_entry(&mut self.routes, &mut self.signal_uses, route, refs)?;
+        let name = route.name;
+        let key = put_entry(&mut self.routes, &mut self.signal_uses, route, refs)?;
+        let refs = self.routes.get(key).refs.slice();
+        if self.route_sets.make_room(&self.signals, refs, key).is_err() {
+            take_entry(&mut self.routes, &mut self.signal_uses, &name);
+            return Err(OutOfMemory);
+        }
+        let refs = self.routes.get(key).refs.slice();
+        self.route_sets.put(&self.signals, refs, key);
         Ok(())
     }
 

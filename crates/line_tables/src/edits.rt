@@ -1,6 +1,5 @@
 //! Edits of the tables.
 ghost use Rattle.std.specs.Prelude.{◌≡◌, Some, None, OnOk, OnErr, IfOk, IfErr};
-ghost use Rattle.rail_model.specs.declared.edit.Edit.TheVariants as edits;
 ghost use Rattle.rail_model.specs.Rules.{rule_of, rule_of_put, rule_of_change, rule_of_drop};
 ghost use Rattle.rail_model.specs.Edits.{after, after_put, after_change, after_drop};
 

@@ -1,11 +1,12 @@
 //! Items with the keys of what they refer to, found once when an item is put or changed.
-ghost use Rattle.std.specs.Prelude.{◌≡◌, ◌≤◌, ◌+◌, ℕ, true, false, map, Some, IfOk, OnOk, OnErr};
+ghost use Rattle.std.specs.Prelude.{◌≡◌, ◌≤◌, ◌+◌, ℕ, true, false, map, length, All, Some, None, is_some, IfSome, IfOk, OnOk, OnErr};
 ghost use Rattle.std.specs.Option.{option_map};
 ghost use Rattle.std.specs.List.{list_all};
 ghost use Rattle.rail_model.specs.Rules.{is_named};
 ghost use Rattle.rail_model.specs.Edits.{with_item, without};
 ghost use Rattle.line_tables.specs.Table as tables;
-ghost use Rattle.line_tables.specs.Uses.{count_of, times, SameCounts};
+ghost use Rattle.line_tables.specs.Links.{IsKey, block_of};
+ghost use Rattle.line_tables.specs.Uses.{count_of, times, SameCounts, HasRoom};
 ghost use Rattle.line_tables.specs.declared.entry.Entry.{Entry};
 
 use crate::named_table::{NamedTable, Stored};
@@ -88,6 +89,38 @@ pub(crate) fn keys_of<T: Stored>(
     Ok(keys)
 }
 
+/// The keys of the items of these names, in their order, if all are there.
+pub(crate) fn known_keys<T: Stored>(
+    alloc: Global,
+    table: &NamedTable<T>,
+    names: &[Name],
+) -> Result<Option<List<usize>>, OutOfMemory>
+    ensures known { IfOk result
+        (λ found. is_some found ≡ list_all (is_named (tables.named T.label) table.now) names.now) }
+    ensures keys { IfOk result
+        (λ found. IfSome found (λ keys. map (tables.key_of T.label table.now) names.now ≡ map Some keys)) }
+    ensures table { tables.IsTable T.label table.now }
+{
+    let _count = table.len();
+    let mut keys = List::new(alloc);
+    for name in names {
+        let Some(key) = table.key_of(name) else {
+            return Ok(None);
+        };
+        keys.push(key)?;
+    }
+    Ok(Some(keys))
+}
+
+/// The key of the block beyond the signal under a key.
+pub(crate) fn block_of(signals: &NamedTable<Entry<Signal>>, key: usize) -> usize
+    requires there { IsKey signals.now key }
+    requires one { All (λ e. length e.1.refs ≡ 1) signals.now }
+    ensures { result ≡ block_of signals.now key }
+{
+    signals.get(key).refs.slice()[0]
+}
+
 /// Puts an item of a new name in, and counts the keys that it refers to. Without memory all stays.
 pub(crate) fn put_entry<T: Stored>(
     table: &mut NamedTable<Entry<T>>,
@@ -98,6 +131,9 @@ pub(crate) fn put_entry<T: Stored>(
     requires { is_named (λ e. T.label e.1.item) table.old (T.label item) ≡ false }
     ensures put { IfOk result (λ key. table.new
         ≡ with_item (λ e. T.label e.1.item) table.old (key, record { item = item; refs = refs })) }
+    ensures fresh { IfOk result (λ key. tables.under table.old key ≡ None) }
+    ensures there { IfOk result (λ key. tables.under table.new key
+        ≡ Some (record { item = item; refs = refs })) }
     ensures counted { OnOk result
         ((k : ℕ) → count_of uses.new k ≡ count_of uses.old k + times k refs) }
     ensures kept { OnErr result (table.new ≡ table.old) }
@@ -132,10 +168,31 @@ pub(crate) fn change_entry<T: Stored>(
     ensures table { OnOk result (tables.IsTable (λ e. T.label e.item) table.old) }
 {
     uses.make_room(refs.slice())?;
+    swap_entry(table, uses, key, item, refs);
+    Ok(())
+}
+
+/// The same where there is room for the counts.
+pub(crate) fn swap_entry<T: Stored>(
+    table: &mut NamedTable<Entry<T>>,
+    uses: &mut Uses,
+    key: usize,
+    item: T,
+    refs: List<usize>,
+)
+    requires same_name { option_map (λ e. T.label e.item) (tables.under table.old key)
+        ≡ Some (T.label item) }
+    requires counted_before { (e : Entry T) (k : ℕ) → tables.under table.old key ≡ Some e
+        → times k e.refs ≤ count_of uses.old k }
+    requires room { HasRoom uses.old refs }
+    ensures changed { table.new ≡ tables.with_change table.old key (record { item = item; refs = refs }) }
+    ensures counted { (e : Entry T) (k : ℕ) → tables.under table.old key ≡ Some e
+        → count_of uses.new k + times k e.refs ≡ count_of uses.old k + times k refs }
+    ensures table { tables.IsTable (λ e. T.label e.item) table.old }
+{
     uses.add(refs.slice());
     let old = table.change(key, Entry { item, refs });
     uses.remove(old.refs.slice());
-    Ok(())
 }
 
 /// Takes the item of a name out, and what it refers to out of the counts.

@@ -1,7 +1,7 @@
 //! Sets of keys.
-ghost use Rattle.std.specs.Prelude.{◌≡◌, ◌≢◌, ℕ, ◌<◌, ◌==◌, ◌||◌, not, [], length, slice_index, IfOk, OnOk, OnErr};
+ghost use Rattle.std.specs.Prelude.{◌≡◌, ◌≢◌, ℕ, ◌/◌, ◌<◌, ◌≤◌, ◌==◌, ◌&&◌, ◌||◌, not, true, false, [], length, slice_index, IfOk, OnOk, OnErr};
 ghost use Rattle.std.specs.Int.{bit_at};
-ghost use Rattle.line_tables.specs.KeySet.{holds};
+ghost use Rattle.line_tables.specs.KeySet.{holds, SameKeys, HasWord, Meets, KeepsApart};
 ghost use Rattle.line_tables.specs.Links.{repeats_key};
 
 use rail_model::OutOfMemory;
@@ -35,6 +35,13 @@ impl KeySet {
         }
     }
 
+    /// The words of the set.
+    pub(crate) fn words(&self) -> &[u64]
+        ensures { result.now ≡ self.now }
+    {
+        &self.words
+    }
+
     /// Puts a key in, and says whether it is new there.
     pub(crate) fn insert(&mut self, key: usize) -> Result<bool, OutOfMemory>
         ensures fresh { IfOk result (λ new. new ≡ not (holds self.old key)) }
@@ -42,11 +49,66 @@ impl KeySet {
         ensures err { OnErr result ((k : ℕ) → holds self.new k ≡ holds self.old k) }
     {
         let place = key / WORD;
-        grow(&mut self.words, place)?;
+        grow(&mut self.words, place + 1)?;
         let bit = key % WORD;
         let word = self.words[place];
         self.words[place] = with_bit(word, bit);
         Ok(!has_bit(word, bit))
+    }
+
+    /// Makes room for this many words; the keys stay.
+    pub(crate) fn make_room(&mut self, words: usize) -> Result<(), OutOfMemory>
+        ensures same { SameKeys self.old self.new }
+        ensures longer { length self.old ≤ length self.new }
+        ensures room { OnOk result (words ≤ length self.new) }
+    {
+        grow(&mut self.words, words)
+    }
+
+    /// Puts a key in.
+    pub(crate) fn put(&mut self, key: usize)
+        requires { HasWord self.old key }
+        ensures put { (k : ℕ) → holds self.new k ≡ ((k == key) || holds self.old k) }
+        ensures long { length self.new ≡ length self.old }
+    {
+        let place = key / WORD;
+        self.words[place] = with_bit(self.words[place], key % WORD);
+    }
+
+    /// Takes a key out.
+    pub(crate) fn take(&mut self, key: usize)
+        ensures taken { (k : ℕ) → holds self.new k ≡ (not (k == key) && holds self.old k) }
+        ensures long { length self.new ≡ length self.old }
+    {
+        let place = key / WORD;
+        if place < self.words.len() {
+            self.words[place] = without_bit(self.words[place], key % WORD);
+        }
+    }
+
+    /// Puts the keys of another set in.
+    pub(crate) fn put_all(&mut self, others: &[u64])
+        requires { length others.now ≤ length self.old }
+        ensures { (k : ℕ) → holds self.new k ≡ (holds others.now k || holds self.old k) }
+    {
+        join(&mut self.words, others);
+    }
+
+    /// Takes the keys of another set out.
+    pub(crate) fn take_all(&mut self, others: &[u64])
+        ensures taken { (k : ℕ) → holds self.new k ≡ (not (holds others.now k) && holds self.old k) }
+        ensures long { length self.new ≡ length self.old }
+    {
+        part(&mut self.words, others);
+    }
+
+    /// The same set again.
+    pub(crate) fn copy(&self) -> Result<Self, OutOfMemory>
+        ensures { IfOk result (λ other. other ≡ self.now) }
+    {
+        Ok(KeySet {
+            words: self.words.clone()?,
+        })
     }
 }
 
@@ -63,15 +125,55 @@ pub(crate) fn repeats(alloc: Global, keys: &[usize]) -> Result<bool, OutOfMemory
     Ok(false)
 }
 
-// Adds words without keys until there is one at the place.
-fn grow(words: &mut Vec<u64>, place: usize) -> Result<(), OutOfMemory>
-    ensures same { (k : ℕ) → slice_index words.new.items k ≡ slice_index words.old.items k }
-    ensures within { OnOk result (place < length words.new.items) }
+/// Whether some key is in both sets, given by their words.
+pub(crate) fn meet(one: &[u64], other: &[u64]) -> bool
+    ensures some { result ≡ true → Meets one.now other.now }
+    ensures none { result ≡ false → KeepsApart one.now other.now }
 {
-    while words.len() <= place {
+    for place in 0..one.len().min(other.len()) {
+        if one[place] & other[place] != 0 {
+            return true;
+        }
+    }
+    false
+}
+
+/// How many words a set has where a key is its greatest.
+pub(crate) fn words_for(key: usize) -> usize
+    ensures { key / 64 < result }
+{
+    key / WORD + 1
+}
+
+// Adds words without keys until there are so many.
+fn grow(words: &mut Vec<u64>, count: usize) -> Result<(), OutOfMemory>
+    ensures same { (k : ℕ) → slice_index words.new.items k ≡ slice_index words.old.items k }
+    ensures longer { length words.old.items ≤ length words.new.items }
+    ensures within { OnOk result (count ≤ length words.new.items) }
+{
+    while words.len() < count {
         words.push(0)?;
     }
     Ok(())
+}
+
+// Puts the keys of one set into another.
+fn join(words: &mut [u64], others: &[u64])
+    requires { length others.now ≤ length words.old }
+    ensures { (k : ℕ) → holds words.new k ≡ (holds others.now k || holds words.old k) }
+{
+    for place in 0..others.len() {
+        words[place] |= others[place];
+    }
+}
+
+// Takes the keys of one set out of another.
+fn part(words: &mut [u64], others: &[u64])
+    ensures { (k : ℕ) → holds words.new k ≡ (not (holds others.now k) && holds words.old k) }
+{
+    for place in 0..words.len().min(others.len()) {
+        words[place] &= !others[place];
+    }
 }
 
 fn has_bit(word: u64, bit: usize) -> bool
@@ -87,4 +189,12 @@ fn with_bit(word: u64, bit: usize) -> u64
     ensures others { (i : ℕ) → i ≢ bit → bit_at result i ≡ bit_at word i }
 {
     word | (1 << bit)
+}
+
+fn without_bit(word: u64, bit: usize) -> u64
+    requires { bit < 64 }
+    ensures clear { bit_at result bit ≡ 0 }
+    ensures others { (i : ℕ) → i < 64 → i ≢ bit → bit_at result i ≡ bit_at word i }
+{
+    word & !(1 << bit)
 }

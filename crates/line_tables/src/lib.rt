@@ -5,11 +5,13 @@ mod add;
 mod edits;
 mod entry;
 mod key_set;
+mod key_sets;
 mod line_tables;
 mod named_table;
 mod path;
 mod remove;
 mod replace;
+mod route_sets;
 mod rules;
 mod uses;
 

@@ -8,6 +8,7 @@ ghost use Rattle.line_tables.specs.Inside.{tables_of, parts, IsJoined};
 
 use crate::entry::Entry;
 use crate::named_table::{NamedTable, Stored};
+use crate::route_sets::RouteSets;
 use crate::uses::Uses;
 use rail_model::{Block, Connection, List, Name, OutOfMemory, Route, Run, Section, Signal, Tables};
 use std::alloc::Global;
@@ -29,6 +30,8 @@ pub struct LineTables {
     pub(crate) signal_uses: Uses,
     pub(crate) route_uses: Uses,
     pub(crate) run_uses: Uses,
+    // Which routes list each signal, and which have a signal of each block.
+    pub(crate) route_sets: RouteSets,
 }
 
 // Dropping the tables is one call for whoever holds them.
@@ -46,6 +49,7 @@ impl Drop for LineTables {
             signal_uses: _,
             route_uses: _,
             run_uses: _,
+            route_sets: _,
         } = self;
     }
 }
@@ -79,6 +83,7 @@ impl LineTables {
             signal_uses: Uses::new(alloc),
             route_uses: Uses::new(alloc),
             run_uses: Uses::new(alloc),
+            route_sets: RouteSets::new(alloc),
         }
     }
 
@@ -94,7 +99,8 @@ impl LineTables {
         )?;
         let line = copy_line(&self.blocks, &self.signals, &self.routes)?;
         let timetable = copy_timetable(&self.runs, &self.sections, &self.connections)?;
-        Ok(joined(self.alloc, line, timetable, counts))
+        let sets = self.route_sets.copy()?;
+        Ok(joined(self.alloc, line, timetable, counts, sets))
     }
 
     /// The items alone, as plain tables.
@@ -265,9 +271,15 @@ fn copy_counts(
 }
 
 // The tables of these parts.
-fn joined(alloc: Global, line: Line, timetable: Timetable, counts: Counts) -> LineTables
-    requires { IsJoined (parts alloc line timetable counts) }
-    ensures { result ≡ tables_of (parts alloc line timetable counts) }
+fn joined(
+    alloc: Global,
+    line: Line,
+    timetable: Timetable,
+    counts: Counts,
+    sets: RouteSets,
+) -> LineTables
+    requires { IsJoined (parts alloc line timetable counts sets) }
+    ensures { result ≡ tables_of (parts alloc line timetable counts sets) }
 {
     LineTables {
         alloc,
@@ -281,6 +293,7 @@ fn joined(alloc: Global, line: Line, timetable: Timetable, counts: Counts) -> Li
         signal_uses: counts.1,
         route_uses: counts.2,
         run_uses: counts.3,
+        route_sets: sets,
     }
 }
 

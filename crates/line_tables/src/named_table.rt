@@ -1,9 +1,9 @@
 //! A table of named items. An item stands under a key that stays its own until it is taken out, so what
 //! refers to it by its key needs no change while others come and go.
-ghost use Rattle.std.specs.Prelude.{◌≡◌, ◌<◌, false, true, length, map, take, drop, All, slice_get, slice_index_or, is_some, IfSome, IsSome, IfOk, OnOk, OnErr, IfErr, Some, None, MatchResult, []};
+ghost use Rattle.std.specs.Prelude.{◌≡◌, ◌<◌, false, true, length, take, drop, All, slice_get, is_some, IfSome, IsSome, IfOk, OnOk, OnErr, Some, None, MatchResult, []};
 ghost use Rattle.std.specs.Option.{option_map};
-ghost use Rattle.slab.specs.Slab.{Slab as Slots, get as slot};
-ghost use Rattle.rail_model.specs.Name.{IsBefore, NamesRise};
+ghost use Rattle.slab.specs.Slab.{get as slot};
+ghost use Rattle.rail_model.specs.Name.{NamesRise};
 ghost use Rattle.rail_model.specs.Rules.{is_named};
 ghost use Rattle.rail_model.specs.Edits.{with_item, without};
 ghost use Rattle.rail_model.specs.Tables.{number_of};
@@ -113,6 +113,15 @@ impl<T: Stored> NamedTable<T> {
         ensures table { tables.IsTable T.label self.now }
     {
         &self.slots[self.order[number]]
+    }
+
+    /// The key of the item of a number.
+    pub(crate) fn key_at(&self, number: usize) -> usize
+        requires { number < length self.now }
+        ensures key { option_map (λ e. e.0) (slice_get self.now number) ≡ Some result }
+        ensures table { tables.IsTable T.label self.now }
+    {
+        self.order[number]
     }
 
     /// Puts an item of a new name in, and gives its key. Without memory the table stays as it was.

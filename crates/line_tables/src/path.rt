@@ -5,7 +5,7 @@
 ghost use Rattle.std.specs.Prelude.{◌≡◌, ◌≤◌, ◌<◌, IfOk, length, map, All};
 ghost use Rattle.rail_model.specs.Path.{Fits};
 ghost use Rattle.rail_model.specs.Tables.{path_in, run_at};
-ghost use Rattle.line_tables.specs.Table as tables;
+ghost use Rattle.line_tables.specs.Table.{AreNumbered};
 ghost use Rattle.line_tables.specs.Links.{IsKey, IsLinked};
 ghost use Rattle.line_tables.specs.Inside.{names_of_signal};
 ghost use Rattle.line_tables.specs.Hops as hops_in;
@@ -13,21 +13,42 @@ ghost use Rattle.line_tables.specs.Hops as hops_in;
 use crate::LineTables;
 use crate::entry::Entry;
 use crate::named_table::NamedTable;
+use crate::uses::grow;
 use rail_model::{BLOCKS, Block, Hop, Leg, List, OutOfMemory, Path, Run, Signal};
 use std::alloc::Global;
 
+// The number of each block, at its key: a list as long as the greatest key.
+fn numbers_by_key(alloc: Global, blocks: &NamedTable<Block>) -> Result<Vec<usize>, OutOfMemory>
+    ensures { IfOk result (λ numbers. AreNumbered (length blocks.now) blocks.now numbers.items) }
+{
+    let mut numbers = Vec::new(alloc);
+    for number in 0..blocks.len() {
+        let key = blocks.key_at(number);
+        grow(&mut numbers, key)?;
+        numbers[key] = number;
+    }
+    Ok(numbers)
+}
+
 // The hop beyond the signal under a key, before any run has timed it.
-fn untimed_hop(blocks: &NamedTable<Block>, signals: &NamedTable<Entry<Signal>>, key: usize) -> Hop
+fn untimed_hop(
+    blocks: &NamedTable<Block>,
+    numbers: &[usize],
+    signals: &NamedTable<Entry<Signal>>,
+    key: usize,
+) -> Hop
     requires there { IsKey signals.now key }
     requires linked { IsLinked names_of_signal (λ b. b.name) signals.now blocks.now }
     requires few { length blocks.now ≤ BLOCKS }
+    requires numbered { AreNumbered (length blocks.now) blocks.now numbers.now }
     ensures { result ≡ hops_in.hop_of blocks.now signals.now key }
 {
     let _count = blocks.len();
     let entry = signals.get(key);
     let signal = &entry.item;
-    let block = blocks.get(entry.refs.slice()[0]);
-    let number = blocks.number_of(&block.name).unwrap();
+    let block_key = entry.refs.slice()[0];
+    let block = blocks.get(block_key);
+    let number = numbers[block_key];
     Hop {
         block: number as u32,
         block_m: block.length_m,
@@ -45,17 +66,19 @@ fn untimed_hop(blocks: &NamedTable<Block>, signals: &NamedTable<Entry<Signal>>, 
 fn untimed_hops(
     alloc: Global,
     blocks: &NamedTable<Block>,
+    numbers: &[usize],
     signals: &NamedTable<Entry<Signal>>,
     keys: &[usize],
 ) -> Result<List<Hop>, OutOfMemory>
     requires there { All (IsKey signals.now) keys.now }
     requires linked { IsLinked names_of_signal (λ b. b.name) signals.now blocks.now }
     requires few { length blocks.now ≤ BLOCKS }
+    requires numbered { AreNumbered (length blocks.now) blocks.now numbers.now }
     ensures { IfOk result (λ hops. hops ≡ map (hops_in.hop_of blocks.now signals.now) keys.now) }
 {
     let mut hops = List::new(alloc);
     for key in keys {
-        hops.push(untimed_hop(blocks, signals, *key))?;
+        hops.push(untimed_hop(blocks, numbers, signals, *key))?;
     }
     Ok(hops)
 }
@@ -102,7 +125,9 @@ impl LineTables {
         let _count = (self.signals.len(), self.routes.len());
         let entry = self.runs.nth(run as usize);
         let route = self.routes.get(entry.refs.slice()[0]);
-        let hops = untimed_hops(self.alloc, &self.blocks, &self.signals, route.refs.slice())?;
+        let numbers = numbers_by_key(self.alloc, &self.blocks)?;
+        let keys = route.refs.slice();
+        let hops = untimed_hops(self.alloc, &self.blocks, &numbers, &self.signals, keys)?;
         path_over(self.alloc, &entry.item, hops.slice())
     }
 
@@ -111,10 +136,12 @@ impl LineTables {
         ensures { IfOk result (λ all. all ≡ map (hops_in.route_hops self.now) self.now.routes) }
     {
         let _count = self.signals.len();
+        let numbers = numbers_by_key(self.alloc, &self.blocks)?;
         let mut all = List::new(self.alloc);
         for number in 0..self.routes.len() {
             let route = self.routes.nth(number);
-            all.push(untimed_hops(self.alloc, &self.blocks, &self.signals, route.refs.slice())?)?;
+            let keys = route.refs.slice();
+            all.push(untimed_hops(self.alloc, &self.blocks, &numbers, &self.signals, keys)?)?;
         }
         Ok(all)
     }

@@ -27,6 +27,10 @@ impl LineTables {
         requires { rule_of_drop self.old kind.Route name.now ≡ None }
         ensures { self.new ≡ after_drop self.old kind.Route name.now }
     {
+        let _count = self.signals.len();
+        let key = self.routes.key_of(name).unwrap();
+        let refs = self.routes.get(key).refs.slice();
+        self.route_sets.take(&self.signals, refs, key);
         take_entry(&mut self.routes, &mut self.signal_uses, name);
     }
 

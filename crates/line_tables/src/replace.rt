@@ -6,7 +6,7 @@ ghost use Rattle.rail_model.specs.Rules.{rule_of_change};
 ghost use Rattle.rail_model.specs.Edits.{after_change};
 
 use crate::LineTables;
-use crate::entry::{change_entry, keys_of};
+use crate::entry::{block_of, change_entry, keys_of, swap_entry};
 use rail_model::{Block, Connection, OutOfMemory, Route, Run, Section, Signal};
 
 impl LineTables {
@@ -25,7 +25,11 @@ impl LineTables {
     {
         let refs = keys_of(self.alloc, &self.blocks, &[signal.block])?;
         let key = self.signals.key_of(&signal.name).unwrap();
+        let from = block_of(&self.signals, key);
+        let to = refs.slice()[0];
+        self.route_sets.make_room_to_move(key, from, to)?;
         change_entry(&mut self.signals, &mut self.block_uses, key, signal, refs)?;
+        self.route_sets.move_routes(key, from, to);
         Ok(())
     }
 
@@ -36,7 +40,12 @@ impl LineTables {
     {
         let refs = keys_of(self.alloc, &self.signals, route.signals.slice())?;
         let key = self.routes.key_of(&route.name).unwrap();
-        change_entry(&mut self.routes, &mut self.signal_uses, key, route, refs)?;
+        self.signal_uses.make_room(refs.slice())?;
+        self.route_sets.make_room(&self.signals, refs.slice(), key)?;
+        let old = self.routes.get(key).refs.slice();
+        self.route_sets.take(&self.signals, old, key);
+        self.route_sets.put(&self.signals, refs.slice(), key);
+        swap_entry(&mut self.routes, &mut self.signal_uses, key, route, refs);
         Ok(())
     }
 

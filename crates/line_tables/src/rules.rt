@@ -1,16 +1,16 @@
 //! Which rule refuses an edit.
-ghost use Rattle.std.specs.Prelude.{◌≡◌, ℕ, ◌<◌, ◌==◌, ◌&&◌, true, false, not, map, length, All, Some, None, IfOk, is_some};
-ghost use Rattle.std.specs.List.{list_all, list_any};
+ghost use Rattle.std.specs.Prelude.{◌≡◌, ◌<◌, ◌==◌, ◌&&◌, true, false, not, if◌then◌else◌, map, length, All, Some, None, IfOk, is_some};
 ghost use Rattle.rail_model.specs.declared.items.Item.TheVariants as item;
 ghost use Rattle.rail_model.specs.declared.edit.Kind.TheVariants as kind;
 ghost use Rattle.rail_model.specs.Tables.{route_named};
+ghost use Rattle.rail_model.specs.declared.edit.Rule.TheVariants as rule;
 ghost use Rattle.rail_model.specs.Rules as rules;
-ghost use Rattle.rail_model.specs.Name.{has_repeat};
+ghost use Rattle.line_tables.specs.References.{refused_reference};
 ghost use Rattle.rail_model.specs.Sound.{IsSound};
-ghost use Rattle.line_tables.specs.Links.{block_of, lists_key, meets, IsKey};
+ghost use Rattle.line_tables.specs.Links.{block_of, IsKey};
 
 use crate::LineTables;
-use crate::entry::{Entry, keys_of};
+use crate::entry::{Entry, block_of, known_keys};
 use crate::key_set::repeats;
 use crate::named_table::NamedTable;
 use rail_model::{
@@ -43,11 +43,8 @@ impl LineTables {
         if self.is_full(item) {
             return Ok(Some(Rule::Limit));
         }
-        if !self.refers_to_known(item) {
-            return Ok(Some(Rule::Unknown));
-        }
-        if self.repeats(item)? {
-            return Ok(Some(Rule::Twice));
+        if let Some(rule) = self.refused_reference(item)? {
+            return Ok(Some(rule));
         }
         if self.miscounts_legs(item) {
             return Ok(Some(Rule::Count));
@@ -61,10 +58,13 @@ impl LineTables {
         if !is_within(item) {
             return Ok(Some(Rule::Range));
         }
-        if !self.is_there(item) || !self.refers_to_known(item) {
+        if !self.is_there(item) {
             return Ok(Some(Rule::Unknown));
         }
-        if self.repeats(item)? || self.makes_repeat(item) {
+        if let Some(rule) = self.refused_reference(item)? {
+            return Ok(Some(rule));
+        }
+        if self.makes_repeat(item) {
             return Ok(Some(Rule::Twice));
         }
         if self.miscounts_legs(item) || self.makes_miscount(item) {
@@ -176,31 +176,48 @@ impl LineTables {
         }
     }
 
-    fn refers_to_known(&self, item: &Item) -> bool
-        ensures { result ≡ rules.refers_to_known self.now item.now }
+    // The rule that refuses an item for what it refers to: it isn't there, or it is named twice.
+    fn refused_reference(&self, item: &Item) -> Result<Option<Rule>, OutOfMemory>
+        ensures { IfOk result (λ rule. rule ≡ refused_reference self.now item.now) }
     {
         match item {
-            Item::Block(_) => true,
-            Item::Signal(signal) => self.has_block(&signal.block),
-            Item::Route(route) => self.has_signals(route.signals.slice()),
-            Item::Run(run) => self.has_route(&run.route),
-            Item::Section(section) => self.has_blocks(section.blocks.slice()),
-            Item::Connection(connection) => {
-                self.has_run(&connection.first) && self.has_run(&connection.second)
-            }
+            Item::Block(_) => Ok(None),
+            Item::Signal(signal) => Ok(unknown_unless(self.has_block(&signal.block))),
+            Item::Route(route) => self.refused_signal(route),
+            Item::Run(run) => Ok(unknown_unless(self.has_route(&run.route))),
+            Item::Section(section) => self.refused_block(section),
+            Item::Connection(connection) => Ok(self.refused_run(connection)),
         }
     }
 
-    fn has_signals(&self, names: &[Name]) -> bool
-        ensures { result ≡ list_all (rules.has_signal self.now) names.now }
+    // Each signal's name is looked up once, and its block found by its key.
+    fn refused_signal(&self, route: &Route) -> Result<Option<Rule>, OutOfMemory>
+        ensures { IfOk result (λ rule. rule ≡ refused_reference self.now (item.Route route.now)) }
     {
-        names.iter().all(|name| self.has_signal(name))
+        let _count = self.blocks.len();
+        let Some(signals) = known_keys(self.alloc, &self.signals, route.signals.slice())? else {
+            return Ok(Some(Rule::Unknown));
+        };
+        let blocks = blocks_of(self.alloc, &self.signals, signals.slice())?;
+        Ok(twice_if(repeats(self.alloc, blocks.slice())?))
     }
 
-    fn has_blocks(&self, names: &[Name]) -> bool
-        ensures { result ≡ list_all (rules.has_block self.now) names.now }
+    fn refused_block(&self, section: &Section) -> Result<Option<Rule>, OutOfMemory>
+        ensures { IfOk result (λ rule. rule ≡ refused_reference self.now (item.Section section.now)) }
     {
-        names.iter().all(|name| self.has_block(name))
+        let Some(blocks) = known_keys(self.alloc, &self.blocks, section.blocks.slice())? else {
+            return Ok(Some(Rule::Unknown));
+        };
+        Ok(twice_if(repeats(self.alloc, blocks.slice())?))
+    }
+
+    fn refused_run(&self, connection: &Connection) -> Option<Rule>
+        ensures { result ≡ refused_reference self.now (item.Connection connection.now) }
+    {
+        if !self.has_run(&connection.first) || !self.has_run(&connection.second) {
+            return Some(Rule::Unknown);
+        }
+        twice_if(connection.first == connection.second)
     }
 
     // How many signals the route of a name has: none where it isn't there.
@@ -286,37 +303,6 @@ impl LineTables {
         }
     }
 
-    // The item names something twice.
-    fn repeats(&self, item: &Item) -> Result<bool, OutOfMemory>
-        requires { rules.refers_to_known self.now item.now ≡ true }
-        ensures { IfOk result (λ twice. twice ≡ rules.repeats self.now item.now) }
-    {
-        match item {
-            Item::Route(route) => self.repeats_block(route),
-            Item::Section(section) => self.repeats_in_section(section),
-            Item::Connection(connection) => Ok(connection.first == connection.second),
-            Item::Block(_) | Item::Signal(_) | Item::Run(_) => Ok(false),
-        }
-    }
-
-    fn repeats_block(&self, route: &Route) -> Result<bool, OutOfMemory>
-        requires { list_all (rules.has_signal self.now) route.now.signals ≡ true }
-        ensures { IfOk result (λ twice. twice ≡ rules.repeats_block self.now route.now) }
-    {
-        let _count = self.blocks.len();
-        let signals = keys_of(self.alloc, &self.signals, route.signals.slice())?;
-        let blocks = blocks_of(self.alloc, &self.signals, signals.slice())?;
-        repeats(self.alloc, blocks.slice())
-    }
-
-    fn repeats_in_section(&self, section: &Section) -> Result<bool, OutOfMemory>
-        requires { list_all (rules.has_block self.now) section.now.blocks ≡ true }
-        ensures { IfOk result (λ twice. twice ≡ has_repeat section.now.blocks) }
-    {
-        let blocks = keys_of(self.alloc, &self.blocks, section.blocks.slice())?;
-        repeats(self.alloc, blocks.slice())
-    }
-
     // With the changed signal in the place of the old one some route would have two signals of its block.
     fn makes_repeat(&self, item: &Item) -> bool
         requires there { rules.is_there self.now item.now ≡ true }
@@ -340,17 +326,21 @@ impl LineTables {
     {
         let key = self.signals.key_of(&signal.name).unwrap();
         let block = self.blocks.key_of(&signal.block).unwrap();
-        block != block_of(&self.signals, key) && any_meets(&self.routes, &self.signals, key, block)
+        let _count = self.routes.len();
+        block != block_of(&self.signals, key) && self.route_sets.meet(key, block)
     }
 }
 
-// The key of the block beyond the signal under a key.
-fn block_of(signals: &NamedTable<Entry<Signal>>, key: usize) -> usize
-    requires there { IsKey signals.now key }
-    requires one { All (λ e. length e.1.refs ≡ 1) signals.now }
-    ensures { result ≡ block_of signals.now key }
+fn unknown_unless(known: bool) -> Option<Rule>
+    ensures { result ≡ (if known then None else Some rule.Unknown) }
 {
-    signals.get(key).refs.slice()[0]
+    if known { None } else { Some(Rule::Unknown) }
+}
+
+fn twice_if(twice: bool) -> Option<Rule>
+    ensures { result ≡ (if twice then Some rule.Twice else None) }
+{
+    if twice { Some(Rule::Twice) } else { None }
 }
 
 // The keys of the blocks beyond the signals under keys, in their order.
@@ -368,52 +358,4 @@ fn blocks_of(
         blocks.push(block_of(signals, *key))?;
     }
     Ok(blocks)
-}
-
-// Whether some route lists a signal and has one of a block.
-fn any_meets(
-    routes: &NamedTable<Entry<Route>>,
-    signals: &NamedTable<Entry<Signal>>,
-    signal: usize,
-    block: usize,
-) -> bool
-    requires there { All (λ r. All (IsKey signals.now) r.1.refs) routes.now }
-    requires one { All (λ e. length e.1.refs ≡ 1) signals.now }
-    ensures { result ≡ list_any (meets signals.now signal block) routes.now }
-{
-    for number in 0..routes.len() {
-        if meets(signals, routes.nth(number).refs.slice(), signal, block) {
-            return true;
-        }
-    }
-    false
-}
-
-// Whether a route's signals, given by their keys, have this one and one of a block.
-fn meets(signals: &NamedTable<Entry<Signal>>, refs: &[usize], signal: usize, block: usize) -> bool
-    requires there { All (IsKey signals.now) refs.now }
-    requires one { All (λ e. length e.1.refs ≡ 1) signals.now }
-    ensures { result
-        ≡ (lists_key refs.now signal && list_any (λ q. block_of signals.now q == block) refs.now) }
-{
-    lists_key(refs, signal) && has_signal_of(signals, refs, block)
-}
-
-fn has_signal_of(signals: &NamedTable<Entry<Signal>>, keys: &[usize], block: usize) -> bool
-    requires there { All (IsKey signals.now) keys.now }
-    requires one { All (λ e. length e.1.refs ≡ 1) signals.now }
-    ensures { result ≡ list_any (λ q. block_of signals.now q == block) keys.now }
-{
-    for key in keys {
-        if block_of(signals, *key) == block {
-            return true;
-        }
-    }
-    false
-}
-
-fn lists_key(keys: &[usize], key: usize) -> bool
-    ensures { result ≡ lists_key keys.now key }
-{
-    keys.iter().any(|listed| *listed == key)
 }

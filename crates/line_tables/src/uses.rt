@@ -1,5 +1,5 @@
 //! How often the items of a table are referred to.
-ghost use Rattle.std.specs.Prelude.{◌≡◌, ℕ, ◌+◌, ◌≤◌, ◌<◌, [], length, OnOk, IfOk, All};
+ghost use Rattle.std.specs.Prelude.{◌≡◌, ℕ, ◌+◌, ◌≤◌, ◌<◌, [], length, OnOk, IfOk};
 ghost use Rattle.line_tables.specs.Uses.{count_of, times, SameCounts, HasRoomFor, HasRoom};
 
 use rail_model::OutOfMemory;
@@ -93,8 +93,8 @@ fn make_room_for(counts: &mut Vec<usize>, key: usize, more: usize) -> Result<(),
     Ok(())
 }
 
-// Adds counts of 0 until the key has one.
-fn grow(counts: &mut Vec<usize>, key: usize) -> Result<(), OutOfMemory>
+/// Adds counts of 0 until the key has one.
+pub(crate) fn grow(counts: &mut Vec<usize>, key: usize) -> Result<(), OutOfMemory>
     ensures same { SameCounts counts.old.items counts.new.items }
     ensures longer { length counts.old.items ≤ length counts.new.items }
     ensures within { OnOk result (key < length counts.new.items) }

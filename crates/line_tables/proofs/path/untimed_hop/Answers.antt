@@ -1,16 +1,16 @@
-use Rattle.std.proofs.Common.{◌≡◌, ℕ, List, [], ◌∷◌, get_or, map, Some, subst, sym, ap, ◌∙◌, refl}
-use Rattle.std.specs.Prelude.{is_some}
+use Rattle.std.proofs.Common.{◌≡◌, ℕ, ◌<◌, List, length, arith, [], ◌∷◌, get_or, map, Some, subst, sym, ◌∙◌, refl}
+use Rattle.std.proofs.lemmas.Option.{slice_get_within, get_or_from_slice_get}
 use Rattle.rail_model.specs.declared.items.Block.{Block}
 use Rattle.rail_model.specs.declared.items.Signal.{Signal}
 use Rattle.rail_model.specs.Tables.{no_block, number_of, hop_beyond}
 use Rattle.rail_model.specs.Within.{no_leg}
 use Rattle.rail_model.specs.Edits.{no_tables}
 use Rattle.line_tables.specs.declared.entry.Entry.{Entry}
-use Rattle.line_tables.specs.Table.{key_of, under, IsTable}
+use Rattle.line_tables.specs.Table.{key_of, named, under, IsTable, AreNumbered}
 use Rattle.line_tables.specs.Links.{IsLinked}
 use Rattle.line_tables.specs.Hops.{hop_of}
 use Rattle.line_tables.specs.Inside.{names_of_signal}
-use Rattle.line_tables.proofs.Entries.{is_some-key_of}
+use Rattle.line_tables.proofs.Numbers.{number_at_key}
 use Rattle.line_tables.proofs.Found.{found_by_key}
 use Rattle.line_tables.proofs.Views.{item_named, number_of-map}
 use Rattle.line_tables.proofs.Meets.{under_passes, some_key, only_key}
@@ -39,38 +39,48 @@ get-block-requires c =
     let found = found_by_key block_name blocks e.item.block (get_or e.refs 0 0) c.len-count.ensures.table key in
     rw (c.slice.ensures, found.1.under) refl
 
--- the block that the signal names
-abbrev found_block : (blocks : List (ℕ × Block)) (signals : List (ℕ × Entry Signal)) (key : ℕ) (e : Entry Signal) → Block → Type 0
-found_block blocks signals key e b = (k : ℕ) × (key_of block_name blocks e.item.block ≡ Some k) × (under blocks k ≡ Some b) × (b.name ≡ e.item.block)
+-- the key of the block that the signal names
+its_key : (blocks : List (ℕ × Block)) (signals : List (ℕ × Entry Signal)) (key : ℕ) (e : Entry Signal) → IsLinked names_of_signal block_name signals blocks → under signals key ≡ Some e → key_of block_name blocks e.item.block ≡ Some (get_or e.refs 0 0)
+its_key blocks signals key e linked here =
+    only_key (key_of block_name blocks e.item.block) e.refs (reference blocks signals key e linked here)
 
-its_block : (blocks : List (ℕ × Block)) (signals : List (ℕ × Entry Signal)) (key : ℕ) (e : Entry Signal) (b : Block) → IsTable block_name blocks → IsLinked names_of_signal block_name signals blocks → under signals key ≡ Some e → under blocks (get_or e.refs 0 0) ≡ Some b → found_block blocks signals key e b
-its_block blocks signals key e b table linked here under_it =
-    let k = only_key (key_of block_name blocks e.item.block) e.refs (reference blocks signals key e linked here) in
-    let found = found_by_key block_name blocks e.item.block (get_or e.refs 0 0) table k in
-    let both : Some found.0 ≡ Some b = sym found.1.under ∙ under_it in
-    let same : found.0 ≡ b = cc in
-    (get_or e.refs 0 0, k, under_it, sym (ap block_name same) ∙ found.1.label)
+-- the number at that key is the block's
+its_number : (blocks : List (ℕ × Block)) (signals : List (ℕ × Entry Signal)) (key : ℕ) (e : Entry Signal) (numbers : List ℕ) → IsLinked names_of_signal block_name signals blocks → under signals key ≡ Some e → AreNumbered (length blocks) blocks numbers → (get_or e.refs 0 0 < length numbers) × (get_or numbers (get_or e.refs 0 0) 0 ≡ number_of (named block_name) blocks e.item.block) × (number_of (named block_name) blocks e.item.block < length blocks)
+its_number blocks signals key e numbers linked here numbered =
+    let k = get_or e.refs 0 0 in
+    let number = number_of (named block_name) blocks e.item.block in
+    let at = number_at_key block_name blocks numbers e.item.block k numbered (its_key blocks signals key e linked here) in
+    (slice_get_within numbers k number at.0, get_or_from_slice_get numbers k number 0 at.0, at.1)
 
-pub unwrap-number-requires : goal.unwrap-number-requires
-unwrap-number-requires c =
-    let blocks = c.args.blocks.now in
-    let e = c.get-entry.result.now in
-    let b = c.get-block.result.now in
-    let its = its_block blocks c.args.signals.now c.args.key e b c.len-count.ensures.table c.requires.linked c.get-entry.ensures.item (rw c.slice.ensures at c.get-block.ensures.item) in
-    c.number_of.ensures.there ∙ sym (is_some-key_of block_name blocks b.name) ∙ ap (λ n. is_some (key_of block_name blocks n)) its.3 ∙ rw its.1 refl
+pub bounds-numbers-block_key : goal.bounds-numbers-block_key
+bounds-numbers-block_key c =
+    let its = its_number c.args.blocks.now c.args.signals.now c.args.key c.get-entry.result.now c.args.numbers.now c.requires.linked c.get-entry.ensures.item c.requires.numbered in
+    rw c.slice.ensures its.0
 
-hop_is : (blocks : List (ℕ × Block)) (signals : List (ℕ × Entry Signal)) (key number : ℕ) (e : Entry Signal) (b : Block) → IsTable block_name blocks → found_block blocks signals key e b → under signals key ≡ Some e → number ≡ number_of (λ x. x.1.name) blocks b.name → record (hop_beyond no_tables e.item no_leg) { block = number; block_m = b.length_m } ≡ hop_of blocks signals key
-hop_is blocks signals key number e b table its here counted =
+pub offset_bounds-numbers-block_key : goal.offset_bounds-numbers-block_key
+offset_bounds-numbers-block_key c =
+    let its = its_number c.args.blocks.now c.args.signals.now c.args.key c.get-entry.result.now c.args.numbers.now c.requires.linked c.get-entry.ensures.item c.requires.numbered in
+    let within : get_or c.slice.result.now 0 0 < length c.args.numbers.now = rw c.slice.ensures its.0 in
+    omega (arith, within)
+
+pub overflow_cast-result : goal.overflow_cast-result
+overflow_cast-result c =
+    let its = its_number c.args.blocks.now c.args.signals.now c.args.key c.get-entry.result.now c.args.numbers.now c.requires.linked c.get-entry.ensures.item c.requires.numbered in
+    let few = c.requires.few in
+    let within = its.2 in
+    rw (c.slice.ensures, its.1) (omega (arith, few, within))
+
+hop_is : (blocks : List (ℕ × Block)) (signals : List (ℕ × Entry Signal)) (key k number : ℕ) (e : Entry Signal) (b : Block) → IsTable block_name blocks → under signals key ≡ Some e → key_of block_name blocks e.item.block ≡ Some k → under blocks k ≡ Some b → number ≡ number_of (named block_name) blocks e.item.block → record (hop_beyond no_tables e.item no_leg) { block = number; block_m = b.length_m } ≡ hop_of blocks signals key
+hop_is blocks signals key k number e b table here keyed under_it counted =
     let lines = map (λ (x : ℕ × Block). x.1) blocks in
-    let place : number ≡ number_of block_name lines e.item.block =
-    counted ∙ ap (number_of (λ (x : ℕ × Block). x.1.name) blocks) its.3 ∙ sym (number_of-map (λ (x : ℕ × Block). x.1) block_name blocks e.item.block) in
-    let item = item_named (λ (b : Block). b) block_name blocks e.item.block its.0 b no_block table its.1 its.2 in
+    let place : number ≡ number_of block_name lines e.item.block = counted ∙ sym (number_of-map (λ (x : ℕ × Block). x.1) block_name blocks e.item.block) in
+    let item = item_named (λ (b : Block). b) block_name blocks e.item.block k b no_block table keyed under_it in
     rw (here, item, place) refl
 
 pub returns : goal.returns
 returns c =
     let blocks = c.args.blocks.now in
+    let signals = c.args.signals.now in
     let e = c.get-entry.result.now in
-    let b = c.get-block.result.now in
-    let its = its_block blocks c.args.signals.now c.args.key e b c.len-count.ensures.table c.requires.linked c.get-entry.ensures.item (rw c.slice.ensures at c.get-block.ensures.item) in
-    hop_is blocks c.args.signals.now c.args.key c.unwrap-number.result e b c.len-count.ensures.table its c.get-entry.ensures.item (rw c.unwrap-number.ensures at c.number_of.ensures.number)
+    let its = its_number blocks signals c.args.key e c.args.numbers.now c.requires.linked c.get-entry.ensures.item c.requires.numbered in
+    hop_is blocks signals c.args.key (get_or e.refs 0 0) _ e c.get-block.result.now c.len-count.ensures.table c.get-entry.ensures.item (its_key blocks signals c.args.key e c.requires.linked c.get-entry.ensures.item) (rw c.slice.ensures at c.get-block.ensures.item) (rw c.slice.ensures its.1)

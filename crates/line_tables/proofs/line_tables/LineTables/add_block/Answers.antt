@@ -2,7 +2,7 @@ use Rattle.std.proofs.Common.{ℕ, ap}
 use Rattle.rail_model.specs.declared.items.Block.{Block}
 use Rattle.line_tables.specs.Inside.{tables_of}
 use Rattle.line_tables.proofs.Views.{map-with_item}
-use Rattle.line_tables.proofs.Joined.{block_is_new, block_put}
+use Rattle.line_tables.proofs.JoinedBlocks.{block_is_new, block_put}
 use Rattle.line_tables.proofs.line_tables.LineTables.add_block.Goals as goal
 
 pub put-requires : goal.put-requires

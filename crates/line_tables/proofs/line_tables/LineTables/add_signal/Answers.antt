@@ -5,7 +5,8 @@ use Rattle.line_tables.specs.declared.entry.Entry.{Entry}
 use Rattle.line_tables.specs.Inside.{tables_of}
 use Rattle.line_tables.proofs.Linked.{entry}
 use Rattle.line_tables.proofs.Views.{map-with_item}
-use Rattle.line_tables.proofs.Joined.{signal_knows, signal_is_new, signal_put}
+use Rattle.line_tables.proofs.Known.{signal_knows}
+use Rattle.line_tables.proofs.JoinedSignals.{signal_is_new, signal_put}
 use Rattle.line_tables.proofs.line_tables.LineTables.add_signal.Goals as goal
 
 pub keys_of-requires : goal.keys_of-requires
@@ -21,7 +22,7 @@ put_entry-requires c = signal_is_new c.self.inside c.args.signal (rw (← c.self
 pub invariant_of-self-2 : goal.invariant_of-self-2
 invariant_of-self-2 c =
     let done = c.in_ok-put_entry.ensures in
-    rw done.put (signal_put c.self.inside c.in_ok-put_entry.field-0 c.args.signal c.in_ok-refs.refs c.put_entry.new.uses c.self.invariant done.table (rw (← c.self.view_is) at c.requires) c.in_ok-refs.ensures.keys done.counted)
+    rw done.put (signal_put c.self.inside c.in_ok-put_entry.field-0 c.args.signal c.in_ok-refs.refs c.put_entry.new.uses c.self.invariant done.table done.fresh (rw (← c.self.view_is) at c.requires) c.in_ok-refs.ensures.keys done.counted)
 
 pub returns-clause-after : goal.returns-clause-after
 returns-clause-after c =

@@ -1,7 +1,7 @@
 use Rattle.std.proofs.Common.{ℕ, ◌∙◌, sym}
 use Rattle.rail_model.specs.declared.items.Block.{Block}
 use Rattle.line_tables.proofs.Views.{is_named-map}
-use Rattle.line_tables.proofs.Joined.{block_used}
+use Rattle.line_tables.proofs.InUse.{block_used}
 use Rattle.line_tables.proofs.line_tables.LineTables.is_block_used.Goals as goal
 
 pub unwrap-requires : goal.unwrap-requires

@@ -2,7 +2,7 @@ use Rattle.std.proofs.Common.{ℕ, ◌∙◌, sym}
 use Rattle.rail_model.specs.declared.items.Run.{Run}
 use Rattle.line_tables.specs.declared.entry.Entry.{Entry}
 use Rattle.line_tables.proofs.Views.{is_named-map}
-use Rattle.line_tables.proofs.Joined.{run_used}
+use Rattle.line_tables.proofs.InUse.{run_used}
 use Rattle.line_tables.proofs.line_tables.LineTables.is_run_used.Goals as goal
 
 pub unwrap-requires : goal.unwrap-requires

@@ -21,35 +21,35 @@ get-route-requires c =
 pub untimed_hops-requires-clause-there : goal.untimed_hops-requires-clause-there
 untimed_hops-requires-clause-there c =
     let t = c.self.inside in
-    rw c.slice-2.ensures
+    rw c.slice-keys.ensures
     (all_keys (λ (e : Entry Signal). e.item.name) t.signals c.len.ensures.table _ _ (linked_under t c.self.invariant _ c.get-route.result.now c.get-route.ensures.item))
 
 -- the hops are those of the run's route
-right : (c : goal.After-drop-hops-inside) → c.in_ok-hops.hops ≡ route_hops (tables_of c.self.inside) (route_named (tables_of c.self.inside) c.nth-entry.result.now.item.route)
+right : (c : goal.After-drop-numbers-2) → c.in_ok-hops.hops ≡ route_hops (tables_of c.self.inside) (route_named (tables_of c.self.inside) c.nth-entry.result.now.item.route)
 right c =
     let t = c.self.inside in
     let e = c.nth-entry.result.now in
     let r = c.get-route.result.now in
     let linked = linked_under t c.self.invariant _ r c.get-route.ensures.item in
     let named = route_is t c.self.invariant c.args.run e r c.len-2.ensures.table c.nth-entry.ensures.item (rw c.slice.ensures at c.get-route.ensures.item) in
-    (rw c.slice-2.ensures at c.in_ok-hops.ensures) ∙ hops_are t c.self.invariant r c.len.ensures.table linked ∙ ap (route_hops (tables_of t)) (sym named)
+    (rw c.slice-keys.ensures at c.in_ok-hops.ensures) ∙ hops_are t c.self.invariant r c.len.ensures.table linked ∙ ap (route_hops (tables_of t)) (sym named)
 
 pub returns-clause-same : goal.returns-clause-same
 returns-clause-same c =
     let t = c.self.inside in
     let e = c.nth-entry.result.now in
     rw (← c.self.view_is, run_is t c.self.invariant c.args.run e c.nth-entry.ensures.item)
-    (same_path (tables_of t) c.self.invariant.sound e.item (run_stands t c.self.invariant c.args.run e c.nth-entry.ensures.item) c.in_ok-hops.hops (right c) c.path_over.result (rw c.slice-3.ensures at c.path_over.ensures))
+    (same_path (tables_of t) c.self.invariant.sound e.item (run_stands t c.self.invariant c.args.run e c.nth-entry.ensures.item) c.in_ok-hops.hops (right c) c.path_over.result (rw c.slice-2.ensures at c.path_over.ensures))
 
 pub returns-clause-fits : goal.returns-clause-fits
 returns-clause-fits c =
     let t = c.self.inside in
     let e = c.nth-entry.result.now in
-    fitting_path (tables_of t) c.self.invariant.sound e.item (run_stands t c.self.invariant c.args.run e c.nth-entry.ensures.item) c.in_ok-hops.hops (right c) c.path_over.result (rw c.slice-3.ensures at c.path_over.ensures)
+    fitting_path (tables_of t) c.self.invariant.sound e.item (run_stands t c.self.invariant c.args.run e c.nth-entry.ensures.item) c.in_ok-hops.hops (right c) c.path_over.result (rw c.slice-2.ensures at c.path_over.ensures)
 
 pub returns-clause-numbered : goal.returns-clause-numbered
 returns-clause-numbered c =
     let t = c.self.inside in
     let e = c.nth-entry.result.now in
     rw (← c.self.view_is)
-    (numbered_path (tables_of t) c.self.invariant.sound e.item (run_stands t c.self.invariant c.args.run e c.nth-entry.ensures.item) c.in_ok-hops.hops (right c) c.path_over.result (rw c.slice-3.ensures at c.path_over.ensures))
+    (numbered_path (tables_of t) c.self.invariant.sound e.item (run_stands t c.self.invariant c.args.run e c.nth-entry.ensures.item) c.in_ok-hops.hops (right c) c.path_over.result (rw c.slice-2.ensures at c.path_over.ensures))

@@ -3,7 +3,8 @@ use Rattle.rail_model.specs.Name.{is_same}
 use Rattle.line_tables.specs.declared.entry.Entry.{Entry}
 use Rattle.line_tables.specs.Inside.{tables_of}
 use Rattle.line_tables.proofs.Views.{map-without}
-use Rattle.line_tables.proofs.Joined.{refs_of_found, run_is_there, run_drop}
+use Rattle.line_tables.proofs.Known.{refs_of_found}
+use Rattle.line_tables.proofs.JoinedTimetable.{run_is_there, run_drop}
 use Rattle.line_tables.proofs.line_tables.LineTables.remove_run.Goals as goal
 
 pub take_entry-requires-clause-there : goal.take_entry-requires-clause-there

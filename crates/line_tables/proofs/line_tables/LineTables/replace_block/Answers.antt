@@ -3,7 +3,7 @@ use Rattle.rail_model.specs.declared.items.Block.{Block}
 use Rattle.line_tables.specs.Inside.{tables_of}
 use Rattle.line_tables.proofs.Found.{name_under}
 use Rattle.line_tables.proofs.Views.{map-with_change}
-use Rattle.line_tables.proofs.Joined.{block_stays, block_change}
+use Rattle.line_tables.proofs.JoinedBlocks.{block_stays, block_change}
 use Rattle.line_tables.proofs.line_tables.LineTables.replace_block.Goals as goal
 
 pub unwrap-key-requires : goal.unwrap-key-requires

@@ -1,12 +1,21 @@
-use Rattle.std.proofs.Common.{◌==◌, ap, sym, ◌∙◌, arith}
+use Rattle.std.proofs.Common.{◌≡◌, ℕ, ◌+◌, ◌==◌, Some, refl, ap, sym, ◌∙◌, arith}
+use Rattle.rail_model.specs.declared.items.Signal.{Signal}
+use Rattle.rail_model.specs.declared.items.Route.{Route}
 use Rattle.rail_model.specs.declared.items.Item.TheVariants as item
 use Rattle.rail_model.proofs.Sound.{changeable}
 use Rattle.line_tables.specs.declared.entry.Entry.{Entry}
+use Rattle.line_tables.specs.Table.{under}
+use Rattle.line_tables.specs.Uses.{count_of, times}
+use Rattle.line_tables.specs.Links.{block_of}
 use Rattle.line_tables.specs.Inside.{tables_of}
-use Rattle.line_tables.proofs.Found.{name_under}
+use Rattle.line_tables.proofs.Found.{name_under, found_by_key}
 use Rattle.line_tables.proofs.Linked.{entry}
 use Rattle.line_tables.proofs.Views.{map-with_change}
-use Rattle.line_tables.proofs.Joined.{refs_of_found, route_knows, route_stays, route_change}
+use Rattle.line_tables.proofs.Meets.{all_keys}
+use Rattle.line_tables.proofs.Along.{take_after}
+use Rattle.line_tables.proofs.Moves.{one_block, listed_keys}
+use Rattle.line_tables.proofs.Known.{refs_of_found, route_knows}
+use Rattle.line_tables.proofs.JoinedRoutes.{route_stays, route_change}
 use Rattle.line_tables.proofs.line_tables.LineTables.replace_route.Goals as goal
 
 pub keys_of-requires : goal.keys_of-requires
@@ -19,26 +28,66 @@ keys_of-requires c =
 pub unwrap-key-requires : goal.unwrap-key-requires
 unwrap-key-requires c = c.key_of.ensures.there ∙ route_stays c.self.inside c.args.route (rw (← c.self.view_is) at c.requires)
 
-pub change_entry-requires-clause-same_name : goal.change_entry-requires-clause-same_name
-change_entry-requires-clause-same_name c =
+pub swap_entry-requires-clause-same_name : goal.swap_entry-requires-clause-same_name
+swap_entry-requires-clause-same_name c =
     name_under (λ (e : Entry _). e.item.name) c.self.inside.routes c.args.route.name c.unwrap-key.result c.key_of.ensures.table (sym c.key_of.ensures.key ∙ c.unwrap-key.ensures)
 
-pub change_entry-requires-clause-counted_before : goal.change_entry-requires-clause-counted_before
-change_entry-requires-clause-counted_before c e k h =
+pub swap_entry-requires-clause-counted_before : goal.swap_entry-requires-clause-counted_before
+swap_entry-requires-clause-counted_before c e k h =
     let t = c.self.inside in
     let key = c.unwrap-key.result in
-    omega (arith, c.self.invariant.signal_uses k, refs_of_found (λ u. u.0 == key) t.routes e k h)
+    omega (arith, c.self.invariant.signal_uses k, c.make_room.ensures.same k, refs_of_found (λ u. u.0 == key) t.routes e k h)
+
+pub make_room-requires-2-clause-there : goal.make_room-requires-2-clause-there
+make_room-requires-2-clause-there c =
+    let t = c.self.inside in
+    rw c.slice-3.ensures (all_keys (λ (e : Entry Signal). e.item.name) t.signals c.in_ok-refs.ensures.table c.slice.result.now c.in_ok-refs.refs c.in_ok-refs.ensures.keys)
+
+pub make_room-requires-2-clause-one : goal.make_room-requires-2-clause-one
+make_room-requires-2-clause-one c = one_block c.self.inside c.self.invariant
+
+pub get-requires : goal.get-requires
+get-requires c =
+    let found = found_by_key (λ (e : Entry Route). e.item.name) c.self.inside.routes c.args.route.name c.unwrap-key.result c.key_of.ensures.table (sym c.key_of.ensures.key ∙ c.unwrap-key.ensures) in
+    rw found.1.under refl
+
+pub take-requires-clause-there : goal.take-requires-clause-there
+take-requires-clause-there c =
+    rw c.slice-old.ensures (listed_keys c.self.inside c.self.invariant c.in_ok-refs.ensures.table c.unwrap-key.result c.get.result.now c.get.ensures.item)
+
+pub take-requires-clause-one : goal.take-requires-clause-one
+take-requires-clause-one c = one_block c.self.inside c.self.invariant
+
+pub put-requires-clause-there : goal.put-requires-clause-there
+put-requires-clause-there c =
+    let t = c.self.inside in
+    rw c.slice-4.ensures (all_keys (λ (e : Entry Signal). e.item.name) t.signals c.in_ok-refs.ensures.table c.slice.result.now c.in_ok-refs.refs c.in_ok-refs.ensures.keys)
+
+pub put-requires-clause-one : goal.put-requires-clause-one
+put-requires-clause-one c = one_block c.self.inside c.self.invariant
 
 pub invariant_of-self-2 : goal.invariant_of-self-2
 invariant_of-self-2 c =
-    let done = c.in_ok-change_entry.ensures in
-    let same = name_under (λ (e : Entry _). e.item.name) c.self.inside.routes c.args.route.name c.unwrap-key.result c.key_of.ensures.table (sym c.key_of.ensures.key ∙ c.unwrap-key.ensures) in
-    rw done.changed (route_change c.self.inside c.unwrap-key.result c.args.route c.in_ok-refs.refs c.change_entry.new.uses c.self.invariant c.key_of.ensures.table same (rw (← c.self.view_is) at c.requires) (rw c.slice.ensures at c.in_ok-refs.ensures.keys) done.counted)
+    let t = c.self.inside in
+    let f = block_of t.signals in
+    let key = c.unwrap-key.result in
+    let refs = c.in_ok-refs.refs in
+    let done = c.swap_entry.ensures in
+    let made = c.make_room-2.ensures in
+    let before = c.get.result.now in
+    let same = name_under (λ (e : Entry _). e.item.name) t.routes c.args.route.name key c.key_of.ensures.table (sym c.key_of.ensures.key ∙ c.unwrap-key.ensures) in
+    let counted : (e : Entry Route) (k : ℕ) → under t.routes key ≡ Some e → count_of c.swap_entry.new.uses k + times k e.refs ≡ count_of t.signal_uses k + times k refs =
+    λ e k h. omega (arith, done.counted e k h, c.make_room.ensures.same k) in
+    rw done.changed
+    (route_change t key c.args.route refs c.swap_entry.new.uses c.self.invariant c.key_of.ensures.table same (rw (← c.self.view_is) at c.requires) (rw c.slice.ensures at c.in_ok-refs.ensures.keys) counted before c.take.new.self c.put.new.self c.get.ensures.item
+    (take_after (λ q. q) before.refs key t.route_sets.of_signals c.make_room-2.new.self.of_signals c.take.new.self.of_signals made.signals (rw c.slice-old.ensures at c.take.ensures.signals))
+    (take_after f before.refs key t.route_sets.of_blocks c.make_room-2.new.self.of_blocks c.take.new.self.of_blocks made.blocks (rw c.slice-old.ensures at c.take.ensures.blocks))
+    (rw c.slice-4.ensures at c.put.ensures.signals) (rw c.slice-4.ensures at c.put.ensures.blocks))
 
 pub returns-clause-after : goal.returns-clause-after
 returns-clause-after c =
     let t = c.self.inside in
     let key = c.unwrap-key.result in
     let same = name_under (λ (e : Entry _). e.item.name) t.routes c.args.route.name key c.key_of.ensures.table (sym c.key_of.ensures.key ∙ c.unwrap-key.ensures) in
-    rw (← c.self.view_is, c.in_ok-change_entry.ensures.changed)
+    rw (← c.self.view_is, c.swap_entry.ensures.changed)
     (ap (λ l. record (tables_of t) { routes = l }) (map-with_change (λ (e : Entry _). e.item) (λ x. x.name) t.routes key (entry c.args.route c.in_ok-refs.refs) c.key_of.ensures.table same))

@@ -1,7 +1,7 @@
 use Rattle.std.proofs.Common.{◌≡◌, ℕ, length, ap, arith}
 use Rattle.line_tables.specs.declared.entry.Entry.{Entry}
 use Rattle.line_tables.proofs.Meets.{under_passes}
-use Rattle.line_tables.proofs.rules.block_of.Goals as goal
+use Rattle.line_tables.proofs.entry.block_of.Goals as goal
 
 pub bounds-slice-0 : goal.bounds-slice-0
 bounds-slice-0 c =

@@ -1,0 +1,52 @@
+-- Sets of routes along the signals of one route.
+use Rattle.std.proofs.Common.{◌≡◌, ℕ, ◌+◌, ◌/◌, ◌<◌, ◌==◌, Bool, true, false, not, ◌&&◌, ◌||◌, List, length, get_or, take, refl, ap, ◌∙◌, arith}
+use Rattle.std.proofs.lemmas.List.Elements.{All-more, All-weaker}
+use Rattle.std.proofs.lemmas.List.Folds.{list_any_more}
+use Rattle.line_tables.specs.RouteSets.{has, SameSets, words_of, NoneShorter, lead_to, HasRoomAt, IsPutAt, IsTakenAt}
+
+put_both : (p l s h : Bool) → ((p && s) || ((l && s) || h)) ≡ (((l || p) && s) || h)
+put_both true true true h = refl
+put_both true true false h = refl
+put_both true false true h = refl
+put_both true false false h = refl
+put_both false true s h = refl
+put_both false false s h = refl
+
+take_both : (p l s h : Bool) → (not (p && s) && (not (l && s) && h)) ≡ (not ((l || p) && s) && h)
+take_both true true true h = refl
+take_both true true false h = refl
+take_both true false true h = refl
+take_both true false false h = refl
+take_both false true s h = refl
+take_both false false s h = refl
+
+module _ (f : ℕ → ℕ) (signals : List ℕ) (route i : ℕ) (l : i < length signals) (old now new : List (List ℕ)) where
+  abbrev here : ℕ → Bool
+  here x = f (get_or signals i 0) == x
+
+  pub put_more : IsPutAt f (take i signals) route old now → ((x r : ℕ) → has new x r ≡ ((here x && r == route) || has now x r)) → IsPutAt f (take (i + 1) signals) route old new
+  put_more so_far step x r =
+      step x r ∙ rw (so_far x r, list_any_more (λ q. f q == x) signals i 0 l)
+      (put_both (here x) (lead_to f (take i signals) x) (r == route) (has old x r))
+
+  pub take_more : IsTakenAt f (take i signals) route old now → ((x r : ℕ) → has new x r ≡ (not (here x && r == route) && has now x r)) → IsTakenAt f (take (i + 1) signals) route old new
+  take_more so_far step x r =
+      step x r ∙ rw (so_far x r, list_any_more (λ q. f q == x) signals i 0 l)
+      (take_both (here x) (lead_to f (take i signals) x) (r == route) (has old x r))
+
+-- sets that first stayed what they were
+pub put_after : (f : ℕ → ℕ) (signals : List ℕ) (route : ℕ) (old now new : List (List ℕ)) → SameSets old now → IsPutAt f signals route now new → IsPutAt f signals route old new
+put_after f signals route old now new same put x r = put x r ∙ ap (λ h. (lead_to f signals x && r == route) || h) (same x r)
+
+pub take_after : (f : ℕ → ℕ) (signals : List ℕ) (route : ℕ) (old now new : List (List ℕ)) → SameSets old now → IsTakenAt f signals route now new → IsTakenAt f signals route old new
+take_after f signals route old now new same taken x r = taken x r ∙ ap (λ h. not (lead_to f signals x && r == route) && h) (same x r)
+
+-- ---- room for the route
+
+pub room_stays : (f : ℕ → ℕ) (signals : List ℕ) (route : ℕ) (old new : List (List ℕ)) → NoneShorter old new → HasRoomAt f signals route old → HasRoomAt f signals route new
+room_stays f signals route old new longer room =
+    All-weaker (λ q. route / 64 < words_of old (f q)) (λ q. route / 64 < words_of new (f q)) (λ q h. omega (arith, h, longer (f q))) signals room
+
+pub room_more : (f : ℕ → ℕ) (signals : List ℕ) (route i : ℕ) → i < length signals → (old new : List (List ℕ)) → NoneShorter old new → HasRoomAt f (take i signals) route old → route / 64 < words_of new (f (get_or signals i 0)) → HasRoomAt f (take (i + 1) signals) route new
+room_more f signals route i l old new longer room here =
+    All-more (λ q. route / 64 < words_of new (f q)) signals i 0 l (room_stays f (take i signals) route old new longer room) here
