@@ -1,8 +1,8 @@
 -- The uses of a run: none is empty, all lie within the greatest moment, and no block is used twice.
-use Rattle.std.proofs.Common.{◌≡◌, ◌≢◌, ℕ, ◌+◌, ◌-◌, ◌<◌, ◌≤◌, ℤ, pos, ◌+ℤ◌, ◌-ℤ◌, ◌<ℤ◌, List, [], ◌∷◌, map, length, take, get_or, All, AllPairs, refl, ap, sym, subst, ◌∙◌, arith}
+use Rattle.std.proofs.Common.{◌≡◌, ◌≢◌, ℕ, ◌+◌, ◌-◌, ◌<◌, ◌≤◌, ℤ, pos, ◌+ℤ◌, ◌-ℤ◌, ◌<ℤ◌, List, map, length, get_or, All, AllPairs, ap, sym, subst, ◌∙◌, arith}
 use Rattle.std.specs.List.{range_with_len}
 use Rattle.std.proofs.lemmas.Int.{ints}
-use Rattle.std.proofs.lemmas.List.{length-map, get_or-map, take_all}
+use Rattle.std.proofs.lemmas.List.{length-map, get_or-map}
 use Rattle.std.proofs.lemmas.List.Elements.{All-same}
 use Rattle.std.proofs.lemmas.List.FromFn.{length-map-range_with_len, get_or-map-range_with_len}
 use Rattle.rail_model.specs.declared.path.Hop.{Hop}
@@ -93,11 +93,7 @@ pub All-blockings : (P : Blocking → Type 0) (path : Path) → ((k : ℕ) → 1
 All-blockings P path each all n is count =
     All-same P all (map (blocking_of path) (range_with_len 1 (hop_count path))) (is ∙ ap (λ j. map (blocking_of path) (range_with_len 1 j)) count) (All-from_one P (blocking_of path) (hop_count path) each)
 
-used_of_each : (path : Path) (ks : List ℕ) → map (λ (b : Blocking). b.used) (map (blocking_of path) ks) ≡ map (use_of path) ks
-used_of_each path [] = refl
-used_of_each path (k ∷ ks) = ap (λ us. use_of path k ∷ us) (used_of_each path ks)
-
--- the blockings without their parts are the stairway
-pub stairway_from : (path : Path) (uses : List Use) (i : ℕ) (all : List Blocking) → uses ≡ map (λ (b : Blocking). b.used) (take i all) → length all ≤ i → all ≡ map (blocking_of path) (range_with_len 1 (hop_count path)) → uses ≡ stairway path
-stairway_from path uses i all is whole each =
-    is ∙ ap (map (λ (b : Blocking). b.used)) (take_all i all whole ∙ each) ∙ used_of_each path (range_with_len 1 (hop_count path))
+-- a use that was made of its block's moments
+pub use_is : (path : Path) (k : ℕ) (m : Moments) (h : Hop) (used : Use) → m ≡ moments_of path k → h ≡ hop path k → used ≡ use_by m h → used ≡ use_of path k
+use_is path k m h used at_moments at_hop is_use =
+    is_use ∙ ap (λ x. use_by x h) at_moments ∙ ap (λ x. use_by (moments_of path k) x) at_hop

@@ -1,6 +1,6 @@
 //! The marks of a whole path in one table, for one walk along the path.
 
-ghost use Rattle.std.specs.Prelude.{◌≡◌, ◌≤◌, ◌<◌, ◌+◌, ◌-◌, pos, IfOk, length};
+ghost use Rattle.std.specs.Prelude.{◌≡◌, ◌≤◌, ◌<◌, ◌+◌, ◌-◌, ◌⊎◌, pos, IfOk, length};
 ghost use Rattle.rail_model.specs.Path.{hop, hop_count, Fits, IsHopWithin};
 ghost use Rattle.rail_model.specs.Motion.{place, blocks_before as count_before, reach as moment_of, reach_down as moment_down_of};
 ghost use Rattle.rail_model.specs.Blocking.{approach_moment, clearing_moment};
@@ -19,7 +19,7 @@ pub fn marks(alloc: Global, path: &Path) -> Result<Vec<Mark>, OutOfMemory>
     ensures { IfOk result (λ marks. marks.items ≡ marks_of path.now) }
 {
     let mut mark = motion::first_mark(path);
-    let mut marks = Vec::new(alloc);
+    let mut marks = Vec::with_capacity(alloc, path.hops.len())?;
     for hop in path.hops.slice() {
         mark = motion::next_mark(mark, hop);
         marks.push(mark)?;
@@ -42,18 +42,20 @@ pub fn mark_in(path: &Path, marks: &[Mark], k: usize) -> Mark
     }
 }
 
-/// How many blocks end before a place, by binary search.
-pub fn blocks_before(path: &Path, marks: &[Mark], metres: u64) -> usize
+/// How many blocks end before a place, by binary search. It begins between two counts, `first` and
+/// `last`, that mostly have the answer between them.
+pub fn blocks_before(path: &Path, marks: &[Mark], first: usize, last: usize, metres: u64) -> usize
     requires fits { Fits path.now }
     requires table { marks.now ≡ marks_of path.now }
+    requires near { (first ≤ last) × (last < hop_count path.now) }
     requires on_path { metres ≤ place path.now (hop_count path.now) }
     ensures count { result ≡ count_before path.now metres }
     ensures on_path { result < hop_count path.now }
     ensures beyond { place path.now result ≤ metres }
     ensures within { metres ≤ place path.now (result + 1) }
 {
-    let mut low = 0;
-    let mut high = path.hops.len() - 1;
+    let mut low = low_count(path, marks, first, metres);
+    let mut high = high_count(path, marks, last, metres);
     while low < high {
         let middle = low + (high - low).div_ceil(2);
         if mark_in(path, marks, middle).place_m < metres {
@@ -65,28 +67,62 @@ pub fn blocks_before(path: &Path, marks: &[Mark], metres: u64) -> usize
     low
 }
 
-/// When the head reaches a place: seconds from the timetable's origin, rounded up.
-pub fn seconds_at(path: &Path, marks: &[Mark], metres: u64) -> u64
+// The count from which the search begins: `first`, unless the place lies before it.
+fn low_count(path: &Path, marks: &[Mark], first: usize, metres: u64) -> usize
     requires fits { Fits path.now }
     requires table { marks.now ≡ marks_of path.now }
+    requires on_path { first ≤ hop_count path.now }
+    ensures least { result ≤ first }
+    ensures beyond { (result ≡ 0) ⊎ (place path.now result < metres) }
+{
+    if mark_in(path, marks, first).place_m < metres {
+        first
+    } else {
+        0
+    }
+}
+
+// The count up to which the search goes: `last`, unless the place lies beyond the next block.
+fn high_count(path: &Path, marks: &[Mark], last: usize, metres: u64) -> usize
+    requires fits { Fits path.now }
+    requires table { marks.now ≡ marks_of path.now }
+    requires near { last < hop_count path.now }
+    requires on_path { metres ≤ place path.now (hop_count path.now) }
+    ensures most { last ≤ result }
+    ensures on_path { result < hop_count path.now }
+    ensures within { metres ≤ place path.now (result + 1) }
+{
+    if metres <= mark_in(path, marks, last + 1).place_m {
+        last
+    } else {
+        path.hops.len() - 1
+    }
+}
+
+/// When the head reaches a place: seconds from the timetable's origin, rounded up.
+pub fn seconds_at(path: &Path, marks: &[Mark], first: usize, last: usize, metres: u64) -> u64
+    requires fits { Fits path.now }
+    requires table { marks.now ≡ marks_of path.now }
+    requires near { (first ≤ last) × (last < hop_count path.now) }
     requires on_path { metres ≤ place path.now (hop_count path.now) }
     ensures moment { result ≡ moment_of path.now metres }
     ensures bounded { result ≤ GREATEST_REACH_S }
 {
-    let k = blocks_before(path, marks, metres);
+    let k = blocks_before(path, marks, first, last, metres);
     let hop = &path.hops.slice()[k];
     motion::moment_in(mark_in(path, marks, k), hop, metres)
 }
 
 /// The same, rounded down.
-pub fn seconds_down_at(path: &Path, marks: &[Mark], metres: u64) -> u64
+pub fn seconds_down_at(path: &Path, marks: &[Mark], first: usize, last: usize, metres: u64) -> u64
     requires fits { Fits path.now }
     requires table { marks.now ≡ marks_of path.now }
+    requires near { (first ≤ last) × (last < hop_count path.now) }
     requires on_path { metres ≤ place path.now (hop_count path.now) }
     ensures moment { result ≡ moment_down_of path.now metres }
     ensures bounded { result ≤ GREATEST_REACH_S }
 {
-    let k = blocks_before(path, marks, metres);
+    let k = blocks_before(path, marks, first, last, metres);
     let hop = &path.hops.slice()[k];
     motion::moment_down_in(mark_in(path, marks, k), hop, metres)
 }
@@ -104,7 +140,10 @@ pub fn approach_seconds(path: &Path, marks: &[Mark], k: usize, stop: Mark) -> u6
     let hop = motion::hop_at(path, k);
     let entry = mark_in(path, marks, k - 1);
     let point_m = entry.place_m.saturating_sub(u64::from(hop.approach_m));
-    let reached_s = seconds_down_at(path, marks, point_m);
+    // Mostly the point lies in the block before this one or in the one before that.
+    let first = k.saturating_sub(3);
+    let last = k.saturating_sub(2);
+    let reached_s = seconds_down_at(path, marks, first, last, point_m);
     approach::after_stop(reached_s, point_m, stop)
 }
 
@@ -122,7 +161,9 @@ pub fn clearing_seconds(path: &Path, marks: &[Mark], k: usize) -> u64
     let last = mark_in(path, marks, path.hops.len());
     let place_m = moments::clearing_place(mark, &hop, path.length_m);
     if place_m <= last.place_m {
-        seconds_at(path, marks, place_m)
+        // Mostly the place lies in the next block.
+        let next = k.min(path.hops.len() - 1);
+        seconds_at(path, marks, next, next, place_m)
     } else {
         moments::tail_end(path, last)
     }

@@ -3,7 +3,7 @@
 ghost use Rattle.std.specs.Prelude.{◌≡◌, ◌≢◌, ◌≤◌, ◌<◌, ◌+◌, ◌-◌, ◌<ℤ◌, IfOk, map, All, AllPairs};
 ghost use Rattle.std.specs.List.{range_with_len};
 ghost use Rattle.rail_model.specs.Path.{hop, hop_count, Fits};
-ghost use Rattle.rail_model.specs.Blocking.{stairway as stairway_of, stair_of};
+ghost use Rattle.rail_model.specs.Blocking.{stairway as stairway_of, stair_of, use_of};
 ghost use Rattle.blocking_time.specs.Mark.{marks_of, stop_mark};
 ghost use Rattle.blocking_time.specs.Blocking.{blocking_of, IsUseBounded};
 
@@ -30,12 +30,12 @@ pub fn blockings(alloc: Global, path: &Path) -> Result<List<Blocking>, OutOfMemo
 {
     let marks = course::marks(alloc, path)?;
     let mut stop = approach::no_stop_yet();
-    let mut all = List::new(alloc);
+    let mut all = Vec::with_capacity(alloc, path.hops.len())?;
     for i in 0..path.hops.len() {
         all.push(blocking_in(path, &marks, i + 1, stop))?;
         stop = course::next_stop(path, &marks, i + 1, stop);
     }
-    Ok(all)
+    Ok(List::from_vec(all))
 }
 
 // The blocking of the k-th block, from 1, by the last stop before it.
@@ -70,15 +70,30 @@ pub fn stairs(alloc: Global, path: &Path) -> Result<Stair, OutOfMemory>
     })
 }
 
-// The blockings without their parts.
+// The uses of a run's blocks, in one walk along its path.
 fn stairway(alloc: Global, path: &Path) -> Result<List<Use>, OutOfMemory>
     requires { Fits path.now }
     ensures { IfOk result (λ uses. uses ≡ stairway_of path.now) }
 {
-    let all = blockings(alloc, path)?;
-    let mut uses = List::new(alloc);
-    for blocking in all.slice() {
-        uses.push(blocking.used)?;
+    let marks = course::marks(alloc, path)?;
+    let mut stop = approach::no_stop_yet();
+    let mut uses = Vec::with_capacity(alloc, path.hops.len())?;
+    for done in 0..path.hops.len() {
+        uses.push(use_in(path, &marks, done + 1, stop))?;
+        stop = course::next_stop(path, &marks, done + 1, stop);
     }
-    Ok(uses)
+    Ok(List::from_vec(uses))
+}
+
+// The use of the k-th block, from 1, by the last stop before it.
+fn use_in(path: &Path, marks: &[Mark], k: usize, stop: Mark) -> Use
+    requires fits { Fits path.now }
+    requires table { marks.now ≡ marks_of path.now }
+    requires some { 1 ≤ k }
+    requires on_path { k ≤ hop_count path.now }
+    requires stop { stop ≡ stop_mark path.now (k - 1) }
+    ensures { result ≡ use_of path.now k }
+{
+    let hop = motion::hop_at(path, k);
+    moments::use_at(course::moments_in(path, marks, k, stop), &hop)
 }

@@ -1,9 +1,9 @@
 -- Listing as long as there is room.
-use Rattle.std.proofs.Common.{◌≡◌, ℕ, zero, suc, ◌+◌, ◌-◌, ◌≤◌, Bool, List, [], ◌∷◌, ◌++◌, length, map, take, drop, refl, ap, ◌∙◌, arith}
+use Rattle.std.proofs.Common.{◌≡◌, ℕ, zero, suc, ◌+◌, ◌-◌, ◌<◌, ◌≤◌, Bool, false, List, [], ◌∷◌, ◌++◌, length, get_or, map, take, drop, refl, ap, ◌∙◌, arith}
 use Rattle.std.specs.List.{take_while}
 use Rattle.std.proofs.lemmas.List.{length-map, length-take, length-drop}
 use Rattle.std.proofs.lemmas.List.Folds.{length-prefix_len}
-use Rattle.std.proofs.lemmas.List.Sums.{prefix_len-le-length}
+use Rattle.std.proofs.lemmas.List.Sums.{prefix_len-le-length, prefix_len_is}
 use Rattle.rail_model.specs.Conflict as whole
 use Rattle.conflict_finder.specs.declared.blocked.Blocked.{Blocked}
 use Rattle.conflict_finder.specs.declared.found.TheConstants.{LISTED}
@@ -49,6 +49,10 @@ listed_count_is all =
 
 pub listed_some : (all : List whole.Conflict) → length (map listed (take LISTED all)) ≤ length all
 listed_some all = (listed_count all).1
+
+-- where the first of them doesn't meet one, none does before it
+pub none_met : {X : Type 0} (p : X → Bool) (xs : List X) (d : X) → (0 < length xs → p (get_or xs 0 d) ≡ false) → take_while p xs ≡ []
+none_met p xs d h = ap (λ n. take n xs) (prefix_len_is p xs 0 d (omega arith) (λ k lt. absurd (omega arith)) h)
 
 -- no more meet one than there are
 pub met_within : (p : Blocked → Bool) (blocked : List Blocked) (i : ℕ) → length (take_while p (drop (i + 1) blocked)) ≤ length blocked

@@ -18,7 +18,7 @@ use Rattle.rail_model.proofs.NameOrder.{is_same-before, is_same-from, IsBefore-t
 use Rattle.conflict_finder.specs.declared.ranked.Ranked.{Ranked}
 use Rattle.conflict_finder.specs.declared.blocked.Blocked.{Blocked}
 use Rattle.conflict_finder.specs.Timetable.{IsTimetable}
-use Rattle.conflict_finder.specs.Runs.{no_stair, no_run, run_at, blocked_of, uses_of, all_blocked, key_of, key_cmp}
+use Rattle.conflict_finder.specs.Runs.{no_stair, no_ranked, ranked_at, blocked_of, uses_of, all_blocked, key_of, key_cmp}
 use Rattle.conflict_finder.specs.Sweep.{ComesBefore, IsSwept, meets, conflict_of, no_blocked, found_at, found}
 use Rattle.conflict_finder.proofs.Lists.{upto, upto_is, from_upto, in_upto, AllPairs-upto, in_map, from_map, AllPairs-map, before_stop}
 use Rattle.conflict_finder.proofs.Ranks.{AreRanked}
@@ -121,22 +121,22 @@ module _ (blocked : List Blocked) (swept : IsSwept blocked) where
 
 module _ (stairs : List Stair) (runs : List Ranked) (t : IsTimetable stairs) (ranked : AreRanked stairs runs) (blocked : List Blocked) (same : IsPermutation (all_blocked stairs runs) blocked) (order : IsSortedByKey key_of key_cmp blocked) (swept : IsSwept blocked) where
   pub stair_of : ℕ → Stair
-  stair_of k = get_or stairs (get_or runs k no_run).stair no_stair
+  stair_of k = get_or stairs (get_or runs k no_ranked).stair no_stair
 
   pub name_of : ℕ → List ℕ
-  name_of k = (get_or runs k no_run).name
+  name_of k = (get_or runs k no_ranked).name
 
   name_is : (k : ℕ) → k < length runs → name_of k ≡ (stair_of k).run
   unfolding stair_of name_of
-  name_is k l = ap (λ (r : Ranked). r.name) (ranked.named k no_run l)
+  name_is k l = ap (λ (r : Ranked). r.name) (ranked.named k no_ranked l)
 
   names_rise : (k m : ℕ) → k < m → m < length runs → IsBefore (name_of k) (name_of m)
   unfolding name_of
-  names_rise k m lt l = ranked.rise k m no_run lt l
+  names_rise k m lt l = ranked.rise k m no_ranked lt l
 
   in_timetable : (k : ℕ) → k < length runs → Contains stairs (stair_of k)
   unfolding stair_of
-  in_timetable k l = Contains-get_or stairs (get_or runs k no_run).stair no_stair (ranked.there k no_run l)
+  in_timetable k l = Contains-get_or stairs (get_or runs k no_ranked).stair no_stair (ranked.there k no_ranked l)
 
   -- a blocking with the run and the use that make it
   pub record IsOf (b : Blocked) : Type 0 where
@@ -232,8 +232,8 @@ module _ (stairs : List Stair) (runs : List Ranked) (t : IsTimetable stairs) (ra
   unfolding stair_of
   number i h =
       let there = ranked.each h.0 h.1 in
-      let r = run_at stairs h.0 in
-      let read : get_or runs there.0 no_run ≡ r = get_or_default runs there.0 no_run r there.1 ∙ there.2 in
+      let r = ranked_at stairs h.0 in
+      let read : get_or runs there.0 no_ranked ≡ r = get_or_default runs there.0 no_ranked r there.1 ∙ there.2 in
       record {
         k = there.0;
         within = there.1;
@@ -310,13 +310,13 @@ module _ (stairs : List Stair) (runs : List Ranked) (t : IsTimetable stairs) (ra
   -- ---- the order of the list
 
   -- where one comes before another on its block, so does its moment with its name
-  moment_before : (a b : Blocked) → b.run < length runs → a.block ≡ b.block → ComesBefore a b → whole.ComesBefore a.start (get_or runs a.run no_run).name b.start (get_or runs b.run no_run).name
+  moment_before : (a b : Blocked) → b.run < length runs → a.block ≡ b.block → ComesBefore a b → whole.ComesBefore a.start (get_or runs a.run no_ranked).name b.start (get_or runs b.run no_ranked).name
   moment_before a b l e before =
       elim before [
         | inl lt ↦ absurd (omega arith)
         | inr o ↦ elim o.1 [
           | inl lt ↦ inl lt
-          | inr p ↦ inr (p.0, ranked.rise a.run b.run no_run p.1 l)
+          | inr p ↦ inr (p.0, ranked.rise a.run b.run no_ranked p.1 l)
         ]
       ]
 

@@ -1,4 +1,5 @@
 pub mod Timetable
 pub mod Found
 pub mod Runs
+pub mod Stretches
 pub mod Sweep

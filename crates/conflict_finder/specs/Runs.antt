@@ -12,15 +12,15 @@ use Rattle.conflict_finder.specs.declared.blocked.Blocked.{Blocked}
 abbrev pub no_stair : Stair
 no_stair = record { run = []; uses = [] }
 
-abbrev pub no_run : Ranked
-no_run = record { name = []; stair = 0 }
+abbrev pub no_ranked : Ranked
+no_ranked = record { name = []; stair = 0 }
 
 -- the run at a place among the stairways
-abbrev pub run_at : List Stair → ℕ → Ranked
-run_at stairs i = record { name = (slice_index_or stairs i no_stair).run; stair = i }
+abbrev pub ranked_at : List Stair → ℕ → Ranked
+ranked_at stairs i = record { name = (slice_index_or stairs i no_stair).run; stair = i }
 
 abbrev pub runs_of : List Stair → List Ranked
-runs_of stairs = map (run_at stairs) (range_with_len 0 (length stairs))
+runs_of stairs = map (ranked_at stairs) (range_with_len 0 (length stairs))
 
 -- what the run of a number blocks by a use
 abbrev pub blocked_of : ℕ → Use → Blocked
@@ -28,11 +28,13 @@ blocked_of run u = record { start = u.start; «end» = u.«end»; block = u.bloc
 
 -- the uses of the run of a number
 abbrev pub uses_of : List Stair → List Ranked → ℕ → List Use
-uses_of stairs runs k = (slice_index_or stairs (slice_index_or runs k no_run).stair no_stair).uses
+uses_of stairs runs k =
+    (slice_index_or stairs (slice_index_or runs k no_ranked).stair no_stair).uses
 
 -- what the first n runs block
 abbrev pub blocked_upto : List Stair → List Ranked → ℕ → List Blocked
-blocked_upto stairs runs n = flat_map (λ k. map (blocked_of k) (uses_of stairs runs k)) (range_with_len 0 n)
+blocked_upto stairs runs n =
+    flat_map (λ k. map (blocked_of k) (uses_of stairs runs k)) (range_with_len 0 n)
 
 abbrev pub all_blocked : List Stair → List Ranked → List Blocked
 all_blocked stairs runs = blocked_upto stairs runs (length runs)

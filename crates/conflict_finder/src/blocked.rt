@@ -1,10 +1,12 @@
 //! What runs block, in the order in which it is swept.
-ghost use Rattle.std.specs.Prelude.{◌≡◌, ℕ, ◌<◌, ◌≤◌, ◌++◌, All, map, take, length, IfOk, OnOk};
+ghost use Rattle.std.specs.Prelude.{◌<◌, All, length, IfOk};
 ghost use Rattle.std.specs.List.Sorted.{IsPermutation, IsSortedByKey};
-ghost use Rattle.conflict_finder.specs.Runs.{blocked_of, all_blocked, blocked_upto, key_of, key_cmp};
+ghost use Rattle.conflict_finder.specs.Runs.{all_blocked, key_of, key_cmp};
 
+use crate::in_order::in_one;
 use crate::ranked::Ranked;
-use rail_model::{OutOfMemory, Stair, Use};
+use crate::stretches::by_block;
+use rail_model::{OutOfMemory, Stair};
 use std::alloc::Global;
 
 // A run's blocking of a block.
@@ -25,29 +27,14 @@ pub(crate) fn blocked_in_order(
 ) -> Result<Vec<Blocked>, OutOfMemory>
     requires few { length runs.now < 4_294_967_296 }
     requires there { All (λ r. r.stair < length stairs.now) runs.now }
-    ensures same { IfOk result (λ blocked. IsPermutation (all_blocked stairs.now runs.now) blocked.items) }
+    ensures same { IfOk result (λ blocked.
+        IsPermutation (all_blocked stairs.now runs.now) blocked.items) }
     ensures order { IfOk result (λ blocked. IsSortedByKey key_of key_cmp blocked.items) }
 {
-    let mut blocked = Vec::new(alloc);
-    for (i, run) in runs.iter().enumerate() {
-        add_uses(&mut blocked, i as u32, stairs[run.stair].uses.slice())?;
-    }
+    let stretches = by_block(alloc, stairs, runs)?;
+    let mut blocked = in_one(alloc, &stretches)?;
+    // Where each stretch is one block's, all is in order by now, and this sort is one look over
+    // neighbours.
     blocked.sort_unstable_by_key(|one| (one.block, one.start, one.run));
     Ok(blocked)
-}
-
-// Adds what a run blocks.
-fn add_uses(blocked: &mut Vec<Blocked>, run: u32, uses: &[Use]) -> Result<(), OutOfMemory>
-    ensures { OnOk result (blocked.new.items ≡ blocked.old.items ++ map (blocked_of run) uses.now) }
-{
-    blocked.reserve(uses.len())?;
-    for one in uses {
-        blocked.push(Blocked {
-            start: one.start,
-            end: one.end,
-            block: one.block,
-            run,
-        })?;
-    }
-    Ok(())
 }

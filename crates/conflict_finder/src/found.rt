@@ -9,12 +9,13 @@ pub const LISTED: usize = 10_000;
 pub struct Conflict {
     /// The block's number.
     pub block: u32,
-    /// The run whose blocking starts earlier or, of two that start at one moment, the one whose name comes first.
+    /// The run whose blocking starts earlier or, of two that start at one moment, the one whose
+    /// name comes first.
     pub first: Name,
     /// The other run.
     pub second: Name,
-    /// The time that both block: from the start of the second run's blocking to the lesser end, in seconds
-    /// from the timetable's origin.
+    /// The time that both block: from the start of the second run's blocking to the lesser end, in
+    /// seconds from the timetable's origin.
     pub from: i64,
     pub to: i64,
 }

@@ -3,7 +3,9 @@
 
 mod blocked;
 mod found;
+mod in_order;
 mod ranked;
+mod stretches;
 mod sweep;
 
 pub use found::{Conflict, Conflicts, LISTED};

@@ -18,7 +18,8 @@ pub(crate) struct Ranked {
 // The runs of the stairways, in the order of their names.
 pub(crate) fn by_name(alloc: Global, stairs: &[Stair]) -> Result<Vec<Ranked>, OutOfMemory>
     ensures same { IfOk result (λ runs. IsPermutation (runs_of stairs.now) runs.items) }
-    ensures order { IfOk result (λ runs. IsSortedByKey (λ r. r.name) (slice_cmp nat_cmp) runs.items) }
+    ensures order { IfOk result (λ runs.
+        IsSortedByKey (λ r. r.name) (slice_cmp nat_cmp) runs.items) }
 {
     let mut runs = Vec::with_capacity(alloc, stairs.len())?;
     for (i, stair) in stairs.iter().enumerate() {

@@ -1,11 +1,12 @@
 //! The conflicts, found by one sweep over what is blocked.
-ghost use Rattle.std.specs.Prelude.{◌≡◌, ◌+◌, ◌-◌, ◌<◌, ◌≤◌, ◌++◌, All, map, take, length, IfOk, OnOk};
+ghost use Rattle.std.specs.Prelude.{◌≡◌, ◌-◌, ◌*◌, ◌<◌, ◌≤◌, [], ◌++◌, false};
+ghost use Rattle.std.specs.Prelude.{All, map, take, length, IfOk, OnOk};
 ghost use Rattle.std.specs.List.{take_while};
 ghost use Rattle.std.specs.List.Sorted.{IsPartitionedBy};
 ghost use Rattle.conflict_finder.specs.Timetable.{IsTimetable};
 ghost use Rattle.conflict_finder.specs.Found.{IsFound, listed};
-ghost use Rattle.conflict_finder.specs.Runs.{key_of, key_cmp};
 ghost use Rattle.conflict_finder.specs.Sweep as swept;
+ghost use Rattle.rail_model.specs.declared.limits.TheConstants.{RUNS, PATH_HOPS};
 
 use crate::blocked::{Blocked, blocked_in_order};
 use crate::found::{Conflict, Conflicts, LISTED};
@@ -23,15 +24,16 @@ pub fn conflicts(alloc: Global, stairs: &List<Stair>) -> Result<Conflicts, OutOf
     sweep(alloc, &runs, &blocked)
 }
 
-// Walks over what is blocked, in order. Each overlaps a run of those after it, and none past the first that
-// it doesn't overlap.
+// Walks over what is blocked, in order. Each overlaps some of those next to it, and none past the
+// first that it doesn't overlap.
 fn sweep(alloc: Global, runs: &[Ranked], blocked: &[Blocked]) -> Result<Conflicts, OutOfMemory>
-    requires most { length blocked.now ≤ 524_288 }
+    requires most { length blocked.now ≤ RUNS * PATH_HOPS }
     requires there { All (λ b. b.run < length runs.now) blocked.now }
     requires order { swept.IsSwept blocked.now }
     ensures list { IfOk result (λ found. found.list ≡
         map listed (take LISTED (swept.found runs.now blocked.now))) }
-    ensures more { IfOk result (λ found. found.more ≡ length (swept.found runs.now blocked.now) - LISTED) }
+    ensures more { IfOk result (λ found. found.more ≡
+        length (swept.found runs.now blocked.now) - LISTED) }
 {
     let mut list = List::new(alloc);
     let mut count: u64 = 0;
@@ -49,8 +51,18 @@ fn met_by<'a>(one: &Blocked, later: &'a [Blocked]) -> &'a [Blocked]
     requires { IsPartitionedBy (swept.meets one.now) later.now }
     ensures { result.now ≡ take_while (swept.meets one.now) later.now }
 {
+    if !meets_next(one, later) {
+        return &later[..0];
+    }
     let count = later.partition_point(|other| meets(one, other));
     &later[..count]
+}
+
+// Whether one meets the first of the later ones: mostly it meets none.
+fn meets_next(one: &Blocked, later: &[Blocked]) -> bool
+    ensures { result ≡ false → take_while (swept.meets one.now) later.now ≡ [] }
+{
+    !later.is_empty() && meets(one, &later[0])
 }
 
 fn meets(one: &Blocked, other: &Blocked) -> bool
@@ -70,7 +82,8 @@ fn list_met(
     requires one { one.now.run < length runs.now }
     requires there { All (λ b. b.run < length runs.now) met.now }
     ensures { OnOk result (list.new ≡ list.old
-        ++ map (λ other. listed (swept.conflict_of runs.now one.now other)) (take (LISTED - length list.old) met.now)) }
+        ++ map (λ other. listed (swept.conflict_of runs.now one.now other))
+        (take (LISTED - length list.old) met.now)) }
 {
     let room = LISTED - list.len();
     for other in &met[..room.min(met.len())] {

@@ -6,4 +6,4 @@ use Rattle.blocking_time.proofs.walk.blockings.Given as goal
 
 abbrev pub invariant-loop-i : goal.invariant-loop-i
 invariant-loop-i l =
-    (l.all ≡ map (blocking_of l.path) (range_with_len 1 l.i)) × (l.stop ≡ stop_mark l.path l.i)
+    (l.all.items ≡ map (blocking_of l.path) (range_with_len 1 l.i)) × (l.stop ≡ stop_mark l.path l.i)

@@ -1,6 +1,11 @@
-use Rattle.std.proofs.Common.{◌≡◌, map, take}
-use Rattle.blocking_time.specs.declared.walk.Blocking.{Blocking}
+use Rattle.std.proofs.Common.{◌≡◌, map}
+use Rattle.std.specs.List.{range_with_len}
+use Rattle.rail_model.specs.Blocking.{use_of}
+use Rattle.blocking_time.specs.Mark.{stop_mark}
 use Rattle.blocking_time.proofs.walk.stairway.Given as goal
 
-abbrev pub invariant-loop-blocking : goal.invariant-loop-blocking
-invariant-loop-blocking l = l.uses ≡ map (λ (b : Blocking). b.used) (take l.blocking-index l.blocking-items)
+abbrev pub invariant-loop-done : goal.invariant-loop-done
+invariant-loop-done l = record {
+  uses : l.uses.items ≡ map (use_of l.path) (range_with_len 1 l.done);
+  stop : l.stop ≡ stop_mark l.path l.done;
+}

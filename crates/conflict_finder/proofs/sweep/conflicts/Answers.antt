@@ -1,10 +1,11 @@
-use Rattle.std.proofs.Common.{◌≡◌, ◌<◌, ◌≤◌, List, length, ap, subst, arith}
+use Rattle.std.proofs.Common.{◌≡◌, ◌*◌, ◌<◌, ◌≤◌, List, length, ap, subst, arith}
 use Rattle.std.specs.Prelude.{Result, Ok, Err, IfOk, ◌-◌, map, take}
 use Rattle.std.specs.List.{All}
 use Rattle.std.specs.List.Sorted.{IsPermutation, IsSortedByKey}
 use Rattle.std.specs.Cmp.Lexicographic.{slice_cmp}
 use Rattle.std.specs.Ordering.{nat_cmp}
 use Rattle.rail_model.specs.declared.stair.Stair.{Stair}
+use Rattle.rail_model.specs.declared.limits.TheConstants.{RUNS, PATH_HOPS}
 use Rattle.rail_model.specs.declared.memory.OutOfMemory.{OutOfMemory}
 use Rattle.conflict_finder.specs.declared.found.Conflicts.{Conflicts}
 use Rattle.conflict_finder.specs.declared.found.TheConstants.{LISTED}
@@ -26,7 +27,7 @@ ranked_in stairs seen runs t here same order =
 
 -- what is known of the blockings when they are in order
 record IsReady (stairs : List Stair) (runs : List Ranked) (blocked : List Blocked) : Type 0 where
-  few : length blocked ≤ 524288
+  few : length blocked ≤ RUNS * PATH_HOPS
   there : All (λ b. b.run < length runs) blocked
   order : IsSwept blocked
   conflicts : AreConflicts stairs (found runs blocked)

@@ -1,5 +1,6 @@
 use Rattle.std.proofs.Common.{◌≡◌, ◌≤◌, ◌*◌, length, map, take}
 use Rattle.conflict_finder.specs.declared.found.TheConstants.{LISTED}
+use Rattle.rail_model.specs.declared.limits.TheConstants.{RUNS, PATH_HOPS}
 use Rattle.conflict_finder.specs.Found.{listed}
 use Rattle.conflict_finder.specs.Sweep.{found_upto}
 use Rattle.conflict_finder.proofs.sweep.sweep.Given as goal
@@ -9,5 +10,5 @@ abbrev pub invariant-loop-i : goal.invariant-loop-i
 invariant-loop-i l = record {
   list : l.list ≡ map listed (take LISTED (found_upto l.runs l.blocked l.i));
   count : l.count ≡ length (found_upto l.runs l.blocked l.i);
-  most : l.count ≤ l.i * 524288;
+  most : l.count ≤ l.i * (RUNS * PATH_HOPS);
 }
