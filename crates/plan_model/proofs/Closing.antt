@@ -12,7 +12,7 @@ use Rattle.plan_model.specs.Members.{member, member_count, members, no_member, u
 use Rattle.plan_model.specs.Cut.{IsSoundCut, is_block}
 use Rattle.plan_model.specs.Schedule.{entry_at, start_at, start_by, end_by, IsSchedule}
 use Rattle.plan_model.specs.Occupancy.{users, used_blocks, first_start, last_end, time_kept, occupancy}
-use Rattle.plan_model.specs.Closing.{OpensAllBlocks, IsAfterAll, IsClosingEntry}
+use Rattle.plan_model.specs.Closing.{PrecedesOnAllBlocks, IsAfterAll, IsClosingEntry}
 use Rattle.plan_model.specs.Laws.{OccupancyIsToClosing}
 use Rattle.plan_model.proofs.MemberTests.{has, has-range, in_range, has_any, has-filter, filter-has, some_member}
 use Rattle.plan_model.proofs.Uses.{takes_time}
@@ -64,7 +64,7 @@ some_passes test (x ∷ xs) d h =
 
 module _ (cut : Cut) (entries : List ℤ) (c : ℕ) (entry : ℤ) (sound : IsSoundCut cut)
     (schedule : IsSchedule cut entries)
-    (opens : OpensAllBlocks cut c) (closing : IsClosingEntry cut entries c entry) where
+    (opens : PrecedesOnAllBlocks cut c) (closing : IsClosingEntry cut entries c entry) where
   abbrev Uses : ℕ → ℕ → Type 0
   Uses j b = uses_place (member cut j) b ≡ true
 

@@ -1,7 +1,7 @@
 -- The definitions, evaluated on small lines whose cuts and answers were worked out by hand.
-use Rattle.std.proofs.Common.{◌≡◌, ℕ, ◌+◌, ◌≤◌, true, false, List, [], ◌∷◌, refl, map, replicate, lit≤, lit<}
+use Rattle.std.proofs.Common.{◌≡◌, ℕ, ◌+◌, ◌≤◌, true, false, List, [], ◌∷◌, ◌/◌, ◌%◌, arith, refl, map, lit≤, lit<}
 use Rattle.std.specs.Prelude.{ℤ, pos, negsuc, codes, Option, Some, None}
-use Rattle.std.specs.List.{list_all}
+use Rattle.std.specs.List.{list_all, range_with_len}
 use Rattle.rail_model.specs.declared.items.Block.{Block}
 use Rattle.rail_model.specs.declared.items.Signal.{Signal}
 use Rattle.rail_model.specs.declared.items.Run.{Run}
@@ -9,6 +9,7 @@ use Rattle.rail_model.specs.declared.items.Section.{Section}
 use Rattle.rail_model.specs.declared.items.Connection.{Connection}
 use Rattle.rail_model.specs.declared.tables.Tables.{Tables}
 use Rattle.rail_model.specs.declared.stair.Use.{Use}
+use Rattle.plan_model.specs.declared.limits.TheConstants.{MEMBERS}
 use Rattle.plan_model.specs.declared.cut.CutRow.{CutRow}
 use Rattle.plan_model.specs.declared.cut.Cut.{Cut}
 use Rattle.plan_model.specs.declared.answer.Tie.{Tie}
@@ -21,7 +22,8 @@ use Rattle.plan_model.specs.Members.{member, member_count, members}
 use Rattle.plan_model.specs.Precedence.{precedes}
 use Rattle.plan_model.specs.SectionCut.{cut_of}
 use Rattle.plan_model.specs.Disorder.{opposite, remaining}
-use Rattle.plan_model.specs.Rates.{rate, consumption}
+use Rattle.plan_model.specs.Headway.{headway}
+use Rattle.plan_model.specs.Rates.{rate, consumption, is_within, hundredths_up}
 use Rattle.plan_model.specs.Answer.{plan_of, IsAnswer}
 use Rattle.plan_model.specs.Cut.{IsSoundCut}
 use Rattle.plan_model.proofs.SoundTest.{sound}
@@ -85,7 +87,7 @@ abbrev placed : List ℕ → ℕ → ℕ → Tie → Placed
 placed name planned entry tie = record { train = name; planned = pos planned; entry = pos entry; tie = tie }
 
 -- the least schedule gives the answer of a cut without disorder
-pub compressed : (cut : Cut) (entries : List ℤ) → member_count cut ≤ 768 → opposite cut ≡ None → remaining cut ≡ []
+pub compressed : (cut : Cut) (entries : List ℤ) → member_count cut ≤ MEMBERS → opposite cut ≡ None → remaining cut ≡ []
     → is_schedule cut entries ≡ true → list_all (is_tied cut entries) (members cut) ≡ true
     → IsAnswer cut (answer.Ordered (plan_of cut entries))
 compressed cut entries few none left schedule tied =
@@ -148,13 +150,35 @@ one_second_less = refl
 before_the_window : is_schedule two_trains (negsuc 0 ∷ pos 150 ∷ []) ≡ false
 before_the_window = refl
 
-two_trains_rate : rate two_trains.section 300 ≡ record { num = 1; den = 12 }
+two_trains_rate : rate 300 3600 ≡ record { num = 1; den = 12 }
 two_trains_rate = refl
 
-two_trains_consumption : consumption two_trains.section 300 ≡ record { num = 133; den = 1200 }
+two_trains_consumption : consumption 300 33 3600 ≡ record { num = 133; den = 1200 }
 two_trains_consumption = refl
 
-nothing_occupied : rate two_trains.section 0 ≡ record { num = 0; den = 1 }
+two_trains_headway : headway (member two_trains 0) (member two_trains 1) ≡ Some (pos 150)
+two_trains_headway = refl
+
+headway_back : headway (member two_trains 1) (member two_trains 0) ≡ Some (pos 150)
+headway_back = refl
+
+twelfth : hundredths_up (record { num = 1; den = 12 }) ≡ 834
+twelfth = refl
+
+-- of a window of 300 s, 300 s are all, and of one of 299 s they are too much
+just_within : is_within (consumption 300 0 300) ≡ true
+just_within = refl
+
+all_of_it : hundredths_up (consumption 300 0 300) ≡ 10000
+all_of_it = refl
+
+just_over : is_within (consumption 300 0 299) ≡ false
+just_over = refl
+
+over_it : hundredths_up (consumption 300 0 299) ≡ 10034
+over_it = refl
+
+nothing_occupied : rate 0 3600 ≡ record { num = 0; den = 1 }
 nothing_occupied = refl
 
 -- ---- a train that enters before the window is no member
@@ -177,10 +201,10 @@ second_alone_answer : IsAnswer second_alone (plan (codes "A" ∷ codes "B" ∷ [
     ∷ []) 150 (Some 1) (Some 0))
 second_alone_answer = compressed second_alone (pos 0 ∷ []) (lit≤ tt) refl refl refl refl
 
-second_alone_rate : rate second_alone.section 150 ≡ record { num = 1; den = 24 }
+second_alone_rate : rate 150 3600 ≡ record { num = 1; den = 24 }
 second_alone_rate = refl
 
-second_alone_consumption : consumption second_alone.section 150 ≡ record { num = 133; den = 2400 }
+second_alone_consumption : consumption 150 33 3600 ≡ record { num = 133; den = 2400 }
 second_alone_consumption = refl
 
 -- ---- a section without members
@@ -229,7 +253,7 @@ four_trains_answer : IsAnswer four_trains (plan (codes "A" ∷ codes "B" ∷ [])
     ∷ placed (codes "t0004") 88 450 (After 2 1) ∷ []) 600 (Some 1) (Some 3))
 four_trains_answer = compressed four_trains four_pressed (lit≤ tt) refl refl refl refl
 
-four_trains_rate : rate four_trains.section 600 ≡ record { num = 1; den = 6 }
+four_trains_rate : rate 600 3600 ≡ record { num = 1; den = 6 }
 four_trains_rate = refl
 
 -- ---- a connection from the first train to the second, with a minimum of 60 s
@@ -263,11 +287,14 @@ connected_answer = compressed connected connected_pressed (lit≤ tt) refl refl 
 connection_missed : is_schedule connected (pos 0 ∷ pos 179 ∷ []) ≡ false
 connection_missed = refl
 
-connected_rate : rate connected.section 330 ≡ record { num = 11; den = 120 }
+connected_rate : rate 330 3600 ≡ record { num = 11; den = 120 }
 connected_rate = refl
 
-connected_consumption : consumption connected.section 330 ≡ record { num = 1463; den = 12000 }
+connected_consumption : consumption 330 33 3600 ≡ record { num = 1463; den = 12000 }
 connected_consumption = refl
+
+connected_headway : headway (member connected 0) (member connected 1) ≡ Some (pos 180)
+connected_headway = refl
 
 -- one whose second run starts before its first run enters binds nothing
 unbound : cut_of (line (t1 ∷ t2 ∷ []) (connect (codes "T2") (codes "T1") 0 ∷ [])) (codes "S") ≡ Some two_trains
@@ -338,11 +365,17 @@ joining_answer : IsAnswer joining (plan (codes "A" ∷ codes "B" ∷ []) (placed
     ∷ placed (codes "T2") 135 0 Start ∷ []) 290 (Some 1) (Some 0))
 joining_answer = compressed joining (pos 0 ∷ pos 0 ∷ []) (lit≤ tt) refl refl refl refl
 
-joining_rate : rate joining.section 290 ≡ record { num = 29; den = 360 }
+joining_rate : rate 290 3600 ≡ record { num = 29; den = 360 }
 joining_rate = refl
 
-joining_consumption : consumption joining.section 290 ≡ record { num = 3857; den = 36000 }
+joining_consumption : consumption 290 33 3600 ≡ record { num = 3857; den = 36000 }
 joining_consumption = refl
+
+joining_headway : headway (member joining 0) (member joining 1) ≡ Some (pos 290)
+joining_headway = refl
+
+joining_back : headway (member joining 1) (member joining 0) ≡ Some (negsuc 109)
+joining_back = refl
 
 -- a connection against the order on the second block
 abbrev crossed : Cut
@@ -358,6 +391,9 @@ crossed = record {
 crossed_cut : cut_of (plain_line (codes "SB" ∷ []) joining_runs (connect (codes "T1") (codes "T2") 0
     ∷ [])) (codes "S") ≡ Some crossed
 crossed_cut = refl
+
+no_shared_place : headway (member joining 1) (row (codes "T3") (pos 85) (kept 0 85 171 ∷ [])) ≡ None
+no_shared_place = refl
 
 crossed_sound : IsSoundCut crossed
 crossed_sound = sound crossed refl
@@ -415,12 +451,18 @@ circling_answer = (lit≤ tt, refl, λ e. cc, refl)
 
 -- ---- more members than are compressed
 
-abbrev crowd : Cut
-crowd = record {
+-- so many trains on one block, one second apart
+abbrev crowd_of : ℕ → Cut
+crowd_of n = record {
   section = section (codes "A" ∷ codes "B" ∷ []);
   connections = [];
-  rows = replicate 769 (row (codes "T1") (pos 85) (kept 0 85 171 ∷ []));
+  rows = map (λ i. row ((48 + i / 100) ∷ (48 + i / 10 % 10) ∷ (48 + i % 10) ∷ []) (pos i) (kept 0 i (i + 86) ∷ []))
+      (range_with_len 0 n);
 }
 
-crowd_answer : IsAnswer crowd (answer.Crowded 769)
+crowd_answer : IsAnswer (crowd_of 769) (answer.Crowded 769)
 crowd_answer = (lit< tt, refl)
+
+-- 768 members are not too many
+full_section : (count : ℕ) → IsAnswer (crowd_of 768) (answer.Crowded count) → ⊥
+full_section count h = omega (arith, h.0)

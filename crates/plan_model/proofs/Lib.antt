@@ -3,6 +3,8 @@ pub mod MemberTests
 pub mod SoundTest
 pub mod ScheduleTest
 pub mod Order
+pub mod Overlap
+pub mod FirstByName
 pub mod Remaining
 pub mod Tied
 pub mod Unique

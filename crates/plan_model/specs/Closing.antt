@@ -7,7 +7,7 @@ use Rattle.plan_model.specs.Precedence.{precedes}
 use Rattle.plan_model.specs.Schedule.{start_at, end_by}
 
 -- member c uses each block that a member uses, and precedes every other member there
-pub record OpensAllBlocks (cut : Cut) (c : ℕ) : Type 0 where
+pub record PrecedesOnAllBlocks (cut : Cut) (c : ℕ) : Type 0 where
   pub is_there : c < member_count cut
   pub uses : (j block : ℕ) → j < member_count cut → block < block_count cut
       → IsTrue (uses_place (member cut j) block) → IsTrue (uses_place (member cut c) block)

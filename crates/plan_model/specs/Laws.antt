@@ -1,20 +1,22 @@
 -- Laws of cuts, schedules and answers.
-use Rattle.std.specs.Prelude.{◌≡◌, ◌≢◌, ◌⊎◌, ℕ, ◌<◌, ℤ, pos, ◌-ℤ◌, ◌≤ℤ◌, List, [], IsTrue}
+use Rattle.std.specs.Prelude.{◌≡◌, ◌≢◌, ◌⊎◌, ◌↔◌, ℕ, ◌<◌, ℤ, pos, ◌-ℤ◌, ◌≤ℤ◌, List, [], IsTrue}
 use Rattle.std.specs.List.{list_any}
+use Rattle.rail_model.specs.Conflict.{ComesBefore, Overlap}
+use Rattle.plan_model.specs.declared.cut.CutRow.{CutRow}
 use Rattle.plan_model.specs.declared.cut.Cut.{Cut}
 use Rattle.plan_model.specs.declared.answer.Answer.{Answer}
 use Rattle.plan_model.specs.Places.{places}
-use Rattle.plan_model.specs.Members.{member, member_count, uses_place}
-use Rattle.plan_model.specs.Precedence.{precedes}
+use Rattle.plan_model.specs.Members.{member, member_count, uses_place, use_at}
+use Rattle.plan_model.specs.Precedence.{comes_before, precedes}
 use Rattle.plan_model.specs.Cut.{IsSoundCut}
 use Rattle.plan_model.specs.Disorder.{preceded, remaining}
 use Rattle.plan_model.specs.Schedule.{window_start, entry_at, start_by, end_by, IsSchedule, IsLeast}
 use Rattle.plan_model.specs.Tie.{touches}
 use Rattle.plan_model.specs.Answer.{IsAnswer}
 use Rattle.plan_model.specs.Occupancy.{occupancy}
-use Rattle.plan_model.specs.Planned.{IsFreeOfConflict, KeepsConnections}
-use Rattle.plan_model.specs.Closing.{OpensAllBlocks, IsClosingEntry}
-use Rattle.plan_model.specs.Rates.{reduced, IsReduced}
+use Rattle.plan_model.specs.Planned.{conflicts, IsFreeOfConflict, KeepsConnections}
+use Rattle.plan_model.specs.Closing.{PrecedesOnAllBlocks, IsClosingEntry}
+use Rattle.plan_model.specs.Rates.{Fraction, reduced, IsReduced}
 
 -- a cut has at most one least schedule
 abbrev pub LeastIsUnique : Type 0
@@ -66,13 +68,28 @@ NoneIsLater =
     → IsLeast cut entries
     → (i : ℕ) → i < member_count cut → entry_at entries i ≤ℤ (member cut i).entry
 
--- where a train opens all blocks, the occupancy time is what lies between its entry and that of its closing copy
+-- where a train precedes all others on all blocks, the occupancy time is what lies between its entry and that of its closing copy
 abbrev pub OccupancyIsToClosing : Type 0
 OccupancyIsToClosing =
     (cut : Cut) (entries : List ℤ) (c : ℕ) (entry : ℤ) → IsSoundCut cut → IsSchedule cut entries
-    → OpensAllBlocks cut c
+    → PrecedesOnAllBlocks cut c
     → IsClosingEntry cut entries c entry → pos (occupancy cut entries) ≡ entry -ℤ entry_at entries c
 
 -- the fraction a over b is reduced
 abbrev pub FractionIsReduced : Type 0
 FractionIsReduced = (a b : ℕ) → 0 < b → IsReduced (reduced a b) a b
+
+-- there is no other fraction a over b that is reduced
+abbrev pub ReducedIsUnique : Type 0
+ReducedIsUnique = (a b : ℕ) (f : Fraction) → 0 < b → IsReduced f a b → f ≡ reduced a b
+
+-- a test that says which of two moments with names comes first is that of a timetable's conflicts
+abbrev pub ComesBeforeIsTested : Type 0
+ComesBeforeIsTested =
+    (s t : ℤ) (a b : List ℕ) → IsTrue (comes_before s a t b) ↔ ComesBefore s a t b
+
+-- two members that both use a place conflict there where their uses overlap
+abbrev pub ConflictIsOverlap : Type 0
+ConflictIsOverlap =
+    (i j : CutRow) (place : ℕ) → IsTrue (uses_place i place) → IsTrue (uses_place j place)
+    → IsTrue (conflicts i j place) ↔ Overlap (use_at i place) (use_at j place)

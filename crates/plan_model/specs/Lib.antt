@@ -4,6 +4,7 @@ pub mod Precedence
 pub mod Cut
 pub mod SectionCut
 pub mod Disorder
+pub mod Headway
 pub mod Schedule
 pub mod Tie
 pub mod Occupancy

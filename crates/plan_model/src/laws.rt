@@ -1,5 +1,5 @@
 //! Laws of the definitions: each function does nothing, and its contract is the law.
-ghost use Rattle.plan_model.specs.Laws.{LeastIsUnique, AnswerIsUnique, UsesAreApart, RemainingIsLeft, TiedIsLeast, LeastIsTied, NoneIsLater, OccupancyIsToClosing, FractionIsReduced};
+ghost use Rattle.plan_model.specs.Laws.{LeastIsUnique, AnswerIsUnique, UsesAreApart, RemainingIsLeft, TiedIsLeast, LeastIsTied, NoneIsLater, OccupancyIsToClosing, FractionIsReduced, ReducedIsUnique, ComesBeforeIsTested, ConflictIsOverlap};
 
 /// A cut has at most one least schedule.
 pub fn least_is_unique()
@@ -49,4 +49,20 @@ pub fn occupancy_is_to_closing()
 /// A rate is a reduced fraction.
 pub fn fraction_is_reduced()
     ensures { FractionIsReduced }
+{}
+
+/// It is the only one.
+pub fn reduced_is_unique()
+    ensures { ReducedIsUnique }
+{}
+
+/// Two trains of a cut come one before the other as two runs of a timetable do.
+pub fn comes_before_is_tested()
+    ensures { ComesBeforeIsTested }
+{}
+
+/// Two trains of a cut conflict where their uses of a place overlap, as two runs of a timetable
+/// do.
+pub fn conflict_is_overlap()
+    ensures { ConflictIsOverlap }
 {}

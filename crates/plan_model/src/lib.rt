@@ -16,8 +16,9 @@ mod rows;
 pub use answer::{Answer, Done, Link, Placed, Plan, Tie};
 pub use cut::{Cut, CutRow};
 pub use laws::{
-    answer_is_unique, fraction_is_reduced, least_is_tied, least_is_unique, none_is_later,
-    occupancy_is_to_closing, remaining_is_left, tied_is_least, uses_are_apart,
+    answer_is_unique, comes_before_is_tested, conflict_is_overlap, fraction_is_reduced,
+    least_is_tied, least_is_unique, none_is_later, occupancy_is_to_closing, reduced_is_unique,
+    remaining_is_left, tied_is_least, uses_are_apart,
 };
 pub use limits::MEMBERS;
 pub use reading::Reading;
