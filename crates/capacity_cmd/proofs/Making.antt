@@ -1,5 +1,5 @@
 -- Rows that are read one after the other make what the whole input makes.
-use Rattle.std.proofs.Common.{◌≡◌, ℕ, ◌+◌, List, [], ◌∷◌, Option, Some, None, Result, Ok, Err, refl, sym, ap, ◌∙◌}
+use Rattle.std.proofs.Common.{◌≡◌, ℕ, ◌+◌, List, [], ◌∷◌, Option, Some, None, Result, Ok, Err, refl, ◌∙◌}
 use Rattle.rail_model.specs.declared.edit.Edit.{Edit}
 use Rattle.rail_model.specs.declared.edit.Rule.{Rule}
 use Rattle.rail_model.specs.declared.tables.Tables.{Tables}

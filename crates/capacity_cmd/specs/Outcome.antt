@@ -7,7 +7,7 @@ use Rattle.rail_model.specs.declared.edit.Rule.{Rule}
 use Rattle.rail_model.specs.declared.edit.Rule.TheVariants as rule
 use Rattle.rail_model.specs.Conflict.{Conflict, AreConflicts}
 use Rattle.row_text.specs.SheetRows.{text_of_row, text_of_rows}
-use Rattle.capacity_report.specs.Timetable.{timetable}
+use Rattle.section_cut.specs.Timetable.{timetable}
 use Rattle.capacity_report.specs.Stairs.{stairs_rows}
 use Rattle.capacity_report.specs.Check.{check_rows}
 use Rattle.capacity_cmd.specs.declared.command.Command.{Command}

@@ -15,7 +15,7 @@ use Rattle.conflict_finder.specs.declared.found.TheConstants.{LISTED}
 use Rattle.conflict_finder.specs.Found.{listed, IsFound}
 use Rattle.row_text.specs.SheetRows.{SheetRows}
 use Rattle.capacity_report.specs.Added.{AddsPrefix}
-use Rattle.capacity_report.specs.Timetable.{timetable}
+use Rattle.section_cut.specs.Timetable.{timetable}
 use Rattle.capacity_report.specs.Check.{conflict_row, found_row, count_row, check_rows}
 use Rattle.capacity_report.proofs.Rows.{prefix_from}
 use Rattle.capacity_report.proofs.Timetables.{used_there}

@@ -1,23 +1,25 @@
 -- The stairways of sound tables are a timetable.
-use Rattle.std.proofs.Common.{◌≡◌, ℕ, ◌+◌, ◌-◌, ◌<◌, [], ◌∷◌, ◌++◌, length, take, get_or, sym, ap, ◌∙◌, subst, arith}
+use Rattle.std.proofs.Common.{◌≡◌, ◌<◌, length, sym, ◌∙◌, subst, arith}
 use Rattle.std.specs.Prelude.{◌<ℤ◌}
 use Rattle.std.specs.List.{All, Contains}
-use Rattle.std.proofs.lemmas.List.{take_more, length-map, get_or-map}
+use Rattle.std.proofs.lemmas.List.{length-map, get_or-map}
 use Rattle.std.proofs.lemmas.List.Elements.{All-contains}
 use Rattle.std.proofs.lemmas.List.FromFn.{length-map-range_with_len}
 use Rattle.rail_model.specs.declared.path.Path.{Path}
 use Rattle.rail_model.specs.declared.stair.Use.{Use}
 use Rattle.rail_model.specs.declared.stair.Stair.{Stair}
 use Rattle.rail_model.specs.declared.tables.Tables.{Tables}
-use Rattle.rail_model.specs.Path.{hop_count, no_hop, Fits}
+use Rattle.rail_model.specs.Path.{hop_count, Fits}
 use Rattle.rail_model.specs.Blocking.{use_of, stairway, stair_of}
 use Rattle.rail_model.specs.Tables.{no_run, run_at, path_in}
 use Rattle.rail_model.specs.Sound.{IsSound}
 use Rattle.rail_model.proofs.NameOrder.{is_same-before, is_same-from}
-use Rattle.rail_model.proofs.Paths.{path_at_fits, path_at_numbered}
+use Rattle.rail_model.proofs.Paths.{path_at_fits}
 use Rattle.blocking_time.proofs.Uses.{All-from_one, not_empty, blocks_differ}
 use Rattle.conflict_finder.specs.Timetable.{IsStairway, IsTimetable}
-use Rattle.capacity_report.specs.Timetable.{timetable}
+use Rattle.section_cut.specs.Timetable.{timetable}
+use Rattle.section_cut.proofs.Timetables.{stair_at, stairs_count}
+use Rattle.section_cut.proofs.Timetables as Stairways
 
 stairway_fits : (path : Path) → Fits path → IsStairway (stair_of path)
 stairway_fits path fits = record {
@@ -29,38 +31,23 @@ stairway_fits path fits = record {
 }
 
 module _ (tables : Tables) (sound : IsSound tables) where
-  stair_at : (n : ℕ) (d : Stair) → n < length tables.runs → get_or (timetable tables) n d ≡ stair_of (path_in tables (run_at tables n))
-  stair_at n d l = get_or-map (λ run. stair_of (path_in tables run)) tables.runs n no_run d l
-
-  pub stairs_count : length (timetable tables) ≡ length tables.runs
-  stairs_count = length-map tables.runs (λ run. stair_of (path_in tables run))
-
   pub timetable_fits : IsTimetable (timetable tables)
   timetable_fits = record {
-    most = omega (arith, stairs_count, sound.runs.most);
+    most = omega (arith, stairs_count tables, sound.runs.most);
     names_differ = λ i j d lt l.
-        rw (stair_at i d (omega (arith, stairs_count)), stair_at j d (omega (arith, stairs_count))) (λ same.
-        let before = sound.runs.names i j no_run lt (omega (arith, stairs_count)) in
+        rw (stair_at tables i d (omega (arith, stairs_count tables)), stair_at tables j d (omega (arith, stairs_count tables))) (λ same.
+        let before = sound.runs.names i j no_run lt (omega (arith, stairs_count tables)) in
         let no = is_same-before (run_at tables i).name (run_at tables j).name before in
         let yes = is_same-from (run_at tables i).name (run_at tables j).name same in
         (cc));
-    each = λ k d l. rw (stair_at k d (omega (arith, stairs_count))) (stairway_fits (path_in tables (run_at tables k)) (path_at_fits tables sound k (omega (arith, stairs_count))));
+    each = λ k d l. rw (stair_at tables k d (omega (arith, stairs_count tables))) (stairway_fits (path_in tables (run_at tables k)) (path_at_fits tables sound k (omega (arith, stairs_count tables))));
   }
-
-  -- one stairway more
-  pub timetable_more : (n : ℕ) → n < length tables.runs → take (n + 1) (timetable tables) ≡ take n (timetable tables) ++ stair_of (path_in tables (run_at tables n)) ∷ []
-  timetable_more n l =
-      let d = stair_of (path_in tables (run_at tables n)) in
-      take_more (timetable tables) n d (omega (arith, stairs_count)) ∙ ap (λ s. take n (timetable tables) ++ s ∷ []) (stair_at n d l)
 
   -- the blocks of its uses are those of the tables
   pub used_there : (i : Stair) (u : Use) → Contains (timetable tables) i → Contains i.uses u → u.block < length tables.blocks
   used_there i u h g =
       let n = h.0 in
-      let path = path_in tables (run_at tables n) in
-      let here : n < length tables.runs = omega (arith, h.1, stairs_count) in
-      let is : stair_of path ≡ i = sym (stair_at n i here) ∙ h.2 in
-      let numbered = path_at_numbered tables sound n here in
-      let all : All (λ (v : Use). v.block < length tables.blocks) (stairway path) =
-      All-from_one (λ (v : Use). v.block < length tables.blocks) (use_of path) (hop_count path) (λ k low high. numbered (k - 1) no_hop (omega arith)) in
-      All-contains (λ (v : Use). v.block < length tables.blocks) i.uses u (subst (λ (s : Stair). All (λ (v : Use). v.block < length tables.blocks) s.uses) is all) g
+      let here : n < length tables.runs = omega (arith, h.1, stairs_count tables) in
+      let is : stair_of (path_in tables (run_at tables n)) ≡ i = sym (stair_at tables n i here) ∙ h.2 in
+      All-contains (λ (v : Use). v.block < length tables.blocks) i.uses u
+      (subst (λ (s : Stair). All (λ (v : Use). v.block < length tables.blocks) s.uses) is (Stairways.used_there tables sound n here)) g

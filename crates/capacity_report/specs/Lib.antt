@@ -1,4 +1,3 @@
-pub mod Timetable
 pub mod Added
 pub mod Stairs
 pub mod Blockings

@@ -1,23 +1,19 @@
-//! The stairways of a line's runs.
+//! The timetable of a line, whose conflicts are looked for.
 ghost use Rattle.std.specs.Prelude.{◌≡◌, IfOk};
 ghost use Rattle.conflict_finder.specs.Timetable.{IsTimetable};
-ghost use Rattle.capacity_report.specs.Timetable.{timetable};
+ghost use Rattle.section_cut.specs.Timetable.{timetable};
 
-use blocking_time::stairs;
 use line_tables::LineTables;
 use rail_model::{List, OutOfMemory, Stair};
 use std::alloc::Global;
 
-/// The stairway of each run, in the order of the runs' names.
+/// The stairway of each run, in the order of the runs' names: a timetable of which
+/// `conflict_finder` finds the conflicts.
 pub fn stairways(alloc: Global, tables: &LineTables) -> Result<List<Stair>, OutOfMemory>
     ensures same { IfOk result (λ all. all ≡ timetable tables.now) }
     ensures fits { IfOk result IsTimetable }
 {
-    let routes = tables.route_hops()?;
-    let mut all = List::new(alloc);
-    for run in 0..tables.runs() {
-        let path = tables.run_path(routes.slice(), run)?;
-        all.push(stairs(alloc, &path)?)?;
-    }
+    let _count = tables.runs();
+    let all = section_cut::stairways(alloc, tables)?;
     Ok(all)
 }

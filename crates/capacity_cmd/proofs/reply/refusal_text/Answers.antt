@@ -1,5 +1,5 @@
 use Rattle.std.proofs.Common.{ap, ◌∙◌, append-nil}
-use Rattle.std.specs.Prelude.{codes, decimal}
+use Rattle.std.specs.Prelude.{decimal}
 use Rattle.row_text.specs.SheetRows.{SheetRows, with_field, with_row, text_of_rows}
 use Rattle.capacity_cmd.proofs.reply.refusal_text.Goals as goal
 

@@ -1,24 +1,8 @@
-use Rattle.std.proofs.Common.{◌++◌, ◌∷◌, [], take, sym, ap, ◌∙◌, subst, arith}
-use Rattle.std.proofs.lemmas.List.{take_all}
-use Rattle.rail_model.specs.Blocking.{stair_of}
+use Rattle.std.proofs.Common.{sym, subst}
 use Rattle.conflict_finder.specs.Timetable.{IsTimetable}
-use Rattle.capacity_report.specs.Timetable.{timetable}
-use Rattle.capacity_report.proofs.Timetables.{timetable_fits, timetable_more, stairs_count}
+use Rattle.capacity_report.proofs.Timetables.{timetable_fits}
 use Rattle.capacity_report.proofs.timetable.stairways.Goals as goal
-
-pub loop-run-preserved : goal.loop-run-preserved
-loop-run-preserved c =
-    let tables = c.args.tables.now in
-    let n = c.loop-run.run in
-    c.in_ok-push.ensures.ok ∙ ap (λ all. all ++ c.in_ok-stairs.field-0 ∷ []) c.loop-run.invariant
-    ∙ ap (λ s. take n (timetable tables) ++ s ∷ []) (c.in_ok-stairs.ensures.same ∙ ap stair_of c.in_ok-path.ensures.same)
-    ∙ sym (timetable_more tables c.runs-run-end.ensures.sound n (omega (arith, c.loop-run-test.true, c.runs-run-end.ensures.count)))
-
-pub returns-clause-same : goal.returns-clause-same
-returns-clause-same c =
-    let tables = c.args.tables.now in
-    c.loop-run.invariant ∙ take_all c.loop-run.run (timetable tables) (omega (arith, c.loop-run-test.false, c.runs-run-end.ensures.count, stairs_count tables c.runs-run-end.ensures.sound))
 
 pub returns-clause-fits : goal.returns-clause-fits
 returns-clause-fits c =
-    subst IsTimetable (sym (returns-clause-same c)) (timetable_fits c.args.tables.now c.runs-run-end.ensures.sound)
+    subst IsTimetable (sym c.in_ok-all.ensures) (timetable_fits c.args.tables.now c.runs-count.ensures.sound)

@@ -1,4 +1,4 @@
-use Rattle.std.proofs.Common.{◌≡◌, ◌+◌, ◌<◌, ◌∷◌, [], ℕ, List, get_or, drop, length, Option, None, Some, Result, Ok, Err, refl, sym, ap, ◌∙◌, subst, arith}
+use Rattle.std.proofs.Common.{◌≡◌, ◌+◌, ◌<◌, [], ℕ, List, get_or, drop, length, None, Some, Result, sym, ap, ◌∙◌, subst, arith}
 use Rattle.std.proofs.lemmas.List.{drop_all, drop_more}
 use Rattle.rail_model.specs.declared.tables.Tables.{Tables}
 use Rattle.row_text.specs.Row.{Row}
@@ -6,7 +6,7 @@ use Rattle.row_text.specs.Versions.{first_line}
 use Rattle.capacity_cmd.specs.declared.status.Cause.{Cause}
 use Rattle.capacity_cmd.specs.declared.input.Made.{Made}
 use Rattle.capacity_cmd.specs.declared.refusal.Refusal.{Refusal}
-use Rattle.capacity_cmd.specs.Input.{tables_in, refused, edit_in}
+use Rattle.capacity_cmd.specs.Input.{refused, edit_in}
 use Rattle.capacity_cmd.specs.Made.{made_so_far, TakesRow}
 use Rattle.capacity_cmd.proofs.Making.{goes_on, made_in_order, goes_on-edit, goes_on-fault, goes_on-end}
 use Rattle.capacity_cmd.proofs.input.Made.take_rows.Goals as goal

@@ -1,6 +1,6 @@
 use Rattle.std.proofs.Common.{◌≡◌, take}
-use Rattle.capacity_report.specs.Timetable.{timetable}
-use Rattle.capacity_report.proofs.timetable.stairways.Given as goal
+use Rattle.section_cut.specs.Timetable.{timetable}
+use Rattle.section_cut.proofs.timetable.stairways.Given as goal
 
 -- the stairways so far
 abbrev pub invariant-loop-run : goal.invariant-loop-run

@@ -1,0 +1,129 @@
+-- The table of positions: as far as it is filled, from the last name of the section's list on; and uses by it.
+use Rattle.std.proofs.Common.{◌≡◌, ℕ, ◌+◌, ◌<◌, ◌≤◌, Bool, true, false, not, cond, ltb, List, [], ◌∷◌, ◌++◌, map, length, get_or, take, drop, replicate, refl, sym, ap, ◌∙◌, subst, inl, inr, arith}
+use Rattle.std.specs.Prelude.{filter, slice_set}
+use Rattle.std.proofs.lemmas.Bool.{cases_Bool, cases_eq, lt-ltb, le-ltb}
+use Rattle.std.proofs.lemmas.List.{append-nil, length-set, length-replicate, get_or-replicate, get_or-set_same, get_or-set_other, map_more}
+use Rattle.std.proofs.lemmas.List.Elements.{filter-append}
+use Rattle.std.proofs.lemmas.List.Sums.{passes_at_first, prefix_len-drop_yes, prefix_len-drop_no, prefix_len-drop_all}
+use Rattle.rail_model.specs.declared.items.Block.{Block}
+use Rattle.rail_model.specs.declared.items.Section.{Section}
+use Rattle.rail_model.specs.declared.tables.Tables.{Tables}
+use Rattle.rail_model.specs.declared.stair.Use.{Use}
+use Rattle.rail_model.specs.Name.{is_same}
+use Rattle.rail_model.specs.Tables.{number_of, no_block, block_number}
+use Rattle.rail_model.specs.Rules.{has_block}
+use Rattle.rail_model.specs.Sound.{IsSound}
+use Rattle.rail_model.proofs.NameOrder.{same_name, is_same-sym}
+use Rattle.rail_model.proofs.Members.{none_passes}
+use Rattle.section_cut.proofs.Names.{names_apart}
+use Rattle.section_cut.specs.Positions.{block_name, IsPositions, IsPlaced, placed, uses_in}
+
+-- from some name of the section's list on, the table has what the rest of the list says
+pub record IsFilled (tables : Tables) (section : Section) (from : ℕ) (table : List ℕ) : Type 0 where
+  pub count : length table ≡ length tables.blocks
+  pub each : (block : ℕ) → block < length tables.blocks
+      → get_or table block 0 ≡ from + number_of (λ (n : List ℕ). n) (drop from section.blocks) (block_name tables block)
+
+module _ (tables : Tables) where
+  -- the position of a name that is a block's
+  pub placed_there : IsSound tables → (name : List ℕ) (n position : ℕ) (before : List ℕ) → n ≡ block_number tables name
+      → n < length tables.blocks → length before ≡ length tables.blocks
+      → IsPlaced tables name position before (slice_set before n position)
+  placed_there sound name n position before number l count =
+      let here : is_same (block_name tables n) name ≡ true =
+      subst (λ k. is_same (block_name tables k) name ≡ true) (sym number)
+      (passes_at_first (λ (x : Block). is_same x.name name) tables.blocks no_block (omega (arith, number, l))) in
+      let named = is_same-sym name (block_name tables n) ∙ here in
+      let is : name ≡ block_name tables n = same_name name (block_name tables n) named in
+      record {
+        count = length-set before n position;
+        each = λ block below. elim (cases_eq block n) [
+          | inl e ↦ subst
+              (λ k. get_or (slice_set before n position) k 0 ≡ cond (is_same name (block_name tables k)) position (get_or before k 0))
+              (sym e) (rw named (get_or-set_same before n position 0 (omega (arith, l, count))))
+          | inr differ ↦
+              let other : is_same name (block_name tables block) ≡ false =
+              subst (λ m. is_same m (block_name tables block) ≡ false) (sym is) (names_apart (λ (b : Block). b.name) tables.blocks no_block sound.blocks.names n block l below (λ e. differ (sym e))) in
+              rw other (get_or-set_other before n block position 0 differ)
+        ];
+      }
+
+  -- the position of a name that is no block's
+  pub placed_nowhere : (name : List ℕ) (position : ℕ) (before : List ℕ) → has_block tables name ≡ false
+      → IsPlaced tables name position before before
+  placed_nowhere name position before missing = record {
+    count = refl;
+    each = λ block below.
+        let other : is_same name (block_name tables block) ≡ false =
+        is_same-sym name (block_name tables block)
+        ∙ none_passes (λ (x : Block). is_same x.name name) tables.blocks missing block no_block below in
+        rw other refl;
+  }
+
+  module _ (section : Section) where
+    pub filled_none : (from : ℕ) (table : List ℕ) → from ≡ length section.blocks
+        → table ≡ replicate (length tables.blocks) (length section.blocks) → IsFilled tables section from table
+    filled_none from table none is = record {
+      count = ap length is ∙ length-replicate (length tables.blocks) (length section.blocks);
+      each = λ block below.
+          let rest = prefix_len-drop_all (λ (n : List ℕ). not (is_same n (block_name tables block))) section.blocks from (omega arith) in
+          let at = ap (λ t. get_or t block 0) is ∙ get_or-replicate (length tables.blocks) block (length section.blocks) 0 below in
+          omega (arith, rest, at);
+    }
+
+    pub filled_more : (from : ℕ) (before after : List ℕ) → from < length section.blocks
+        → IsFilled tables section (from + 1) before → IsPlaced tables (get_or section.blocks from []) from before after
+        → IsFilled tables section from after
+    filled_more from before after l filled one = record {
+      count = one.count ∙ filled.count;
+      each = λ block below.
+          let name = block_name tables block in
+          let fails : List ℕ → Bool = λ n. not (is_same n name) in
+          let at = one.each block below in
+          elim (cases_Bool (is_same (get_or section.blocks from []) name)) [
+            | inl e ↦
+                let none = prefix_len-drop_no fails section.blocks from [] l (rw e refl) in
+                let here : get_or after block 0 ≡ from = rw e at at in
+                omega (arith, none, here)
+            | inr e ↦
+                let more = prefix_len-drop_yes fails section.blocks from [] l (rw e refl) in
+                let here : get_or after block 0 ≡ get_or before block 0 = rw e at at in
+                omega (arith, more, here, filled.each block below)
+          ];
+    }
+
+    pub filled_all : (from : ℕ) (table : List ℕ) → from ≡ 0 → IsFilled tables section from table
+        → IsPositions tables section table
+    filled_all from table none filled = record {
+      count = filled.count;
+      each = λ block below.
+          let first = subst (λ k. get_or table block 0 ≡ k + number_of (λ (n : List ℕ). n) (drop k section.blocks) (block_name tables block)) none (filled.each block below) in
+          omega (arith, first);
+    }
+
+-- the uses in the section, with one use more
+pub uses_in_more : (positions : List ℕ) (blocks : ℕ) (uses : List Use) (i : ℕ) (d : Use) → i < length uses
+    → uses_in positions blocks (take (i + 1) uses)
+    ≡ uses_in positions blocks (take i uses)
+    ++ cond (ltb (get_or positions (get_or uses i d).block 0) blocks) (placed positions (get_or uses i d) ∷ []) []
+uses_in_more positions blocks uses i d l =
+    let inside : Use → Bool = λ u. ltb u.block blocks in
+    ap (filter inside) (map_more (placed positions) uses i d l)
+    ∙ filter-append inside (map (placed positions) (take i uses)) (placed positions (get_or uses i d) ∷ [])
+
+pub uses_in_yes : (positions : List ℕ) (blocks : ℕ) (uses : List Use) (i : ℕ) (d : Use) → i < length uses
+    → get_or positions (get_or uses i d).block 0 < blocks
+    → uses_in positions blocks (take (i + 1) uses) ≡ uses_in positions blocks (take i uses) ++ placed positions (get_or uses i d) ∷ []
+uses_in_yes positions blocks uses i d l inside =
+    uses_in_more positions blocks uses i d l
+    ∙ ap (λ b. uses_in positions blocks (take i uses) ++ cond b (placed positions (get_or uses i d) ∷ []) [])
+    (lt-ltb (get_or positions (get_or uses i d).block 0) blocks inside)
+
+pub uses_in_no : (positions : List ℕ) (blocks : ℕ) (uses : List Use) (i : ℕ) (d : Use) → i < length uses
+    → blocks ≤ get_or positions (get_or uses i d).block 0
+    → uses_in positions blocks (take (i + 1) uses) ≡ uses_in positions blocks (take i uses)
+uses_in_no positions blocks uses i d l outside =
+    uses_in_more positions blocks uses i d l
+    ∙ ap (λ b. uses_in positions blocks (take i uses) ++ cond b (placed positions (get_or uses i d) ∷ []) [])
+    (le-ltb (get_or positions (get_or uses i d).block 0) blocks outside)
+    ∙ append-nil (uses_in positions blocks (take i uses))

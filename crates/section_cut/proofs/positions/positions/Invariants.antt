@@ -1,0 +1,7 @@
+use Rattle.std.proofs.Common.{◌-◌, length}
+use Rattle.section_cut.proofs.Placing.{IsFilled}
+use Rattle.section_cut.proofs.positions.positions.Given as goal
+
+-- the table as far as it is filled, from the end of the section's list on
+abbrev pub invariant-loop-later : goal.invariant-loop-later
+invariant-loop-later l = IsFilled l.tables l.section (length l.section.blocks - l.later) l.table.items

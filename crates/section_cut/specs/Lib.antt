@@ -1,0 +1,4 @@
+pub mod Timetable
+pub mod Positions
+pub mod Members
+pub mod Bound

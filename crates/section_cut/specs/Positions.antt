@@ -1,0 +1,34 @@
+-- Where the blocks of the tables stand in a section's list, by their numbers.
+use Rattle.std.specs.Prelude.{◌≡◌, ℕ, ◌<◌, nat_lt, if◌then◌else◌, List, length, map, filter, slice_index, slice_index_or}
+use Rattle.rail_model.specs.declared.items.Section.{Section}
+use Rattle.rail_model.specs.declared.tables.Tables.{Tables}
+use Rattle.rail_model.specs.declared.stair.Use.{Use}
+use Rattle.rail_model.specs.Name.{is_same}
+use Rattle.rail_model.specs.Tables.{no_block}
+use Rattle.plan_model.specs.SectionCut.{position_in_section}
+
+-- the name of the block with a number
+abbrev pub block_name : Tables → ℕ → List ℕ
+block_name tables block = (slice_index_or tables.blocks block no_block).name
+
+-- the table of positions has for each block of the tables its position in the section's list, or the list's length
+-- where it isn't there
+pub record IsPositions (tables : Tables) (section : Section) (positions : List ℕ) : Type 0 where
+  pub count : length positions ≡ length tables.blocks
+  pub each : (block : ℕ) → block < length tables.blocks
+      → slice_index positions block ≡ position_in_section tables section block
+
+-- the second table is the first with this position for the block of a name, if there is one
+pub record IsPlaced (tables : Tables) (name : List ℕ) (position : ℕ) (before after : List ℕ) : Type 0 where
+  pub count : length after ≡ length before
+  pub each : (block : ℕ) → block < length tables.blocks
+      → slice_index after block
+      ≡ (if is_same name (block_name tables block) then position else slice_index before block)
+
+-- a use with its block by a table of positions
+abbrev pub placed : List ℕ → Use → Use
+placed positions u = record u { block = slice_index positions u.block }
+
+-- of some uses those in a section of this many blocks
+abbrev pub uses_in : List ℕ → ℕ → List Use → List Use
+uses_in positions blocks uses = filter (λ u. nat_lt u.block blocks) (map (placed positions) uses)

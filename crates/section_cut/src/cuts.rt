@@ -1,0 +1,68 @@
+//! The cut of a section.
+ghost use Rattle.std.specs.Prelude.{◌≡◌, ◌<◌, length, IfOk, IfSome, option_map};
+ghost use Rattle.plan_model.specs.Cut.{stamped, IsSoundCut};
+ghost use Rattle.plan_model.specs.SectionCut as cuts;
+ghost use Rattle.section_cut.specs.Timetable.{timetable, section_at};
+
+use crate::connections::connections;
+use crate::members::{Entered, members};
+use crate::positions::positions;
+use crate::timetable::stairways;
+use line_tables::LineTables;
+use plan_model::Cut;
+use rail_model::{List, Name, OutOfMemory, Stair};
+use std::alloc::Global;
+
+/// The cut of the section of a name, each row with this stamp, and `None` exactly where the section
+/// isn't there. A run is a member where it uses a block of the section and its entry, the least start
+/// of its blockings there, lies in the section's window: from the window's start, and before its end.
+pub fn cut_of(
+    alloc: Global,
+    tables: &LineTables,
+    section: &Name,
+    stamp: u64,
+) -> Result<Option<Cut>, OutOfMemory>
+    ensures same { IfOk result
+        (λ cut. cut ≡ option_map (stamped stamp) (cuts.cut_of tables.now section.now)) }
+    ensures sound { IfOk result (λ cut. IfSome cut IsSoundCut) }
+{
+    let Some(number) = tables.section_number(section) else {
+        return Ok(None);
+    };
+    let stairs = stairways(alloc, tables)?;
+    Ok(Some(cut_among(alloc, tables, &stairs, number, stamp)?))
+}
+
+/// The same cut of the section of a number, by the stairways of all runs, which `stairways` makes once
+/// for many sections.
+pub fn cut_among(
+    alloc: Global,
+    tables: &LineTables,
+    stairs: &List<Stair>,
+    section: u32,
+    stamp: u64,
+) -> Result<Cut, OutOfMemory>
+    requires stairs { stairs.now ≡ timetable tables.now }
+    requires there { section < length tables.now.sections }
+    ensures same { IfOk result (λ cut. cut
+        ≡ stamped stamp (cuts.section_cut tables.now (section_at tables.now section))) }
+    ensures sound { IfOk result IsSoundCut }
+{
+    let _count = tables.sections();
+    let section = tables.section(section);
+    let table = positions(alloc, tables, section)?;
+    let Entered { mut rows, of_run } = members(
+        alloc,
+        tables,
+        section,
+        &table,
+        stairs.slice(),
+        stamp,
+    )?;
+    let connections = connections(alloc, tables, section, &of_run, &mut rows)?;
+    Ok(Cut {
+        section: section.copy(alloc)?,
+        connections,
+        rows,
+    })
+}

@@ -1,0 +1,127 @@
+//! The members of a section: the runs that enter it within its window.
+ghost use Rattle.std.specs.Prelude.{◌≡◌, ◌≤◌, ◌++◌, ◌∷◌, [], length, map, IfOk, OnOk, option_map};
+ghost use Rattle.std.specs.Option.{option_to_list};
+ghost use Rattle.plan_model.specs.Cut.{least};
+ghost use Rattle.section_cut.specs.Timetable.{timetable};
+ghost use Rattle.section_cut.specs.Positions.{IsPositions};
+ghost use Rattle.section_cut.specs.Members as rows;
+
+use crate::positions::gather;
+use line_tables::LineTables;
+use plan_model::CutRow;
+use rail_model::{List, Name, OutOfMemory, PATH_HOPS, Section, Stair, Use};
+use std::alloc::Global;
+
+// A member's row by its place among the rows, and its entry.
+#[derive(Clone, Copy)]
+pub(crate) struct Member {
+    pub(crate) row: usize,
+    pub(crate) entry: i64,
+}
+
+// The members' rows, and for each run which of them is its, if it is a member.
+#[derive(Drop)]
+pub(crate) struct Entered {
+    pub(crate) rows: List<CutRow>,
+    pub(crate) of_run: Vec<Option<Member>>,
+}
+
+// The rows of the members by the stairways of all runs, without their uses of connections.
+pub(crate) fn members(
+    alloc: Global,
+    tables: &LineTables,
+    section: &Section,
+    positions: &[u32],
+    stairs: &[Stair],
+    stamp: u64,
+) -> Result<Entered, OutOfMemory>
+    requires stairs { stairs.now ≡ timetable tables.now }
+    requires positions { IsPositions tables.now section.now positions.now }
+    requires blocks { length section.now.blocks ≤ PATH_HOPS }
+    ensures rows { IfOk result
+        (λ all. all.rows ≡ rows.rows_on_blocks tables.now section.now stamp) }
+    ensures of_run { IfOk result
+        (λ all. all.of_run.items ≡ rows.members_by_run tables.now section.now) }
+{
+    let _count = tables.runs();
+    let blocks = section.blocks.len() as u32;
+    let mut all = Entered {
+        rows: List::new(alloc),
+        of_run: Vec::with_capacity(alloc, stairs.len())?,
+    };
+    let mut uses = Vec::new(alloc);
+    for stair in stairs {
+        gather(&mut uses, positions, blocks, stair.uses.slice())?;
+        let row = member_row(alloc, section, stair.run, stamp, &uses)?;
+        add_run(&mut all, row)?;
+    }
+    Ok(all)
+}
+
+// The row of a run with these uses of the section's blocks, if it is a member.
+fn member_row(
+    alloc: Global,
+    section: &Section,
+    name: Name,
+    stamp: u64,
+    uses: &[Use],
+) -> Result<Option<CutRow>, OutOfMemory>
+    ensures { IfOk result (λ row. row ≡ rows.member_row section.now name stamp uses.now) }
+{
+    let entry = least_start(uses);
+    if !enters(section, uses, entry) {
+        return Ok(None);
+    }
+    let uses = List::from_vec(Vec::from_slice(alloc, uses)?);
+    Ok(Some(CutRow {
+        name,
+        stamp,
+        entry,
+        uses,
+    }))
+}
+
+// Whether a run with these uses and this entry is a member.
+fn enters(section: &Section, uses: &[Use], entry: i64) -> bool
+    requires { entry ≡ least (map (λ u. u.start) uses.now) }
+    ensures { result ≡ rows.enters section.now uses.now }
+{
+    let from = i64::from(section.from_s);
+    let to = i64::from(section.to_s);
+    !uses.is_empty() && from <= entry && entry < to
+}
+
+// The least start of some uses, and 0 of none.
+fn least_start(uses: &[Use]) -> i64
+    ensures { result ≡ least (map (λ u. u.start) uses.now) }
+{
+    if uses.is_empty() {
+        return 0;
+    }
+    let mut entry = uses[0].start;
+    for one in &uses[1..] {
+        entry = entry.min(one.start);
+    }
+    entry
+}
+
+// Adds the next run: its row, if it is a member.
+fn add_run(all: &mut Entered, row: Option<CutRow>) -> Result<(), OutOfMemory>
+    ensures rows { OnOk result (all.new.rows ≡ all.old.rows ++ option_to_list row) }
+    ensures of_run { OnOk result (all.new.of_run.items
+        ≡ all.old.of_run.items ++ option_map (rows.member_of (length all.old.rows)) row ∷ []) }
+{
+    match row {
+        Some(row) => {
+            all.of_run.push(Some(Member {
+                row: all.rows.len(),
+                entry: row.entry,
+            }))?;
+            all.rows.push(row)
+        }
+        None => {
+            all.of_run.push(None)?;
+            Ok(())
+        }
+    }
+}
