@@ -1,0 +1,36 @@
+use Rattle.std.proofs.Common.{◌≡◌, length, sym, ap, subst, arith}
+use Rattle.train_order.specs.Ordering.{IsOrder}
+use Rattle.train_order.specs.Sets.{ArePreceded}
+use Rattle.train_order.specs.Taking.{AreTakenUp}
+use Rattle.train_order.proofs.Opposed.{none_opposite}
+use Rattle.train_order.proofs.Rounds.{none_remain, is_order, not_both}
+use Rattle.train_order.proofs.Whole.{whole_length}
+use Rattle.train_order.proofs.ordering.order.Goals as goal
+
+pub returns-then-len : goal.returns-then-len
+returns-then-len c =
+    let cut = c.args.cut.now in
+    let sets = c.in_ok-sets.sets.items in
+    let taken = c.in_ok-taken.taken.items in
+    let told : ArePreceded cut sets = c.in_ok-sets.ensures in
+    let up : AreTakenUp sets taken = subst (λ ss. AreTakenUp ss taken) c.deref.ensures.value c.in_ok-taken.ensures in
+    let whole : length taken ≡ length sets = omega (arith, c.len.ensures, c.len-2.ensures, c.if-len.true) in (
+      none_opposite cut (not_both cut sets told taken up whole),
+      none_remain cut sets told taken up whole,
+      subst (λ ps. IsOrder cut ps) (sym c.from_vec-positions.ensures) (is_order cut sets told taken up whole),
+    )
+
+pub disorder-requires-clause-some : goal.disorder-requires-clause-some
+disorder-requires-clause-some c =
+    let sets = c.in_ok-sets.sets.items in
+    let taken = c.in_ok-taken.taken.items in
+    let up : AreTakenUp sets taken = subst (λ ss. AreTakenUp ss taken) c.deref.ensures.value c.in_ok-taken.ensures in
+    omega (
+      arith,
+      whole_length (length sets) taken up.sound.within up.sound.once,
+      c.len.ensures,
+      c.len-2.ensures,
+      c.if-len.false,
+      ap length c.deref-3.ensures.value,
+      ap length c.deref-2.ensures.value,
+    )

@@ -1,0 +1,7 @@
+pub mod Ordering
+pub mod Sets
+pub mod Visits
+pub mod Taking
+pub mod Opposite
+pub mod Starts
+pub mod Walk
