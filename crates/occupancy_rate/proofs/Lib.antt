@@ -1,0 +1,4 @@
+pub mod Divided
+pub mod Spans
+pub mod Chosen
+pub mod Longest

@@ -1,0 +1,10 @@
+//! How much of its window a section's timetable occupies: the occupancy time, and the two rates of
+//! UIC Code 406 as reduced fractions. Nothing here takes memory.
+#![tactic(auto)]
+
+mod fraction;
+mod kept;
+mod occupied;
+
+pub use fraction::{Fraction, consumption};
+pub use occupied::occupancy;
