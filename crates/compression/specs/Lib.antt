@@ -1,0 +1,6 @@
+pub mod Last
+pub mod Touch
+pub mod Placing
+pub mod Laid
+pub mod Told
+pub mod Promise

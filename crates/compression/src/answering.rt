@@ -1,0 +1,83 @@
+//! The answer of a cut.
+ghost use Rattle.std.specs.Prelude.{◌≡◌, ◌≤◌, nat_lt, IfOk};
+ghost use Rattle.plan_model.specs.declared.limits.TheConstants.{MEMBERS};
+ghost use Rattle.plan_model.specs.Cut.{IsSoundCut};
+ghost use Rattle.plan_model.specs.Members.{member_count};
+ghost use Rattle.plan_model.specs.Answer.{IsAnswer};
+ghost use Rattle.compression.specs.Told.{told};
+ghost use Rattle.compression.specs.Promise.{IsTaken, OnPlan, HasNoneLater, ReachesToClosing, HasBoundedTimes};
+
+use crate::plan::plan;
+use plan_model::{Answer, Cut, MEMBERS, Rows};
+use rail_model::OutOfMemory;
+use std::alloc::Global;
+use train_order::{Disorder, order};
+
+/// The answer of a reading's cut, from scratch.
+///
+/// It is `Crowded` exactly where the cut has more than `MEMBERS` members; else `Opposite` exactly
+/// where two trains each precede the other somewhere; else `Ring` exactly where trains remain when
+/// each that no other precedes is taken out, again and again; else it is the compressed timetable,
+/// in which no train enters later than in any timetable that keeps running times, dwell times,
+/// connections and the given order and in which no train enters before the window. It takes nothing
+/// of a crowded cut and else the whole cut, once, also where memory runs out.
+pub fn answer<R: Rows>(alloc: Global, reading: &mut R) -> Result<Answer, OutOfMemory>
+    ensures answer { IfOk result (λ answer. IsAnswer (R.shown reading.old).cut answer) }
+    ensures reading { IsTaken (R.shown reading.old) (R.shown reading.new) }
+    ensures not_later { IfOk result (λ answer.
+        OnPlan answer (HasNoneLater (R.shown reading.old).cut)) }
+    ensures to_closing { IfOk result (λ answer.
+        OnPlan answer (ReachesToClosing (R.shown reading.old).cut)) }
+    ensures within { IfOk result (λ answer.
+        OnPlan answer (HasBoundedTimes (R.shown reading.old).cut)) }
+{
+    let count = reading.count();
+    if is_crowded(count) {
+        return Ok(Answer::Crowded { count });
+    }
+    answer_of(alloc, reading.whole())
+}
+
+// Whether so many members are more than are compressed.
+fn is_crowded(count: u32) -> bool
+    ensures { result ≡ nat_lt MEMBERS count }
+{
+    count as usize > MEMBERS
+}
+
+// The answer of a cut that isn't crowded.
+fn answer_of(alloc: Global, cut: &Cut) -> Result<Answer, OutOfMemory>
+    requires sound { IsSoundCut cut.now }
+    requires few { member_count cut.now ≤ MEMBERS }
+    ensures answer { IfOk result (λ answer. IsAnswer cut.now answer) }
+    ensures not_later { IfOk result (λ answer. OnPlan answer (HasNoneLater cut.now)) }
+    ensures to_closing { IfOk result (λ answer. OnPlan answer (ReachesToClosing cut.now)) }
+    ensures within { IfOk result (λ answer. OnPlan answer (HasBoundedTimes cut.now)) }
+{
+    match order(alloc, cut)? {
+        Ok(found) => {
+            let plan = plan(alloc, cut, found.positions.slice())?;
+            Ok(Answer::Ordered(plan))
+        }
+        Err(disorder) => Ok(told(disorder)),
+    }
+}
+
+fn told(disorder: Disorder) -> Answer
+    ensures { result ≡ told disorder }
+{
+    match disorder {
+        Disorder::Opposite {
+            first,
+            second,
+            block1,
+            block2,
+        } => Answer::Opposite {
+            first,
+            second,
+            block1,
+            block2,
+        },
+        Disorder::Ring(links) => Answer::Ring(links),
+    }
+}

@@ -1,0 +1,18 @@
+//! The compressed timetable of a section from scratch: the compression of UIC Code 406, with
+//! running times, dwell times and order kept, in which no train enters later than in any other
+//! timetable.
+//!
+//! ```text
+//! let mut reading = Reading::new(cut, at);
+//! match answer(alloc, &mut reading)? { .. }
+//! ```
+#![tactic(auto)]
+
+mod answering;
+mod last;
+mod names;
+mod placing;
+mod plan;
+mod tie;
+
+pub use answering::answer;
