@@ -1,0 +1,4 @@
+pub mod Found
+pub mod Walked
+pub mod Laid
+pub mod Tables

@@ -1,0 +1,77 @@
+-- The headway, use after use of the train that follows.
+use Rattle.std.specs.Prelude.{ℕ, ◌<◌, ◌==◌, Bool, ℤ, pos, ◌-ℤ◌, ◌≤ℤ◌, List, length, map, fold, find, Option, None, Some, option_map, slice_index_or, if◌then◌else◌, IfSome}
+use Rattle.std.specs.Int.{int_max}
+use Rattle.std.specs.List.{All, range_with_len}
+use Rattle.rail_model.specs.declared.stair.Use.{Use}
+use Rattle.plan_model.specs.declared.cut.CutRow.{CutRow}
+use Rattle.plan_model.specs.Members.{no_member}
+use Rattle.plan_model.specs.Cut.{IsMoment}
+
+-- a row whose moments are within the limit
+pub record IsNear (row : CutRow) : Type 0 where
+  pub entry : IsMoment row.entry
+  pub starts : All (λ u. IsMoment u.start) row.uses
+  pub ends : All (λ u. IsMoment u.«end») row.uses
+
+-- how long a moment lies after another: at most 100,000,000 seconds
+pub record IsLength (t : ℤ) : Type 0 where
+  pub after : (pos 0 -ℤ pos 100000000) ≤ℤ t
+  pub before : t ≤ℤ pos 100000000
+
+-- how long after its entry a train ends its use of a place, if it uses it
+abbrev pub end_in : CutRow → ℕ → Option ℤ
+end_in row place = option_map (λ u. u.«end» -ℤ row.entry) (find (λ u. u.block == place) row.uses)
+
+-- the greater of the greatest so far, if there is one, and of one more
+abbrev pub greater : Option ℤ → ℤ → ℤ
+greater None one = one
+greater (Some greatest) one = int_max greatest one
+
+-- the greatest so far with a place that the other train starts so long after its entry
+abbrev pub with_start : Option ℤ → Option ℤ → ℤ → Option ℤ
+with_start greatest None start = greatest
+with_start greatest (Some «end») start = Some (greater greatest («end» -ℤ start))
+
+-- the greatest so far with a use of a train that enters at a moment, by the end of the first train there
+abbrev pub by_end : Option ℤ → ℤ → Option ℤ → Use → Option ℤ
+by_end «end» entry greatest u = with_start greatest «end» (u.start -ℤ entry)
+
+-- the same by the ends of all places
+abbrev pub with_use : (ℕ → Option ℤ) → ℤ → Option ℤ → Use → Option ℤ
+with_use ends entry greatest u = by_end (ends u.block) entry greatest u
+
+-- the greatest of all its uses
+abbrev pub walked : (ℕ → Option ℤ) → CutRow → Option ℤ
+walked ends row = fold (with_use ends row.entry) None row.uses
+
+-- a row whose places are there
+abbrev pub HasPlaces : ℕ → CutRow → Type 0
+HasPlaces places row = All (λ u. u.block < places) row.uses
+
+-- the ends by place, where there are such
+abbrev pub by_place : List (Option ℤ) → ℕ → Option ℤ
+by_place ends place = slice_index_or ends place None
+
+-- the end of a place with a use of a train that enters at a moment
+abbrev pub with_end : ℤ → ℕ → Option ℤ → Use → Option ℤ
+with_end entry place «end» u = if u.block == place then Some (u.«end» -ℤ entry) else «end»
+
+-- all ends are such lengths
+abbrev pub AreLengths : List (Option ℤ) → Type 0
+AreLengths ends = All (λ e. IfSome e IsLength) ends
+
+-- the ends of a row's uses
+abbrev pub laid : CutRow → ℕ → Option ℤ
+laid row place = fold (with_end row.entry place) None row.uses
+
+-- the headway by these ends to a train, and none to the train itself
+abbrev pub other_walked : List (Option ℤ) → Bool → CutRow → Option ℤ
+other_walked ends own row = if own then None else walked (by_place ends) row
+
+-- the same to the first n rows, and to all
+abbrev pub walked_to : List (Option ℤ) → ℕ → List CutRow → ℕ → List (Option ℤ)
+walked_to ends i rows n =
+    map (λ j. other_walked ends (i == j) (slice_index_or rows j no_member)) (range_with_len 0 n)
+
+abbrev pub all_walked : List (Option ℤ) → ℕ → List CutRow → List (Option ℤ)
+all_walked ends i rows = walked_to ends i rows (length rows)

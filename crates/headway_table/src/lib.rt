@@ -1,0 +1,9 @@
+//! Headways: how long after one train of a section another may enter, of a pair and of all pairs.
+#![tactic(auto)]
+
+mod pair;
+mod row;
+mod table;
+
+pub use pair::headway;
+pub use table::{Headways, matrix};

@@ -1,0 +1,103 @@
+//! The headway from one train to another.
+ghost use Rattle.std.specs.Prelude.{◌≡◌, ◌-ℤ◌, ◌==◌, find, IfSome};
+ghost use Rattle.std.specs.List.{All};
+ghost use Rattle.plan_model.specs.Cut.{IsMoment};
+ghost use Rattle.plan_model.specs.Headway as given;
+ghost use Rattle.headway_table.specs.Rows.{AreRows};
+ghost use Rattle.headway_table.specs.Walk as walks;
+
+use plan_model::CutRow;
+use rail_model::Use;
+
+/// How long after train `a` train `b` must enter the section, at the least, in seconds: the
+/// greatest over the places that both use, which may be negative. None where they share no place.
+/// It takes no memory.
+pub fn headway(a: &CutRow, b: &CutRow) -> Option<i64>
+    requires rows { AreRows a.now b.now }
+    ensures { result ≡ given.headway a.now b.now }
+{
+    let mut greatest = None;
+    for one in b.uses.slice() {
+        greatest = with_use(greatest, a, one, b.entry);
+    }
+    greatest
+}
+
+// The greatest so far with a use of a train that enters at a moment.
+fn with_use(greatest: Option<i64>, first: &CutRow, one: &Use, entry: i64) -> Option<i64>
+    requires first { walks.IsNear first.now }
+    requires start { IsMoment one.now.start }
+    requires entry { IsMoment entry }
+    ensures { result ≡ walks.with_use (walks.end_in first.now) entry greatest one.now }
+{
+    with_start(
+        greatest,
+        end_in(first, one.block),
+        after_entry(one.start, entry),
+    )
+}
+
+// How long after its entry a train ends its use of a place, if it uses it.
+pub(crate) fn end_in(row: &CutRow, place: u32) -> Option<i64>
+    requires near { walks.IsNear row.now }
+    ensures end { result ≡ walks.end_in row.now place }
+    ensures near { IfSome result walks.IsLength }
+{
+    match use_at(row.uses.slice(), place) {
+        Some(one) => Some(after_entry(one.end, row.entry)),
+        None => None,
+    }
+}
+
+// The use of a place, if there is one.
+fn use_at(uses: &[Use], place: u32) -> Option<Use>
+    ensures { result ≡ find (λ u. u.block == place) uses.now }
+{
+    uses.iter().copied().find(
+        |one: &Use| -> bool
+            ensures { result ≡ one.now.block == place }
+        { one.block == place },
+    )
+}
+
+// How long after an entry a moment is: negative where it comes before.
+pub(crate) fn after_entry(time: i64, entry: i64) -> i64
+    requires time { IsMoment time }
+    requires entry { IsMoment entry }
+    ensures is { result ≡ time -ℤ entry }
+    ensures near { walks.IsLength result }
+{
+    time - entry
+}
+
+// The greatest so far with a place that the first train ends, and the other starts, so long after
+// its entry.
+pub(crate) fn with_start(greatest: Option<i64>, end: Option<i64>, start: i64) -> Option<i64>
+    requires end { IfSome «end» walks.IsLength }
+    requires start { walks.IsLength start }
+    ensures { result ≡ walks.with_start greatest «end» start }
+{
+    match end {
+        Some(end) => Some(greater(greatest, between(end, start))),
+        None => greatest,
+    }
+}
+
+// How long the one is more than the other.
+fn between(end: i64, start: i64) -> i64
+    requires end { walks.IsLength «end» }
+    requires start { walks.IsLength start }
+    ensures { result ≡ «end» -ℤ start }
+{
+    end - start
+}
+
+// The greater of the greatest so far, if there is one, and of one more.
+fn greater(greatest: Option<i64>, one: i64) -> i64
+    ensures { result ≡ walks.greater greatest one }
+{
+    match greatest {
+        Some(greatest) => greatest.max(one),
+        None => one,
+    }
+}
