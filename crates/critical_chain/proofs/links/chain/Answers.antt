@@ -1,0 +1,58 @@
+use Rattle.std.proofs.Common.{List, sym, ap, subst, arith, length, length-append, ◌∷◌, []}
+use Rattle.plan_model.specs.declared.answer.Link.{Link}
+use Rattle.critical_chain.specs.Chain.{Leads}
+use Rattle.critical_chain.proofs.Walk.{HasWalked, at_first, tie_read, train_there, place_there, more_left, one_more}
+use Rattle.critical_chain.proofs.links.chain.Goals as goal
+
+pub loop-next-init : goal.loop-next-init
+loop-next-init c =
+    let plan = c.args.plan.now in
+    let train = c.args.train in
+    subst (λ (ls : List Link). HasWalked plan train ls train) (sym c.new-links.ensures.items)
+    (at_first plan train c.requires.there)
+
+pub link-requires-clause-train : goal.link-requires-clause-train
+link-requires-clause-train c =
+    let plan = c.args.plan.now in
+    let walked = c.loop-next.invariant in
+    let tie = tie_read plan c.slice.result.now c.loop-next.next _ _ c.slice.ensures walked.there c.in-After.is in
+    train_there plan c.requires.plan c.args.train c.loop-next.links.items c.loop-next.next walked _ _ tie
+
+pub link-requires-clause-block : goal.link-requires-clause-block
+link-requires-clause-block c =
+    let plan = c.args.plan.now in
+    let walked = c.loop-next.invariant in
+    let tie = tie_read plan c.slice.result.now c.loop-next.next _ _ c.slice.ensures walked.there c.in-After.is in
+    place_there plan c.requires.plan c.args.train c.loop-next.links.items c.loop-next.next walked _ _ tie
+
+pub loop-next-smaller : goal.loop-next-smaller
+loop-next-smaller c =
+    let plan = c.args.plan.now in
+    let links = c.loop-next.links.items in
+    let walked = c.loop-next.invariant in
+    let tie = tie_read plan c.slice.result.now c.loop-next.next _ _ c.slice.ensures walked.there c.in-After.is in
+    omega (
+      arith,
+      more_left plan c.requires.plan c.args.train links c.loop-next.next walked _ _ tie,
+      ap length c.in_ok-push.ensures.items,
+      length-append links (c.link.result ∷ []),
+    )
+
+pub loop-next-preserved : goal.loop-next-preserved
+loop-next-preserved c =
+    let plan = c.args.plan.now in
+    let walked = c.loop-next.invariant in
+    let tie = tie_read plan c.slice.result.now c.loop-next.next _ _ c.slice.ensures walked.there c.in-After.is in
+    one_more plan c.requires.plan c.args.train c.loop-next.links.items c.loop-next.next walked _ _ tie
+    c.push.new.self.items c.link.result c.in_ok-push.ensures.items c.link.ensures
+
+pub returns : goal.returns
+returns c =
+    let plan = c.args.plan.now in
+    let walked = c.loop-next.invariant in
+    let start = tie_read plan c.slice.result.now c.loop-next.next _ _ c.slice.ensures walked.there c.in_default.is in (
+      c.loop-next.next,
+      walked.there,
+      start,
+      subst (λ (ls : List Link). Leads plan c.loop-next.next ls c.args.train) (sym c.turned.ensures) walked.leads,
+    )

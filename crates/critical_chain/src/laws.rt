@@ -1,0 +1,27 @@
+//! Laws of the definitions: each function does nothing, and its contract is the law.
+ghost use Rattle.critical_chain.specs.Chain.{ChainIsUnique};
+ghost use Rattle.critical_chain.specs.Checked.{CheckedIsCompressed, OrderedIsNotOpposite, RankedIsOrdered};
+
+/// A train of a plan has at most one chain.
+pub fn chain_is_unique()
+    ensures { ChainIsUnique }
+{}
+
+/// Where no member remains, a plan is the compressed timetable of a sound cut exactly where it is
+/// what its entries make of the cut, they are a schedule, and each train whose tie is `Start`
+/// enters at the window's start. So a plan is judged with no search for a better one.
+pub fn checked_is_compressed()
+    ensures { CheckedIsCompressed }
+{}
+
+/// Where no member remains, no two members are opposite. So an order alone tells that there is no
+/// disorder.
+pub fn ordered_is_not_opposite()
+    ensures { OrderedIsNotOpposite }
+{}
+
+/// Where members have ranks by which each comes after those that precede it somewhere, none
+/// remains. So ranks show that there is an order, and none is looked for.
+pub fn ranked_is_ordered()
+    ensures { RankedIsOrdered }
+{}

@@ -1,0 +1,55 @@
+//! The chain of a train: its tie, the tie of the train that it touches, and so on back to a train
+//! that enters at the window's start.
+ghost use Rattle.std.specs.Prelude.{◌≡◌, ◌<◌, ◌^◌, length, reverse, IfOk};
+ghost use Rattle.critical_chain.specs.Chain.{IsPlan, IsChain, link_at};
+
+use plan_model::{Link, Plan, Tie};
+use rail_model::{List, OutOfMemory};
+use std::alloc::Global;
+
+/// The links that lead from a train that enters at the window's start to the one at this position
+/// of the plan: each is the tie of its `next`. There is none where that train itself enters at the
+/// window's start.
+///
+/// The plan is the compressed timetable of a sound cut.
+pub fn chain(alloc: Global, plan: &Plan, train: u32) -> Result<List<Link>, OutOfMemory>
+    requires plan { IsPlan plan.now }
+    requires there { train < length plan.now.placed }
+    ensures { IfOk result (λ links. IsChain plan.now train links) }
+{
+    let mut links = Vec::new(alloc);
+    let mut next = train;
+    while let Tie::After {
+        train: before,
+        block,
+    } = plan.placed.slice()[next as usize].tie
+    {
+        links.push(link(plan, before, block, next))?;
+        next = before;
+    }
+    Ok(turned(links))
+}
+
+// The links the other way round.
+fn turned(mut links: Vec<Link>) -> List<Link>
+    requires { length links.items < 2 ^ 63 }
+    ensures { result ≡ reverse links.items }
+{
+    links.reverse();
+    List::from_vec(links)
+}
+
+// The train at one position touches the one at another at a place.
+fn link(plan: &Plan, train: u32, block: u32, next: u32) -> Link
+    requires train { train < length plan.now.placed }
+    requires block { block < length plan.now.blocks }
+    requires next { next < length plan.now.placed }
+    ensures { result ≡ link_at plan.now train block next }
+{
+    let placed = plan.placed.slice();
+    Link {
+        train: placed[train as usize].train,
+        block: plan.blocks.slice()[block as usize],
+        next: placed[next as usize].train,
+    }
+}
