@@ -1,7 +1,6 @@
 //! What the tests of whole texts share: the rows of a small line, and a call of the program over bytes in
 //! memory.
 mod checks;
-mod cuts;
 mod desk;
 mod edits;
 mod faults;

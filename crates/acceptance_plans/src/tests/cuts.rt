@@ -42,9 +42,9 @@ fn one_train(alloc: Global, name: Name) -> Result<Cut, OutOfMemory>
 
 // Takes the first row, then the whole cut. Gives the number of the reading, the stamp of the first
 // row and how many uses it gave, the count of taken uses, how many rows the cut has, and the count
-// again.
-fn first_then_whole<R: Rows>(reading: &mut R) -> Option<[u64; 6]> {
-    if reading.count() == 0 {
+// again; nothing where the first row isn't that of this name.
+fn first_then_whole<R: Rows>(reading: &mut R, name: &Name) -> Option<[u64; 6]> {
+    if reading.count() == 0 || reading.name(0) != *name {
         return None;
     }
     let stamp = reading.stamp(0);
@@ -58,7 +58,10 @@ fn first_then_whole<R: Rows>(reading: &mut R) -> Option<[u64; 6]> {
 fn a_reading_counts_what_is_taken(rt: HostRuntime) -> Result<(), Fail> {
     let name = Name::read(b"A")?;
     let mut reading = Reading::new(one_train(rt.alloc(), name)?, 9);
-    assert_eq!(rt; first_then_whole(&mut reading), Some([9, 7, 1, 1, 1, 2]));
+    assert_eq!(rt;
+        first_then_whole(&mut reading, &name),
+        Some([9, 7, 1, 1, 1, 2])
+    );
     assert_eq!(rt;
         (reading.section().to_s, reading.connections().len()),
         (3600, 0)
@@ -71,13 +74,21 @@ fn size_of(cut: &Cut) -> (usize, usize) {
     (cut.section.blocks.len(), cut.rows.len())
 }
 
-// What an answer speaks of: its kind, and how many trains or links it has.
-fn told(answer: &Answer) -> (u8, u64) {
+// What an answer speaks of, with the number of its trains or links.
+#[derive(Clone, Copy, Debug, PartialEq, Eq)]
+enum Kind {
+    Ordered(usize),
+    Opposite,
+    Ring(usize),
+    Crowded(u32),
+}
+
+fn told(answer: &Answer) -> Kind {
     match answer {
-        Answer::Ordered(plan) => (0, plan.placed.len() as u64),
-        Answer::Opposite { .. } => (1, 2),
-        Answer::Ring(links) => (2, links.len() as u64),
-        Answer::Crowded { count } => (3, u64::from(*count)),
+        Answer::Ordered(plan) => Kind::Ordered(plan.placed.len()),
+        Answer::Opposite { .. } => Kind::Opposite,
+        Answer::Ring(links) => Kind::Ring(links.len()),
+        Answer::Crowded { count } => Kind::Crowded(*count),
     }
 }
 
@@ -121,7 +132,7 @@ fn copies_are_made(rt: HostRuntime) -> Result<(), Fail> {
     let name = Name::read(b"A")?;
     let mut reading = Reading::new(one_train(alloc, name)?, 9);
     assert_eq!(rt; size_of(&reading.whole().copy(alloc)?), (1, 1));
-    assert_eq!(rt; told(&ordered(alloc, name)?.copy(alloc)?), (0, 1));
-    assert_eq!(rt; told(&ring(alloc, name)?.copy(alloc)?), (2, 1));
+    assert_eq!(rt; told(&ordered(alloc, name)?.copy(alloc)?), Kind::Ordered(1));
+    assert_eq!(rt; told(&ring(alloc, name)?.copy(alloc)?), Kind::Ring(1));
     Ok(())
 }
