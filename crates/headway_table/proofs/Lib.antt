@@ -1,4 +1,8 @@
 pub mod Found
 pub mod Walked
-pub mod Laid
+pub mod Changed
+pub mod StartOf
+pub mod Filled
+pub mod Raised
+pub mod Told
 pub mod Tables

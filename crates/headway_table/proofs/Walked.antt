@@ -51,14 +51,14 @@ shared a b p h =
 
 -- ---- the walk
 
-abbrev step : Option ℤ → ℤ → Option ℤ
+abbrev pub step : Option ℤ → ℤ → Option ℤ
 step greatest one = Some (greater greatest one)
 
 from_first : (one : ℤ) (xs : List ℤ) → fold step (Some one) xs ≡ Some (fold int_max one xs)
 from_first one [] = refl
 from_first one (x ∷ xs) = from_first (int_max one x) xs
 
-steps_is : (xs : List ℤ) → fold step None xs ≡ greatest_of xs
+pub steps_is : (xs : List ℤ) → fold step None xs ≡ greatest_of xs
 steps_is [] = refl
 steps_is (x ∷ xs) = from_first x xs
 

@@ -1,10 +1,9 @@
 -- The headway, use after use of the train that follows.
-use Rattle.std.specs.Prelude.{ℕ, ◌<◌, ◌==◌, Bool, ℤ, pos, ◌-ℤ◌, ◌≤ℤ◌, List, length, map, fold, find, Option, None, Some, option_map, slice_index_or, if◌then◌else◌, IfSome}
+use Rattle.std.specs.Prelude.{ℕ, ◌<◌, ◌==◌, ℤ, pos, ◌-ℤ◌, ◌≤ℤ◌, fold, find, Option, None, Some, option_map}
 use Rattle.std.specs.Int.{int_max}
-use Rattle.std.specs.List.{All, range_with_len}
+use Rattle.std.specs.List.{All}
 use Rattle.rail_model.specs.declared.stair.Use.{Use}
 use Rattle.plan_model.specs.declared.cut.CutRow.{CutRow}
-use Rattle.plan_model.specs.Members.{no_member}
 use Rattle.plan_model.specs.Cut.{IsMoment}
 
 -- a row whose moments are within the limit
@@ -47,31 +46,3 @@ walked ends row = fold (with_use ends row.entry) None row.uses
 -- a row whose places are there
 abbrev pub HasPlaces : ℕ → CutRow → Type 0
 HasPlaces places row = All (λ u. u.block < places) row.uses
-
--- the ends by place, where there are such
-abbrev pub by_place : List (Option ℤ) → ℕ → Option ℤ
-by_place ends place = slice_index_or ends place None
-
--- the end of a place with a use of a train that enters at a moment
-abbrev pub with_end : ℤ → ℕ → Option ℤ → Use → Option ℤ
-with_end entry place «end» u = if u.block == place then Some (u.«end» -ℤ entry) else «end»
-
--- all ends are such lengths
-abbrev pub AreLengths : List (Option ℤ) → Type 0
-AreLengths ends = All (λ e. IfSome e IsLength) ends
-
--- the ends of a row's uses
-abbrev pub laid : CutRow → ℕ → Option ℤ
-laid row place = fold (with_end row.entry place) None row.uses
-
--- the headway by these ends to a train, and none to the train itself
-abbrev pub other_walked : List (Option ℤ) → Bool → CutRow → Option ℤ
-other_walked ends own row = if own then None else walked (by_place ends) row
-
--- the same to the first n rows, and to all
-abbrev pub walked_to : List (Option ℤ) → ℕ → List CutRow → ℕ → List (Option ℤ)
-walked_to ends i rows n =
-    map (λ j. other_walked ends (i == j) (slice_index_or rows j no_member)) (range_with_len 0 n)
-
-abbrev pub all_walked : List (Option ℤ) → ℕ → List CutRow → List (Option ℤ)
-all_walked ends i rows = walked_to ends i rows (length rows)

@@ -3,6 +3,7 @@
 
 mod pair;
 mod row;
+mod starts;
 mod table;
 
 pub use pair::headway;

@@ -3,9 +3,12 @@ ghost use Rattle.std.specs.Prelude.{◌≡◌, ◌<◌, ◌≤◌, length, IfOk}
 ghost use Rattle.plan_model.specs.declared.limits.TheConstants.{MEMBERS};
 ghost use Rattle.plan_model.specs.Cut.{IsSoundCut};
 ghost use Rattle.plan_model.specs.Members.{member_count};
+ghost use Rattle.plan_model.specs.Places.{place_count};
 ghost use Rattle.headway_table.specs.Table as tables;
+ghost use Rattle.headway_table.specs.Cells as cells;
 
 use crate::row::headways_from;
+use crate::starts::starts;
 use plan_model::Cut;
 use rail_model::{List, OutOfMemory};
 use rayon::prelude::*;
@@ -49,8 +52,9 @@ pub fn matrix(rt: &(impl Threads + Sync), alloc: Global, cut: &Cut) -> Result<He
     requires few { member_count cut.now ≤ MEMBERS }
     ensures { IfOk result (λ table. table ≡ tables.table_of cut.now) }
 {
+    let starts = starts(alloc, cut)?;
     Ok(Headways {
-        rows: rows_of(rt, alloc, cut)?,
+        rows: rows_of(rt, alloc, cut, &starts)?,
     })
 }
 
@@ -59,8 +63,10 @@ fn rows_of(
     rt: &(impl Threads + Sync),
     alloc: Global,
     cut: &Cut,
+    starts: &[List<i32>],
 ) -> Result<Vec<List<Option<i64>>>, OutOfMemory>
     requires sound { IsSoundCut cut.now }
+    requires starts { cells.AreStarts (place_count cut.now) cut.now.rows starts.now }
     ensures { IfOk result (λ rows. rows.items ≡ tables.table_of cut.now) }
 {
     (0..cut.rows.len())
@@ -68,9 +74,10 @@ fn rows_of(
         .with_min_len(1)
         .map(
             |i: usize| -> Result<List<Option<i64>>, OutOfMemory>
-                requires { IsSoundCut cut.now × (i < member_count cut.now) }
+                requires { IsSoundCut cut.now × (i < member_count cut.now)
+                    × cells.AreStarts (place_count cut.now) cut.now.rows starts.now }
                 ensures { IfOk result (λ row. row ≡ tables.row_of cut.entry.now i) }
-            { headways_from(alloc, cut, i) },
+            { headways_from(alloc, cut, starts, i) },
         )
         .collect::<Result<Vec<List<Option<i64>>>, OutOfMemory>>(rt, alloc)?
 }

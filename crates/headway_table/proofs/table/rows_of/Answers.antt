@@ -1,6 +1,8 @@
 use Rattle.std.proofs.Common.{◌≡◌, ℕ, ◌<◌, ◌≤◌, ◌-◌, ◌∙◌, map, subst, ap, arith}
 use Rattle.plan_model.specs.Cut.{IsSoundCut}
 use Rattle.plan_model.specs.Members.{member_count}
+use Rattle.plan_model.specs.Places.{place_count}
+use Rattle.headway_table.specs.Cells.{AreStarts}
 use Rattle.std.specs.Prelude.{IfOk}
 use Rattle.std.specs.List.{range_with_len}
 use Rattle.rayon.specs.Numbers.{nat_range}
@@ -13,9 +15,10 @@ pub collect-requires-clause-ready : goal.collect-requires-clause-ready
 collect-requires-clause-ready g c κs within =
     let cut = c.args.cut.now in
     let ends = c.into_par_iter.ensures in
-    let IsThere : ℕ → Type 0 = λ i. IsSoundCut cut × (i < member_count cut) in
+    let IsThere : ℕ → Type 0 =
+    λ i. IsSoundCut cut × (i < member_count cut) × AreStarts (place_count cut) cut.rows c.args.starts.now in
     let there : (a i : ℕ) → a ≤ i → i < c.len.result → IsThere i =
-    λ a i low high. (c.requires.sound, omega (arith, high, c.len.ensures.count)) in
+    λ a i low high. (c.requires.sound, omega (arith, high, c.len.ensures.count), c.requires.starts) in
     rw (c.map.ensures.base, c.map.ensures.f, c.with_min_len.ensures.base, ends.0, ends.1)
     (λ k d lt. (nat_range-All IsThere _ c.len.result (there _) k d lt, λ y p. tt))
 
