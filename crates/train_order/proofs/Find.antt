@@ -1,29 +1,30 @@
 -- What a search finds in ranges, and in lists that are gathered over them.
-use Rattle.std.proofs.Common.{◌≡◌, ℕ, zero, suc, ◌+◌, ◌<◌, Bool, true, false, List, [], ◌∷◌, length, take, drop, get_or, map, inl, inr, refl, sym, ap, subst, ◌∙◌, arith}
+use Rattle.std.proofs.Common.{◌≡◌, ℕ, zero, suc, ◌+◌, ◌<◌, ◌≤◌, Bool, true, false, List, [], ◌∷◌, length, take, drop, get_or, map, inl, inr, refl, sym, ap, subst, ◌∙◌, arith}
 use Rattle.std.specs.Prelude.{Some, None, find, option_map}
 use Rattle.std.specs.Option.{option_or}
 use Rattle.std.specs.List.{flat_map, range_with_len}
 use Rattle.std.proofs.lemmas.Bool.{cases_Bool, cases_eq}
 use Rattle.std.proofs.lemmas.List.{take_more, take-append-drop}
 use Rattle.std.proofs.lemmas.List.Folds.{find-append}
-use Rattle.train_order.proofs.Ranges.{range_more, flat_more}
+use Rattle.train_order.proofs.Ranges.{flat_more}
 
-pub found_here : (test : ℕ → Bool) (a m n x : ℕ) → a + m ≡ x → m < n → find test (range_with_len a m) ≡ None → test x ≡ true
-    → find test (range_with_len a n) ≡ Some x
-found_here test a m zero x e l h t = absurd (omega arith)
-found_here test a zero (suc n) x e l h t =
-    let is : a ≡ x = omega (arith, e) in let ta : test a ≡ true = ap test is ∙ t in rw ta (ap Some is)
-found_here test a (suc m) (suc n) x e l h t =
-    elim (cases_Bool (test a)) [
-      | inl f ↦ absurd (let g = rw f at h in cc)
-      | inr f ↦ rw f (found_here test (a + 1) m n x (omega (arith, e)) (omega arith) (rw f at h) t)
+pub none_found : (test : ℕ → Bool) (a n : ℕ) → ((k : ℕ) → a ≤ k → k < a + n → test k ≡ false)
+    → find test (range_with_len a n) ≡ None
+none_found test a zero none = refl
+none_found test a (suc n) none =
+    let here : test a ≡ false = none a (omega arith) (omega arith) in
+    rw here (none_found test (a + 1) n (λ k l m. none k (omega arith) (omega arith)))
+
+pub first_found : (test : ℕ → Bool) (a n x : ℕ) → a ≤ x → x < a + n → ((k : ℕ) → a ≤ k → k < x → test k ≡ false)
+    → test x ≡ true → find test (range_with_len a n) ≡ Some x
+first_found test a zero x l m none t = absurd (omega arith)
+first_found test a (suc n) x l m none t =
+    elim (cases_eq a x) [
+      | inl e ↦ let here : test a ≡ true = ap test e ∙ t in rw here (ap Some e)
+      | inr apart ↦
+          let here : test a ≡ false = none a (omega arith) (omega (arith, apart)) in
+          rw here (first_found test (a + 1) n x (omega (arith, apart)) (omega arith) (λ k lk mk. none k (omega arith) mk) t)
     ]
-
-pub not_yet : (test : ℕ → Bool) (a m x : ℕ) → a + m ≡ x → find test (range_with_len a m) ≡ None → test x ≡ false
-    → find test (range_with_len a (m + 1)) ≡ None
-not_yet test a m x e h f =
-    ap (find test) (range_more a m x e) ∙ find-append test (range_with_len a m) (x ∷ [])
-    ∙ ap (λ o. option_or o (find test (x ∷ []))) h ∙ rw f refl
 
 pub find_map : {X Y : Type 0} (test : Y → Bool) (f : X → Y) (xs : List X)
     → find test (map f xs) ≡ option_map f (find (λ x. test (f x)) xs)

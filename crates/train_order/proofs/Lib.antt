@@ -1,12 +1,16 @@
+pub mod First
 pub mod Ranges
 pub mod Listed
 pub mod Before
 pub mod Visitors
 pub mod Once
 pub mod Preceding
+pub mod Later
+pub mod Gathered
 pub mod Among
 pub mod Waiting
 pub mod Step
+pub mod Raised
 pub mod Lowered
 pub mod Whole
 pub mod Rounds
@@ -17,3 +21,4 @@ pub mod Walks
 pub mod Cycle
 pub mod Ringed
 pub mod Opposed
+pub mod Answered

@@ -1,6 +1,6 @@
 -- The places at which one start comes before another are those of precedence.
-use Rattle.std.proofs.Common.{◌≡◌, ◌≢◌, ℕ, ◌<◌, Bool, true, ◌&&◌, ◌||◌, ◌==◌, List, [], ◌∷◌, inl, inr, refl, sym, ap, ◌∙◌, arith}
-use Rattle.std.specs.Prelude.{ℤ, int_lt, nat_lt, Option, Some, None, find, unwrap_or, option_map, slice_index_or}
+use Rattle.std.proofs.Common.{◌≡◌, ◌≢◌, ℕ, zero, suc, ◌<◌, Bool, true, ◌&&◌, ◌||◌, ◌==◌, List, [], ◌∷◌, get_or, inl, inr, refl, sym, ap, ◌∙◌, arith}
+use Rattle.std.specs.Prelude.{ℤ, int_lt, nat_lt, Option, Some, None, find, unwrap_or, option_map, replicate, slice_index_or}
 use Rattle.std.specs.Option.{is_some}
 use Rattle.std.specs.Ordering.{int_eq, nat_cmp, is_lt}
 use Rattle.std.specs.List.{list_any}
@@ -78,3 +78,9 @@ module _ (cut : Cut) (sound : IsSoundCut cut) (i j : ℕ) (li : i < member_count
     ap (λ (o : Option ℕ). place_name cut (unwrap_or o (place_count cut)))
         (sym (ap (first_by_name cut) places_are ∙ first.is)),
   )
+
+-- where no start is put yet
+pub all_none : (m p : ℕ) → get_or (replicate {A = Option ℤ} m None) p None ≡ None
+all_none zero p = refl
+all_none (suc m) zero = refl
+all_none (suc m) (suc p) = all_none m p

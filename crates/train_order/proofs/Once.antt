@@ -46,7 +46,7 @@ two_there i (v ∷ some) zero (suc l) d lt ll p q =
 two_there i (v ∷ some) (suc k) (suc l) d lt ll p q =
     omega (arith, two_there i some k l d (omega arith) (omega (arith, ll)) p q)
 
-none_by : (m place : ℕ) (uses : List Use)
+pub none_by : (m place : ℕ) (uses : List Use)
     → ((k : ℕ) → k < length uses → (get_or uses k no_use).block ≡ place → ⊥) → visits_by m uses place ≡ []
 none_by m place [] h = refl
 none_by m place (u ∷ uses) h =

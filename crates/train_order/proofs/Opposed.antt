@@ -1,6 +1,6 @@
 -- The first opposite pair by the sets is the least opposite pair of the cut.
-use Rattle.std.proofs.Common.{◌≡◌, ℕ, zero, suc, ◌+◌, ◌-◌, ◌<◌, Bool, true, false, ◌&&◌, List, [], ◌∷◌, map, inl, inr, refl, sym, ap, subst, ◌∙◌, arith}
-use Rattle.std.specs.Prelude.{Some, None, find, option_map}
+use Rattle.std.proofs.Common.{◌≡◌, ℕ, zero, suc, ◌+◌, ◌-◌, ◌<◌, Bool, true, false, ◌&&◌, List, [], ◌∷◌, length, map, inl, inr, refl, sym, ap, subst, ◌∙◌, arith}
+use Rattle.std.specs.Prelude.{Some, None, find}
 use Rattle.std.specs.List.{flat_map, range_with_len, All}
 use Rattle.std.proofs.lemmas.Bool.{cases_Bool, and_parts, false_from_ne_true}
 use Rattle.std.proofs.lemmas.List.Elements.{All-nil, All-head, All-tail, All-append, All-map, All-from_get_or}
@@ -8,10 +8,11 @@ use Rattle.std.proofs.lemmas.List.FromFn.{length-range_with_len, get_or-range_wi
 use Rattle.plan_model.specs.declared.cut.Cut.{Cut}
 use Rattle.plan_model.specs.Members.{member_count}
 use Rattle.plan_model.specs.Precedence.{precedes_somewhere}
-use Rattle.plan_model.specs.Disorder.{are_opposite, pairs, opposite_pair, opposite, opposite_of}
+use Rattle.plan_model.specs.Disorder.{are_opposite, pairs, opposite_pair}
 use Rattle.train_order.specs.declared.member_set.MemberSet.{MemberSet}
 use Rattle.train_order.specs.Sets.{relates, ArePreceded}
 use Rattle.train_order.specs.Opposite.{oppose, first_opposed}
+use Rattle.train_order.specs.Ordering.{AreOpposed}
 use Rattle.train_order.proofs.Ranges.{flat_more}
 
 find_agree : {X : Type 0} (p q : X → Bool) (xs : List X) → All (λ x. p x ≡ q x) xs → find p xs ≡ find q xs
@@ -47,19 +48,25 @@ all_flat P f (suc n) h =
     subst (λ m. All P (flat_map f (range_with_len 0 m))) (let e : n + 1 ≡ suc n = omega arith in e)
     (subst (λ xs. All P xs) (sym (flat_more f n)) (All-append P (flat_map f (range_with_len 0 n)) (f n) (all_flat P f n (λ i l. h i (omega arith))) (h n (omega arith))))
 
+-- the lesser of two numbers first, both below n
 abbrev AreBelow : ℕ → ℕ × ℕ → Type 0
-AreBelow n p = (p.0 < n) × (p.1 < n)
+AreBelow n p = (p.0 < p.1) × (p.1 < n)
 
 pairs_below : (n : ℕ) → All (AreBelow n) (pairs n)
 pairs_below n =
     all_flat (AreBelow n) (λ i. map (λ j. (i, j)) (range_with_len (i + 1) (n - (i + 1)))) n (λ i l.
     All-map (AreBelow n) (λ j. (i, j)) (range_with_len (i + 1) (n - (i + 1)))
-    (All-from_get_or (λ j. (i < n) × (j < n)) (range_with_len (i + 1) (n - (i + 1))) 0 (λ k lk.
+    (All-from_get_or (λ j. (i < j) × (j < n)) (range_with_len (i + 1) (n - (i + 1))) 0 (λ k lk.
     let lk' : k < n - (i + 1) = omega (arith, lk, length-range_with_len (i + 1) (n - (i + 1))) in
-    (l, omega (arith, lk', get_or-range_with_len (i + 1) (n - (i + 1)) k 0 lk')))))
+    let is = get_or-range_with_len (i + 1) (n - (i + 1)) k 0 lk' in
+    (omega (arith, is), omega (arith, lk', is)))))
 
 all_by : {X : Type 0} (P Q : X → Type 0) (xs : List X) → ((x : X) → P x → Q x) → All P xs → All Q xs
 all_by P Q xs f h k d l = f _ (h k d l)
+
+pub first_below : (sets : List MemberSet) (i j : ℕ) → Some (i, j) ≡ first_opposed sets → (i < j) × (j < length sets)
+first_below sets i j e =
+    (find_holds (λ (p : ℕ × ℕ). oppose sets p.0 p.1) (AreBelow (length sets)) (pairs (length sets)) (i, j) (pairs_below (length sets)) (sym e)).1
 
 module _ (cut : Cut) where
   abbrev n : ℕ
@@ -67,37 +74,25 @@ module _ (cut : Cut) where
 
   -- no two members are opposite
   pub none_opposite : ((i j : ℕ) → i < n → j < n → precedes_somewhere cut i j ≡ true → precedes_somewhere cut j i ≡ true → ⊥)
-      → opposite cut ≡ None
+      → opposite_pair cut ≡ None
   none_opposite never =
-      ap (option_map (opposite_of cut))
-      (find_none (λ (p : ℕ × ℕ). are_opposite cut p.0 p.1) (pairs n)
+      find_none (λ (p : ℕ × ℕ). are_opposite cut p.0 p.1) (pairs n)
       (all_by (AreBelow n) (λ (p : ℕ × ℕ). are_opposite cut p.0 p.1 ≡ false) (pairs n) (λ p below. false_from_ne_true _ (λ t.
       let parts = and_parts (precedes_somewhere cut p.0 p.1) (precedes_somewhere cut p.1 p.0) t in
-      never p.0 p.1 below.0 below.1 parts.0 parts.1)) (pairs_below n)))
+      never p.0 p.1 (omega (arith, below.0, below.1)) below.1 parts.0 parts.1)) (pairs_below n))
 
   module _ (sets : List MemberSet) (told : ArePreceded cut sets) where
-    pair_is : opposite_pair cut ≡ first_opposed sets
+    pub pair_is : opposite_pair cut ≡ first_opposed sets
     pair_is =
         find_agree (λ (p : ℕ × ℕ). are_opposite cut p.0 p.1) (λ (p : ℕ × ℕ). oppose sets p.0 p.1) (pairs n)
         (all_by (AreBelow n) (λ (p : ℕ × ℕ). are_opposite cut p.0 p.1 ≡ oppose sets p.0 p.1) (pairs n) (λ p below.
-        ap (λ b. b && precedes_somewhere cut p.1 p.0) (sym (told.each p.0 p.1 below.0 below.1))
-        ∙ ap (λ b. relates sets p.0 p.1 && b) (sym (told.each p.1 p.0 below.1 below.0))) (pairs_below n))
+        let there : p.0 < n = omega (arith, below.0, below.1) in
+        ap (λ b. b && precedes_somewhere cut p.1 p.0) (sym (told.each p.0 p.1 there below.1))
+        ∙ ap (λ b. relates sets p.0 p.1 && b) (sym (told.each p.1 p.0 below.1 there))) (pairs_below n))
         ∙ ap (λ m. find (λ (p : ℕ × ℕ). oppose sets p.0 p.1) (pairs m)) (sym told.count)
 
-    pub none_found : None ≡ first_opposed sets → opposite cut ≡ None
-    none_found e = ap (option_map (opposite_of cut)) (pair_is ∙ sym e)
-
-    pub found_is : (i j : ℕ) → Some (i, j) ≡ first_opposed sets → opposite cut ≡ Some (opposite_of cut (i, j))
-    found_is i j e = ap (option_map (opposite_of cut)) (pair_is ∙ sym e)
-
-    pub record AreFound (i j : ℕ) : Type 0 where
-      pub one : i < n
-      pub other : j < n
-      pub precedes : precedes_somewhere cut i j ≡ true
-      pub preceded : precedes_somewhere cut j i ≡ true
-
-    pub found_there : (i j : ℕ) → Some (i, j) ≡ first_opposed sets → AreFound i j
-    found_there i j e =
+    pub are_opposed : (i j : ℕ) → Some (i, j) ≡ first_opposed sets → AreOpposed cut i j
+    are_opposed i j e =
         let r = find_holds (λ (p : ℕ × ℕ). are_opposite cut p.0 p.1) (AreBelow n) (pairs n) (i, j) (pairs_below n) (pair_is ∙ sym e) in
         let parts = and_parts (precedes_somewhere cut i j) (precedes_somewhere cut j i) r.0 in
-        record { one = r.1.0; other = r.1.1; precedes = parts.0; preceded = parts.1 }
+        record { lesser = r.1.0; there = r.1.1; precedes = parts.0; preceded = parts.1 }

@@ -1,6 +1,6 @@
 -- Where the visits of a place are in order, one stands before another where its member precedes the other's.
-use Rattle.std.proofs.Common.{◌≡◌, ℕ, zero, suc, ◌<◌, ◌≤◌, Bool, true, false, ◌&&◌, ◌==◌, List, [], ◌∷◌, length, get_or, inl, inr, refl, sym, ap, subst, ◌∙◌, arith}
-use Rattle.std.specs.List.{list_any, All, Contains}
+use Rattle.std.proofs.Common.{◌≡◌, ℕ, zero, suc, ◌<◌, ◌≤◌, Bool, true, false, ◌&&◌, ◌||◌, ◌==◌, List, [], ◌∷◌, length, get_or, inl, inr, refl, sym, ap, subst, ◌∙◌, arith}
+use Rattle.std.specs.List.{list_any, Contains}
 use Rattle.std.specs.List.Sorted.{IsPermutation, IsSortedByKey}
 use Rattle.std.specs.Prelude.{pos, int_lt}
 use Rattle.std.specs.Cmp.{IsTotalOrder}
@@ -16,12 +16,14 @@ use Rattle.plan_model.specs.Members.{member, member_count, uses_place, use_at}
 use Rattle.plan_model.specs.Precedence.{precedes}
 use Rattle.plan_model.specs.Cut.{IsSoundCut}
 use Rattle.train_order.specs.declared.visits.Visit.{Visit}
+use Rattle.train_order.specs.declared.member_set.MemberSet.{MemberSet}
+use Rattle.train_order.specs.Sets.{relates}
 use Rattle.train_order.specs.Visits.{visit_of, visits, key_of, key_cmp, comes_first}
 use Rattle.train_order.proofs.Before.{is_earlier, earlier_is, less}
 use Rattle.train_order.proofs.Visitors.{IsVisit, in_visits, from_visits}
 use Rattle.train_order.proofs.Once.{not_twice}
 
-abbrev no_visit : Visit
+abbrev pub no_visit : Visit
 no_visit = record { start = pos 0; member = 0 }
 
 -- ---- two visits by their places in a list
@@ -189,6 +191,9 @@ module _ (cut : Cut) (sound : IsSoundCut cut) (place : ℕ) (sorted : List Visit
       → comes_first sorted i j ≡ precedes (member cut i) (member cut j) place
   comes_first_is i j li lj = same_test _ _ (precedes_there i j li lj) (comes_there i j li lj)
 
-  pub visitors_there : All (λ v. v.member < member_count cut) sorted
-  visitors_there k d l =
-      subst (λ (v : Visit). v.member < member_count cut) (sym (get_or_default sorted k d no_visit l)) (is_visit k l).there
+  -- sets that take in the visits take in who precedes whom at the place
+  pub taken_in : (before after : List MemberSet)
+      → ((i j : ℕ) → relates after i j ≡ (relates before i j || comes_first sorted i j))
+      → (i j : ℕ) → i < member_count cut → j < member_count cut
+      → relates after i j ≡ (relates before i j || precedes (member cut i) (member cut j) place)
+  taken_in before after h i j li lj = h i j ∙ ap (λ b. relates before i j || b) (comes_first_is i j li lj)

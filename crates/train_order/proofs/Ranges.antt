@@ -1,8 +1,8 @@
 -- Ranges that grow by one, and what is gathered over them.
-use Rattle.std.proofs.Common.{◌≡◌, ℕ, ◌+◌, ◌≤◌, Bool, true, false, cond, ◌||◌, List, [], ◌∷◌, ◌++◌, length, map, length-append, inl, inr, refl, sym, ap, ◌∙◌, arith}
+use Rattle.std.proofs.Common.{◌≡◌, ℕ, zero, suc, ◌+◌, ◌<◌, ◌≤◌, Bool, true, false, cond, ◌||◌, List, [], ◌∷◌, ◌++◌, length, map, length-append, inl, inr, refl, sym, ap, ◌∙◌, arith}
 use Rattle.std.specs.Prelude.{filter}
 use Rattle.std.specs.List.{list_any, flat_map, range_with_len}
-use Rattle.std.proofs.lemmas.Bool.{cases_Bool}
+use Rattle.std.proofs.lemmas.Bool.{cases_Bool, cases_lt}
 use Rattle.std.proofs.lemmas.List.{append-nil}
 use Rattle.std.proofs.lemmas.List.Concat.{flat_map-append}
 use Rattle.std.proofs.lemmas.List.Elements.{filter-append}
@@ -50,6 +50,17 @@ pub passing_no : (test : ℕ → Bool) (n : ℕ) → test n ≡ false
 passing_no test n e =
     passing_more test n ∙ ap (λ xs. filter test (range_with_len 0 n) ++ xs) (rw e refl)
     ∙ append-nil (filter test (range_with_len 0 n))
+
+pub passing_on : (test : ℕ → Bool) (a b : ℕ) → a ≤ b → ((k : ℕ) → a ≤ k → k < b → test k ≡ false)
+    → filter test (range_with_len 0 b) ≡ filter test (range_with_len 0 a)
+passing_on test a zero l h = let e : a ≡ 0 = omega arith in rw e refl
+passing_on test a (suc b) l h =
+    elim (cases_lt b a) [
+      | inl g ↦ let e : a ≡ suc b = omega arith in rw e refl
+      | inr g ↦
+          ap (λ m. filter test (range_with_len 0 m)) (let e : suc b ≡ b + 1 = omega arith in e)
+          ∙ passing_no test b (h b g (omega arith)) ∙ passing_on test a b g (λ k lk lb. h k lk (omega arith))
+    ]
 
 pub length_passing : (test : ℕ → Bool) (n : ℕ)
     → length (filter test (range_with_len 0 (n + 1))) ≡ length (filter test (range_with_len 0 n)) + cond (test n) 1 0

@@ -1,21 +1,21 @@
 -- The ring of the members that are not taken up is the definition's.
-use Rattle.std.proofs.Common.{◌≡◌, ℕ, zero, suc, ◌<◌, ◌≤◌, not, List, [], ◌∷◌, ◌++◌, length, map, take, drop, get_or, inl, inr, sym, ap, ◌∙◌, arith}
+use Rattle.std.proofs.Common.{◌≡◌, ℕ, zero, suc, ◌<◌, ◌≤◌, not, List, [], ◌∷◌, length, drop, get_or, inl, inr, sym, ap, ◌∙◌, arith}
 use Rattle.std.specs.Prelude.{reverse, nat_le}
-use Rattle.std.specs.List.{list_all, position_or_len, zip}
+use Rattle.std.specs.List.{list_all, position_or_len}
 use Rattle.std.proofs.lemmas.Bool.{cases_lt, le-leb, both_ways, not-true, not_from_false}
 use Rattle.std.proofs.lemmas.Grind.{get_or_default_zero}
 use Rattle.std.proofs.lemmas.List.Sums.{fails_before_first, list_all-from_AllPass}
 use Rattle.plan_model.specs.declared.cut.Cut.{Cut}
-use Rattle.plan_model.specs.Disorder.{remaining, walk, circuit, from_least, link_of, ring}
+use Rattle.plan_model.specs.Disorder.{remaining, from_least}
 use Rattle.plan_model.proofs.MemberTests.{has_any}
 use Rattle.train_order.specs.declared.member_set.MemberSet.{MemberSet}
 use Rattle.train_order.specs.Sets.{relates, ArePreceded}
 use Rattle.train_order.specs.Taking.{is_among, AreTakenUp}
-use Rattle.train_order.specs.Walk.{ArePrecededWithin, IsRound, IsRing}
+use Rattle.train_order.specs.Walk.{ArePrecededWithin, IsRound, IsRing, IsRingOf}
 use Rattle.train_order.proofs.Among.{among_passing, passing_among}
 use Rattle.train_order.proofs.Whole.{left_of, whole_length}
 use Rattle.train_order.proofs.Rounds.{remaining_is}
-use Rattle.train_order.proofs.Walks.{circuit_is}
+use Rattle.train_order.proofs.Walks.{walk_short, circuit_is}
 use Rattle.train_order.proofs.Cycle.{ring_turned, ring_of_walk}
 
 -- ---- the least
@@ -63,13 +63,9 @@ least_in (m ∷ ms) l =
 
 -- ---- what is left
 
-module _ (cut : Cut) (sets : List MemberSet) (taken : List ℕ) (told : ArePreceded cut sets) (up : AreTakenUp sets taken)
-    (some : length taken < length sets) where
-  abbrev left : List ℕ
+module _ (sets : List MemberSet) (taken : List ℕ) (up : AreTakenUp sets taken) (some : length taken < length sets) where
+  abbrev pub left : List ℕ
   left = left_of (length sets) taken
-
-  remains : left ≡ remaining cut
-  remains = ap (λ n. left_of n taken) told.count ∙ sym (remaining_is cut sets told taken up)
 
   pub some_left : 0 < length left
   some_left = omega (arith, some, whole_length (length sets) taken up.sound.within up.sound.once)
@@ -85,17 +81,14 @@ module _ (cut : Cut) (sets : List MemberSet) (taken : List ℕ) (told : ArePrece
   }
 
   module _ (walked : List ℕ) (from : ℕ) (round : IsRound sets left walked from) where
-    circuit_there : circuit (walk cut) ≡ drop from walked
-    circuit_there = circuit_is cut sets left told remains within some_left walked from round
+    pub walked_short : length walked ≤ length sets
+    walked_short = walk_short sets left within walked _ round.is_walk
 
-    back_ring : IsRing cut (reverse (drop from walked))
-    back_ring = ring_of_walk cut sets left told within walked from round
-
-    pub is_ring : IsRing cut (from_least (reverse (drop from walked)))
-    is_ring = ring_turned cut (reverse (drop from walked)) _ (least_in (reverse (drop from walked)) back_ring.some) back_ring
-
-    pub ring_is : (members : List ℕ) → members ≡ from_least (reverse (drop from walked))
-        → map (link_of cut) (zip members (drop 1 members ++ take 1 members)) ≡ ring cut
-    ring_is members e =
-        ap (λ (ms : List ℕ). map (link_of cut) (zip ms (drop 1 ms ++ take 1 ms)))
-        (e ∙ ap (λ c. from_least (reverse c)) (sym circuit_there))
+    pub ring_of : (cut : Cut) → ArePreceded cut sets → IsRingOf cut (from_least (reverse (drop from walked)))
+    ring_of cut told =
+        let remains : left ≡ remaining cut = ap (λ n. left_of n taken) told.count ∙ sym (remaining_is cut sets told taken up) in
+        let back : IsRing cut (reverse (drop from walked)) = ring_of_walk cut sets left told within walked from round in
+        record {
+          is = ap (λ c. from_least (reverse c)) (sym (circuit_is cut sets left told remains within some_left walked from round));
+          in_turn = ring_turned cut (reverse (drop from walked)) _ (least_in (reverse (drop from walked)) back.some) back;
+        }

@@ -1,16 +1,16 @@
 -- The visits of a place are one for each member that uses it, by its use of the place.
 use Rattle.std.proofs.Common.{◌≡◌, ◌≢◌, ◌⊎◌, ℕ, zero, suc, ◌+◌, ◌<◌, Bool, true, false, ◌==◌, List, [], ◌∷◌, ◌++◌, length, get_or, inl, inr, refl, sym, ap, subst, ◌∙◌, arith}
-use Rattle.std.specs.Prelude.{find, unwrap_or}
-use Rattle.std.specs.List.{list_any, flat_map, range_with_len, AllPairs, Contains}
+use Rattle.std.specs.Prelude.{Some, find, unwrap_or}
+use Rattle.std.specs.List.{list_any, flat_map, range_with_len, All, Contains}
 use Rattle.std.proofs.lemmas.Bool.{cases_Bool, cases_eq, eqb-true, eq-eqb, ne_eqb}
-use Rattle.std.proofs.lemmas.List.Elements.{Contains-append_left, Contains-append_right, Contains-append_cases}
+use Rattle.std.proofs.lemmas.List.Elements.{Contains-get_or, Contains-append_left, Contains-append_right, Contains-append_cases}
 use Rattle.std.proofs.lemmas.List.Folds.{list_any_at}
 use Rattle.rail_model.specs.declared.stair.Use.{Use}
 use Rattle.plan_model.specs.declared.cut.Cut.{Cut}
 use Rattle.plan_model.specs.Members.{member, member_count, no_member, uses_place, use_at, no_use}
 use Rattle.plan_model.specs.Cut.{IsSoundCut}
 use Rattle.train_order.specs.declared.visits.Visit.{Visit}
-use Rattle.train_order.specs.Visits.{visit_of, visits_by, visits}
+use Rattle.train_order.specs.Visits.{visit_of, visits_by, visits, AreOfOtherPlaces}
 use Rattle.train_order.proofs.Ranges.{flat_more}
 
 -- ---- what is in a list that is gathered
@@ -76,20 +76,20 @@ module _ (i place : ℕ) where
       ]
 
 abbrev pub Differ : List Use → Type 0
-Differ uses = AllPairs (λ u v. u.block ≢ v.block) uses
+Differ uses = AreOfOtherPlaces uses
 
 pub differ_tail : (u : Use) (uses : List Use) → Differ (u ∷ uses) → Differ uses
 differ_tail u uses h i j d lt l = h (suc i) (suc j) d (omega arith) (omega arith)
 
--- where uses are of different places, one of a place is the use of it
-found_use : (place : ℕ) (uses : List Use) (k : ℕ) → Differ uses → k < length uses → (get_or uses k no_use).block ≡ place
-    → unwrap_or (find (λ (u : Use). u.block == place) uses) no_use ≡ get_or uses k no_use
-found_use place [] k h l e = absurd (omega (arith, l))
-found_use place (u ∷ uses) zero h l e = let t : (u.block == place) ≡ true = eq-eqb u.block place e in rw t refl
-found_use place (u ∷ uses) (suc k) h l e =
+-- where uses are of different places, one of a place is found as the use of it
+pub found_at : (place : ℕ) (uses : List Use) (k : ℕ) → Differ uses → k < length uses → (get_or uses k no_use).block ≡ place
+    → find (λ (u : Use). u.block == place) uses ≡ Some (get_or uses k no_use)
+found_at place [] k h l e = absurd (omega (arith, l))
+found_at place (u ∷ uses) zero h l e = let t : (u.block == place) ≡ true = eq-eqb u.block place e in rw t refl
+found_at place (u ∷ uses) (suc k) h l e =
     let apart : u.block ≢ (get_or uses k no_use).block = h 0 (suc k) no_use (omega arith) l in
     let t : (u.block == place) ≡ false = ne_eqb u.block place (λ q. apart (q ∙ sym e)) in
-    rw t (found_use place uses k (differ_tail u uses h) (omega (arith, l)) e)
+    rw t (found_at place uses k (differ_tail u uses h) (omega (arith, l)) e)
 
 -- ---- the visits of a place
 
@@ -115,7 +115,7 @@ module _ (cut : Cut) (sound : IsSoundCut cut) (place : ℕ) where
       let one : visit_of i (get_or uses at.0 no_use) ≡ v = at.3 in
       let same : i ≡ v.member = ap (λ (w : Visit). w.member) one in
       let its : use_at (member cut i) place ≡ get_or uses at.0 no_use =
-      found_use place uses at.0 (sound.each i no_member r.1).places_differ at.1 at.2 in
+      ap (λ o. unwrap_or o no_use) (found_at place uses at.0 (sound.each i no_member r.1).places_differ at.1 at.2) in
       let used : uses_place (member cut i) place ≡ true =
       list_any_at (λ (u : Use). u.block == place) uses at.0 no_use at.1 (eq-eqb _ place at.2) in
       record {
@@ -123,3 +123,7 @@ module _ (cut : Cut) (sound : IsSoundCut cut) (place : ℕ) where
         used = subst (λ k. uses_place (member cut k) place ≡ true) same used;
         is = subst (λ k. v ≡ visit_of k (use_at (member cut k) place)) same (sym one ∙ ap (visit_of i) (sym its));
       }
+
+  pub visitors_there : All (λ v. v.member < member_count cut) (visits cut place)
+  visitors_there k d l =
+      (from_visits (get_or (visits cut place) k d) (Contains-get_or (visits cut place) k d l)).there

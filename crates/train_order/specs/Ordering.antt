@@ -1,13 +1,20 @@
 -- What the trains of a cut are answered: their order, or their disorder.
-use Rattle.std.specs.Prelude.{◌≡◌, ◌≢◌, ℕ, ◌<◌, List, [], length, slice_index, None, Some, Result, Ok, Err, IsTrue}
+use Rattle.std.specs.Prelude.{◌≡◌, ◌≢◌, ℕ, ◌<◌, List, [], ◌++◌, length, map, take, drop, slice_index, Option, None, Some, Result, Ok, Err, IsTrue}
+use Rattle.std.specs.List.{zip}
 use Rattle.std.specs.List.Sorted.{IsPermutation}
 use Rattle.plan_model.specs.declared.cut.Cut.{Cut}
 use Rattle.plan_model.specs.Members.{member_count, members}
 use Rattle.plan_model.specs.Precedence.{precedes_somewhere}
-use Rattle.plan_model.specs.Disorder.{opposite, remaining, ring}
+use Rattle.plan_model.specs.Disorder.{opposite, opposite_pair, remaining, link_of, ring, ring_members}
 use Rattle.train_order.specs.declared.found.Order.{Order}
 use Rattle.train_order.specs.declared.found.Disorder.{Disorder}
 use Rattle.train_order.specs.declared.found.Disorder.TheVariants as disorder
+use Rattle.train_order.specs.declared.found.Disordered.{Disordered}
+use Rattle.train_order.specs.declared.found.Disordered.TheVariants as disordered
+use Rattle.train_order.specs.declared.member_set.MemberSet.{MemberSet}
+use Rattle.train_order.specs.Sets.{ArePreceded}
+use Rattle.train_order.specs.Opposite.{told_opposite}
+use Rattle.train_order.specs.Walk.{IsRing}
 
 -- one number stands before another in a list
 pub record StandsBefore (positions : List ℕ) (i j : ℕ) : Type 0 where
@@ -33,3 +40,34 @@ IsOrdering cut (Err (disorder.Opposite first second block1 block2)) =
     opposite cut ≡ Some (record { first = first; second = second; block1 = block1; block2 = block2 })
 IsOrdering cut (Err (disorder.Ring links)) =
     (opposite cut ≡ None) × (remaining cut ≢ []) × (links ≡ ring cut)
+
+-- why a cut's members have no order: there is no reason where no members are opposite and none remain; else its
+-- opposite members; else its ring, where members remain
+abbrev pub IsDisorder : Cut → Option Disordered → Type 0
+IsDisorder cut None = (opposite_pair cut ≡ None) × (remaining cut ≡ [])
+IsDisorder cut (Some (disordered.Opposite i j)) = opposite_pair cut ≡ Some (i, j)
+IsDisorder cut (Some (disordered.Ring members)) =
+    (opposite_pair cut ≡ None) × (remaining cut ≢ []) × (members ≡ ring_members cut)
+
+-- two members, the lesser first, each of which precedes the other somewhere
+pub record AreOpposed (cut : Cut) (i j : ℕ) : Type 0 where
+  pub lesser : i < j
+  pub there : j < member_count cut
+  pub precedes : IsTrue (precedes_somewhere cut i j)
+  pub preceded : IsTrue (precedes_somewhere cut j i)
+
+-- each member that is told precedes the next somewhere, and the last the first
+abbrev pub PrecedeInTurn : Cut → Disordered → Type 0
+PrecedeInTurn cut (disordered.Opposite i j) = AreOpposed cut i j
+PrecedeInTurn cut (disordered.Ring members) = IsRing cut members
+
+-- by sets that tell of a cut's precedence, these members of it have no order
+pub record IsDisorderBy (sets : List MemberSet) (found : Disordered) : Type 0 where
+  pub is : (cut : Cut) → ArePreceded cut sets → IsDisorder cut (Some found)
+  pub in_turn : (cut : Cut) → ArePreceded cut sets → PrecedeInTurn cut found
+
+-- what is told of them: their names, and the places at which they precede
+abbrev pub IsTold : Cut → Disordered → Disorder → Type 0
+IsTold cut (disordered.Opposite i j) told = told ≡ told_opposite cut i j
+IsTold cut (disordered.Ring members) told =
+    told ≡ disorder.Ring (map (link_of cut) (zip members (drop 1 members ++ take 1 members)))

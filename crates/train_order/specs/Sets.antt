@@ -1,5 +1,5 @@
 -- Sets of members, as bits of words, and tables that have a set for each member.
-use Rattle.std.specs.Prelude.{◌≡◌, ℕ, ◌<◌, ◌/◌, ◌%◌, ◌==◌, Bool, List, [], length, slice_index, slice_index_or}
+use Rattle.std.specs.Prelude.{◌≡◌, ℕ, ◌<◌, ◌≤◌, ◌/◌, ◌%◌, ◌==◌, Bool, true, false, List, [], length, slice_index, slice_index_or}
 use Rattle.std.specs.Int.{bit_at}
 use Rattle.plan_model.specs.declared.cut.Cut.{Cut}
 use Rattle.plan_model.specs.Members.{member_count}
@@ -9,6 +9,19 @@ use Rattle.train_order.specs.declared.member_set.MemberSet.{MemberSet}
 -- a member is in the set: its bit of the word that has it is 1
 abbrev pub holds : List ℕ → ℕ → Bool
 holds words k = bit_at (slice_index words (k / 64)) (k % 64) == 1
+
+-- a bit of a word is the first that is 1 from one on, or 64 where none is
+pub record IsFirstBit (word from found : ℕ) : Type 0 where
+  pub within : found ≤ 64
+  pub from_on : from ≤ found
+  pub none : (i : ℕ) → from ≤ i → i < found → bit_at word i ≡ 0
+  pub there : found < 64 → bit_at word found ≡ 1
+
+-- a member is the first in the set from one on; where there is none, a number that is above those of all members
+pub record IsFirstMember (words : List ℕ) (from found : ℕ) : Type 0 where
+  pub from_on : from ≤ found
+  pub none : (k : ℕ) → from ≤ k → k < found → holds words k ≡ false
+  pub there : found < 768 → holds words found ≡ true
 
 -- stands where there is no set
 abbrev pub no_set : MemberSet

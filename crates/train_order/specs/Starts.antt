@@ -1,5 +1,5 @@
 -- The starts of a member at all places, and the first place by name among some.
-use Rattle.std.specs.Prelude.{◌≡◌, ℕ, ◌<◌, ℤ, int_lt, Bool, true, false, ◌==◌, ◌&&◌, ◌||◌, List, [], length, filter, find, slice_index_or, Option, Some, None, option_map}
+use Rattle.std.specs.Prelude.{◌≡◌, ℕ, ◌<◌, ◌≤◌, ℤ, int_lt, Bool, true, false, ◌==◌, ◌&&◌, ◌||◌, List, [], length, filter, find, slice_index_or, Option, Some, None, option_map}
 use Rattle.std.specs.List.{range_with_len}
 use Rattle.std.specs.Ordering.{int_eq}
 use Rattle.rail_model.specs.declared.stair.Use.{Use}
@@ -12,9 +12,9 @@ use Rattle.train_order.specs.Taking.{is_among}
 abbrev pub start_of : List Use → ℕ → Option ℤ
 start_of uses place = option_map (λ u. u.start) (find (λ u. u.block == place) uses)
 
--- the table has the start at each place
+-- the table has the start at each of so many places
 pub record AreStarts (uses : List Use) (places : ℕ) (table : List (Option ℤ)) : Type 0 where
-  pub count : length table ≡ places
+  pub count : places ≤ length table
   pub each : (place : ℕ) → place < places → slice_index_or table place None ≡ start_of uses place
 
 -- both start, and the first is the earlier or, at one moment, is named before

@@ -1,5 +1,5 @@
 -- Members that are taken up one after the other, each as soon as those that precede it are.
-use Rattle.std.specs.Prelude.{◌≡◌, ℕ, ◌-◌, ◌<◌, ◌≤◌, Bool, true, false, not, cond, ◌==◌, ◌&&◌, List, [], ◌∷◌, length, take, filter, slice_index, All, ⊤}
+use Rattle.std.specs.Prelude.{◌≡◌, ℕ, ◌+◌, ◌-◌, ◌<◌, ◌≤◌, Bool, true, false, not, cond, ◌==◌, ◌&&◌, List, [], ◌∷◌, length, take, filter, slice_index, All, ⊤}
 use Rattle.std.specs.List.{list_any, range_with_len}
 use Rattle.train_order.specs.declared.member_set.MemberSet.{MemberSet}
 use Rattle.train_order.specs.Sets.{holds, relates}
@@ -48,6 +48,12 @@ pub record IsTaking (sets : List MemberSet) (taken waits : List ℕ) (at : ℕ) 
 -- a member waits for one alone, which is taken up
 abbrev pub is_freed : List ℕ → List ℕ → ℕ → Bool
 is_freed words waits j = holds words j && (slice_index waits j == 1)
+
+-- the counts below j are raised for those in a set, the others stand
+pub record AreRaised (words before now : List ℕ) (j : ℕ) : Type 0 where
+  pub count : length now ≡ length before
+  pub done : (k : ℕ) → k < j → slice_index now k ≡ slice_index before k + cond (holds words k) 1 0
+  pub rest : (k : ℕ) → j ≤ k → slice_index now k ≡ slice_index before k
 
 -- the counts below j are lowered for those in a set, the others stand
 pub record AreLowered (words before now : List ℕ) (j : ℕ) : Type 0 where

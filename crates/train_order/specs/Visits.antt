@@ -1,5 +1,5 @@
 -- The visits of a place: the members that use it, each with its start there.
-use Rattle.std.specs.Prelude.{◌≡◌, ℕ, ◌<◌, ℤ, Bool, false, ◌==◌, ◌&&◌, ◌||◌, List, [], ◌∷◌, ◌++◌, length, map, filter, slice_index_or}
+use Rattle.std.specs.Prelude.{◌≡◌, ◌≢◌, ℕ, ◌<◌, ℤ, Bool, false, not, nat_lt, ◌==◌, ◌&&◌, ◌||◌, List, [], ◌∷◌, ◌++◌, length, map, filter, AllPairs, slice_index_or}
 use Rattle.std.specs.List.{list_any, flat_map, range_with_len}
 use Rattle.std.specs.Ordering.{nat_cmp, int_cmp, ordering_then}
 use Rattle.std.specs.declared.cmp.Ordering.{Ordering}
@@ -49,3 +49,12 @@ key_cmp x y = ordering_then (int_cmp x.0 y.0) (nat_cmp x.1 y.1)
 abbrev pub comes_first : List Visit → ℕ → ℕ → Bool
 comes_first [] i j = false
 comes_first (v ∷ visits) i j = ((v.member == i) && list_any (λ w. w.member == j) visits) || comes_first visits i j
+
+-- no two uses are of one place
+abbrev pub AreOfOtherPlaces : List Use → Type 0
+AreOfOtherPlaces uses = AllPairs (λ u v. u.block ≢ v.block) uses
+
+-- the uses of blocks, whose positions are below this number, stand before those of connections
+abbrev pub AreBlocksFirst : ℕ → List Use → Type 0
+AreBlocksFirst blocks uses =
+    uses ≡ filter (λ u. nat_lt u.block blocks) uses ++ filter (λ u. not (nat_lt u.block blocks)) uses

@@ -4,6 +4,7 @@ use Rattle.std.specs.List.{list_any}
 use Rattle.plan_model.specs.declared.cut.Cut.{Cut}
 use Rattle.plan_model.specs.Members.{member_count}
 use Rattle.plan_model.specs.Precedence.{precedes_somewhere}
+use Rattle.plan_model.specs.Disorder.{ring_members}
 use Rattle.train_order.specs.declared.member_set.MemberSet.{MemberSet}
 use Rattle.train_order.specs.Sets.{relates}
 use Rattle.train_order.specs.Taking.{is_among, IsDistinct}
@@ -45,3 +46,8 @@ pub record IsRing (cut : Cut) (members : List ℕ) : Type 0 where
   pub there : (k : ℕ) → k < length members → slice_index members k < member_count cut
   pub precedes : (k l : ℕ) → k < length members → l < length members → IsNext (length members) k l
       → precedes_somewhere cut (slice_index members k) (slice_index members l) ≡ true
+
+-- the ring of a cut, each member of which precedes the next
+pub record IsRingOf (cut : Cut) (members : List ℕ) : Type 0 where
+  pub is : members ≡ ring_members cut
+  pub in_turn : IsRing cut members

@@ -2,15 +2,20 @@
 //! the other at some place, or a ring of trains each of which precedes the next.
 #![tactic(auto)]
 
+mod disorder;
 mod found;
 mod link_place;
+mod member_list;
 mod member_set;
 mod opposite;
 mod ordering;
 mod precedence;
 mod ring;
 mod taking;
+mod told;
 mod visits;
 
-pub use found::{Disorder, Order};
+pub use disorder::disorder_of;
+pub use found::{Disorder, Disordered, Order, RingMembers};
+pub use link_place::place_of_link;
 pub use ordering::order;

@@ -1,7 +1,7 @@
 //! Sets of members, a bit for each.
-ghost use Rattle.std.specs.Prelude.{◌≡◌, ◌≢◌, ℕ, ◌<◌, ◌==◌, ◌||◌, false, length};
+ghost use Rattle.std.specs.Prelude.{◌≡◌, ◌≢◌, ℕ, ◌+◌, ◌*◌, ◌<◌, ◌≤◌, ◌==◌, ◌||◌, false, length};
 ghost use Rattle.std.specs.Int.{bit_at};
-ghost use Rattle.train_order.specs.Sets.{holds};
+ghost use Rattle.train_order.specs.Sets.{IsFirstBit, IsFirstMember, holds};
 
 use plan_model::MEMBERS;
 
@@ -53,6 +53,35 @@ impl MemberSet {
             self.words[place] = with_bits(self.words[place], other.words[place]);
         }
     }
+
+    /// The first member from a position on, or a number that no member has where there is none.
+    pub(crate) fn next(&self, from: usize) -> usize
+        ensures { IsFirstMember self.now.words from result }
+    {
+        if from >= MEMBERS {
+            return from;
+        }
+        let place = from / WORD;
+        let bit = bit_from(self.words[place], from % WORD);
+        if bit < WORD {
+            return WORD * place + bit;
+        }
+        self.first_after(place)
+    }
+
+    // The first member of the words after a place.
+    fn first_after(&self, place: usize) -> usize
+        requires { place < WORDS }
+        ensures { IsFirstMember self.now.words (64 * place + 64) result }
+    {
+        for later in place + 1..WORDS {
+            let bit = bit_from(self.words[later], 0);
+            if bit < WORD {
+                return WORD * later + bit;
+            }
+        }
+        MEMBERS
+    }
 }
 
 fn has_bit(word: u64, bit: usize) -> bool
@@ -74,4 +103,16 @@ fn with_bits(word: u64, other: u64) -> u64
     ensures { (i : ℕ) → (bit_at result i == 1) ≡ ((bit_at word i == 1) || (bit_at other i == 1)) }
 {
     word | other
+}
+
+// The first bit of a word that is 1 from one on, or `WORD` where none is.
+fn bit_from(word: u64, from: usize) -> usize
+    requires { from < 64 }
+    ensures { IsFirstBit word from result }
+{
+    let rest = word >> from;
+    if rest == 0 {
+        return WORD;
+    }
+    from + rest.trailing_zeros() as usize
 }

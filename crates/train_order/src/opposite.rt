@@ -25,20 +25,12 @@ fn opposed_by(sets: &[MemberSet], i: usize, from: usize, until: usize) -> Option
     requires within { until ≤ length sets.now }
     ensures { result ≡ pairs.opposed_by sets.now i from until }
 {
-    for j in from..until {
-        if are_opposed(sets, i, j) {
+    let mut j = sets[i].next(from);
+    while j < until {
+        if sets[j].has(i) {
             return Some(j);
         }
+        j = sets[i].next(j + 1);
     }
     None
-}
-
-// Whether each precedes the other somewhere.
-fn are_opposed(sets: &[MemberSet], i: usize, j: usize) -> bool
-    requires few { length sets.now ≤ MEMBERS }
-    requires one { i < length sets.now }
-    requires other { j < length sets.now }
-    ensures { result ≡ pairs.oppose sets.now i j }
-{
-    sets[i].has(j) && sets[j].has(i)
 }

@@ -1,15 +1,17 @@
 //! Which members precede which.
-ghost use Rattle.std.specs.Prelude.{◌≡◌, ℕ, ◌<◌, ◌≤◌, ◌||◌, false, All, length, IfOk};
+ghost use Rattle.std.specs.Prelude.{◌≡◌, ℕ, ◌<◌, ◌≤◌, ◌||◌, false, All, length, IfOk, OnOk};
 ghost use Rattle.std.specs.List.Sorted.{IsPermutation, IsSortedByKey};
-ghost use Rattle.plan_model.specs.Members.{member_count};
+ghost use Rattle.plan_model.specs.Places.{place_count};
+ghost use Rattle.plan_model.specs.Members.{member, member_count};
+ghost use Rattle.plan_model.specs.Precedence.{precedes};
 ghost use Rattle.plan_model.specs.Cut.{IsSoundCut};
 ghost use Rattle.train_order.specs.Sets.{ArePreceded, relates};
-ghost use Rattle.train_order.specs.Visits.{key_of, key_cmp, comes_first};
+ghost use Rattle.train_order.specs.Visits.{AreVisits, key_of, key_cmp, comes_first};
 
 use crate::member_set::MemberSet;
-use crate::visits::{Visit, visits_by_place};
+use crate::visits::{Visit, count_places, gather, visits_by_place};
 use plan_model::{Cut, MEMBERS};
-use rail_model::OutOfMemory;
+use rail_model::{List, OutOfMemory};
 use std::alloc::Global;
 
 /// For each member the set of those that it precedes somewhere.
@@ -20,11 +22,30 @@ pub(crate) fn preceded(alloc: Global, cut: &Cut) -> Result<Vec<MemberSet>, OutOf
 {
     let lists = visits_by_place(alloc, cut)?;
     let mut sets = empty_sets(alloc, cut.rows.len())?;
-    for list in &lists {
-        let visits = in_order(alloc, list.slice())?;
-        take_in_later(&mut sets, &visits);
-    }
+    put_listed(alloc, cut, &lists, &mut sets)?;
     Ok(sets)
+}
+
+// Puts into the empty set of each member those that it precedes by the visits of each place.
+fn put_listed(
+    alloc: Global,
+    cut: &Cut,
+    lists: &[List<Visit>],
+    sets: &mut [MemberSet],
+) -> Result<(), OutOfMemory>
+    requires sound { IsSoundCut cut.now }
+    requires few { member_count cut.now ≤ MEMBERS }
+    requires lists { AreVisits cut.now (member_count cut.now) (place_count cut.now) lists.now }
+    requires count { length sets.old ≡ member_count cut.now }
+    requires none { (i j : ℕ) → i < length sets.old → relates sets.old i j ≡ false }
+    ensures count { length sets.new ≡ length sets.old }
+    ensures told { OnOk result (ArePreceded cut.now sets.new) }
+{
+    for list in lists {
+        let mut visits = Vec::from_slice(alloc, list.slice())?;
+        take_in_visits(sets, &mut visits);
+    }
+    Ok(())
 }
 
 fn empty_sets(alloc: Global, count: usize) -> Result<Vec<MemberSet>, OutOfMemory>
@@ -38,23 +59,60 @@ fn empty_sets(alloc: Global, count: usize) -> Result<Vec<MemberSet>, OutOfMemory
     Ok(sets)
 }
 
-// The visits of a place in the order of precedence.
-fn in_order(alloc: Global, visits: &[Visit]) -> Result<Vec<Visit>, OutOfMemory>
-    ensures same { IfOk result (λ sorted. IsPermutation visits.now sorted.items) }
-    ensures order { IfOk result (λ sorted. IsSortedByKey key_of key_cmp sorted.items) }
+/// Puts into the empty set of each member those that it precedes somewhere. It takes no memory.
+pub(crate) fn put_preceded(cut: &Cut, sets: &mut [MemberSet])
+    requires sound { IsSoundCut cut.now }
+    requires few { member_count cut.now ≤ MEMBERS }
+    requires count { length sets.old ≡ member_count cut.now }
+    requires none { (i j : ℕ) → i < length sets.old → relates sets.old i j ≡ false }
+    ensures { ArePreceded cut.now sets.new }
 {
-    let mut sorted = Vec::from_slice(alloc, visits)?;
-    sorted.sort_unstable_by_key(|visit| (visit.start, visit.member));
-    Ok(sorted)
+    let mut room = [Visit {
+        start: 0,
+        member: 0,
+    }; MEMBERS];
+    for place in 0..count_places(cut) {
+        put_preceded_at(cut, place, sets, &mut room);
+    }
+}
+
+// Puts into the set of each member those that it precedes at a place; the room is for the visits.
+fn put_preceded_at(cut: &Cut, place: usize, sets: &mut [MemberSet], room: &mut [Visit])
+    requires sound { IsSoundCut cut.now }
+    requires few { member_count cut.now ≤ MEMBERS }
+    requires there { place < place_count cut.now }
+    requires count { length sets.old ≡ member_count cut.now }
+    requires room { member_count cut.now ≤ length room.old }
+    ensures count { length sets.new ≡ length sets.old }
+    ensures sets { (i j : ℕ) → i < member_count cut.now → j < member_count cut.now
+        → relates sets.new i j
+        ≡ (relates sets.old i j || precedes (member cut.now i) (member cut.now j) place) }
+{
+    let count = gather(cut, place, room);
+    take_in_visits(sets, &mut room[..count]);
+}
+
+// Puts those that visit a place later, by their starts and names, into the set of each visitor.
+fn take_in_visits(sets: &mut [MemberSet], visits: &mut [Visit])
+    requires few { length sets.old ≤ MEMBERS }
+    requires there { All (λ v. v.member < length sets.old) visits.old }
+    ensures same { IsPermutation visits.old visits.new }
+    ensures order { IsSortedByKey key_of key_cmp visits.new }
+    ensures count { length sets.new ≡ length sets.old }
+    ensures sets { (i j : ℕ) → relates sets.new i j
+        ≡ (relates sets.old i j || comes_first visits.new i j) }
+{
+    visits.sort_unstable_by_key(|visit| (visit.start, visit.member));
+    take_in_later(sets, visits);
 }
 
 // Puts those that visit a place later into the set of each visitor.
-fn take_in_later(sets: &mut Vec<MemberSet>, visits: &[Visit])
-    requires few { length sets.old.items ≤ MEMBERS }
-    requires there { All (λ v. v.member < length sets.old.items) visits.now }
-    ensures count { length sets.new.items ≡ length sets.old.items }
-    ensures sets { (i j : ℕ) → relates sets.new.items i j
-        ≡ (relates sets.old.items i j || comes_first visits.now i j) }
+fn take_in_later(sets: &mut [MemberSet], visits: &[Visit])
+    requires few { length sets.old ≤ MEMBERS }
+    requires there { All (λ v. v.member < length sets.old) visits.now }
+    ensures count { length sets.new ≡ length sets.old }
+    ensures sets { (i j : ℕ) → relates sets.new i j
+        ≡ (relates sets.old i j || comes_first visits.now i j) }
 {
     let mut later = MemberSet::new();
     let mut left = visits.len();

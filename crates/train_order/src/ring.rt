@@ -1,55 +1,43 @@
 //! The ring of the members that remain, where no order takes up all.
-ghost use Rattle.std.specs.Prelude.{◌≡◌, ◌≢◌, ℕ, ◌+◌, ◌<◌, ◌≤◌, ◌++◌, ◌==◌, [], All, true, not, reverse, map, drop, take, length, filter, nat_le, IfOk};
-ghost use Rattle.std.specs.List.{list_all, range_with_len, position_or_len, zip};
-ghost use Rattle.plan_model.specs.Members.{member, member_count};
-ghost use Rattle.plan_model.specs.Precedence.{precedes_somewhere};
-ghost use Rattle.plan_model.specs.Cut.{IsSoundCut};
+ghost use Rattle.std.specs.Prelude.{◌≡◌, ℕ, ◌<◌, ◌≤◌, ◌==◌, All, not, reverse, drop, length, filter, nat_le};
+ghost use Rattle.std.specs.List.{list_all, range_with_len, position_or_len};
+ghost use Rattle.plan_model.specs.declared.cut.Cut.{Cut};
 ghost use Rattle.plan_model.specs.Disorder as disorder;
 ghost use Rattle.train_order.specs.Sets.{ArePreceded, holds};
 ghost use Rattle.train_order.specs.Taking.{is_among, AreTakenUp};
-ghost use Rattle.train_order.specs.Walk.{step as step_of, ArePrecededWithin, IsNext, IsRound, IsRing};
+ghost use Rattle.train_order.specs.Walk.{step as step_of, ArePrecededWithin, IsRound, IsRingOf};
 
-use crate::link_place::link_place;
+use crate::member_list::MemberList;
 use crate::member_set::MemberSet;
-use plan_model::{Cut, Link, MEMBERS};
-use rail_model::{List, OutOfMemory};
-use std::alloc::Global;
+use plan_model::MEMBERS;
 
-/// The links of the ring, where not all members are taken up.
-pub(crate) fn ring(
-    alloc: Global,
-    cut: &Cut,
-    sets: &[MemberSet],
-    taken: &[u32],
-) -> Result<List<Link>, OutOfMemory>
-    requires sound { IsSoundCut cut.now }
+/// The members of the ring in the direction of precedence and from the least on, where not all
+/// members are taken up.
+pub(crate) fn ring_members(sets: &[MemberSet], taken: &[u32]) -> MemberList
     requires few { length sets.now ≤ MEMBERS }
-    requires told { ArePreceded cut.now sets.now }
     requires taken { AreTakenUp sets.now taken.now }
     requires some { length taken.now < length sets.now }
-    ensures { IfOk result (λ links. links ≡ disorder.ring cut.now) }
+    ensures { (cut : Cut) → ArePreceded cut sets.now → IsRingOf cut result }
 {
-    let left = left_members(alloc, sets.len(), taken)?;
-    let (walk, from) = walked(alloc, sets, &left)?;
-    let members = turned(alloc, &walk, from)?;
-    links(alloc, cut, &members)
+    let left = left_members(sets.len(), taken);
+    let (walk, from) = walked(sets, left.slice());
+    turned(walk.slice(), from)
 }
 
 // The members that are not taken up.
-fn left_members(alloc: Global, count: usize, taken: &[u32]) -> Result<Vec<u32>, OutOfMemory>
+fn left_members(count: usize, taken: &[u32]) -> MemberList
     requires few { count ≤ MEMBERS }
     requires there { All (λ k. k < count) taken.now }
-    ensures { IfOk result (λ left. left.items
-        ≡ filter (λ i. not (is_among taken.now i)) (range_with_len 0 count)) }
+    ensures { result ≡ filter (λ i. not (is_among taken.now i)) (range_with_len 0 count) }
 {
     let gone = set_of(taken);
-    let mut left = Vec::new(alloc);
+    let mut left = MemberList::new();
     for j in 0..count {
         if !gone.has(j) {
-            left.push(j as u32)?;
+            left.push(j as u32);
         }
     }
-    Ok(left)
+    left
 }
 
 fn set_of(members: &[u32]) -> MemberSet
@@ -64,20 +52,20 @@ fn set_of(members: &[u32]) -> MemberSet
 }
 
 // The walk over the members that are left, and where the one came first that comes a second time.
-fn walked(alloc: Global, sets: &[MemberSet], left: &[u32]) -> Result<(Vec<u32>, usize), OutOfMemory>
+fn walked(sets: &[MemberSet], left: &[u32]) -> (MemberList, usize)
     requires few { length sets.now ≤ MEMBERS }
     requires some { 0 < length left.now }
     requires preceded { ArePrecededWithin sets.now left.now }
-    ensures { IfOk result (λ w. IsRound sets.now left.now w.0.items w.1) }
+    ensures { IsRound sets.now left.now result.0 result.1 }
 {
-    let mut walk = Vec::new(alloc);
+    let mut walk = MemberList::new();
     let mut next = left[0] as usize;
-    while place_in(&walk, next) == walk.len() {
-        walk.push(next as u32)?;
+    while place_in(walk.slice(), next) == walk.len() {
+        walk.push(next as u32);
         next = step(sets, left, next);
     }
-    let from = place_in(&walk, next);
-    Ok((walk, from))
+    let from = place_in(walk.slice(), next);
+    (walk, from)
 }
 
 // Where a member comes first, or the number of all.
@@ -108,16 +96,16 @@ fn step(sets: &[MemberSet], left: &[u32], j: usize) -> usize
 }
 
 // The members of a walk from a place on, in the direction of precedence and from the least on.
-fn turned(alloc: Global, walk: &[u32], from: usize) -> Result<Vec<u32>, OutOfMemory>
-    requires { from < length walk.now }
-    ensures { IfOk result (λ members. members.items
-        ≡ disorder.from_least (reverse (drop from walk.now))) }
+fn turned(walk: &[u32], from: usize) -> MemberList
+    requires few { length walk.now ≤ MEMBERS }
+    requires there { from < length walk.now }
+    ensures { result ≡ disorder.from_least (reverse (drop from walk.now)) }
 {
-    let mut members = Vec::from_slice(alloc, &walk[from..])?;
+    let mut members = MemberList::of(&walk[from..]);
     members.reverse();
-    let least = least_place(&members);
+    let least = least_place(members.slice());
     members.rotate_left(least);
-    Ok(members)
+    members
 }
 
 // Where the least comes first.
@@ -133,45 +121,4 @@ fn least_place(members: &[u32]) -> usize
         }
     }
     least
-}
-
-// The links of a ring: of each member to the next, and of the last to the first.
-fn links(alloc: Global, cut: &Cut, members: &[u32]) -> Result<List<Link>, OutOfMemory>
-    requires sound { IsSoundCut cut.now }
-    requires ring { IsRing cut.now members.now }
-    ensures { IfOk result (λ links. links ≡ map (disorder.link_of cut.now)
-        (zip members.now (drop 1 members.now ++ take 1 members.now))) }
-{
-    let mut links = List::new(alloc);
-    for k in 0..members.len() {
-        let next = next_place(k, members.len());
-        links.push(link(alloc, cut, members[k] as usize, members[next] as usize)?)?;
-    }
-    Ok(links)
-}
-
-// The place after k in a ring.
-fn next_place(k: usize, count: usize) -> usize
-    requires { k < count }
-    ensures within { result < count }
-    ensures next { IsNext count k result }
-{
-    if k + 1 < count { k + 1 } else { 0 }
-}
-
-// Member i precedes member j.
-fn link(alloc: Global, cut: &Cut, i: usize, j: usize) -> Result<Link, OutOfMemory>
-    requires sound { IsSoundCut cut.now }
-    requires one { i < member_count cut.now }
-    requires other { j < member_count cut.now }
-    requires precedes { precedes_somewhere cut.now i j ≡ true }
-    ensures { IfOk result (λ link. link ≡ disorder.link_of cut.now (i, j)) }
-{
-    let block = link_place(alloc, cut, i, j)?;
-    let rows = cut.rows.slice();
-    Ok(Link {
-        train: rows[i].name,
-        block,
-        next: rows[j].name,
-    })
 }

@@ -1,9 +1,15 @@
-use Rattle.std.proofs.Common.{◌≡◌, ◌-◌}
-use Rattle.std.specs.Prelude.{find, None}
-use Rattle.std.specs.List.{range_with_len}
+use Rattle.std.proofs.Common.{◌≡◌, ℕ, ◌-◌, ◌<◌, ◌≤◌, false, true}
+use Rattle.train_order.specs.Sets.{relates}
 use Rattle.train_order.specs.Opposite.{oppose}
 use Rattle.train_order.proofs.opposite.opposed_by.Given as goal
 
--- none so far is opposed
+-- none before j is opposed, and i precedes j
 abbrev pub invariant-loop-j : goal.invariant-loop-j
-invariant-loop-j l = find (oppose l.sets l.i) (range_with_len l.from (l.j - l.from)) ≡ None
+invariant-loop-j l = record {
+  from_on : l.from ≤ l.j;
+  none : (k : ℕ) → l.from ≤ k → k < l.j → oppose l.sets l.i k ≡ false;
+  there : l.j < 768 → relates l.sets l.i l.j ≡ true;
+}
+
+abbrev pub decreases-loop-j : goal.decreases-loop-j
+decreases-loop-j l = l.until - l.j

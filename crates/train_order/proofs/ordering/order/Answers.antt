@@ -1,7 +1,10 @@
-use Rattle.std.proofs.Common.{◌≡◌, length, sym, ap, subst, arith}
+use Rattle.std.proofs.Common.{◌≡◌, length, sym, ap, subst, ◌∙◌, arith}
+use Rattle.plan_model.specs.Disorder.{opposite_of}
+use Rattle.std.specs.Option.{option_map}
 use Rattle.train_order.specs.Ordering.{IsOrder}
 use Rattle.train_order.specs.Sets.{ArePreceded}
 use Rattle.train_order.specs.Taking.{AreTakenUp}
+use Rattle.train_order.proofs.Answered.{told_is}
 use Rattle.train_order.proofs.Opposed.{none_opposite}
 use Rattle.train_order.proofs.Rounds.{none_remain, is_order, not_both}
 use Rattle.train_order.proofs.Whole.{whole_length}
@@ -11,26 +14,34 @@ pub returns-then-len : goal.returns-then-len
 returns-then-len c =
     let cut = c.args.cut.now in
     let sets = c.in_ok-sets.sets.items in
-    let taken = c.in_ok-taken.taken.items in
+    let taken = c.taken_up-taken.result in
     let told : ArePreceded cut sets = c.in_ok-sets.ensures in
-    let up : AreTakenUp sets taken = subst (λ ss. AreTakenUp ss taken) c.deref.ensures.value c.in_ok-taken.ensures in
+    let up : AreTakenUp sets taken = subst (λ ss. AreTakenUp ss taken) c.deref.ensures.value c.taken_up-taken.ensures in
     let whole : length taken ≡ length sets = omega (arith, c.len.ensures, c.len-2.ensures, c.if-len.true) in (
-      none_opposite cut (not_both cut sets told taken up whole),
+      ap (option_map (opposite_of cut)) (none_opposite cut (not_both cut sets told taken up whole)),
       none_remain cut sets told taken up whole,
-      subst (λ ps. IsOrder cut ps) (sym c.from_vec-positions.ensures) (is_order cut sets told taken up whole),
+      subst (λ ps. IsOrder cut ps) (sym (c.from_vec-positions.ensures ∙ c.in_ok-from_slice.ensures.items ∙ c.slice.ensures))
+          (is_order cut sets told taken up whole),
     )
 
-pub disorder-requires-clause-some : goal.disorder-requires-clause-some
-disorder-requires-clause-some c =
+pub disordered-requires-clause-some : goal.disordered-requires-clause-some
+disordered-requires-clause-some c =
     let sets = c.in_ok-sets.sets.items in
-    let taken = c.in_ok-taken.taken.items in
-    let up : AreTakenUp sets taken = subst (λ ss. AreTakenUp ss taken) c.deref.ensures.value c.in_ok-taken.ensures in
+    let taken = c.taken_up-taken.result in
+    let up : AreTakenUp sets taken = subst (λ ss. AreTakenUp ss taken) c.deref.ensures.value c.taken_up-taken.ensures in
     omega (
       arith,
       whole_length (length sets) taken up.sound.within up.sound.once,
       c.len.ensures,
       c.len-2.ensures,
       c.if-len.false,
-      ap length c.deref-3.ensures.value,
+      ap length c.slice-2.ensures,
       ap length c.deref-2.ensures.value,
     )
+
+pub returns : goal.returns
+returns c =
+    let cut = c.args.cut.now in
+    let told : ArePreceded cut c.deref-2.result.now =
+    subst (λ ss. ArePreceded cut ss) (sym c.deref-2.ensures.value) c.in_ok-sets.ensures in
+    told_is cut c.disordered.result c.in_ok-told.told (c.disordered.ensures.is cut told) c.in_ok-told.ensures

@@ -7,10 +7,10 @@ use Rattle.train_order.proofs.precedence.take_in_later.Given as goal
 -- the visits from the place on are walked: their members are in the set, and it went to each before it grew
 abbrev pub invariant-loop-left : goal.invariant-loop-left
 invariant-loop-left l = record {
-  count : length l.sets.items ≡ length l.fn.sets.items;
+  count : length l.sets ≡ length l.fn.sets;
   within : l.left ≤ length l.visits;
   later : (k : ℕ) → holds l.later.words k ≡ list_any (λ v. v.member == k) (drop l.left l.visits);
-  sets : (i j : ℕ) → relates l.sets.items i j ≡ (relates l.fn.sets.items i j || comes_first (drop l.left l.visits) i j);
+  sets : (i j : ℕ) → relates l.sets i j ≡ (relates l.fn.sets i j || comes_first (drop l.left l.visits) i j);
 }
 
 abbrev pub decreases-loop-left : goal.decreases-loop-left

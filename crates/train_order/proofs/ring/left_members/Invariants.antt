@@ -5,4 +5,4 @@ use Rattle.train_order.specs.Taking.{is_among}
 use Rattle.train_order.proofs.ring.left_members.Given as goal
 
 abbrev pub invariant-loop-j : goal.invariant-loop-j
-invariant-loop-j l = l.left.items ≡ filter (λ i. not (is_among l.taken i)) (range_with_len 0 l.j)
+invariant-loop-j l = l.left ≡ filter (λ i. not (is_among l.taken i)) (range_with_len 0 l.j)

@@ -6,11 +6,12 @@ use Rattle.train_order.proofs.ring.turned.Goals as goal
 
 pub returns : goal.returns
 returns c =
-    let piece : c.in_ok-members.members.items ≡ drop c.args.from c.args.walk.now = grind (arith, common_steps, c.in_ok-members.ensures.items) in
-    let back : c.reverse.new.self.items ≡ reverse (drop c.args.from c.args.walk.now) = c.reverse.ensures.items ∙ ap reverse piece in
-    let least : c.least_place-least.result ≡ position_or_len (λ m. list_all (nat_le m) (reverse (drop c.args.from c.args.walk.now))) (reverse (drop c.args.from c.args.walk.now)) =
-    c.least_place-least.ensures.least ∙ ap (λ (xs : List ℕ). position_or_len (λ m. list_all (nat_le m) xs) xs) (c.deref.ensures.value ∙ back) in
-    c.rotate_left.ensures.items
-    ∙ ap (λ k. drop k c.reverse.new.self.items ++ take k c.reverse.new.self.items) least
-    ∙ ap (λ xs. drop (position_or_len (λ m. list_all (nat_le m) (reverse (drop c.args.from c.args.walk.now))) (reverse (drop c.args.from c.args.walk.now))) xs
-    ++ take (position_or_len (λ m. list_all (nat_le m) (reverse (drop c.args.from c.args.walk.now))) (reverse (drop c.args.from c.args.walk.now))) xs) back
+    let walk : List ℕ = reverse (drop c.args.from c.args.walk.now) in
+    let piece : c.of-members.result ≡ drop c.args.from c.args.walk.now = grind (arith, common_steps, c.of-members.ensures) in
+    let back : c.reverse.new.self ≡ walk = c.reverse.ensures ∙ ap reverse piece in
+    let least : c.least_place-least.result ≡ position_or_len (λ m. list_all (nat_le m) walk) walk =
+    c.least_place-least.ensures.least ∙ ap (λ (xs : List ℕ). position_or_len (λ m. list_all (nat_le m) xs) xs) (c.slice.ensures ∙ back) in
+    c.rotate_left.ensures
+    ∙ ap (λ k. drop k c.reverse.new.self ++ take k c.reverse.new.self) least
+    ∙ ap (λ xs. drop (position_or_len (λ m. list_all (nat_le m) walk) walk) xs
+    ++ take (position_or_len (λ m. list_all (nat_le m) walk) walk) xs) back

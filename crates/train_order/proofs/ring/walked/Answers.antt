@@ -29,30 +29,45 @@ pub step-next-requires-clause-there : goal.step-next-requires-clause-there
 step-next-requires-clause-there c = λ k d l.
     omega (arith, c.requires.preceded.there (slice_index c.args.left.now k) (among_at c.args.left.now k _ l refl), get_or_default_zero c.args.left.now k d l)
 
+pub push-requires : goal.push-requires
+push-requires c =
+    let sets = c.args.sets.now in
+    let left = c.args.left.now in
+    let walk = c.loop-walk.walk in
+    let after = c.loop-walk.next in
+    let then = more sets left c.requires.preceded walk c.slice.result.now after c.place_in.result c.len.result c.loop-walk.invariant
+    c.slice.ensures c.place_in.ensures c.len.ensures c.loop-walk-test.true in
+    omega (
+      arith,
+      walk_short sets left c.requires.preceded (walk ++ after ∷ []) (step sets left after) then,
+      length-append walk (after ∷ []),
+      c.requires.few,
+    )
+
 pub loop-walk-smaller : goal.loop-walk-smaller
 loop-walk-smaller c =
     let sets = c.args.sets.now in
     let left = c.args.left.now in
-    let walk = c.loop-walk.walk.items in
+    let walk = c.loop-walk.walk in
     let after = c.loop-walk.next in
-    let then = more sets left c.requires.preceded walk c.deref.result.now after c.place_in.result c.len.result c.loop-walk.invariant
-    c.deref.ensures.value c.place_in.ensures (omega (arith, c.len.ensures)) c.loop-walk-test.true in
+    let then = more sets left c.requires.preceded walk c.slice.result.now after c.place_in.result c.len.result c.loop-walk.invariant
+    c.slice.ensures c.place_in.ensures c.len.ensures c.loop-walk-test.true in
     let short = walk_short sets left c.requires.preceded (walk ++ after ∷ []) (step sets left after) then in
-    omega (arith, short, length-append walk (after ∷ []), ap length c.in_ok-push.ensures.items)
+    omega (arith, short, length-append walk (after ∷ []), ap length c.push.ensures)
 
 pub loop-walk-preserved : goal.loop-walk-preserved
 loop-walk-preserved c =
     let sets = c.args.sets.now in
     let left = c.args.left.now in
-    let walk = c.loop-walk.walk.items in
+    let walk = c.loop-walk.walk in
     let after = c.loop-walk.next in
-    let then = more sets left c.requires.preceded walk c.deref.result.now after c.place_in.result c.len.result c.loop-walk.invariant
-    c.deref.ensures.value c.place_in.ensures (omega (arith, c.len.ensures)) c.loop-walk-test.true in
-    subst (λ w. IsWalk sets left w c.step-next.result) (sym c.in_ok-push.ensures.items)
+    let then = more sets left c.requires.preceded walk c.slice.result.now after c.place_in.result c.len.result c.loop-walk.invariant
+    c.slice.ensures c.place_in.ensures c.len.ensures c.loop-walk-test.true in
+    subst (λ w. IsWalk sets left w c.step-next.result) (sym c.push.ensures)
     (subst (λ m. IsWalk sets left (walk ++ after ∷ []) m) (sym c.step-next.ensures) then)
 
 pub returns : goal.returns
 returns c =
-    round c.args.sets.now c.args.left.now c.loop-walk.walk.items c.deref.result.now c.deref-2.result.now c.loop-walk.next
-    c.place_in.result c.place_in-from.result c.len.result c.loop-walk.invariant c.deref.ensures.value c.deref-2.ensures.value
-    c.place_in.ensures c.place_in-from.ensures (omega (arith, c.len.ensures)) c.loop-walk-test.false
+    round c.args.sets.now c.args.left.now c.loop-walk.walk c.slice.result.now c.slice-2.result.now c.loop-walk.next
+    c.place_in.result c.place_in-from.result c.len.result c.loop-walk.invariant c.slice.ensures c.slice-2.ensures
+    c.place_in.ensures c.place_in-from.ensures c.len.ensures c.loop-walk-test.false

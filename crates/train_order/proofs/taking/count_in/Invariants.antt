@@ -1,11 +1,14 @@
-use Rattle.std.proofs.Common.{◌≡◌, ℕ, ◌+◌, ◌<◌, ◌≤◌, cond, length, slice_index}
+use Rattle.std.proofs.Common.{◌≡◌, ◌-◌, ◌<◌, true, length}
 use Rattle.train_order.specs.Sets.{holds}
+use Rattle.train_order.specs.Taking.{AreRaised}
 use Rattle.train_order.proofs.taking.count_in.Given as goal
 
--- the counts below j are raised, the others stand
+-- the counts below j are raised, and j is in the set
 abbrev pub invariant-loop-j : goal.invariant-loop-j
 invariant-loop-j l = record {
-  count : length l.waits.items ≡ length l.fn.waits.items;
-  done : (k : ℕ) → k < l.j → slice_index l.waits.items k ≡ slice_index l.fn.waits.items k + cond (holds l.set.words k) 1 0;
-  rest : (k : ℕ) → l.j ≤ k → slice_index l.waits.items k ≡ slice_index l.fn.waits.items k;
+  raised : AreRaised l.set.words l.fn.waits l.waits l.j;
+  there : l.j < 768 → holds l.set.words l.j ≡ true;
 }
+
+abbrev pub decreases-loop-j : goal.decreases-loop-j
+decreases-loop-j l = length l.waits - l.j

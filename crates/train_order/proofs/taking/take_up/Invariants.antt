@@ -1,12 +1,17 @@
-use Rattle.std.proofs.Common.{◌≡◌, ◌++◌}
+use Rattle.std.proofs.Common.{◌≡◌, ◌-◌, ◌<◌, ◌++◌, true, length}
 use Rattle.std.specs.Prelude.{filter}
 use Rattle.std.specs.List.{range_with_len}
+use Rattle.train_order.specs.Sets.{holds}
 use Rattle.train_order.specs.Taking.{AreLowered, is_freed}
 use Rattle.train_order.proofs.taking.take_up.Given as goal
 
--- the counts below j are lowered, and those that came to 0 are added
+-- the counts below j are lowered, those that came to 0 are added, and j is in the set
 abbrev pub invariant-loop-j : goal.invariant-loop-j
 invariant-loop-j l = record {
-  lowered : AreLowered l.set.words l.fn.waits.items l.waits.items l.j;
-  added : l.taken.items ≡ l.fn.taken.items ++ filter (is_freed l.set.words l.fn.waits.items) (range_with_len 0 l.j);
+  lowered : AreLowered l.set.words l.fn.waits l.waits l.j;
+  added : l.taken ≡ l.fn.taken ++ filter (is_freed l.set.words l.fn.waits) (range_with_len 0 l.j);
+  there : l.j < 768 → holds l.set.words l.j ≡ true;
 }
+
+abbrev pub decreases-loop-j : goal.decreases-loop-j
+decreases-loop-j l = length l.waits - l.j

@@ -1,57 +1,6 @@
-use Rattle.std.proofs.Common.{◌≡◌, ℕ, ◌-◌, ◌<◌, ◌++◌, ◌==◌, true, cond, List, length, get_or, ap, subst, ◌∙◌, arith}
-use Rattle.std.specs.Prelude.{filter, slice_index, slice_index_or}
-use Rattle.std.specs.List.{range_with_len}
-use Rattle.std.proofs.lemmas.List.{get_or_default}
-use Rattle.train_order.specs.Sets.{no_set, relates}
-use Rattle.train_order.specs.Taking.{is_freed}
-use Rattle.train_order.proofs.Step.{at_first, has_count, one_more, at_last}
-use Rattle.train_order.proofs.Whole.{whole_length}
+use Rattle.std.proofs.Common.{length}
+use Rattle.train_order.proofs.Lowered.{all_zero}
 use Rattle.train_order.proofs.taking.taken_up.Goals as goal
 
-pub loop-at-init : goal.loop-at-init
-loop-at-init c =
-    let waits = c.in_ok-waits.waits.items in
-    let long : length waits ≡ length c.args.sets.now = c.in_ok-waits.ensures.count in
-    at_first c.args.sets.now waits c.in_ok-taken.taken.items long c.in_ok-waits.ensures.each
-    (c.in_ok-taken.ensures
-    ∙ ap (λ (ws : List ℕ). filter (λ j. slice_index ws j == 0) (range_with_len 0 (length ws))) c.deref.ensures.value
-    ∙ ap (λ n. filter (λ j. slice_index waits j == 0) (range_with_len 0 n)) long)
-
--- the member at the place of the work
-read : (taken : List ℕ) (at len member : ℕ) → len ≡ length taken → at < len → member ≡ get_or taken at member
-    → (at < length taken) × (member ≡ get_or taken at 0)
-read taken at len member e l is =
-    let within : at < length taken = omega arith in
-    (within, is ∙ get_or_default taken at member 0 within)
-
-pub take_up-requires-clause-counted : goal.take_up-requires-clause-counted
-take_up-requires-clause-counted c = λ j l r.
-    let inv = c.loop-at.invariant in
-    let sets = c.args.sets.now in
-    let member = read c.loop-at.taken.items c.loop-at.at c.len.result c.index.result.now (omega (arith, c.len.ensures)) c.loop-at-test.true c.index.ensures in
-    has_count sets c.loop-at.taken.items c.loop-at.waits.items c.loop-at.at inv member.0 j
-    (omega (arith, l, inv.count)) (subst (λ m. relates sets m j ≡ true) member.1 r)
-
-pub loop-at-smaller : goal.loop-at-smaller
-loop-at-smaller c =
-    let inv = c.loop-at.invariant in
-    omega (arith, whole_length (length c.args.sets.now) c.loop-at.taken.items inv.sound.within inv.sound.once, c.loop-at-test.true)
-
-pub loop-at-preserved : goal.loop-at-preserved
-loop-at-preserved c =
-    let inv = c.loop-at.invariant in
-    let sets = c.args.sets.now in
-    let taken = c.loop-at.taken.items in
-    let waits = c.loop-at.waits.items in
-    let at = c.loop-at.at in
-    let member = read taken at c.len.result c.index.result.now (omega (arith, c.len.ensures)) c.loop-at-test.true c.index.ensures in
-    one_more sets taken waits at inv member.0 c.take_up.new.waits.items c.take_up.new.taken.items c.in_ok-take_up.ensures.count
-    (λ j l. c.in_ok-take_up.ensures.each j (omega (arith, l, inv.count))
-    ∙ ap (λ m. slice_index waits j - cond (relates sets m j) 1 0) member.1)
-    (c.in_ok-take_up.ensures.taken
-    ∙ ap (λ m. taken ++ filter (is_freed (slice_index_or sets m no_set).words waits) (range_with_len 0 (length waits))) member.1
-    ∙ ap (λ n. taken ++ filter (is_freed (slice_index_or sets (get_or taken at 0) no_set).words waits) (range_with_len 0 n)) inv.count)
-
-pub returns : goal.returns
-returns c = at_last c.args.sets.now c.loop-at.taken.items c.loop-at.waits.items c.loop-at.at c.loop-at.invariant
-    (omega (arith, c.loop-at-test.false, c.len.ensures))
+pub taken_by_counts-requires-clause-zero : goal.taken_by_counts-requires-clause-zero
+taken_by_counts-requires-clause-zero c = all_zero (length c.args.sets.now) 768

@@ -1,0 +1,29 @@
+use Rattle.std.proofs.Common.{◌≡◌, length, ap, arith}
+use Rattle.train_order.proofs.Opposed.{none_opposite}
+use Rattle.train_order.proofs.Rounds.{none_remain, not_both}
+use Rattle.train_order.proofs.Whole.{whole_length}
+use Rattle.train_order.proofs.disorder.disorder_by.Goals as goal
+
+pub returns-then-len-sets-clause-disorder : goal.returns-then-len-sets-clause-disorder
+returns-then-len-sets-clause-disorder c =
+    let cut = c.args.cut.now in
+    let sets = c.put_preceded.new.sets in
+    let taken = c.taken_up-taken.result in
+    let up = c.taken_up-taken.ensures in
+    let whole : length taken ≡ length sets = omega (arith, c.len.ensures, c.if-len-sets.true) in (
+      none_opposite cut (not_both cut sets c.put_preceded.ensures taken up whole),
+      none_remain cut sets c.put_preceded.ensures taken up whole,
+    )
+
+pub disordered-requires-clause-some : goal.disordered-requires-clause-some
+disordered-requires-clause-some c =
+    let sets = c.put_preceded.new.sets in
+    let taken = c.taken_up-taken.result in
+    let up = c.taken_up-taken.ensures in
+    omega (
+      arith,
+      whole_length (length sets) taken up.sound.within up.sound.once,
+      c.len.ensures,
+      c.if-len-sets.false,
+      ap length c.slice.ensures,
+    )

@@ -1,0 +1,15 @@
+use Rattle.std.proofs.Common.{◌≡◌, ℕ, ◌<◌, ◌≤◌, length}
+use Rattle.std.specs.List.{list_any, range_with_len}
+use Rattle.plan_model.specs.Members.{member, member_count}
+use Rattle.plan_model.specs.Precedence.{precedes}
+use Rattle.train_order.specs.Sets.{relates}
+use Rattle.train_order.proofs.precedence.put_preceded.Given as goal
+
+-- the sets tell of the precedence at the places so far
+abbrev pub invariant-loop-place : goal.invariant-loop-place
+invariant-loop-place l = record {
+  room : member_count l.cut ≤ length l.room;
+  count : length l.sets ≡ member_count l.cut;
+  each : (i j : ℕ) → i < member_count l.cut → j < member_count l.cut
+      → relates l.sets i j ≡ list_any (precedes (member l.cut i) (member l.cut j)) (range_with_len 0 l.place);
+}

@@ -1,0 +1,89 @@
+//! What is told of disorder: the trains by their names, and the places at which they precede.
+ghost use Rattle.std.specs.Prelude.{◌≡◌, ◌<◌, ◌++◌, map, drop, take, true, IsTrue, length, IfOk};
+ghost use Rattle.std.specs.List.{zip};
+ghost use Rattle.plan_model.specs.Members.{member_count};
+ghost use Rattle.plan_model.specs.Precedence.{precedes_somewhere};
+ghost use Rattle.plan_model.specs.Cut.{IsSoundCut};
+ghost use Rattle.plan_model.specs.Disorder as disorder;
+ghost use Rattle.train_order.specs.Opposite.{told_opposite};
+ghost use Rattle.train_order.specs.Ordering.{PrecedeInTurn, IsTold};
+ghost use Rattle.train_order.specs.Walk.{IsNext, IsRing};
+
+use crate::found::{Disorder, Disordered};
+use crate::link_place::place_of_link;
+use plan_model::{Cut, Link};
+use rail_model::{List, OutOfMemory};
+use std::alloc::Global;
+
+/// What is told of members that have no order.
+pub(crate) fn tell(alloc: Global, cut: &Cut, found: &Disordered) -> Result<Disorder, OutOfMemory>
+    requires sound { IsSoundCut cut.now }
+    requires in_turn { PrecedeInTurn cut.now found.now }
+    ensures { IfOk result (λ told. IsTold cut.now found.now told) }
+{
+    match found {
+        Disordered::Opposite(i, j) => Ok(opposite(cut, *i, *j)),
+        Disordered::Ring(members) => Ok(Disorder::Ring(links(alloc, cut, members.slice())?)),
+    }
+}
+
+// Members i and j are opposite.
+fn opposite(cut: &Cut, i: u32, j: u32) -> Disorder
+    requires sound { IsSoundCut cut.now }
+    requires one { i < member_count cut.now }
+    requires other { j < member_count cut.now }
+    requires precedes { IsTrue (precedes_somewhere cut.now i j) }
+    requires preceded { IsTrue (precedes_somewhere cut.now j i) }
+    ensures { result ≡ told_opposite cut.now i j }
+{
+    let block1 = place_of_link(cut, i, j);
+    let block2 = place_of_link(cut, j, i);
+    let rows = cut.rows.slice();
+    Disorder::Opposite {
+        first: rows[i as usize].name,
+        second: rows[j as usize].name,
+        block1,
+        block2,
+    }
+}
+
+// The links of a ring: of each member to the next, and of the last to the first.
+fn links(alloc: Global, cut: &Cut, members: &[u32]) -> Result<List<Link>, OutOfMemory>
+    requires sound { IsSoundCut cut.now }
+    requires ring { IsRing cut.now members.now }
+    ensures { IfOk result (λ links. links ≡ map (disorder.link_of cut.now)
+        (zip members.now (drop 1 members.now ++ take 1 members.now))) }
+{
+    let mut links = List::new(alloc);
+    for k in 0..members.len() {
+        let next = next_place(k, members.len());
+        links.push(link(cut, members[k], members[next]))?;
+    }
+    Ok(links)
+}
+
+// The place after k in a ring.
+fn next_place(k: usize, count: usize) -> usize
+    requires { k < count }
+    ensures within { result < count }
+    ensures next { IsNext count k result }
+{
+    if k + 1 < count { k + 1 } else { 0 }
+}
+
+// Member i precedes member j.
+fn link(cut: &Cut, i: u32, j: u32) -> Link
+    requires sound { IsSoundCut cut.now }
+    requires one { i < member_count cut.now }
+    requires other { j < member_count cut.now }
+    requires precedes { precedes_somewhere cut.now i j ≡ true }
+    ensures { result ≡ disorder.link_of cut.now (i, j) }
+{
+    let block = place_of_link(cut, i, j);
+    let rows = cut.rows.slice();
+    Link {
+        train: rows[i as usize].name,
+        block,
+        next: rows[j as usize].name,
+    }
+}
