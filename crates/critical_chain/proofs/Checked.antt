@@ -28,7 +28,7 @@ use Rattle.critical_chain.proofs.First.{touched}
 
 module _ (cut : Cut) (entries : List ℤ) (j : ℕ) where
   -- a train is tied where its tie says so
-  tied_by : (tie : Tie) → tie_of cut entries j ≡ tie
+  pub tied_by : (tie : Tie) → tie_of cut entries j ≡ tie
       → (tie_of cut entries j ≡ Start → entry_at entries j ≡ window_start cut) → IsTied cut entries j
   tied_by Start is starts = inl (starts is)
   tied_by (After i block) is starts =

@@ -2,7 +2,17 @@ pub mod Rounds
 pub mod Ties
 pub mod First
 pub mod Walk
+pub mod Behind
 pub mod Checked
 pub mod Unique
 pub mod Opposite
 pub mod Ranked
+pub mod Visited
+pub mod Gathered
+pub mod InTurn
+pub mod LastMember
+pub mod Users
+pub mod Tied
+pub mod Late
+pub mod Fitting
+pub mod RingLinks

@@ -70,17 +70,29 @@ module _ (cut : Cut) (entries : List ℤ) (i block j : ℕ) (tie : tie_of cut en
   pub touched_by : list_any (touches cut entries i j) (places cut) ≡ true
   touched_by = one.1
 
-  pub bound : IsBound cut i block j
-  bound =
-      let parts = of_member (touching_member cut entries j) (λ k. touching_place cut entries k j) i block touch_is in
+  parts : (touching_member cut entries j ≡ Some i) × (touching_place cut entries i j ≡ Some block)
+  parts = of_member (touching_member cut entries j) (λ k. touching_place cut entries k j) i block touch_is
+
+  -- the member touches there, and is the first that touches, and the place the first by name at which it does
+  pub record IsFirstTouch : Type 0 where
+    pub touch : touches cut entries i j block ≡ true
+    pub member : touching_member cut entries j ≡ Some i
+    pub there : has (places cut) block ≡ true
+    pub first : list_all (λ c. not (is_before (place_name cut c) (place_name cut block))) (filter (touches cut entries i j) (places cut)) ≡ true
+
+  pub touch_at : IsFirstTouch
+  touch_at =
       let place =
       found (λ b. list_all (λ c. not (is_before (place_name cut c) (place_name cut b))) (filter (touches cut entries i j) (places cut)))
       (filter (touches cut entries i j) (places cut)) block parts.1 in
       let touched = filter-has (touches cut entries i j) (places cut) block place.0 in
-      record {
-        member = omega (arith, in_range 0 (member_count cut) i one.0);
-        place = omega (arith, in_range 0 (place_count cut) block touched.0);
-        before =
-            has_any (precedes (member cut i) (member cut j)) (places cut) block touched.0
-            (and_parts (precedes (member cut i) (member cut j) block) _ touched.1).0;
-      }
+      record { touch = touched.1; member = parts.0; there = touched.0; first = place.1 }
+
+  pub bound : IsBound cut i block j
+  bound = record {
+    member = omega (arith, in_range 0 (member_count cut) i one.0);
+    place = omega (arith, in_range 0 (place_count cut) block touch_at.there);
+    before =
+        has_any (precedes (member cut i) (member cut j)) (places cut) block touch_at.there
+        (and_parts (precedes (member cut i) (member cut j) block) _ touch_at.touch).0;
+  }

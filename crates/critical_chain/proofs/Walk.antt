@@ -1,12 +1,12 @@
 -- The walk from a train back along ties.
-use Rattle.std.proofs.Common.{◌≡◌, ℕ, ◌+◌, ◌-◌, ◌<◌, ◌≤◌, ◌++◌, List, [], ◌∷◌, length, refl, sym, ap, subst, ◌∙◌, arith, length-append}
+use Rattle.std.proofs.Common.{◌≡◌, ℕ, zero, suc, ◌+◌, ◌-◌, ◌<◌, ◌≤◌, ◌++◌, List, [], ◌∷◌, length, refl, sym, ap, subst, ◌∙◌, arith, length-append}
 use Rattle.std.specs.Prelude.{reverse, slice_index_or}
 use Rattle.std.proofs.lemmas.List.FromFn.{length-map-range_with_len, get_or-map-range_with_len}
-use Rattle.std.proofs.lemmas.List.{reverse-append, get_or_default}
+use Rattle.std.proofs.lemmas.List.{append_assoc, append-nil, reverse-append, get_or_default}
 use Rattle.rail_model.specs.declared.limits.TheConstants.{RUNS}
 use Rattle.plan_model.specs.declared.cut.Cut.{Cut}
 use Rattle.plan_model.specs.declared.answer.Tie.{Tie}
-use Rattle.plan_model.specs.declared.answer.Tie.TheVariants.{After}
+use Rattle.plan_model.specs.declared.answer.Tie.TheVariants.{Start, After}
 use Rattle.plan_model.specs.declared.answer.Placed.{Placed}
 use Rattle.plan_model.specs.declared.answer.Plan.{Plan}
 use Rattle.plan_model.specs.declared.answer.Link.{Link}
@@ -15,7 +15,7 @@ use Rattle.plan_model.specs.Members.{member_count}
 use Rattle.plan_model.specs.Tie.{tie_of}
 use Rattle.plan_model.specs.Answer.{placed_at}
 use Rattle.plan_model.proofs.MemberTests.{has}
-use Rattle.critical_chain.specs.Chain.{IsPlan, IsPlanOf, no_train, tie_at, link_at, Leads}
+use Rattle.critical_chain.specs.Chain.{IsPlan, IsPlanOf, no_train, tie_at, link_at, Leads, through_tie, chain_back}
 use Rattle.critical_chain.proofs.Rounds.{IsOutWithin, some_rounds, earlier}
 use Rattle.critical_chain.proofs.Ties.{IsBound, bound}
 
@@ -51,11 +51,23 @@ pub tie_read : (plan : Plan) (items : List Placed) (at : ℕ) (d : Placed) (tie 
 tie_read plan items at d tie e l is =
     sym (ap (λ (p : Placed). p.tie) (read items plan.placed at d no_train e l)) ∙ is
 
--- the walk has come to a train: its links, the last one first, lead from there, and as many rounds as there are
--- trains left to visit take it out
+-- the links behind a train end there where it has no tie, and else with the one of its tie
+pub none_behind : (plan : Plan) (n j : ℕ) → tie_at plan j ≡ Start → chain_back plan n j ≡ []
+none_behind plan zero j e = refl
+none_behind plan (suc n) j e = ap (through_tie plan (chain_back plan n) j) e
+
+pub one_behind : (plan : Plan) (n m i block j : ℕ) → n ≡ suc m → tie_at plan j ≡ After i block
+    → chain_back plan n j ≡ chain_back plan m i ++ link_at plan i block j ∷ []
+one_behind plan n m i block j is e =
+    ap (λ k. chain_back plan k j) is ∙ ap (through_tie plan (chain_back plan m) j) e
+
+-- the walk has come to a train: its links, the last one first, lead from there and end the train's chain, and as many
+-- rounds as there are trains left to visit take it out
 pub record HasWalked (plan : Plan) (train : ℕ) (links : List Link) (at : ℕ) : Type 0 where
   pub there : at < length plan.placed
   pub leads : Leads plan at (reverse links) train
+  pub behind : chain_back plan (length plan.placed) train
+      ≡ chain_back plan (length plan.placed - length links) at ++ reverse links
   pub short : length links ≤ length plan.placed
   pub left : (cut : Cut) → IsPlanOf cut plan → IsOutWithin cut (length plan.placed - length links) at
 
@@ -63,6 +75,9 @@ pub at_first : (plan : Plan) (train : ℕ) → train < length plan.placed → Ha
 at_first plan train l = record {
   there = l;
   leads = refl;
+  behind =
+      let all : length plan.placed - 0 ≡ length plan.placed = omega arith in
+      sym (append-nil (chain_back plan (length plan.placed - 0) train) ∙ ap (λ n. chain_back plan n train) all);
   short = omega arith;
   left = λ cut of.
       let all : length plan.placed - 0 ≡ member_count cut = omega (arith, count cut plan of) in
@@ -99,6 +114,14 @@ module _ (plan : Plan) (is : IsPlan plan) (train : ℕ) (links : List Link) (at 
         leads =
             subst (λ ls. Leads plan i ls train) (sym (ap reverse e ∙ reverse-append links (link ∷ [])))
             (at, block, walked.there, tie, is_link, walked.leads);
+        behind =
+            walked.behind
+            ∙ ap (λ ls. ls ++ reverse links)
+            (one_behind plan (length plan.placed - length links) (length plan.placed - length more) i block at
+            (omega (arith, more_left, long)) tie)
+            ∙ append_assoc (chain_back plan (length plan.placed - length more) i) (link_at plan i block at ∷ []) (reverse links)
+            ∙ ap (λ ls. chain_back plan (length plan.placed - length more) i ++ ls)
+            (ap (λ l. l ∷ reverse links) (sym is_link) ∙ sym (ap reverse e ∙ reverse-append links (link ∷ [])));
         short = omega (arith, more_left, long);
         left = λ cut of. subst (λ k. IsOutWithin cut (length plan.placed - k) i) (sym long) (one_fewer cut of);
       }

@@ -1,5 +1,5 @@
 -- Chains: which trains, each touched by the next, make a train enter no earlier.
-use Rattle.std.specs.Prelude.{◌≡◌, ℕ, ◌<◌, pos, List, [], ◌∷◌, length, slice_index_or}
+use Rattle.std.specs.Prelude.{◌≡◌, ℕ, zero, suc, ◌<◌, pos, List, [], ◌∷◌, ◌++◌, length, slice_index_or}
 use Rattle.plan_model.specs.declared.cut.Cut.{Cut}
 use Rattle.plan_model.specs.declared.answer.Tie.{Tie}
 use Rattle.plan_model.specs.declared.answer.Tie.TheVariants.{Start, After}
@@ -55,3 +55,23 @@ abbrev pub ChainIsUnique : Type 0
 ChainIsUnique =
     (plan : Plan) (train : ℕ) (links other : List Link) → IsChain plan train links → IsChain plan train other
     → links ≡ other
+
+-- ---- the chain as a function
+
+-- the links behind a train by its tie, with those behind the train that it touches
+abbrev pub through_tie : Plan → (ℕ → List Link) → ℕ → Tie → List Link
+through_tie plan behind j Start = []
+through_tie plan behind j (After i block) = behind i ++ link_at plan i block j ∷ []
+
+-- the links that lead to train j by at most n ties back from it
+abbrev pub chain_back : Plan → ℕ → ℕ → List Link
+chain_back plan zero j = []
+chain_back plan (suc n) j = through_tie plan (chain_back plan n) j (tie_at plan j)
+
+-- the chain of a train of a compressed timetable, which has fewer links than there are trains
+abbrev pub chain_of : Plan → ℕ → List Link
+chain_of plan train = chain_back plan (length plan.placed) train
+
+-- it is the train's chain
+abbrev pub ChainIsOf : Type 0
+ChainIsOf = (plan : Plan) (train : ℕ) → IsPlan plan → train < length plan.placed → IsChain plan train (chain_of plan train)

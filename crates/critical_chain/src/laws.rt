@@ -1,10 +1,15 @@
 //! Laws of the definitions: each function does nothing, and its contract is the law.
-ghost use Rattle.critical_chain.specs.Chain.{ChainIsUnique};
+ghost use Rattle.critical_chain.specs.Chain.{ChainIsUnique, ChainIsOf};
 ghost use Rattle.critical_chain.specs.Checked.{CheckedIsCompressed, OrderedIsNotOpposite, RankedIsOrdered};
 
 /// A train of a plan has at most one chain.
 pub fn chain_is_unique()
     ensures { ChainIsUnique }
+{}
+
+/// The links behind a train of a compressed timetable by its tie, and so on, are its chain.
+pub fn chain_is_of()
+    ensures { ChainIsOf }
 {}
 
 /// Where no member remains, a plan is the compressed timetable of a sound cut exactly where it is

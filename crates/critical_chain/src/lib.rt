@@ -1,15 +1,24 @@
-//! The chain of trains that makes a train of a compressed timetable enter no earlier.
-//! Laws say what tells that a plan is the compressed timetable of a cut.
+//! The chain of trains that makes a train of a compressed timetable enter no earlier, and whether
+//! an answer is that of a cut. Laws say what tells that a plan is the compressed timetable of a cut.
 //!
 //! ```text
 //! for link in chain(alloc, &plan, critical)?.slice() { .. }
 //! ```
 #![tactic(auto)]
 
+mod answered;
+mod checking;
+mod kept;
+mod last;
 mod laws;
 mod links;
+mod names;
+mod touched;
+mod trains;
+mod visits;
 
+pub use answered::is_answer;
 pub use laws::{
-    chain_is_unique, checked_is_compressed, ordered_is_not_opposite, ranked_is_ordered,
+    chain_is_of, chain_is_unique, checked_is_compressed, ordered_is_not_opposite, ranked_is_ordered,
 };
 pub use links::chain;

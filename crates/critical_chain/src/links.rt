@@ -1,7 +1,7 @@
 //! The chain of a train: its tie, the tie of the train that it touches, and so on back to a train
 //! that enters at the window's start.
 ghost use Rattle.std.specs.Prelude.{◌≡◌, ◌<◌, ◌^◌, length, reverse, IfOk};
-ghost use Rattle.critical_chain.specs.Chain.{IsPlan, IsChain, link_at};
+ghost use Rattle.critical_chain.specs.Chain.{IsPlan, IsChain, link_at, chain_of};
 
 use plan_model::{Link, Plan, Tie};
 use rail_model::{List, OutOfMemory};
@@ -15,7 +15,8 @@ use std::alloc::Global;
 pub fn chain(alloc: Global, plan: &Plan, train: u32) -> Result<List<Link>, OutOfMemory>
     requires plan { IsPlan plan.now }
     requires there { train < length plan.now.placed }
-    ensures { IfOk result (λ links. IsChain plan.now train links) }
+    ensures chain { IfOk result (λ links. IsChain plan.now train links) }
+    ensures same { IfOk result (λ links. links ≡ chain_of plan.now train) }
 {
     let mut links = Vec::new(alloc);
     let mut next = train;

@@ -1,7 +1,8 @@
-use Rattle.std.proofs.Common.{List, sym, ap, subst, arith, length, length-append, ◌∷◌, []}
+use Rattle.std.proofs.Common.{List, sym, ap, subst, ◌∙◌, arith, length, length-append, ◌++◌, ◌∷◌, []}
+use Rattle.std.specs.Prelude.{reverse}
 use Rattle.plan_model.specs.declared.answer.Link.{Link}
 use Rattle.critical_chain.specs.Chain.{Leads}
-use Rattle.critical_chain.proofs.Walk.{HasWalked, at_first, tie_read, train_there, place_there, more_left, one_more}
+use Rattle.critical_chain.proofs.Walk.{HasWalked, none_behind, at_first, tie_read, train_there, place_there, more_left, one_more}
 use Rattle.critical_chain.proofs.links.chain.Goals as goal
 
 pub loop-next-init : goal.loop-next-init
@@ -50,9 +51,16 @@ pub returns : goal.returns
 returns c =
     let plan = c.args.plan.now in
     let walked = c.loop-next.invariant in
-    let start = tie_read plan c.slice.result.now c.loop-next.next _ _ c.slice.ensures walked.there c.in_default.is in (
-      c.loop-next.next,
-      walked.there,
-      start,
-      subst (λ (ls : List Link). Leads plan c.loop-next.next ls c.args.train) (sym c.turned.ensures) walked.leads,
-    )
+    let start = tie_read plan c.slice.result.now c.loop-next.next _ _ c.slice.ensures walked.there c.in_default.is in
+    record {
+      chain = (
+        c.loop-next.next,
+        walked.there,
+        start,
+        subst (λ (ls : List Link). Leads plan c.loop-next.next ls c.args.train) (sym c.turned.ensures) walked.leads,
+      );
+      same =
+          c.turned.ensures
+          ∙ sym (walked.behind
+          ∙ ap (λ (ls : List Link). ls ++ reverse c.loop-next.links.items) (none_behind plan _ c.loop-next.next start));
+    }

@@ -1,0 +1,65 @@
+//! The train that ends its use of a block last.
+ghost use Rattle.std.specs.Prelude.{◌≡◌, ◌<◌, All, length, option_and_then};
+ghost use Rattle.plan_model.specs.Members.{member, member_count};
+ghost use Rattle.plan_model.specs.Cut.{IsSoundCut};
+ghost use Rattle.plan_model.specs.Occupancy.{last_member};
+ghost use Rattle.occupancy_rate.specs.Kept.{IsBounded};
+ghost use Rattle.critical_chain.specs.Parts as parts;
+
+use crate::visits::visit_of;
+use plan_model::Cut;
+
+// The first member by name that ends its use of a block last.
+#[derive(Clone, Copy)]
+pub(crate) struct Latest {
+    member: u32,
+    until: i64,
+}
+
+// The critical train where this block is the busiest.
+pub(crate) fn critical(cut: &Cut, entries: &[i64], busiest: Option<u32>) -> Option<u32>
+    requires sound { IsSoundCut cut.now }
+    requires entries { length entries.now ≡ member_count cut.now }
+    requires bounded { All IsBounded entries.now }
+    ensures { result ≡ option_and_then (last_member cut.now entries.now) busiest }
+{
+    match busiest {
+        Some(block) => last_at(cut, entries, block),
+        None => None,
+    }
+}
+
+// The first member by name that ends its use of a block last, if any uses it.
+fn last_at(cut: &Cut, entries: &[i64], block: u32) -> Option<u32>
+    requires sound { IsSoundCut cut.now }
+    requires entries { length entries.now ≡ member_count cut.now }
+    requires bounded { All IsBounded entries.now }
+    ensures { result ≡ last_member cut.now entries.now block }
+{
+    let mut latest = None;
+    for i in 0..cut.rows.len() {
+        if let Some(visit) = visit_of(cut, entries, i, block) {
+            latest = later(latest, visit.member, visit.until);
+        }
+    }
+    member_of(latest)
+}
+
+fn member_of(latest: Option<Latest>) -> Option<u32>
+    ensures { result ≡ parts.member_of latest }
+{
+    match latest {
+        Some(latest) => Some(latest.member),
+        None => None,
+    }
+}
+
+// The one that ends later; of two that end at one moment, the first.
+fn later(latest: Option<Latest>, member: u32, until: i64) -> Option<Latest>
+    ensures { result ≡ parts.later latest member until }
+{
+    match latest {
+        Some(latest) if latest.until >= until => Some(latest),
+        _ => Some(Latest { member, until }),
+    }
+}

@@ -1,0 +1,65 @@
+//! Whether a plan has the window, the places and the trains of a cut.
+ghost use Rattle.std.specs.Prelude.{◌≡◌, ℕ, ◌+◌, ◌<◌, ◌↔◌, ◌++◌, IsTrue, length};
+ghost use Rattle.plan_model.specs.Cut.{IsSoundCut};
+ghost use Rattle.critical_chain.specs.Parts as parts;
+
+use plan_model::{Cut, CutRow, Placed, Plan};
+use rail_model::Name;
+
+// Whether a plan has a cut's window, additional time rate and places.
+pub(crate) fn has_frame(cut: &Cut, plan: &Plan) -> bool
+    ensures { IsTrue result ↔ parts.HasFrame cut.now plan.now }
+{
+    plan.from_s == cut.section.from_s
+        && plan.to_s == cut.section.to_s
+        && plan.add_percent == cut.section.add_percent
+        && are_places(
+            plan.blocks.slice(),
+            cut.section.blocks.slice(),
+            cut.connections.slice(),
+        )
+}
+
+// Whether names are those of blocks, and then those of connections.
+fn are_places(names: &[Name], blocks: &[Name], connections: &[Name]) -> bool
+    ensures { IsTrue result ↔ (names.now ≡ blocks.now ++ connections.now) }
+{
+    names.len() >= blocks.len()
+        && are_same(&names[..blocks.len()], blocks)
+        && are_same(&names[blocks.len()..], connections)
+}
+
+// Whether the same names stand in both lists.
+fn are_same(names: &[Name], others: &[Name]) -> bool
+    ensures { IsTrue result ↔ (names.now ≡ others.now) }
+{
+    names == others
+}
+
+// Whether there is a train for each member, which enters within the limits.
+pub(crate) fn has_trains(cut: &Cut, placed: &[Placed]) -> bool
+    ensures { IsTrue result ↔ parts.HasTrains cut.now placed.now }
+{
+    if placed.len() != cut.rows.len() {
+        return false;
+    }
+    for (i, row) in cut.rows.slice().iter().enumerate() {
+        if !is_train(row, &placed[i], cut.section.from_s) {
+            return false;
+        }
+    }
+    true
+}
+
+// The latest entry that is looked at: seconds. No compressed timetable comes near it.
+const LATEST_ENTRY_S: i64 = 1_125_899_906_842_624;
+
+// Whether a train is a member's, and enters neither before the window nor too late to be looked at.
+fn is_train(row: &CutRow, placed: &Placed, from_s: u32) -> bool
+    ensures { IsTrue result ↔ parts.IsTrain row.now from_s placed.now }
+{
+    placed.train == row.name
+        && placed.planned == row.entry
+        && i64::from(from_s) <= placed.entry
+        && placed.entry <= LATEST_ENTRY_S
+}
