@@ -1,5 +1,6 @@
 mod Examples
 pub mod Cuts
+pub mod Appended
 pub mod Pieces
 pub mod Reading
 pub mod Words

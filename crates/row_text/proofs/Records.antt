@@ -84,8 +84,8 @@ HasRead-more old new text rest rows row has step first =
     (next.0, record { trim = step.3 ∙ has.trim; ready = inl first; config = step.2 ∙ has.config; source = next.1; reached = next.2 })
 
 -- at the end of the text
-pub HasRead-end : (old new : Reader (Bor (List ℕ))) (text rest : List ℕ) (rows : List Row) → HasRead old text rest rows → ReadRecord (λ s. Some s.now) old new false [] → rows_of text ≡ rows
-HasRead-end old new text rest rows has step =
-    let none = rows-end (λ (s : Bor (List ℕ)). Some s.now) old new [] default_config rest has.config has.source step in
+pub HasRead-end : (old new : Reader (Bor (List ℕ))) (text rest : List ℕ) (rows : List Row) (row : Row) → HasRead old text rest rows → ReadRecord (λ s. Some s.now) old new false row → rows_of text ≡ rows
+HasRead-end old new text rest rows row has step =
+    let none = rows-end (λ (s : Bor (List ℕ)). Some s.now) old new row default_config rest has.config has.source step in
     let all = records_from-Reached default_config (length (strip_bom text) + 1) st.StartRecord (strip_bom text) rows old.state rest has.reached (Reached-length default_config st.StartRecord (strip_bom text) rows old.state rest has.reached) in
     all.1 ∙ ap (λ more. rows ++ more) (records_from-end default_config all.0 old.state rest none) ∙ append-nil rows

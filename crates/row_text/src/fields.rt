@@ -1,9 +1,11 @@
 //! The fields of a row, kept as one text with the ends of the fields.
-ghost use Rattle.std.specs.Prelude.{◌≡◌, ◌+◌, ◌<◌, ◌≤◌, ◌^◌, ◌↔◌, [], ◌∷◌, ◌++◌, length, slice_index, slice_range, IsTrue, IfSome, IfOk, OnOk, OnErr};
-ghost use Rattle.csv.specs.Records.{cut_from, Rising, prev};
+ghost use Rattle.std.specs.Prelude.{◌≡◌, ◌+◌, ◌<◌, ◌≤◌, ◌^◌, ◌↔◌, [], ◌∷◌, ◌++◌, length, slice_index, slice_range, take, vec_len, vec_capacity, IsTrue, IfSome, IfOk, OnOk, OnErr};
+ghost use Rattle.csv.specs.Records.{IsRecord, cut_from, field_count, fields_of, last_end, prev, Rising, text_of};
+ghost use Rattle.row_text.specs.Cuts.{after_bytes};
 ghost use Rattle.row_text.specs.Row.{field};
 
 use crate::put::{make_room, put_bytes};
+use csv::ByteRecord;
 use rail_model::OutOfMemory;
 use std::alloc::Global;
 use std::marker::Model;
@@ -59,6 +61,23 @@ impl Fields {
             return Err(OutOfMemory);
         }
         self.used = put_bytes(&mut self.bytes, self.used, field);
+        Ok(())
+    }
+
+    // Puts the fields of a row at the end: its bytes at once, and then the place where each ends.
+    pub(crate) fn append(&mut self, row: &ByteRecord) -> Result<(), OutOfMemory>
+        requires { IsRecord row.now }
+        ensures { OnOk result (self.new ≡ self.old ++ fields_of row.now) }
+    {
+        let text = row.as_slice();
+        let Some(_) = end_after(self.used, text.len()) else {
+            return Err(OutOfMemory);
+        };
+        self.ends.reserve(row.len())?;
+        make_room(&mut self.bytes, self.used, text.len())?;
+        let end = put_ends(&mut self.ends, self.used, row);
+        let _text_end = put_bytes(&mut self.bytes, self.used, text);
+        self.used = end;
         Ok(())
     }
 
@@ -185,6 +204,37 @@ pub(crate) fn span(ends: &[u32], i: usize) -> (usize, usize)
         return (0, end);
     }
     (ends[i - 1] as usize, end)
+}
+
+// Puts the places where the fields of a row end, as its bytes stand after so many others. Gives
+// the last of them.
+#[inline]
+fn put_ends(ends: &mut Vec<u32>, used: usize, row: &ByteRecord) -> usize
+    requires rise { IsRecord row.now }
+    requires small { used + length (text_of row.now) < 2 ^ 32 }
+    requires room { vec_len ends.old + field_count row.now ≤ vec_capacity ends.old }
+    ensures places { ends.new.items ≡ ends.old.items ++ after_bytes used row.now.ends }
+    ensures last { result ≡ used + last_end 0 row.now.ends }
+{
+    let mut end = used;
+    for i in 0..row.len() {
+        end += field_len(row, i);
+        ends.push_reserved(end as u32);
+    }
+    end
+}
+
+// How long the field at `i` of a row is.
+#[inline]
+fn field_len(row: &ByteRecord, i: usize) -> usize
+    requires rise { IsRecord row.now }
+    requires there { i < field_count row.now }
+    ensures { last_end 0 (take i row.now.ends) + result ≡ slice_index row.now.ends i }
+{
+    match row.get(i) {
+        Some(field) => field.len(),
+        None => 0,
+    }
 }
 
 // Where a field of a length ends that stands after as many bytes.

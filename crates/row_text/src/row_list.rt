@@ -1,6 +1,6 @@
 //! The rows of a text.
 ghost use Rattle.std.specs.Prelude.{◌≡◌, ◌<◌, ◌++◌, ◌∷◌, [], length, slice_index_or, IfOk, OnOk, IsTrue, ◌↔◌};
-ghost use Rattle.csv.specs.Records.{fields_of};
+ghost use Rattle.csv.specs.Records.{fields_of, IsRecord};
 ghost use Rattle.row_text.specs.Row.{Row as TheRow};
 ghost use Rattle.row_text.specs.Lines.{read_in};
 ghost use Rattle.row_text.specs.Versions.{has_version_row, version_of, version_in, first_line};
@@ -140,54 +140,41 @@ ghost use Rattle.row_text.specs.Rows.{rows_of, Takes};
 pub fn rows(alloc: Global, text: &[u8]) -> Result<RowList, OutOfMemory>
     ensures { IfOk result (λ rows. rows ≡ rows_of text.now) }
 {
-    let rdr = ReaderBuilder::new()
+    let mut reader = ReaderBuilder::new()
         .has_headers(false)
         .flexible(true)
         .from_reader(alloc, text);
+    let mut row = ByteRecord::new(alloc);
     let mut taken = Taken {
         fields: Fields::new(alloc),
         ends: Vec::new(alloc),
     };
-    for row in rdr.into_byte_records() {
-        let Ok(row) = row else {
-            return Err(OutOfMemory);
-        };
-        take(&mut taken, &row)?;
+    // A text has no more rows than bytes.
+    'rows: for _ in 0..text.len() + 1 {
+        match reader.read_byte_record(&mut row) {
+            Ok(true) => take(&mut taken, &row)?,
+            Ok(false) => {
+                return Ok(RowList {
+                    fields: taken.fields,
+                    ends: taken.ends,
+                });
+            }
+            Err(_) => return Err(OutOfMemory),
+        }
     }
-    Ok(RowList {
-        fields: taken.fields,
-        ends: taken.ends,
-    })
+    Err(OutOfMemory)
 }
 
 // Takes one row more.
 fn take(taken: &mut Taken, row: &ByteRecord) -> Result<(), OutOfMemory>
+    requires { IsRecord row.now }
     ensures { OnOk result (Takes taken.old taken.new (fields_of row.now)) }
 {
-    take_fields(&mut taken.fields, row)?;
+    taken.fields.append(row)?;
     let end = taken.fields.len();
     if end >= MOST_BYTES {
         return Err(OutOfMemory);
     }
     taken.ends.push(end as u32)?;
     Ok(())
-}
-
-fn take_fields(fields: &mut Fields, row: &ByteRecord) -> Result<(), OutOfMemory>
-    ensures { OnOk result (fields.new ≡ fields.old ++ fields_of row.now) }
-{
-    for i in 0..row.len() {
-        fields.push(field_of(row, i))?;
-    }
-    Ok(())
-}
-
-fn field_of(row: &ByteRecord, i: usize) -> &[u8]
-    requires { i < length (fields_of row.now) }
-    ensures { result.now ≡ slice_index_or (fields_of row.now) i [] }
-{
-    match row.get(i) {
-        Some(field) => field,
-        None => b"",
-    }
 }

@@ -1,9 +1,9 @@
-use Rattle.std.proofs.Common.{◌<◌, ℕ, List}
+use Rattle.std.proofs.Common.{List, ℕ}
 use Rattle.row_text.specs.Row.{Row}
 use Rattle.row_text.specs.Rows.{HasTaken}
 use Rattle.row_text.proofs.Records.{HasRead}
 use Rattle.row_text.proofs.row_list.rows.Given as goal
 
-abbrev pub invariant-loop-row : goal.invariant-loop-row
-invariant-loop-row l =
-    (rest : List ℕ) × (rows : List Row) × HasRead l.row-iterator.rdr l.fn.text rest rows × (0 < l.row-iterator.left) × HasTaken l.taken rows
+abbrev pub invariant-rows : goal.invariant-rows
+invariant-rows l =
+    (rest : List ℕ) × (rows : List Row) × HasRead l.reader l.fn.text rest rows × HasTaken l.taken rows
