@@ -83,8 +83,9 @@ pub(crate) fn keys_of<T: Stored>(
 {
     let _count = table.len();
     let mut keys = List::new(alloc);
+    let mut near = 0;
     for name in names {
-        keys.push(table.key_of(name).unwrap())?;
+        keys.push(table.key_near(name, &mut near).unwrap())?;
     }
     Ok(keys)
 }
@@ -103,8 +104,9 @@ pub(crate) fn known_keys<T: Stored>(
 {
     let _count = table.len();
     let mut keys = List::new(alloc);
+    let mut near = 0;
     for name in names {
-        let Some(key) = table.key_of(name) else {
+        let Some(key) = table.key_near(name, &mut near) else {
             return Ok(None);
         };
         keys.push(key)?;

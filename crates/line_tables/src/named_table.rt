@@ -1,7 +1,9 @@
 //! A table of named items. An item stands under a key that stays its own until it is taken out, so what
 //! refers to it by its key needs no change while others come and go.
-ghost use Rattle.std.specs.Prelude.{◌≡◌, ◌<◌, false, true, length, take, drop, All, slice_get, is_some, IfSome, IsSome, IfOk, OnOk, OnErr, Some, None, MatchResult, []};
+ghost use Rattle.std.specs.Prelude.{◌≡◌, ◌<◌, false, true, length, take, drop, All, slice_get, is_some, IfSome, IsSome, IfOk, OnOk, OnErr, Some, None, MatchResult, [], nat_eq};
 ghost use Rattle.std.specs.Option.{option_map};
+ghost use Rattle.std.specs.Cmp.Lexicographic.{pointwise};
+ghost use Rattle.indexmap.specs.IndexMap.{get};
 ghost use Rattle.slab.specs.Slab.{get as slot};
 ghost use Rattle.rail_model.specs.Name.{NamesRise};
 ghost use Rattle.rail_model.specs.Rules.{is_named};
@@ -86,6 +88,17 @@ impl<T: Stored> NamedTable<T> {
         ensures table { tables.IsTable T.label self.now }
     {
         self.by_name.get(name).copied()
+    }
+
+    /// The same as `key_of` in a list of names. Each list starts with `near` at 0, and names that follow each
+    /// other in it as they were put in are found without being hashed.
+    pub(crate) fn key_near(&self, name: &Name, near: &mut usize) -> Option<usize>
+        ensures key { result ≡ tables.key_of T.label self.now name.now }
+        ensures there { is_some result ≡ is_named (tables.named T.label) self.now name.now }
+    {
+        let (place, key) = entry_near(&self.by_name, name, *near)?;
+        *near = place.wrapping_add(1);
+        Some(key)
     }
 
     /// The item under a key.
@@ -177,6 +190,19 @@ impl<T: Stored> NamedTable<T> {
             order: self.order.clone()?,
         })
     }
+}
+
+// The place of the entry of a name among the entries, and its key. The entry at `near` is tried before all.
+fn entry_near(by_name: &IndexMap<Name, usize>, name: &Name, near: usize) -> Option<(usize, usize)>
+    ensures { option_map (λ e. e.1) result ≡ get (pointwise nat_eq) by_name.now name.now }
+{
+    if let Some((other, key)) = by_name.get_index(near) {
+        if other == name {
+            return Some((near, *key));
+        }
+    }
+    let (place, _, key) = by_name.get_full(name)?;
+    Some((place, *key))
 }
 
 // The bytes of the name of the item under a key: none where there is no item.
