@@ -1,3 +1,8 @@
+mod Examples
 pub mod Rows
 pub mod Timetables
 pub mod Checks
+pub mod Joined
+pub mod Plans
+pub mod Reports
+pub mod Pairs

@@ -2,3 +2,9 @@ pub mod Added
 pub mod Stairs
 pub mod Blockings
 pub mod Check
+pub mod Answers
+pub mod Total
+pub mod Headways
+pub mod Pairs
+pub mod Report
+pub mod Shown

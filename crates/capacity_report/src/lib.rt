@@ -1,10 +1,19 @@
 //! The texts of the commands: their rows, written to a sheet.
 #![tactic(auto)]
 
+mod answers;
 mod check;
+mod compressed;
+mod headways;
+mod links;
+mod rates;
 mod stairs;
 mod timetable;
+mod total;
 
+pub use answers::{Detail, answer_rows, crowded_row};
 pub use check::conflict_rows;
+pub use headways::headway_rows;
 pub use stairs::stairs_rows;
 pub use timetable::stairways;
+pub use total::{Tally, total_row};

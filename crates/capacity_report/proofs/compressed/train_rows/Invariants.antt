@@ -1,0 +1,9 @@
+use Rattle.std.proofs.Common.{◌≡◌, ◌++◌, [], map, take}
+use Rattle.capacity_report.specs.Answers.{train_row}
+use Rattle.capacity_report.proofs.compressed.train_rows.Given as goal
+
+abbrev pub invariant-loop-placed : goal.invariant-loop-placed
+invariant-loop-placed l = record {
+  rows : l.sheet.rows ≡ l.fn.sheet.rows ++ map (train_row l.plan) (take l.placed-index l.plan.placed);
+  closed : l.sheet.row ≡ [];
+}

@@ -1,0 +1,118 @@
+//! The rows of `headways`.
+ghost use Rattle.std.specs.Prelude.{◌≡◌, ◌<◌, ◌++◌, ◌∷◌, [], codes, OnOk, OnErr, IfOk};
+ghost use Rattle.plan_model.specs.Cut.{IsSoundCut};
+ghost use Rattle.plan_model.specs.Members.{member_count};
+ghost use Rattle.headway_table.specs.Table.{table_of};
+ghost use Rattle.row_text.specs.SheetRows.{with_row};
+ghost use Rattle.capacity_report.specs.Added.{AddsPrefix};
+ghost use Rattle.capacity_report.specs.Headways as rows;
+ghost use Rattle.capacity_report.specs.Pairs as pairs;
+
+use headway_table::Headways;
+use plan_model::Cut;
+use rail_model::{Name, OutOfMemory};
+use row_text::{Sheet, Written};
+use std::alloc::Global;
+
+/// Adds the rows of the headways of a cut: one for each two trains that share a place, by the names
+/// of the first and then the second. A row that is open is dropped first. It takes memory; where
+/// that runs out, only a prefix of the rows is added, and the next row may be open.
+pub fn headway_rows(
+    alloc: Global,
+    sheet: &mut Sheet,
+    cut: &Cut,
+    table: &Headways,
+) -> Result<(), OutOfMemory>
+    requires sound { IsSoundCut cut.now }
+    requires table { table.now ≡ table_of cut.now }
+    ensures ok { OnOk result (sheet.new.rows ≡ sheet.old.rows ++ rows.headway_rows cut.now) }
+    ensures closed { OnOk result (sheet.new.row ≡ []) }
+    ensures err { OnErr result (AddsPrefix sheet.old sheet.new (rows.headway_rows cut.now)) }
+{
+    sheet.drop_row();
+    let names = member_names(alloc, cut)?;
+    for i in 0..cut.rows.len() {
+        rows_from(alloc, sheet, cut, table, &names, i)?;
+    }
+    Ok(())
+}
+
+// The names of the members, in the order of the rows.
+fn member_names(alloc: Global, cut: &Cut) -> Result<Vec<Written>, OutOfMemory>
+    ensures { IfOk result (λ names. names.items ≡ pairs.names_of cut.now) }
+{
+    let mut names = Vec::new(alloc);
+    for row in cut.rows.slice() {
+        names.push(Written::new(alloc, row.name.bytes())?)?;
+    }
+    Ok(names)
+}
+
+// Adds the rows of the headways from one member.
+fn rows_from(
+    alloc: Global,
+    sheet: &mut Sheet,
+    cut: &Cut,
+    table: &Headways,
+    names: &[Written],
+    i: usize,
+) -> Result<(), OutOfMemory>
+    requires table { table.now ≡ table_of cut.now }
+    requires names { names.now ≡ pairs.names_of cut.now }
+    requires there { i < member_count cut.now }
+    requires few { member_count cut.now < 4_294_967_296 }
+    ensures ok { OnOk result (sheet.new.rows ≡ sheet.old.rows ++ rows.rows_from cut.now i) }
+    ensures closed { OnOk result (sheet.new.row ≡ []) }
+    ensures err { OnErr result (AddsPrefix sheet.old sheet.new (rows.rows_from cut.now i)) }
+{
+    let head = head_of(alloc, &cut.rows.slice()[i].name)?;
+    sheet.drop_row();
+    for j in 0..names.len() {
+        add_headway(sheet, &head, &names[j], table.get(i as u32, j as u32))?;
+    }
+    Ok(())
+}
+
+// What stands at the head of each row of a train's headways.
+fn head_of(alloc: Global, first: &Name) -> Result<Written, OutOfMemory>
+    ensures { IfOk result (λ head. head ≡ codes "headway" ∷ first.now ∷ []) }
+{
+    Written::new(alloc, b"headway")?.with(alloc, first.bytes())
+}
+
+// Adds the row of a headway to a train, if there is one. Where memory runs out, no row is added.
+fn add_headway(
+    sheet: &mut Sheet,
+    head: &Written,
+    second: &Written,
+    headway: Option<i64>,
+) -> Result<(), OutOfMemory>
+    requires { sheet.old.row ≡ [] }
+    ensures ok { OnOk result (sheet.new.rows
+        ≡ sheet.old.rows ++ pairs.rows_to head.now second.now headway) }
+    ensures closed { OnOk result (sheet.new.row ≡ []) }
+    ensures err { OnErr result (sheet.new.rows ≡ sheet.old.rows) }
+{
+    match headway {
+        Some(seconds) => headway_row(sheet, head, second, seconds),
+        None => Ok(()),
+    }
+}
+
+// Adds the row of a headway.
+fn headway_row(
+    sheet: &mut Sheet,
+    head: &Written,
+    second: &Written,
+    seconds: i64,
+) -> Result<(), OutOfMemory>
+    requires { sheet.old.row ≡ [] }
+    ensures ok { OnOk result (sheet.new
+        ≡ with_row sheet.old (pairs.row_to head.now second.now seconds)) }
+    ensures err { OnErr result (sheet.new.rows ≡ sheet.old.rows) }
+{
+    sheet.push_written(head)?;
+    sheet.push_written(second)?;
+    sheet.push_number(seconds)?;
+    sheet.end_row()
+}
