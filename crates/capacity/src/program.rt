@@ -32,11 +32,11 @@ impl Termination for Ended {
 }
 
 // Makes a call, and says on standard error why it isn't done.
-pub(crate) fn end_of_call<R: AllocGlobal + Env + Eprint + Threads + Wait, S: Source, K: Sink>(
-    rt: &R,
-    source: &mut S,
-    sink: &mut K,
-) -> Ended
+pub(crate) fn end_of_call<
+    R: AllocGlobal + Env + Eprint + Threads + Wait + Sync,
+    S: Source,
+    K: Sink,
+>(rt: &R, source: &mut S, sink: &mut K) -> Ended
     ensures { EndsAsCall
         result
         (record { left = S.left; faults = S.faults; before = source.old; after = source.new })
@@ -59,7 +59,7 @@ pub(crate) fn end_of_call<R: AllocGlobal + Env + Eprint + Threads + Wait, S: Sou
 
 // A call with the runtime's words, which tells what a refused row is to look like. No contract tells
 // which words they are.
-fn call<R: AllocGlobal + Env + Threads + Wait, S: Source, K: Sink>(
+fn call<R: AllocGlobal + Env + Threads + Wait + Sync, S: Source, K: Sink>(
     rt: &R,
     source: &mut S,
     sink: &mut K,

@@ -9,7 +9,10 @@ pub(crate) fn explain(rt: &impl Eprint, status: Status, told: RowForm) -> io::Re
         Status::Refused { row: 0, cause } => eprintln!(rt; "{cause}"),
         Status::Refused { row, cause } => explain_row(rt, row, cause, told),
         Status::BadWords => {
-            eprintln!(rt; "usage: capacity stairs < LINE.csv, or capacity check < LINE.csv")
+            eprintln!(rt;
+                "usage: capacity COMMAND < LINE.csv, COMMAND being stairs, check, report, \
+                compress NAME or headways NAME"
+            )
         }
         Status::ReadFault => eprintln!(rt; "the input could not be read"),
         Status::WriteFault => eprintln!(rt; "the output could not be written"),

@@ -1,2 +1,4 @@
 pub mod Outcomes
 pub mod Making
+pub mod Cuts
+pub mod Reports

@@ -9,7 +9,7 @@ use Rattle.row_text.specs.Row.{Row}
 use Rattle.capacity_cmd.specs.declared.status.Cause.{Cause}
 use Rattle.capacity_cmd.specs.declared.refusal.Refusal.{Refusal}
 use Rattle.capacity_cmd.specs.Input.{refused, edit_in, edit_then, edits_from, unless_refused, tables_after, tables_by}
-use Rattle.capacity_cmd.specs.Made.{after_one_more}
+use Rattle.capacity_cmd.specs.TablesSoFar.{after_one_more}
 
 -- what is made of the rows that are left
 pub then_made : ℕ → Result Edit Cause → (Edit → Result Tables Refusal) → Result Tables Refusal

@@ -1,19 +1,18 @@
 -- The outcome of a command on an input, by the input's length and by what a source gave of it.
-use Rattle.std.proofs.Common.{◌≡◌, ℕ, ◌+◌, ◌<◌, ◌≤◌, true, false, List, ◌++◌, length, Option, Some, None, Ok, Err, refl, sym, ap, ◌∙◌, subst, arith, nat_lt, length-append}
+use Rattle.std.proofs.Common.{◌≡◌, ℕ, ◌+◌, ◌<◌, ◌≤◌, true, false, List, ◌++◌, length, Option, Some, None, refl, sym, ap, ◌∙◌, subst, arith, nat_lt, length-append}
 use Rattle.std.specs.Io.KnownBytes.{Consumes, IsAtEnd}
 use Rattle.std.proofs.lemmas.List.{append-nil}
 use Rattle.std.proofs.lemmas.Bool.{lt-ltb}
 use Rattle.std.proofs.lemmas.Bool.Decides.{nat_tests}
-use Rattle.rail_model.specs.declared.tables.Tables.{Tables}
 use Rattle.row_text.specs.Rows.{rows_of}
-use Rattle.capacity_cmd.specs.declared.refusal.Refusal.{Refusal}
 use Rattle.capacity_cmd.specs.declared.command.Command.{Command}
 use Rattle.capacity_cmd.specs.declared.status.Cause.TheVariants as cause
 use Rattle.capacity_cmd.specs.declared.limit.TheConstants.{INPUT_BYTES}
 use Rattle.capacity_cmd.specs.Input.{refused, tables_of, tables_of_input}
-use Rattle.capacity_cmd.specs.Outcome.{Outcome, Writes, Refuses, IsText, Ends, EndsOn, IsOutcome}
+use Rattle.capacity_cmd.specs.Outcome.{Outcome, Refuses, Ends, EndsOn, IsOutcome}
 
-tables_of_short : (input : List ℕ) → length input ≤ INPUT_BYTES → tables_of_input input ≡ tables_of (rows_of input)
+-- an input that isn't too long makes what its rows make, and one that is too long is refused
+pub tables_of_short : (input : List ℕ) → length input ≤ INPUT_BYTES → tables_of_input input ≡ tables_of (rows_of input)
 unfolding tables_of_input
 tables_of_short input short =
     let test : nat_lt INPUT_BYTES (length input) ≡ false = grind (arith, nat_tests) in
@@ -24,15 +23,6 @@ unfolding tables_of_input
 tables_of_long input long =
     let test : nat_lt INPUT_BYTES (length input) ≡ true = lt-ltb _ _ long in
     rw test refl
-
--- the command's text for the tables that an input makes, and the refusal of an input
-pub ends_with_text : (c : Command) (input : List ℕ) (tables : Tables) (text : List ℕ) → length input ≤ INPUT_BYTES → tables_of (rows_of input) ≡ Ok tables → IsText c tables text → EndsOn c input (Writes text)
-ends_with_text c input tables text short is h =
-    subst (λ made. Ends c made (Writes text)) (sym (tables_of_short input short ∙ is)) (text, h, refl)
-
-pub ends_refused : (c : Command) (input : List ℕ) (refusal : Refusal) → length input ≤ INPUT_BYTES → tables_of (rows_of input) ≡ Err refusal → EndsOn c input (Refuses refusal.row refusal.cause)
-ends_refused c input refusal short is =
-    subst (λ made. Ends c made (Refuses refusal.row refusal.cause)) (sym (tables_of_short input short ∙ is)) refl
 
 ends_too_long : (c : Command) (input : List ℕ) → INPUT_BYTES < length input → EndsOn c input (Refuses 0 cause.TooLong)
 ends_too_long c input long = subst (λ made. Ends c made (Refuses 0 cause.TooLong)) (sym (tables_of_long input long)) refl

@@ -1,17 +1,22 @@
 -- Which command the words of a call spell.
 use Rattle.std.specs.Prelude.{ℕ, if◌then◌else◌, List, [], ◌∷◌, codes, Option, Some, None, ⊤}
-use Rattle.rail_model.specs.Name.{is_same}
+use Rattle.rail_model.specs.Name.{is_same, name_of}
 use Rattle.capacity_cmd.specs.declared.command.Command.{Command}
 use Rattle.capacity_cmd.specs.declared.command.Command.TheVariants as command
 
--- the command that the words after the program's name spell, if they spell one
+-- the command that the words after the program's name spell, if they spell one; the word of a section may be no name
 abbrev pub command_of : List (List ℕ) → Option Command
 command_of (word ∷ []) =
     if is_same word (codes "stairs") then Some command.Stairs
     else if is_same word (codes "check") then Some command.Check
+    else if is_same word (codes "report") then Some command.Report
+    else None
+command_of (word ∷ section ∷ []) =
+    if is_same word (codes "compress") then Some (command.Compress (name_of section))
+    else if is_same word (codes "headways") then Some (command.Headways (name_of section))
     else None
 command_of words = None
 
--- a call with these words runs on its caller's thread alone: today no command starts a thread
+-- a call with these words waits for nobody; today no command waits
 abbrev pub IsAlone : List (List ℕ) → Type 0
 IsAlone words = ⊤

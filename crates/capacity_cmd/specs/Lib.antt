@@ -1,6 +1,7 @@
 pub mod Input
-pub mod Made
+pub mod TablesSoFar
 pub mod Command
 pub mod Outcome
+pub mod Report
 pub mod Reply
 pub mod Promise

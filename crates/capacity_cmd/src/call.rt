@@ -14,12 +14,10 @@ use crate::reply::{Reply, refusal, reply_to};
 use crate::send::send;
 use crate::{Cause, Command, RowForm, Status};
 use rail_outside::{Gate, Sink, Source, Taken, take_all};
-use std::alloc::Global;
 use std::sync::Wait;
 use std::thread::Threads;
 
-/// Whether a call with these words runs on its caller's thread alone and waits for nobody. Today
-/// all do.
+/// Whether a call with these words waits for nobody. Today all do.
 pub fn alone(words: &[String]) -> bool
     ensures { IsTrue result ↔ IsAlone (map string_bytes words.now) }
 {
@@ -27,7 +25,7 @@ pub fn alone(words: &[String]) -> bool
 }
 
 /// Runs a command. The words are those after the program's name.
-pub fn run<R: AllocGlobal + Threads + Wait, S: Source, K: Sink, G: Gate>(
+pub fn run<R: AllocGlobal + Threads + Wait + Sync, S: Source, K: Sink, G: Gate>(
     rt: &R,
     words: &[String],
     source: &mut S,
@@ -50,7 +48,7 @@ pub fn run<R: AllocGlobal + Threads + Wait, S: Source, K: Sink, G: Gate>(
 }
 
 /// Runs a command as `run` does, and tells what a refused row is to look like.
-pub fn run_telling<R: AllocGlobal + Threads + Wait, S: Source, K: Sink, G: Gate>(
+pub fn run_telling<R: AllocGlobal + Threads + Wait + Sync, S: Source, K: Sink, G: Gate>(
     rt: &R,
     words: &[String],
     source: &mut S,
@@ -73,8 +71,9 @@ pub fn run_telling<R: AllocGlobal + Threads + Wait, S: Source, K: Sink, G: Gate>
     run_here(rt, words, source, sink, told)
 }
 
-/// Runs a command that waits for nobody. The words are those after the program's name.
-pub fn run_alone<R: AllocGlobal, S: Source, K: Sink>(
+/// Runs a command that waits for nobody: it takes memory and may start threads, but no handle to
+/// wait. The words are those after the program's name.
+pub fn run_alone<R: AllocGlobal + Threads + Sync, S: Source, K: Sink>(
     rt: &R,
     words: &[String],
     source: &mut S,
@@ -96,8 +95,8 @@ pub fn run_alone<R: AllocGlobal, S: Source, K: Sink>(
     run_here(rt, words, source, sink, &mut RowForm::NONE)
 }
 
-// Runs a command on the caller's thread.
-fn run_here<R: AllocGlobal, S: Source, K: Sink>(
+// Runs a command.
+fn run_here<R: AllocGlobal + Threads + Sync, S: Source, K: Sink>(
     rt: &R,
     words: &[String],
     source: &mut S,
@@ -120,7 +119,7 @@ fn run_here<R: AllocGlobal, S: Source, K: Sink>(
     let Some(command) = command_of(words) else {
         return Status::BadWords;
     };
-    match reply_from(rt.alloc(), command, source) {
+    match reply_from(rt, command, source) {
         Ok(reply) => {
             *told = reply.told;
             send(sink, reply)
@@ -130,7 +129,11 @@ fn run_here<R: AllocGlobal, S: Source, K: Sink>(
 }
 
 // Reads the input and makes the reply to it, or says why there is none.
-fn reply_from<S: Source>(alloc: Global, command: Command, source: &mut S) -> Result<Reply, Status>
+fn reply_from<R: AllocGlobal + Threads + Sync, S: Source>(
+    rt: &R,
+    command: Command,
+    source: &mut S,
+) -> Result<Reply, Status>
     ensures replies { IfOk result (IsReply command (S.left source.old)) }
     ensures whole_input { IfOk result (λ reply.
         reply.status ≡ status.Done → IsAtEnd (S.left source.new)) }
@@ -139,8 +142,9 @@ fn reply_from<S: Source>(alloc: Global, command: Command, source: &mut S) -> Res
         Rose (S.faults source.old) (S.faults source.new) }
     ensures no_fault { result ≢ Err status.ReadFault → S.faults source.new ≡ S.faults source.old }
 {
+    let alloc = rt.alloc();
     match take_all(alloc, source, INPUT_BYTES)? {
-        Ok(input) => Ok(reply_to(alloc, command, input.slice())?),
+        Ok(input) => Ok(reply_to(rt, alloc, command, input.slice())?),
         Err(Taken::TooLong) => Ok(refusal(alloc, 0, Cause::TooLong, RowForm::NONE)?),
         Err(Taken::Failed) => Err(Status::ReadFault),
     }

@@ -1,15 +1,26 @@
 //! What the words of a call ask for.
 ghost use Rattle.std.specs.Prelude.{◌≡◌, map};
 ghost use Rattle.std.specs.String.{string_bytes};
+ghost use Rattle.rail_model.specs.Name.{name_of};
 ghost use Rattle.capacity_cmd.specs.Command.{command_of};
 
-/// A command of the program.
-#[derive(Clone, Copy, Debug, PartialEq, Eq)]
+use rail_model::Name;
+
+/// A command of the program. A section is named by any one word: a word that is no name names no
+/// section, and stands here as `None`.
+#[derive(Clone, Copy)]
 pub enum Command {
     /// Writes the blocking times of every run: the word `stairs`.
     Stairs,
     /// Writes the conflicts of the timetable: the word `check`.
     Check,
+    /// Writes the answer of a section with its trains and the chain of its critical train: the
+    /// words `compress` and NAME.
+    Compress(Option<Name>),
+    /// Writes the head of every section's answer and a total: the word `report`.
+    Report,
+    /// Writes the headways of a section's trains: the words `headways` and NAME.
+    Headways(Option<Name>),
 }
 
 // The command that the words spell, if they spell one.
@@ -19,6 +30,16 @@ pub(crate) fn command_of(words: &[String]) -> Option<Command>
     match words {
         [word] if word.as_str() == "stairs" => Some(Command::Stairs),
         [word] if word.as_str() == "check" => Some(Command::Check),
+        [word] if word.as_str() == "report" => Some(Command::Report),
+        [word, section] if word.as_str() == "compress" => Some(Command::Compress(name_of(section))),
+        [word, section] if word.as_str() == "headways" => Some(Command::Headways(name_of(section))),
         _ => None,
     }
+}
+
+// The name that a word is, if it is one.
+fn name_of(word: &str) -> Option<Name>
+    ensures { result ≡ name_of word.now }
+{
+    Name::read(word.as_bytes()).ok()
 }

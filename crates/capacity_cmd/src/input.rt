@@ -24,13 +24,13 @@ pub(crate) fn tables_of_rows(
             cause: Cause::Form(form),
         })),
     };
-    let mut made = Made {
+    let mut so_far = TablesSoFar {
         tables: LineTables::new(alloc),
         refused: None,
     };
-    match made.take_rows(alloc, rows, version)? {
+    match so_far.take_rows(alloc, rows, version)? {
         Some(refusal) => Ok(Err(refusal)),
-        None => Ok(made.end()),
+        None => Ok(so_far.end()),
     }
 }
 
@@ -59,16 +59,16 @@ fn edit_of(line: Line) -> Result<Edit, Cause>
     }
 }
 
-// The tables after the edits of some rows, and the first of these rows whose edit a rule refused. After it
-// rows are only read on for one that spells no edit.
+// The tables after the edits of some rows, and the first of these rows whose edit a rule refused.
+// After it rows are only read on for one that spells no edit.
 #[derive(Drop)]
-struct Made {
+struct TablesSoFar {
     tables: LineTables,
     refused: Option<Refusal>,
 }
 
-impl Made {
-    ghost use Rattle.capacity_cmd.specs.Made.{made_so_far, after_one_more, TakesRow, TakesRows};
+impl TablesSoFar {
+    ghost use Rattle.capacity_cmd.specs.TablesSoFar.{tables_so_far, after_one_more, TakesRow, TakesRows};
 
     // Takes the edits of all rows, up to the first row that is refused.
     fn take_rows(
@@ -77,7 +77,7 @@ impl Made {
         rows: &RowList,
         version: u32,
     ) -> Result<Option<Refusal>, OutOfMemory>
-        requires { made_so_far self.old ≡ Ok no_tables }
+        requires { tables_so_far self.old ≡ Ok no_tables }
         ensures { IfOk result (TakesRows (tables_in (Ok version) rows.now) self.new) }
     {
         for i in rows.first_line()..rows.len() {
@@ -111,7 +111,7 @@ impl Made {
     }
 
     fn take(&mut self, row: u64, edit: &Edit) -> Result<(), OutOfMemory>
-        ensures { OnOk result (made_so_far self.new ≡ after_one_more row (made_so_far self.old) edit.now) }
+        ensures { OnOk result (tables_so_far self.new ≡ after_one_more row (tables_so_far self.old) edit.now) }
     {
         if self.refused.is_some() {
             return Ok(());
@@ -126,7 +126,7 @@ impl Made {
     }
 
     fn end(self) -> Result<LineTables, Refusal>
-        ensures { result ≡ made_so_far self }
+        ensures { result ≡ tables_so_far self }
     {
         match self.refused {
             Some(refusal) => Err(refusal),

@@ -1,5 +1,5 @@
-//! The program's commands, from bytes to bytes: rows are read, their edits make tables, and the text of a
-//! command is written.
+//! The program's commands, from bytes to bytes: rows are read, their edits make tables, and the text
+//! of a command is written.
 #![tactic(auto)]
 
 mod call;
@@ -10,6 +10,7 @@ mod refusal;
 mod reply;
 mod send;
 mod status;
+mod texts;
 mod told;
 
 pub use call::{alone, run, run_alone, run_telling};

@@ -1,21 +1,20 @@
 //! The reply to an input: the text to write, and the status that says so.
-ghost use Rattle.std.specs.Prelude.{◌≡◌, ◌≤◌, ◌∷◌, [], List, length, IfOk, codes, decimal};
+ghost use Rattle.std.specs.Prelude.{◌≡◌, ◌≤◌, ◌∷◌, [], List, length, IfOk, Ok, codes, decimal};
 ghost use Rattle.row_text.specs.SheetRows.{text_of_row};
 ghost use Rattle.capacity_cmd.specs.Outcome.{Refuses, Outcome, EndsOn, cause_text, form_text, rule_text};
 ghost use Rattle.capacity_cmd.specs.Outcome as outcome;
-ghost use Rattle.capacity_cmd.specs.declared.command.Command.TheVariants as command;
-ghost use Rattle.capacity_cmd.specs.Reply.{Says, IsReplyTo};
+ghost use Rattle.capacity_cmd.specs.Reply.{Says, IsReplyFrom, IsReplyTo};
 
 use crate::input::tables_of_rows;
 use crate::limit::INPUT_BYTES;
+use crate::texts::text_of;
 use crate::told::{RowForm, row_form};
 use crate::{Cause, Command, Status};
-use capacity_report::{conflict_rows, stairs_rows, stairways};
-use conflict_finder::conflicts;
 use line_tables::LineTables;
 use rail_model::{Form, OutOfMemory, Rule};
 use row_text::{Sheet, rows};
 use std::alloc::Global;
+use std::thread::Threads;
 
 #[derive(Drop)]
 pub(crate) struct Reply {
@@ -26,7 +25,12 @@ pub(crate) struct Reply {
 }
 
 // The reply of a command to an input that isn't too long.
-pub(crate) fn reply_to(alloc: Global, command: Command, input: &[u8]) -> Result<Reply, OutOfMemory>
+pub(crate) fn reply_to(
+    rt: &(impl Threads + Sync),
+    alloc: Global,
+    command: Command,
+    input: &[u8],
+) -> Result<Reply, OutOfMemory>
     requires { length input.now ≤ INPUT_BYTES }
     ensures { IfOk result (IsReplyTo command input.now) }
 {
@@ -34,11 +38,7 @@ pub(crate) fn reply_to(alloc: Global, command: Command, input: &[u8]) -> Result<
     match tables_of_rows(alloc, &rows)? {
         Ok(tables) => {
             drop(rows);
-            Ok(Reply {
-                text: text_of(alloc, command, &tables)?,
-                status: Status::Done,
-                told: RowForm::NONE,
-            })
+            reply_on(rt, alloc, command, &tables)
         }
         Err(refused) => {
             let told = row_form(&rows, refused.row);
@@ -47,32 +47,23 @@ pub(crate) fn reply_to(alloc: Global, command: Command, input: &[u8]) -> Result<
     }
 }
 
-// The text of a command for the tables of a line.
-fn text_of(alloc: Global, command: Command, tables: &LineTables) -> Result<Vec<u8>, OutOfMemory>
-    ensures { IfOk result (λ text. outcome.IsText command tables.now text.items) }
+// The reply of a command to the tables of a line.
+fn reply_on(
+    rt: &(impl Threads + Sync),
+    alloc: Global,
+    command: Command,
+    tables: &LineTables,
+) -> Result<Reply, OutOfMemory>
+    ensures { IfOk result (IsReplyFrom command (Ok tables.now)) }
 {
-    match command {
-        Command::Stairs => stairs_text(alloc, tables),
-        Command::Check => check_text(alloc, tables),
+    match text_of(rt, alloc, command, tables)? {
+        Some(text) => Ok(Reply {
+            text,
+            status: Status::Done,
+            told: RowForm::NONE,
+        }),
+        None => refusal(alloc, 0, Cause::NoSection, RowForm::NONE),
     }
-}
-
-fn stairs_text(alloc: Global, tables: &LineTables) -> Result<Vec<u8>, OutOfMemory>
-    ensures { IfOk result (λ text. outcome.IsText command.Stairs tables.now text.items) }
-{
-    let mut sheet = Sheet::new(alloc);
-    stairs_rows(alloc, &mut sheet, tables)?;
-    Ok(sheet.into_text())
-}
-
-fn check_text(alloc: Global, tables: &LineTables) -> Result<Vec<u8>, OutOfMemory>
-    ensures { IfOk result (λ text. outcome.IsText command.Check tables.now text.items) }
-{
-    let stairs = stairways(alloc, tables)?;
-    let found = conflicts(alloc, &stairs)?;
-    let mut sheet = Sheet::new(alloc);
-    conflict_rows(&mut sheet, tables, &found)?;
-    Ok(sheet.into_text())
 }
 
 // The refusal of a row.

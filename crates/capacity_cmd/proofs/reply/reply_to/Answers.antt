@@ -1,26 +1,21 @@
-use Rattle.std.proofs.Common.{refl, sym, ap, ◌∙◌}
-use Rattle.capacity_cmd.specs.Input.{tables_of}
+use Rattle.std.proofs.Common.{refl, sym, ap, ◌∙◌, subst, Err}
+use Rattle.std.specs.Prelude.{IfOk}
 use Rattle.std.proofs.lemmas.Result.{IfOk-weaker}
-use Rattle.capacity_cmd.specs.Outcome.{Writes, Refuses}
-use Rattle.capacity_cmd.specs.Reply.{Says, IsReplyTo}
-use Rattle.capacity_cmd.proofs.Outcomes.{ends_with_text, ends_refused}
+use Rattle.capacity_cmd.specs.Input.{tables_of}
+use Rattle.capacity_cmd.specs.Outcome.{Refuses}
+use Rattle.capacity_cmd.specs.Reply.{Says, IsReplyFrom}
+use Rattle.capacity_cmd.proofs.Outcomes.{tables_of_short}
 use Rattle.capacity_cmd.proofs.reply.reply_to.Goals as goal
 
-pub returns-in_ok-text_of-in-Ok : goal.returns-in_ok-text_of-in-Ok
-returns-in_ok-text_of-in-Ok c =
-    let text = c.in_ok-text_of-in-Ok.field-0.items in
-    record {
-      outcome = Writes text;
-      ends = ends_with_text c.args.command c.args.input.now c.in-Ok.tables text c.requires (ap tables_of (sym c.in_ok-rows.ensures) ∙ sym c.in_ok-tables.ensures ∙ c.in-Ok.is) c.in_ok-text_of-in-Ok.ensures;
-      said = record { text = refl; status = refl };
-    }
+pub returns-in-Ok : goal.returns-in-Ok
+returns-in-Ok g c =
+    let made = tables_of_short c.args.input.now c.requires ∙ ap tables_of (sym c.in_ok-rows.ensures) ∙ sym c.in_ok-tables.ensures ∙ c.in-Ok.is in
+    subst (λ found. IfOk c.reply_on.result (IsReplyFrom c.args.command found)) (sym made) c.reply_on.ensures
 
 pub returns-in-Err : goal.returns-in-Err
-returns-in-Err c =
+returns-in-Err g c =
     let refused = c.in-Err.refused in
-    IfOk-weaker c.refusal.result (Says (Refuses refused.row refused.cause)) (IsReplyTo c.args.command c.args.input.now)
-    (λ reply said. record {
-      outcome = Refuses refused.row refused.cause;
-      ends = ends_refused c.args.command c.args.input.now refused c.requires (ap tables_of (sym c.in_ok-rows.ensures) ∙ sym c.in_ok-tables.ensures ∙ c.in-Err.is);
-      said = said;
-    }) c.refusal.ensures
+    let made = tables_of_short c.args.input.now c.requires ∙ ap tables_of (sym c.in_ok-rows.ensures) ∙ sym c.in_ok-tables.ensures ∙ c.in-Err.is in
+    subst (λ found. IfOk c.refusal.result (IsReplyFrom c.args.command found)) (sym made)
+    (IfOk-weaker c.refusal.result (Says (Refuses refused.row refused.cause)) (IsReplyFrom c.args.command (Err refused))
+    (λ reply said. record { outcome = Refuses refused.row refused.cause; ends = refl; said = said }) c.refusal.ensures)

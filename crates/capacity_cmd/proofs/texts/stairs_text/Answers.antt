@@ -2,7 +2,7 @@ use Rattle.std.proofs.Common.{List, ◌++◌, ap, ◌∙◌}
 use Rattle.row_text.specs.Row.{Row}
 use Rattle.row_text.specs.SheetRows.{text_of_rows}
 use Rattle.capacity_report.specs.Stairs.{stairs_rows}
-use Rattle.capacity_cmd.proofs.reply.stairs_text.Goals as goal
+use Rattle.capacity_cmd.proofs.texts.stairs_text.Goals as goal
 
 pub returns : goal.returns
 returns c =

@@ -1,0 +1,35 @@
+use Rattle.std.proofs.Common.{refl, sym, subst}
+use Rattle.std.specs.Prelude.{IfOk, MatchOption}
+use Rattle.capacity_cmd.specs.declared.command.Command.{Command}
+use Rattle.capacity_cmd.specs.declared.status.Cause.TheVariants as cause
+use Rattle.capacity_cmd.specs.Outcome.{Writes, Refuses, EndsOnTables}
+use Rattle.capacity_cmd.proofs.texts.text_of.Goals as goal
+
+pub returns-in_ok-stairs_text-in-Stairs : goal.returns-in_ok-stairs_text-in-Stairs
+returns-in_ok-stairs_text-in-Stairs g c =
+    let text = c.in_ok-stairs_text-in-Stairs.field-0.items in
+    subst (λ which. EndsOnTables which c.args.tables.now (Writes text)) (sym c.in-Stairs.is) (text, c.in_ok-stairs_text-in-Stairs.ensures, refl)
+
+pub returns-in_ok-check_text-in-Check : goal.returns-in_ok-check_text-in-Check
+returns-in_ok-check_text-in-Check g c =
+    let text = c.in_ok-check_text-in-Check.field-0.items in
+    subst (λ which. EndsOnTables which c.args.tables.now (Writes text)) (sym c.in-Check.is) (text, c.in_ok-check_text-in-Check.ensures, refl)
+
+pub returns-in_ok-report_text-in-Report : goal.returns-in_ok-report_text-in-Report
+returns-in_ok-report_text-in-Report g c =
+    let text = c.in_ok-report_text-in-Report.field-0.items in
+    subst (λ which. EndsOnTables which c.args.tables.now (Writes text)) (sym c.in-Report.is) (text, c.in_ok-report_text-in-Report.ensures, refl)
+
+pub returns-in-Compress : goal.returns-in-Compress
+returns-in-Compress g c =
+    subst (λ (which : Command). IfOk c.compress_text.result (λ text. MatchOption text
+    (EndsOnTables which c.args.tables.now (Refuses 0 cause.NoSection))
+    (λ written. EndsOnTables which c.args.tables.now (Writes written.items))))
+    (sym c.in-Compress.is) c.compress_text.ensures
+
+pub returns-in-Headways : goal.returns-in-Headways
+returns-in-Headways g c =
+    subst (λ (which : Command). IfOk c.headways_text.result (λ text. MatchOption text
+    (EndsOnTables which c.args.tables.now (Refuses 0 cause.NoSection))
+    (λ written. EndsOnTables which c.args.tables.now (Writes written.items))))
+    (sym c.in-Headways.is) c.headways_text.ensures

@@ -1,0 +1,26 @@
+-- A report while the heads of its sections' answers are added one after the other.
+use Rattle.std.specs.Prelude.{◌≡◌, ℕ, List, ◌++◌, take}
+use Rattle.rail_model.specs.declared.items.Section.{Section}
+use Rattle.rail_model.specs.declared.tables.Tables.{Tables}
+use Rattle.plan_model.specs.declared.answer.Answer.{Answer}
+use Rattle.plan_model.specs.SectionCut.{section_cut}
+use Rattle.plan_model.specs.Answer.{IsAnswer}
+use Rattle.row_text.specs.Row.{Row}
+use Rattle.capacity_report.specs.declared.answers.Detail.TheVariants as detail
+use Rattle.capacity_report.specs.Answers.{answer_rows}
+use Rattle.capacity_report.specs.Report.{AreAnswers, heads}
+use Rattle.capacity_report.specs.Total.{Total, total_of, with_answer}
+
+-- the head of a section's answer comes to the rows, and the answer to the total
+pub record AddsHead (tables : Tables) (section : Section) (rows more : List Row) (total greater : Total) : Type 0 where
+  pub answer : Answer
+  pub is : IsAnswer (section_cut tables section) answer
+  pub head : more ≡ rows ++ answer_rows section.name answer detail.Head
+  pub counted : greater ≡ with_answer total answer
+
+-- the rows are the heads of the answers of the first sections, and the total is theirs
+pub record HasHeads (tables : Tables) (count : ℕ) (rows : List Row) (total : Total) : Type 0 where
+  pub answers : List Answer
+  pub are : AreAnswers tables (take count tables.sections) answers
+  pub written : rows ≡ heads (take count tables.sections) answers
+  pub counted : total ≡ total_of answers
