@@ -64,7 +64,7 @@ const WORKING: Outside = Outside {
 };
 
 // Calls the program with the word `stairs`, and compares its status and the bytes that it wrote.
-fn assert_ends<R: Abort + AllocGlobal + Threads + Wait>(
+fn assert_ends<R: Abort + AllocGlobal + Threads + Wait + Sync>(
     rt: &R,
     input: &str,
     outside: Outside,
@@ -78,7 +78,7 @@ fn assert_ends<R: Abort + AllocGlobal + Threads + Wait>(
 }
 
 // Calls the program with one word. Gives its status, and the sink with the bytes written.
-fn called<R: AllocGlobal + Threads + Wait>(
+fn called<R: AllocGlobal + Threads + Wait + Sync>(
     rt: &R,
     word: &str,
     input: &[u8],

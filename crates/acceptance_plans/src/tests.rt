@@ -7,6 +7,7 @@ mod cuts;
 mod orders;
 mod rates;
 mod sections;
+mod texts;
 
 use line_tables::LineTables;
 use plan_model::Cut;
@@ -57,6 +58,20 @@ fn joined(alloc: Global, texts: &[&str]) -> Result<String, Fail> {
         joined.push_str(text)?;
     }
     Ok(joined)
+}
+
+// Runs over the line of two blocks, named by their numbers, one second after the other.
+fn runs(alloc: Global, count: u32) -> Result<String, OutOfMemory> {
+    let mut rows = String::new(alloc);
+    for n in 0..count {
+        let row = format!(in alloc;
+            "run,t{},R,100,10,{},60,0,60\n",
+            1_000 + u64::from(n),
+            100 + u64::from(n)
+        )?;
+        rows.push_str(&row)?;
+    }
+    Ok(rows)
 }
 
 // The tables of these rows; a row that is refused is left out.

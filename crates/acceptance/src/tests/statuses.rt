@@ -12,7 +12,7 @@ const NO_COMMANDS: [&[&str]; 6] = [
     &[],
     &["compress"],
     &["stairs", "x"],
-    &["check", "stairs"],
+    &["report", "S"],
     &["Stairs"],
     &["--help"],
 ];
@@ -34,7 +34,10 @@ fn other_words_read_nothing(rt: HostRuntime) -> Result<(), Fail> {
 type Ended = (Status, usize, Result<usize, Failed>, Result<usize, Failed>);
 
 // Calls the program on a source that fails at its first read, whoever makes it.
-fn call_and_read<R: AllocGlobal + Threads + Wait>(rt: &R, words: &[&str]) -> Result<Ended, Fail> {
+fn call_and_read<R: AllocGlobal + Threads + Wait + Sync>(
+    rt: &R,
+    words: &[&str],
+) -> Result<Ended, Fail> {
     let words = words_of(rt.alloc(), words)?;
     let mut source = source_of(rt.alloc(), b"block,A,5\n", 16, 1)?;
     let mut sink = MemorySink::new(rt.alloc(), 10, List::new(rt.alloc()));
@@ -54,7 +57,11 @@ fn commands_run_alone(rt: HostRuntime) -> Result<(), Fail> {
     Ok(())
 }
 
-fn runs_alone<R: Abort + AllocGlobal>(rt: &R, word: &str, text: &str) -> Result<(), Fail> {
+fn runs_alone<R: Abort + AllocGlobal + Threads + Sync>(
+    rt: &R,
+    word: &str,
+    text: &str,
+) -> Result<(), Fail> {
     let words = words_of(rt.alloc(), &[word])?;
     let input = joined(rt.alloc(), &[LINE, FIRST_RUN, REST])?;
     let mut source = source_of(rt.alloc(), input.as_bytes(), 16, 0)?;
