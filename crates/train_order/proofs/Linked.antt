@@ -1,24 +1,57 @@
--- The places at which one start comes before another are those of precedence.
-use Rattle.std.proofs.Common.{◌≡◌, ◌≢◌, ℕ, zero, suc, ◌<◌, Bool, true, ◌&&◌, ◌||◌, ◌==◌, List, [], ◌∷◌, get_or, inl, inr, refl, sym, ap, ◌∙◌, arith}
-use Rattle.std.specs.Prelude.{ℤ, int_lt, nat_lt, Option, Some, None, find, unwrap_or, option_map, replicate, slice_index_or}
+-- The places of the uses that start first are those of precedence.
+use Rattle.std.proofs.Common.{◌≡◌, ℕ, suc, ◌<◌, Bool, true, false, ◌&&◌, ◌||◌, ◌==◌, List, [], ◌∷◌, inl, inr, refl, sym, ap, subst, ◌∙◌, arith}
+use Rattle.std.specs.Prelude.{int_lt, nat_lt, Option, Some, None, find, unwrap_or, option_map}
 use Rattle.std.specs.Option.{is_some}
 use Rattle.std.specs.Ordering.{int_eq, nat_cmp, is_lt}
-use Rattle.std.specs.List.{list_any}
-use Rattle.std.proofs.lemmas.Bool.{cases_Bool, both_ways}
+use Rattle.std.specs.List.{list_any, All}
+use Rattle.std.proofs.lemmas.Bool.{cases_Bool, both_ways, eqb-true}
 use Rattle.rail_model.specs.declared.stair.Use.{Use}
 use Rattle.plan_model.specs.declared.cut.Cut.{Cut}
 use Rattle.plan_model.specs.Places.{place_count, places, place_name, first_by_name}
-use Rattle.plan_model.specs.Members.{member, member_count, uses_place, use_at, no_use}
+use Rattle.plan_model.specs.Members.{member, member_count, no_member, uses_place, use_at, no_use}
 use Rattle.plan_model.specs.Precedence.{precedes, precedes_somewhere, places_of_precedence}
 use Rattle.plan_model.specs.Cut.{IsSoundCut}
 use Rattle.plan_model.specs.Disorder.{link_place}
-use Rattle.plan_model.proofs.MemberTests.{has-filter}
+use Rattle.plan_model.proofs.FirstByName.{first_is}
 use Rattle.train_order.specs.Taking.{is_among}
-use Rattle.train_order.specs.Starts.{start_of, AreStarts, starts_first, places_first, AnswersFirst}
-use Rattle.train_order.proofs.Among.{passing_among}
+use Rattle.train_order.specs.Starts.{start_of, starts_first, is_first_of, places_first, AnswersFirst}
+use Rattle.train_order.proofs.Among.{among_passing, passing_among}
 use Rattle.train_order.proofs.Before.{names}
+use Rattle.train_order.proofs.FirstPlace.{among_within}
+use Rattle.train_order.proofs.Gathered.{not_started}
 use Rattle.train_order.proofs.Rounds.{some_passes}
-use Rattle.train_order.proofs.Waiting.{same_passing}
+use Rattle.train_order.proofs.Visitors.{Differ, differ_tail}
+
+-- ---- the places of some uses
+
+module _ (named : Bool) (others : List Use) where
+  -- a place of uses of different places is among them where its use starts first
+  among_starts : (uses : List Use) (place : ℕ) → Differ uses
+      → is_among (places_first named uses others) place ≡ starts_first named (start_of uses place) (start_of others place)
+  among_starts [] place h = refl
+  among_starts (u ∷ uses) place h =
+      elim (cases_Bool (u.block == place)) [
+        | inl e ↦
+            let is : u.block ≡ place = eqb-true u.block place e in
+            let none : start_of uses place ≡ None =
+            not_started place uses (λ k l q. h 0 (suc k) no_use (omega arith) (omega (arith, l)) (is ∙ sym q)) in
+            let rest : is_among (places_first named uses others) place ≡ false =
+            among_starts uses place (differ_tail u uses h) ∙ ap (λ o. starts_first named o (start_of others place)) none in
+            let same : is_first_of named others u ≡ starts_first named (Some u.start) (start_of others place) =
+            ap (λ p. starts_first named (Some u.start) (start_of others p)) is in
+            elim (cases_Bool (is_first_of named others u)) [
+              | inl t ↦ rw (t, e) (sym t ∙ same)
+              | inr f ↦ rw (f, e) (rest ∙ sym f ∙ same)
+            ]
+        | inr e ↦
+            let rest = among_starts uses place (differ_tail u uses h) in
+            elim (cases_Bool (is_first_of named others u)) [
+              | inl t ↦ rw (t, e) rest
+              | inr f ↦ rw (f, e) rest
+            ]
+      ]
+
+-- ---- by what is found
 
 any_found : (test : Use → Bool) (uses : List Use) → list_any test uses ≡ is_some (find test uses)
 any_found test [] = refl
@@ -42,45 +75,47 @@ less_test i j =
     ]
 
 module _ (cut : Cut) (sound : IsSoundCut cut) (i j : ℕ) (li : i < member_count cut) (lj : j < member_count cut)
-    (from to : List (Option ℤ)) (starts : AreStarts (member cut i).uses (place_count cut) from)
-    (others : AreStarts (member cut j).uses (place_count cut) to) where
-  test_is : (place : ℕ) → place < place_count cut
-      → precedes (member cut i) (member cut j) place
-      ≡ starts_first (nat_lt i j) (slice_index_or from place None) (slice_index_or to place None)
-  test_is place l =
+    (uses others : List Use) (its : uses ≡ (member cut i).uses) (theirs : others ≡ (member cut j).uses) where
+  abbrev firsts : List ℕ
+  firsts = places_first (nat_lt i j) uses others
+
+  differ : Differ uses
+  differ = subst Differ (sym its) (sound.each i no_member li).places_differ
+
+  within : All (λ (u : Use). u.block < place_count cut) uses
+  within = subst (All (λ (u : Use). u.block < place_count cut)) (sym its) (λ k d l. ((sound.each i no_member li).each k d l).place)
+
+  test_is : (place : ℕ) → precedes (member cut i) (member cut j) place
+      ≡ starts_first (nat_lt i j) (start_of (member cut i).uses place) (start_of (member cut j).uses place)
+  test_is place =
       ap (λ b. (uses_place (member cut i) place && uses_place (member cut j) place)
       && (int_lt (use_at (member cut i) place).start (use_at (member cut j) place).start
       || (int_eq (use_at (member cut i) place).start (use_at (member cut j) place).start && b)))
       (names cut sound i j li lj ∙ less_test i j)
       ∙ sym (by_found (nat_lt i j) (find (λ (u : Use). u.block == place) (member cut i).uses)
       (find (λ (u : Use). u.block == place) (member cut j).uses) _ _ (any_found _ (member cut i).uses) (any_found _ (member cut j).uses))
-      ∙ ap (λ s. starts_first (nat_lt i j) s (start_of (member cut j).uses place)) (sym (starts.each place l))
-      ∙ ap (λ s. starts_first (nat_lt i j) (slice_index_or from place None) s) (sym (others.each place l))
 
-  pub places_are : places_of_precedence cut i j ≡ places_first (nat_lt i j) from to (place_count cut)
-  places_are = same_passing _ _ 0 (place_count cut) (λ p lz l. test_is p (omega arith))
+  -- a place is one of them where member i precedes member j there
+  same_places : (place : ℕ) → is_among firsts place ≡ precedes (member cut i) (member cut j) place
+  same_places place =
+      among_starts (nat_lt i j) others uses place differ
+      ∙ ap (λ us. starts_first (nat_lt i j) (start_of us place) (start_of others place)) its
+      ∙ ap (λ us. starts_first (nat_lt i j) (start_of (member cut i).uses place) (start_of us place)) theirs
+      ∙ sym (test_is place)
 
-  -- there is one
-  pub some_place : precedes_somewhere cut i j ≡ true → places_of_precedence cut i j ≢ []
-  some_place h none =
-      let one = some_passes (precedes (member cut i) (member cut j)) (places cut) h in
-      let there : is_among (places_of_precedence cut i j) one.0 ≡ true =
-      has-filter (precedes (member cut i) (member cut j)) (places cut) one.0 one.1 one.2 in
-      both_ways (is_among (places_of_precedence cut i j) one.0) (ap (λ ps. is_among ps one.0) none) there
+  there : (place : ℕ) → is_among firsts place ≡ true → place < place_count cut
+  there place h = among_within (place_count cut) (nat_lt i j) others uses within place h
 
   -- the first by name of them is the link's place
-  pub linked : (answer : Option ℕ) → precedes_somewhere cut i j ≡ true
-      → AnswersFirst cut (places_first (nat_lt i j) from to (place_count cut)) answer
+  pub linked : (answer : Option ℕ) → precedes_somewhere cut i j ≡ true → AnswersFirst cut firsts answer
       → (unwrap_or answer 0 < place_count cut) × (place_name cut (unwrap_or answer 0) ≡ link_place cut i j)
-  linked None h none = absurd (some_place h (places_are ∙ none))
-  linked (Some b) h first = (
-    (passing_among (λ p. starts_first (nat_lt i j) (slice_index_or from p None) (slice_index_or to p None)) (place_count cut) b first.there).0,
-    ap (λ (o : Option ℕ). place_name cut (unwrap_or o (place_count cut)))
-        (sym (ap (first_by_name cut) places_are ∙ first.is)),
-  )
-
--- where no start is put yet
-pub all_none : (m p : ℕ) → get_or (replicate {A = Option ℤ} m None) p None ≡ None
-all_none zero p = refl
-all_none (suc m) zero = refl
-all_none (suc m) (suc p) = all_none m p
+  linked None h none =
+      let one = some_passes (precedes (member cut i) (member cut j)) (places cut) h in
+      absurd (both_ways (is_among firsts one.0) (ap (λ ps. is_among ps one.0) none) (same_places one.0 ∙ one.2))
+  linked (Some b) h first =
+      let test : ℕ → Bool = precedes (member cut i) (member cut j) in
+      let least : first_by_name cut (places_of_precedence cut i j) ≡ Some b =
+      first_is cut sound (places_of_precedence cut i j) b (λ c e. (passing_among test (place_count cut) c e).0)
+      (among_passing test (place_count cut) b (there b first.there) (sym (same_places b) ∙ first.there))
+      (λ c e. first.least c (same_places c ∙ (passing_among test (place_count cut) c e).1)) in
+      (there b first.there, ap (λ (o : Option ℕ). place_name cut (unwrap_or o (place_count cut))) (sym least))

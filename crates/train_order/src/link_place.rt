@@ -1,19 +1,16 @@
 //! The first place by name at which one member precedes another.
-ghost use Rattle.std.specs.Prelude.{◌≡◌, ℕ, ◌<◌, ◌≤◌, All, None, Some, IsTrue, if◌then◌else◌, length, slice_index_or};
-ghost use Rattle.rail_model.specs.Name as names;
-ghost use Rattle.plan_model.specs.Places.{place_count, place_name as name_of_place};
+ghost use Rattle.std.specs.Prelude.{◌≡◌, ◌<◌, All, IfSome, IsTrue};
+ghost use Rattle.plan_model.specs.Places.{block_count, place_count, place_name as name_of_place};
 ghost use Rattle.plan_model.specs.Members.{member, member_count};
 ghost use Rattle.plan_model.specs.Precedence.{precedes_somewhere};
 ghost use Rattle.plan_model.specs.Cut.{IsSoundCut};
 ghost use Rattle.plan_model.specs.Disorder as disorder;
-ghost use Rattle.train_order.specs.Starts.{AreStarts, AnswersFirst, starts_first as starts_first_by, places_first};
+ghost use Rattle.train_order.specs.Starts.{AnswersFirst, is_first_of, leads as leads_by, places_first};
+ghost use Rattle.train_order.specs.Visits.{AreBlocksFirst, AreOfOtherPlaces};
 
-use crate::visits::count_places;
+use crate::visits::start_at;
 use plan_model::Cut;
-use rail_model::{CONNECTIONS, Name, PATH_HOPS, Use};
-
-/// The greatest number of places of a cut.
-const PLACES: usize = PATH_HOPS + CONNECTIONS;
+use rail_model::{Name, Use};
 
 /// The name of the first place by name at which member `i` precedes member `j`. It takes no memory.
 pub fn place_of_link(cut: &Cut, i: u32, j: u32) -> Name
@@ -23,79 +20,58 @@ pub fn place_of_link(cut: &Cut, i: u32, j: u32) -> Name
     requires precedes { IsTrue (precedes_somewhere cut.now i j) }
     ensures { result ≡ disorder.link_place cut.now i j }
 {
-    let mut from = [None; PLACES];
-    let mut to = [None; PLACES];
-    put_starts_of(cut, i, &mut from);
-    put_starts_of(cut, j, &mut to);
-    let place = first_place(cut, i < j, &from, &to).unwrap_or(0);
+    let place = first_place(cut, i < j, uses_of(cut, i), uses_of(cut, j)).unwrap_or(0);
     place_name(cut, place)
 }
 
-// Puts the start of a member at each place that it uses.
-fn put_starts_of(cut: &Cut, i: u32, table: &mut [Option<i64>])
-    requires sound { IsSoundCut cut.now }
-    requires there { i < member_count cut.now }
-    requires room { place_count cut.now ≤ length table.old }
-    requires none { (p : ℕ) → slice_index_or table.old p None ≡ None }
-    ensures { AreStarts (member cut.now i).uses (place_count cut.now) table.new }
+// The uses of a member.
+fn uses_of(cut: &Cut, i: u32) -> &[Use]
+    requires { i < member_count cut.now }
+    ensures { result.now ≡ (member cut.now i).uses }
 {
-    put_starts(cut.rows.slice()[i as usize].uses.slice(), table);
+    cut.rows.slice()[i as usize].uses.slice()
 }
 
-// Puts the start at each place, where there is a use of it.
-fn put_starts(uses: &[Use], table: &mut [Option<i64>])
-    requires there { All (λ u. u.block < length table.old) uses.now }
-    requires none { (p : ℕ) → slice_index_or table.old p None ≡ None }
-    ensures { AreStarts uses.now (length table.old) table.new }
-{
-    let mut left = uses.len();
-    while left > 0 {
-        left -= 1;
-        let place = uses[left].block as usize;
-        table[place] = Some(uses[left].start);
-    }
-}
-
-// The first place by name at which one starts before the other.
-fn first_place(cut: &Cut, named: bool, from: &[Option<i64>], to: &[Option<i64>]) -> Option<usize>
+// Of the places of those uses that start before another member's use of the place, the first by
+// name.
+fn first_place(cut: &Cut, named: bool, uses: &[Use], others: &[Use]) -> Option<usize>
     requires sound { IsSoundCut cut.now }
-    requires from { place_count cut.now ≤ length from.now }
-    requires to { place_count cut.now ≤ length to.now }
-    ensures { AnswersFirst cut.now
-        (places_first named from.now to.now (place_count cut.now)) result }
+    requires there { All (λ u. u.block < place_count cut.now) uses.now }
+    requires differ { AreOfOtherPlaces others.now }
+    requires blocks { AreBlocksFirst (block_count cut.now) others.now }
+    ensures { AnswersFirst cut.now (places_first named uses.now others.now) result }
 {
     let mut best = None;
-    for place in 0..count_places(cut) {
-        if starts_first(named, from[place], to[place]) {
-            best = Some(first_of(cut, best, place));
+    for one in uses {
+        // Names first: the other use is looked for only where the place would be taken.
+        if leads(cut, best, one.block as usize) && starts_first(cut, named, *one, others) {
+            best = Some(one.block as usize);
         }
     }
     best
 }
 
-// Whether both start, the one before the other.
-fn starts_first(named: bool, from: Option<i64>, to: Option<i64>) -> bool
-    ensures { result ≡ starts_first_by named from to }
+// Whether the name of a place comes before that of the best, or there is none.
+fn leads(cut: &Cut, best: Option<usize>, place: usize) -> bool
+    requires there { place < place_count cut.now }
+    requires best { IfSome best (λ b. b < place_count cut.now) }
+    ensures { result ≡ leads_by cut.now best place }
 {
-    match (from, to) {
-        (Some(s), Some(t)) => s < t || s == t && named,
-        _ => false,
+    match best {
+        Some(b) => place_name(cut, place) < place_name(cut, b),
+        None => true,
     }
 }
 
-// The one of two places whose name comes first.
-fn first_of(cut: &Cut, best: Option<usize>, place: usize) -> usize
-    requires sound { IsSoundCut cut.now }
-    requires there { place < place_count cut.now }
-    requires best { (b : ℕ) → best ≡ Some b → b < place_count cut.now }
-    ensures none { best ≡ None → result ≡ place }
-    ensures some { (b : ℕ) → best ≡ Some b → result ≡
-        (if names.is_before (name_of_place cut.now place) (name_of_place cut.now b)
-        then place else b) }
+// Whether a use starts before one of its place among others.
+fn starts_first(cut: &Cut, named: bool, one: Use, others: &[Use]) -> bool
+    requires differ { AreOfOtherPlaces others.now }
+    requires blocks { AreBlocksFirst (block_count cut.now) others.now }
+    ensures { result ≡ is_first_of named others.now one }
 {
-    match best {
-        Some(b) if !(place_name(cut, place) < place_name(cut, b)) => b,
-        _ => place,
+    match start_at(others, cut.section.blocks.len(), one.block as usize) {
+        Some(start) => one.start < start || one.start == start && named,
+        None => false,
     }
 }
 

@@ -81,8 +81,8 @@ pub(crate) fn gather(cut: &Cut, place: usize, room: &mut [Visit]) -> usize
     count
 }
 
-// The start at a place, if it is used.
-fn start_at(uses: &[Use], blocks: usize, place: usize) -> Option<i64>
+/// The start at a place, if it is used.
+pub(crate) fn start_at(uses: &[Use], blocks: usize, place: usize) -> Option<i64>
     requires differ { AreOfOtherPlaces uses.now }
     requires blocks { AreBlocksFirst blocks uses.now }
     ensures { result ≡ start_of uses.now place }

@@ -1,35 +1,38 @@
-use Rattle.std.proofs.Common.{ℕ, ◌+◌, Bool, sym, subst, ◌∙◌, arith}
-use Rattle.std.specs.Prelude.{None, slice_index_or}
-use Rattle.train_order.specs.Starts.{AnswersFirst, IsFirstPlace, starts_first, places_first}
-use Rattle.train_order.proofs.Among.{passing_among}
-use Rattle.train_order.proofs.FirstPlace.{one_more}
-use Rattle.train_order.proofs.Ranges.{passing_yes, passing_no}
+use Rattle.std.proofs.Common.{◌+◌, take, sym, subst, ◌∙◌}
+use Rattle.std.proofs.lemmas.List.{take_all}
+use Rattle.plan_model.specs.Places.{place_count}
+use Rattle.train_order.specs.Starts.{AnswersFirst, places_first}
+use Rattle.train_order.proofs.FirstPlace.{found, not_leading, not_first, best_within}
 use Rattle.train_order.proofs.link_place.first_place.Goals as goal
-use Rattle.train_order.proofs.link_place.first_place.Goals.{then-starts_first, else-starts_first}
+use Rattle.train_order.proofs.link_place.first_place.Goals.{then-leads+then-starts_first, else-leads, else-leads-via-then-leads+else-starts_first, else-leads-via-else-leads}
 
-pub first_of-requires-clause-best : goal.first_of-requires-clause-best
-first_of-requires-clause-best c = λ b e.
-    let from = c.args.from.now in
-    let to = c.args.to.now in
-    let first : IsFirstPlace c.args.cut.now (places_first c.args.named from to c.loop-place.place) b =
-    subst (λ o. AnswersFirst c.args.cut.now (places_first c.args.named from to c.loop-place.place) o) e c.loop-place.invariant in
-    omega (arith, (passing_among (λ p. starts_first c.args.named (slice_index_or from p None) (slice_index_or to p None)) c.loop-place.place b first.there).0, c.loop-place-test.true, c.requires.from)
+pub leads-requires-clause-best : goal.leads-requires-clause-best
+leads-requires-clause-best c =
+    best_within c.args.cut.now c.args.named c.args.uses.now c.args.others.now c.loop-one.one-index c.loop-one-test.true
+    c.loop-one.best c.loop-one.invariant (place_count c.args.cut.now) c.requires.there
 
-pub loop-place-preserved : goal.loop-place-preserved
-loop-place-preserved c =
+pub loop-one-preserved : goal.loop-one-preserved
+loop-one-preserved c =
     let cut = c.args.cut.now in
-    let from = c.args.from.now in
-    let to = c.args.to.now in
-    let place = c.loop-place.place in
-    let test : ℕ → Bool = λ p. starts_first c.args.named (slice_index_or from p None) (slice_index_or to p None) in
-    let so_far = places_first c.args.named from to place in
-    elim c.if-starts_first.branch [
-      | then-starts_first w ↦
-          subst (λ o. AnswersFirst cut (places_first c.args.named from to (place + 1)) o) (sym w.best-is)
-          (subst (λ ps. IsFirstPlace cut ps w.first_of.result) (sym (passing_yes test place (sym c.starts_first.ensures ∙ w.if-starts_first.true)))
-          (one_more cut so_far place c.loop-place.best w.first_of.result c.loop-place.invariant w.first_of.ensures.none w.first_of.ensures.some))
-      | else-starts_first w ↦
-          subst (λ o. AnswersFirst cut (places_first c.args.named from to (place + 1)) o) (sym w.best-is)
-          (subst (λ ps. AnswersFirst cut ps c.loop-place.best) (sym (passing_no test place (sym c.starts_first.ensures ∙ w.if-starts_first.false)))
-          c.loop-place.invariant)
+    let with_it = places_first c.args.named (take (c.loop-one.one-index + 1) c.args.uses.now) c.args.others.now in
+    elim c.if-leads.branch [
+      | then-leads+then-starts_first w ↦
+          subst (λ o. AnswersFirst cut with_it o) (sym w.best-is)
+          (found cut c.args.named c.args.uses.now c.args.others.now c.loop-one.one-index c.loop-one-test.true c.loop-one.best
+          c.loop-one.invariant (sym c.leads.ensures ∙ w.if-leads.true) (sym w.starts_first.ensures ∙ w.if-starts_first.true))
+      | else-leads w ↦
+          subst (λ o. AnswersFirst cut with_it o) (sym w.best-is)
+          (elim w.else-leads.branch [
+            | else-leads-via-then-leads+else-starts_first v ↦
+                not_first cut c.args.named c.args.uses.now c.args.others.now c.loop-one.one-index c.loop-one-test.true c.loop-one.best
+                c.loop-one.invariant (sym v.starts_first.ensures ∙ v.if-starts_first.false)
+            | else-leads-via-else-leads v ↦
+                not_leading cut c.args.named c.args.uses.now c.args.others.now c.loop-one.one-index c.loop-one-test.true c.loop-one.best
+                c.loop-one.invariant (sym c.leads.ensures ∙ v.if-leads.false)
+          ])
     ]
+
+pub returns : goal.returns
+returns c =
+    subst (λ us. AnswersFirst c.args.cut.now (places_first c.args.named us c.args.others.now) c.loop-one.best)
+    (take_all c.loop-one.one-index c.args.uses.now c.loop-one-test.false) c.loop-one.invariant
