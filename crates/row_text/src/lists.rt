@@ -64,7 +64,7 @@ pub(crate) fn run_legs(
 fn legs_of(alloc: Global, times: &[u32]) -> Result<List<Leg>, OutOfMemory>
     ensures { IfOk result (λ legs. legs ≡ lines.legs_of times.now) }
 {
-    let mut legs = List::new(alloc);
+    let mut legs = Vec::with_capacity(alloc, times.len().div_ceil(2))?;
     let mut i = 0;
     while times.len() - i >= 2 {
         legs.push(Leg {
@@ -79,7 +79,7 @@ fn legs_of(alloc: Global, times: &[u32]) -> Result<List<Leg>, OutOfMemory>
             dwell_s: 0,
         })?;
     }
-    Ok(legs)
+    Ok(List::from_vec(legs))
 }
 
 // How long after the one before it each time comes.

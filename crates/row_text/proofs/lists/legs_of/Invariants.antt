@@ -5,7 +5,7 @@ use Rattle.row_text.proofs.lists.legs_of.Given as goal
 abbrev pub invariant-loop-i : goal.invariant-loop-i
 invariant-loop-i l = record {
   within : l.i ≤ length l.times;
-  legs : l.legs ++ legs_of (drop l.i l.times) ≡ legs_of l.times;
+  legs : l.legs.items ++ legs_of (drop l.i l.times) ≡ legs_of l.times;
 }
 
 abbrev pub decreases-loop-i : goal.decreases-loop-i
