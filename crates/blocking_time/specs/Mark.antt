@@ -1,5 +1,5 @@
 -- Marks: where blocks end, when the head leaves from there, and the last stop so far.
-use Rattle.std.specs.Prelude.{ℕ, ◌≤◌, zero, suc, nat_lt, if◌then◌else◌, List, map}
+use Rattle.std.specs.Prelude.{ℕ, ◌+◌, ◌≤◌, zero, suc, nat_lt, if◌then◌else◌, List, map}
 use Rattle.std.specs.List.{range_with_len}
 use Rattle.rail_model.specs.declared.path.Path.{Path}
 use Rattle.rail_model.specs.Path.{hop, hop_count}
@@ -11,9 +11,9 @@ use Rattle.blocking_time.specs.declared.motion.TheConstants.{GREATEST_PLACE_M, G
 abbrev pub mark_of : Path → ℕ → Mark
 mark_of path k = record { place_m = place path k; departure_s = departure path k }
 
--- the marks of the ends of all blocks
+-- the marks of the path's start and of the ends of all blocks
 abbrev pub marks_of : Path → List Mark
-marks_of path = map (mark_of path) (range_with_len 1 (hop_count path))
+marks_of path = map (mark_of path) (range_with_len 0 (hop_count path + 1))
 
 -- stands where the train has not stopped yet
 abbrev pub no_stop : Mark

@@ -13,13 +13,14 @@ use crate::motion::{self, GREATEST_REACH_S, Mark};
 use rail_model::{OutOfMemory, Path};
 use std::alloc::Global;
 
-/// The marks of the ends of all blocks of a path, in order.
+/// The marks of a path's start and of the ends of all its blocks, in order.
 pub fn marks(alloc: Global, path: &Path) -> Result<Vec<Mark>, OutOfMemory>
     requires { Fits path.now }
     ensures { IfOk result (λ marks. marks.items ≡ marks_of path.now) }
 {
     let mut mark = motion::first_mark(path);
-    let mut marks = Vec::with_capacity(alloc, path.hops.len())?;
+    let mut marks = Vec::with_capacity(alloc, path.hops.len() + 1)?;
+    marks.push(mark)?;
     for hop in path.hops.slice() {
         mark = motion::next_mark(mark, hop);
         marks.push(mark)?;
@@ -28,6 +29,7 @@ pub fn marks(alloc: Global, path: &Path) -> Result<Vec<Mark>, OutOfMemory>
 }
 
 /// The mark of the end of the k-th block, at 0 of the path's start.
+#[inline]
 pub fn mark_in(path: &Path, marks: &[Mark], k: usize) -> Mark
     requires fits { Fits path.now }
     requires table { marks.now ≡ marks_of path.now }
@@ -35,11 +37,7 @@ pub fn mark_in(path: &Path, marks: &[Mark], k: usize) -> Mark
     ensures mark { result ≡ mark_of path.now k }
     ensures bounded { IsMarkWithin result }
 {
-    if k == 0 {
-        motion::first_mark(path)
-    } else {
-        marks[k - 1]
-    }
+    marks[k]
 }
 
 /// How many blocks end before a place, by binary search. It begins between two counts, `first` and
@@ -127,6 +125,45 @@ pub fn seconds_down_at(path: &Path, marks: &[Mark], first: usize, last: usize, m
     motion::moment_down_in(mark_in(path, marks, k), hop, metres)
 }
 
+// When the head reaches a place, rounded up: in the block beyond the k-th one, where the place
+// mostly lies, or by the search.
+#[inline]
+fn seconds_near(path: &Path, marks: &[Mark], k: usize, metres: u64) -> u64
+    requires fits { Fits path.now }
+    requires table { marks.now ≡ marks_of path.now }
+    requires near { k < hop_count path.now }
+    requires on_path { metres ≤ place path.now (hop_count path.now) }
+    ensures moment { result ≡ moment_of path.now metres }
+    ensures bounded { result ≤ GREATEST_REACH_S }
+{
+    let mark = mark_in(path, marks, k);
+    if mark.place_m < metres && metres <= mark_in(path, marks, k + 1).place_m {
+        motion::moment_in(mark, &path.hops.slice()[k], metres)
+    } else {
+        seconds_at(path, marks, k, k, metres)
+    }
+}
+
+// The same, rounded down, for a place that lies in the block beyond the k-th one or before it.
+#[inline]
+fn seconds_down_near(path: &Path, marks: &[Mark], k: usize, metres: u64) -> u64
+    requires fits { Fits path.now }
+    requires table { marks.now ≡ marks_of path.now }
+    requires near { k < hop_count path.now }
+    requires within { metres ≤ place path.now (k + 1) }
+    requires on_path { metres ≤ place path.now (hop_count path.now) }
+    ensures moment { result ≡ moment_down_of path.now metres }
+    ensures bounded { result ≤ GREATEST_REACH_S }
+{
+    let mark = mark_in(path, marks, k);
+    if mark.place_m < metres {
+        motion::moment_down_in(mark, &path.hops.slice()[k], metres)
+    } else {
+        let before = k.saturating_sub(1);
+        seconds_down_at(path, marks, before, before, metres)
+    }
+}
+
 /// The approach moment of the k-th block, from 1, by the last stop before it.
 pub fn approach_seconds(path: &Path, marks: &[Mark], k: usize, stop: Mark) -> u64
     requires fits { Fits path.now }
@@ -141,9 +178,7 @@ pub fn approach_seconds(path: &Path, marks: &[Mark], k: usize, stop: Mark) -> u6
     let entry = mark_in(path, marks, k - 1);
     let point_m = entry.place_m.saturating_sub(u64::from(hop.approach_m));
     // Mostly the point lies in the block before this one or in the one before that.
-    let first = k.saturating_sub(3);
-    let last = k.saturating_sub(2);
-    let reached_s = seconds_down_at(path, marks, first, last, point_m);
+    let reached_s = seconds_down_near(path, marks, k.saturating_sub(2), point_m);
     approach::after_stop(reached_s, point_m, stop)
 }
 
@@ -162,8 +197,7 @@ pub fn clearing_seconds(path: &Path, marks: &[Mark], k: usize) -> u64
     let place_m = moments::clearing_place(mark, &hop, path.length_m);
     if place_m <= last.place_m {
         // Mostly the place lies in the next block.
-        let next = k.min(path.hops.len() - 1);
-        seconds_at(path, marks, next, next, place_m)
+        seconds_near(path, marks, k.min(path.hops.len() - 1), place_m)
     } else {
         moments::tail_end(path, last)
     }

@@ -15,6 +15,6 @@ next_mark-mark-requires c =
 pub loop-hop-preserved : goal.loop-hop-preserved
 loop-hop-preserved c =
     let next : c.next_mark-mark.result ≡ mark_of c.args.path.now (c.loop-hop.hop-index + 1) = grind (arith, common_steps) in
-    let more = map-range_with_len_more (mark_of c.args.path.now) 1 c.loop-hop.hop-index (c.loop-hop.hop-index + 1) (omega arith) in
-    let pushed = c.in_ok-push.ensures.items ∙ ap (λ l. l ++ c.next_mark-mark.result ∷ []) c.loop-hop.invariant.1 in
-    (next, pushed ∙ ap (λ m. map (mark_of c.args.path.now) (range_with_len 1 c.loop-hop.hop-index) ++ m ∷ []) next ∙ sym more)
+    let more = map-range_with_len_more (mark_of c.args.path.now) 0 (c.loop-hop.hop-index + 1) (c.loop-hop.hop-index + 1) (omega arith) in
+    let pushed = c.in_ok-push-2.ensures.items ∙ ap (λ l. l ++ c.next_mark-mark.result ∷ []) c.loop-hop.invariant.1 in
+    (next, pushed ∙ ap (λ m. map (mark_of c.args.path.now) (range_with_len 0 (c.loop-hop.hop-index + 1)) ++ m ∷ []) next ∙ sym more)
