@@ -105,18 +105,19 @@ impl TablesSoFar {
             (edit_in version (slice_index_or rows.now i [])) (i + 1) self.old self.new) }
     {
         match edit_at(alloc, rows, version, i)? {
-            Ok(edit) => self.take(i as u64 + 1, &edit).map(|()| None),
+            Ok(edit) => self.take(i as u64 + 1, edit).map(|()| None),
             Err(cause) => Ok(Some(cause)),
         }
     }
 
-    fn take(&mut self, row: u64, edit: &Edit) -> Result<(), OutOfMemory>
-        ensures { OnOk result (tables_so_far self.new ≡ after_one_more row (tables_so_far self.old) edit.now) }
+    // Makes an edit, or keeps the rule that refuses it; after a refusal the edit is dropped.
+    fn take(&mut self, row: u64, edit: Edit) -> Result<(), OutOfMemory>
+        ensures { OnOk result (tables_so_far self.new ≡ after_one_more row (tables_so_far self.old) edit) }
     {
         if self.refused.is_some() {
             return Ok(());
         }
-        if let Err(rule) = self.tables.apply(edit)? {
+        if let Err(rule) = self.tables.take(edit)? {
             self.refused = Some(Refusal {
                 row,
                 cause: Cause::Rule(rule),

@@ -25,6 +25,22 @@ impl LineTables {
         Ok(Ok(()))
     }
 
+    /// The same as `apply` for an edit that is given away: nothing of it is copied.
+    pub fn take(&mut self, edit: Edit) -> Result<Result<(), Rule>, OutOfMemory>
+        ensures refused { IfOk result
+            (λ answer. IfErr answer (λ rule. rule_of self.old edit ≡ Some rule)) }
+        ensures accepted { IfOk result (λ answer. OnOk answer (rule_of self.old edit ≡ None)) }
+        ensures after { IfOk result (λ answer. OnOk answer (self.new ≡ after self.old edit)) }
+        ensures kept { IfOk result (λ answer. OnErr answer (self.new ≡ self.old)) }
+        ensures kept_without_memory { OnErr result (self.new ≡ self.old) }
+    {
+        if let Some(rule) = self.rule_of(&edit)? {
+            return Ok(Err(rule));
+        }
+        self.make(edit)?;
+        Ok(Ok(()))
+    }
+
     // Makes an edit that no rule refuses.
     fn make(&mut self, edit: Edit) -> Result<(), OutOfMemory>
         requires { rule_of self.old edit ≡ None }

@@ -82,7 +82,7 @@ pub(crate) fn keys_of<T: Stored>(
     ensures table { tables.IsTable T.label table.now }
 {
     let _count = table.len();
-    let mut keys = List::new(alloc);
+    let mut keys = List::from_vec(Vec::with_capacity(alloc, names.len())?);
     let mut near = 0;
     for name in names {
         keys.push(table.key_near(name, &mut near).unwrap())?;
@@ -103,7 +103,7 @@ pub(crate) fn known_keys<T: Stored>(
     ensures table { tables.IsTable T.label table.now }
 {
     let _count = table.len();
-    let mut keys = List::new(alloc);
+    let mut keys = List::from_vec(Vec::with_capacity(alloc, names.len())?);
     let mut near = 0;
     for name in names {
         let Some(key) = table.key_near(name, &mut near) else {

@@ -300,7 +300,7 @@ fn joined(
 fn plain_blocks(alloc: Global, table: &NamedTable<Block>) -> Result<List<Block>, OutOfMemory>
     ensures { IfOk result (λ items. items ≡ map (λ e. e.1) table.now) }
 {
-    let mut items = List::new(alloc);
+    let mut items = List::from_vec(Vec::with_capacity(alloc, table.len())?);
     for number in 0..table.len() {
         items.push(*table.nth(number))?;
     }
@@ -314,7 +314,7 @@ fn plain_items<T: Stored>(
 ) -> Result<List<T>, OutOfMemory>
     ensures { IfOk result (λ items. items ≡ map (λ e. e.1.item) table.now) }
 {
-    let mut items = List::new(alloc);
+    let mut items = List::from_vec(Vec::with_capacity(alloc, table.len())?);
     for number in 0..table.len() {
         items.push(table.nth(number).item.clone()?)?;
     }

@@ -21,7 +21,7 @@ use std::alloc::Global;
 fn numbers_by_key(alloc: Global, blocks: &NamedTable<Block>) -> Result<Vec<usize>, OutOfMemory>
     ensures { IfOk result (λ numbers. AreNumbered (length blocks.now) blocks.now numbers.items) }
 {
-    let mut numbers = Vec::new(alloc);
+    let mut numbers = Vec::with_capacity(alloc, blocks.len())?;
     for number in 0..blocks.len() {
         let key = blocks.key_at(number);
         grow(&mut numbers, key)?;
@@ -76,7 +76,7 @@ fn untimed_hops(
     requires numbered { AreNumbered (length blocks.now) blocks.now numbers.now }
     ensures { IfOk result (λ hops. hops ≡ map (hops_in.hop_of blocks.now signals.now) keys.now) }
 {
-    let mut hops = List::new(alloc);
+    let mut hops = List::from_vec(Vec::with_capacity(alloc, keys.len())?);
     for key in keys {
         hops.push(untimed_hop(blocks, numbers, signals, *key))?;
     }
@@ -87,7 +87,7 @@ fn untimed_hops(
 fn timed_hops(alloc: Global, hops: &[Hop], legs: &[Leg]) -> Result<List<Hop>, OutOfMemory>
     ensures { IfOk result (λ timed. timed ≡ hops_in.with_legs hops.now legs.now) }
 {
-    let mut timed = List::new(alloc);
+    let mut timed = List::from_vec(Vec::with_capacity(alloc, hops.len())?);
     for (hop, leg) in hops.iter().zip(legs) {
         let hop_with_leg = Hop {
             running_s: leg.running_s,
@@ -137,7 +137,7 @@ impl LineTables {
     {
         let _count = self.signals.len();
         let numbers = numbers_by_key(self.alloc, &self.blocks)?;
-        let mut all = List::new(self.alloc);
+        let mut all = List::from_vec(Vec::with_capacity(self.alloc, self.routes.len())?);
         for number in 0..self.routes.len() {
             let route = self.routes.nth(number);
             let keys = route.refs.slice();

@@ -353,7 +353,7 @@ fn blocks_of(
     requires one { All (λ e. length e.1.refs ≡ 1) signals.now }
     ensures { IfOk result (λ blocks. blocks ≡ map (block_of signals.now) keys.now) }
 {
-    let mut blocks = List::new(alloc);
+    let mut blocks = List::from_vec(Vec::with_capacity(alloc, keys.len())?);
     for key in keys {
         blocks.push(block_of(signals, *key))?;
     }
