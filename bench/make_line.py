@@ -3,6 +3,7 @@
 
 RUNS trains run over one route of BLOCKS blocks; each stops DWELLS times on its way. Names are in no
 order of their own, times and lengths vary from train to train, and the rows are the same at each call.
+Two sections lie on the line, one of eight blocks and one of all.
 """
 import sys
 
@@ -38,8 +39,9 @@ def main():
             if k < blocks:
                 fields.append(str(30 + next(draw) % 60) if k in stops else "0")
         out.write(",".join(fields) + "\n")
-    section = ",".join("b%05d" % name for name in names[: min(blocks, 8)])
-    out.write("section,all,0,86400,33,%s\n" % section)
+    for section, count in [("few", 8), ("whole", 256)]:
+        fields = ["b%05d" % name for name in names[: min(blocks, count)]]
+        out.write("section,%s,0,604800,33,%s\n" % (section, ",".join(fields)))
 
 
 if __name__ == "__main__":

@@ -1,5 +1,5 @@
 #!/usr/bin/env python3
-"""Builds the program and measures `stairs` and `check` on large lines: bench/measure.py [RUNSxBLOCKS ...]
+"""Builds the program and measures its commands on large lines: bench/measure.py [RUNSxBLOCKS ...]
 
 Prints for each line the size of its input, the wall time (best of five), the peak memory and, where
 valgrind is there, the instructions of the whole program for each hop, reading and writing included.
@@ -21,7 +21,7 @@ DWELLS = 4
 
 def build():
     with open(TOP / "examples" / "two-blocks.csv", "rb") as line:
-        built = subprocess.run(["rt", "run", "--", "stairs"], cwd=TOP / "crates" / "capacity", stdin=line, capture_output=True)
+        built = subprocess.run(["rt", "run", "--", "compress", "S"], cwd=TOP / "crates" / "capacity", stdin=line, capture_output=True)
     if built.returncode != 0:
         sys.exit(built.stderr.decode())
 
@@ -36,7 +36,7 @@ def run_once(line, command, before=()):
     """The wall seconds of one call, and what is said on standard error."""
     with open(line, "rb") as source:
         begun = time.perf_counter()
-        ended = subprocess.run([*before, PROGRAM, command], stdin=source, stdout=subprocess.DEVNULL, stderr=subprocess.PIPE)
+        ended = subprocess.run([*before, PROGRAM, *command.split()], stdin=source, stdout=subprocess.DEVNULL, stderr=subprocess.PIPE)
         seconds = time.perf_counter() - begun
     said = ended.stderr.decode()
     if ended.returncode != 0:
@@ -65,7 +65,7 @@ def measure(size, folder):
     make_line(runs, blocks, line)
     hops, input_bytes = runs * blocks, line.stat().st_size
     print("%s runs x blocks: %d hops, %d bytes" % (size, hops, input_bytes))
-    for command in ["stairs", "check"]:
+    for command in ["stairs", "check", "report", "compress whole", "headways whole"]:
         seconds = min(run_once(line, command)[0] for _ in range(5))
         peak = peak_bytes(line, command)
         count = instructions(line, command, folder)
@@ -81,4 +81,5 @@ def main():
             measure(size, pathlib.Path(folder))
 
 
-main()
+if __name__ == "__main__":
+    main()
