@@ -6,3 +6,4 @@ pub mod Filled
 pub mod Raised
 pub mod Told
 pub mod Tables
+pub mod Place
