@@ -59,7 +59,7 @@ least_after P x (y ∷ xs) first rest =
     least_after P (int_min x y) xs
     (cond_both (int_lt y x) y x P (λ _. All-head P y xs rest) (λ _. first)) (All-tail P y xs rest)
 
-least_holds : (P : ℤ → Type 0) (xs : List ℤ) → 0 < length xs → All P xs → P (least xs)
+pub least_holds : (P : ℤ → Type 0) (xs : List ℤ) → 0 < length xs → All P xs → P (least xs)
 least_holds P [] some each = absurd (omega (arith, some))
 least_holds P (x ∷ xs) some each = least_after P x xs (All-head P x xs each) (All-tail P x xs each)
 

@@ -17,3 +17,5 @@ pub mod SoundRow
 pub mod TwoRows
 pub mod PlacesDiffer
 pub mod SoundCut
+pub mod Leads
+pub mod LateRuns

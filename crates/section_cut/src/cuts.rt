@@ -3,11 +3,12 @@ ghost use Rattle.std.specs.Prelude.{◌≡◌, ◌<◌, length, IfOk, IfSome, op
 ghost use Rattle.plan_model.specs.Cut.{stamped, IsSoundCut};
 ghost use Rattle.plan_model.specs.SectionCut as cuts;
 ghost use Rattle.section_cut.specs.Timetable.{timetable, section_at};
+ghost use Rattle.section_cut.specs.Late.{AreStairsFor};
 
 use crate::connections::connections;
+use crate::late::stairways_to;
 use crate::members::{Entered, members};
 use crate::positions::positions;
-use crate::timetable::stairways;
 use line_tables::LineTables;
 use plan_model::Cut;
 use rail_model::{List, Name, OutOfMemory, Stair};
@@ -29,8 +30,8 @@ pub fn cut_of(
     let Some(number) = tables.section_number(section) else {
         return Ok(None);
     };
-    let stairs = stairways(alloc, tables)?;
-    Ok(Some(cut_among(alloc, tables, &stairs, number, stamp)?))
+    let stairs = stairways_to(alloc, tables, number)?;
+    Ok(Some(cut_by(alloc, tables, stairs.slice(), number, stamp)?))
 }
 
 /// The same cut of the section of a number, by the stairways of all runs, which `stairways` makes once
@@ -48,17 +49,27 @@ pub fn cut_among(
         ≡ stamped stamp (cuts.section_cut tables.now (section_at tables.now section))) }
     ensures sound { IfOk result IsSoundCut }
 {
+    cut_by(alloc, tables, stairs.slice(), section, stamp)
+}
+
+// The same cut by stairs that may be without the uses of runs that are no members.
+fn cut_by(
+    alloc: Global,
+    tables: &LineTables,
+    stairs: &[Stair],
+    section: u32,
+    stamp: u64,
+) -> Result<Cut, OutOfMemory>
+    requires there { section < length tables.now.sections }
+    requires stairs { AreStairsFor tables.now (section_at tables.now section) stairs.now }
+    ensures same { IfOk result (λ cut. cut
+        ≡ stamped stamp (cuts.section_cut tables.now (section_at tables.now section))) }
+    ensures sound { IfOk result IsSoundCut }
+{
     let _count = tables.sections();
     let section = tables.section(section);
     let table = positions(alloc, tables, section)?;
-    let Entered { mut rows, of_run } = members(
-        alloc,
-        tables,
-        section,
-        &table,
-        stairs.slice(),
-        stamp,
-    )?;
+    let Entered { mut rows, of_run } = members(alloc, tables, section, &table, stairs, stamp)?;
     let connections = connections(alloc, tables, section, &of_run, &mut rows)?;
     Ok(Cut {
         section: section.copy(alloc)?,

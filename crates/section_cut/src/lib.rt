@@ -7,6 +7,7 @@
 
 mod connections;
 mod cuts;
+mod late;
 mod members;
 mod positions;
 mod timetable;

@@ -2,7 +2,7 @@
 ghost use Rattle.std.specs.Prelude.{◌≡◌, ◌≤◌, ◌++◌, ◌∷◌, [], length, map, IfOk, OnOk, option_map};
 ghost use Rattle.std.specs.Option.{option_to_list};
 ghost use Rattle.plan_model.specs.Cut.{least};
-ghost use Rattle.section_cut.specs.Timetable.{timetable};
+ghost use Rattle.section_cut.specs.Late.{AreStairsFor};
 ghost use Rattle.section_cut.specs.Positions.{IsPositions};
 ghost use Rattle.section_cut.specs.Members as rows;
 
@@ -26,7 +26,7 @@ pub(crate) struct Entered {
     pub(crate) of_run: Vec<Option<Member>>,
 }
 
-// The rows of the members by the stairways of all runs, without their uses of connections.
+// The rows of the members by the stairs of all runs, without their uses of connections.
 pub(crate) fn members(
     alloc: Global,
     tables: &LineTables,
@@ -35,7 +35,7 @@ pub(crate) fn members(
     stairs: &[Stair],
     stamp: u64,
 ) -> Result<Entered, OutOfMemory>
-    requires stairs { stairs.now ≡ timetable tables.now }
+    requires stairs { AreStairsFor tables.now section.now stairs.now }
     requires positions { IsPositions tables.now section.now positions.now }
     requires blocks { length section.now.blocks ≤ PATH_HOPS }
     ensures rows { IfOk result

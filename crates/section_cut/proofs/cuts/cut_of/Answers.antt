@@ -10,5 +10,5 @@ returns-in_default-clause-same c =
 
 pub returns-clause-same : goal.returns-clause-same
 returns-clause-same c =
-    ap Some c.in_ok-cut_among.ensures.same
+    ap Some c.in_ok-cut_by.ensures.same
     ∙ sym (ap (option_map (stamped c.args.stamp)) (cut_found c.args.tables.now c.args.section.now c.in-Some.number c.in-Some.ensures.number c.in-Some.ensures.in_range))

@@ -11,7 +11,7 @@ use Rattle.section_cut.specs.Members.{members_of, row_on_blocks}
 use Rattle.section_cut.proofs.Sections.{section_stands, section_within}
 use Rattle.section_cut.proofs.Joined.{cut_is}
 use Rattle.section_cut.proofs.SoundCut.{sound_cut, sound_stamped}
-use Rattle.section_cut.proofs.cuts.cut_among.Goals as goal
+use Rattle.section_cut.proofs.cuts.cut_by.Goals as goal
 
 pub connections-requires-clause-rows : goal.connections-requires-clause-rows
 connections-requires-clause-rows c =

@@ -1,0 +1,7 @@
+use Rattle.std.proofs.Common.{◌+◌, ◌≤◌, All, take}
+use Rattle.rail_model.specs.declared.path.Hop.{Hop}
+use Rattle.section_cut.proofs.late.lead_of.Given as goal
+
+-- a lead for the hops so far
+abbrev pub invariant-loop-hop : goal.invariant-loop-hop
+invariant-loop-hop l = All (λ (h : Hop). h.watch_s + h.form_s ≤ l.lead) (take l.hop-index l.hops)
