@@ -50,6 +50,13 @@ abbrev pub is_name : List ℕ → Bool
 is_name bytes =
     nat_lt 0 (length bytes) && nat_le (length bytes) NAME_BYTES && list_all is_name_byte bytes && is_utf8 bytes
 
+-- the last two of its tests, which printable bytes of ASCII pass
+abbrev pub is_plain_text : List ℕ → Bool
+is_plain_text bytes = list_all is_name_byte bytes && is_utf8 bytes
+
+abbrev pub is_printable_byte : ℕ → Bool
+is_printable_byte b = nat_le 32 b && nat_lt b 127
+
 -- the name that the bytes are, if they are one
 abbrev pub name_of : List ℕ → Option (List ℕ)
 name_of bytes = if is_name bytes then Some bytes else None

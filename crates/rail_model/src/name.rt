@@ -72,16 +72,30 @@ impl Name {
     }
 }
 
-ghost use Rattle.std.specs.Prelude.{IsTrue, ◌≤◌, length, true};
+ghost use Rattle.std.specs.Prelude.{IsTrue, ◌≤◌, length};
 ghost use Rattle.std.specs.List.{list_all};
 ghost use Rattle.std.specs.Str.{is_utf8};
-ghost use Rattle.rail_model.specs.Name.{IsName, is_name, is_name_byte, padded as padded_of};
+ghost use Rattle.rail_model.specs.Name.{IsName, is_name, is_name_byte, is_plain_text, is_printable_byte, padded as padded_of};
 
 // Whether the bytes are a name.
 fn is_name(bytes: &[u8]) -> bool
     ensures { result ≡ is_name bytes.now }
 {
-    !bytes.is_empty() && bytes.len() <= NAME_BYTES && is_plain(bytes) && is_text(bytes)
+    !bytes.is_empty() && bytes.len() <= NAME_BYTES && is_plain_text(bytes)
+}
+
+// Whether the bytes are UTF-8 without a control character of ASCII.
+fn is_plain_text(bytes: &[u8]) -> bool
+    ensures { result ≡ is_plain_text bytes.now }
+{
+    is_printable(bytes) || (is_plain(bytes) && is_text(bytes))
+}
+
+// Whether every byte is a printable one of ASCII, as in most names: such bytes are plain text.
+fn is_printable(bytes: &[u8]) -> bool
+    ensures { result ≡ list_all is_printable_byte bytes.now }
+{
+    bytes.iter().all(|b| *b >= 32 && *b < 127)
 }
 
 // Whether no byte is a control character of ASCII.
