@@ -1,58 +1,60 @@
--- Fields that are cut out of bytes at the places where they end.
-use Rattle.std.proofs.Common.{◌≡◌, ◌≢◌, ℕ, ◌+◌, ◌-◌, ◌<◌, ◌≤◌, List, [], ◌∷◌, ◌++◌, length, get_or, take, drop, sym, ap, ◌∙◌, refl, arith}
-use Rattle.std.proofs.lemmas.List.{length-append, length-take-le}
-use Rattle.row_text.specs.Cuts.{EndAt}
+-- Fields that stand at spans of bytes.
+use Rattle.std.proofs.Common.{◌≡◌, ℕ, ◌+◌, ◌<◌, ◌≤◌, List, [], ◌∷◌, ◌++◌, length, get_or, take, drop, sym, ap, ◌∙◌, refl, arith}
+use Rattle.std.specs.List.{All}
+use Rattle.std.proofs.lemmas.List.{length-take-le, length-map, get_or-map, map_push, take-take, take_at}
+use Rattle.std.proofs.lemmas.List.Elements.{All-head, All-tail, All-push, All-weaker}
+use Rattle.std.proofs.lemmas.Slice.{between_is}
 use Rattle.std.proofs.Math.Seq.{drop-append_seam}
-use Rattle.csv.specs.Records.{cut_from, Rising, last_end, prev}
-use Rattle.csv.proofs.RecordFacts.{field-cut, field-get, prev-first, prev-next, cut-more, cut-end, cut-take, rising-end, rising-more, last-append}
+use Rattle.row_text.specs.declared.fields.FieldSpan.{FieldSpan}
+use Rattle.row_text.specs.Cuts.{bytes_of, fields_at, LiesIn, span, SpansIn}
 use Rattle.row_text.specs.Row.{field}
 
--- a field is the bytes from its start to its end
-pub field-cut_from : (ends bytes : List ℕ) (i : ℕ) → i < length ends → field (cut_from 0 ends bytes) i ≡ take (get_or ends i 0 - prev 0 ends i) (drop (prev 0 ends i) bytes)
-field-cut_from ends bytes i lt = field-get _ i _ (field-cut 0 ends bytes i lt)
+-- there is a field for each span
+pub length-fields_at : (bytes : List ℕ) (spans : List FieldSpan) → length (fields_at bytes spans) ≡ length spans
+unfolding fields_at
+length-fields_at bytes spans = length-map spans (bytes_of bytes)
 
--- the first field starts at 0, and each other where the one before it ends
-pub prev-zero : (ends : List ℕ) (i : ℕ) → i ≡ 0 → prev 0 ends i ≡ 0
-prev-zero ends i e = rw e (prev-first ends)
+-- a field is the bytes of its span
+pub field-fields_at : (bytes : List ℕ) (spans : List FieldSpan) (i : ℕ) (d : FieldSpan) → i < length spans → field (fields_at bytes spans) i ≡ bytes_of bytes (get_or spans i d)
+unfolding fields_at
+field-fields_at bytes spans i d lt = get_or-map (bytes_of bytes) spans i d [] lt
 
-pub prev-is : (ends : List ℕ) (i : ℕ) → i ≢ 0 → i < length ends → prev 0 ends i ≡ get_or ends (i - 1) 0
-prev-is ends i more lt =
-    let one : (i - 1) + 1 ≡ i = omega arith in
-    rw one at (prev-next 0 ends (i - 1) 0 (omega arith))
-
--- one more field, at the end of the bytes
-pub cut_from-push : (ends bytes more : List ℕ) (end : ℕ) → Rising 0 ends (length bytes) → last_end 0 ends ≡ length bytes → end ≡ length bytes + length more
-    → cut_from 0 (ends ++ end ∷ []) (bytes ++ more) ≡ cut_from 0 ends bytes ++ more ∷ []
-cut_from-push ends bytes more end rise last at =
-    let size : end ≡ length (bytes ++ more) = at ∙ sym (length-append bytes more) in
-    let rise_more : Rising 0 ends (length (bytes ++ more)) = rising-more 0 ends (length bytes) (length (bytes ++ more)) rise (omega (arith, length-append bytes more)) in
-    let rest : drop (last_end 0 ends) (bytes ++ more) ≡ more = rw last (drop-append_seam bytes more) in
-    rw (size, cut-end 0 ends (bytes ++ more) rise_more, cut-more 0 ends bytes more rise, rest) refl
-
-pub Rising-push : (ends bytes more : List ℕ) (end : ℕ) → Rising 0 ends (length bytes) → end ≡ length bytes + length more → Rising 0 (ends ++ end ∷ []) (length (bytes ++ more))
-Rising-push ends bytes more end rise at =
-    let size : end ≡ length (bytes ++ more) = at ∙ sym (length-append bytes more) in
-    rw size (rising-end 0 ends _ (rising-more 0 ends (length bytes) (length (bytes ++ more)) rise (omega (arith, length-append bytes more))))
+-- one span more
+pub fields_at-push : (bytes : List ℕ) (spans : List FieldSpan) (at : FieldSpan) → fields_at bytes (spans ++ at ∷ []) ≡ fields_at bytes spans ++ bytes_of bytes at ∷ []
+unfolding fields_at
+fields_at-push bytes spans at = map_push (bytes_of bytes) spans at
 
 -- fields stay where the bytes that they use stay
-pub cut_from-same : (ends bytes other : List ℕ) (used : ℕ) → EndAt ends bytes used → used ≤ length other → take used other ≡ take used bytes → cut_from 0 ends other ≡ cut_from 0 ends bytes
-cut_from-same ends bytes other used at room same =
-    let last : last_end 0 ends ≤ used = omega (arith, at.last) in
-    sym (cut-take 0 ends other used (rising-more 0 ends used (length other) at.rise room) last room) ∙ ap (cut_from 0 ends) same
-    ∙ cut-take 0 ends bytes used (rising-more 0 ends used (length bytes) at.rise at.room) last at.room
+bytes_of-same : (bytes other : List ℕ) (used : ℕ) (at : FieldSpan) → LiesIn used at → take used other ≡ take used bytes → bytes_of other at ≡ bytes_of bytes at
+bytes_of-same bytes other used at lies same =
+    let first : take at.end other ≡ take at.end bytes = sym (take-take at.end used other lies.within) ∙ ap (take at.end) same ∙ take-take at.end used bytes lies.within in
+    between_is other at.start at.end ∙ ap (drop at.start) first ∙ sym (between_is bytes at.start at.end)
+
+pub fields_at-same : (bytes other : List ℕ) (used : ℕ) (spans : List FieldSpan) → All (LiesIn used) spans → take used other ≡ take used bytes → fields_at other spans ≡ fields_at bytes spans
+unfolding fields_at
+fields_at-same bytes other used [] each same = refl
+fields_at-same bytes other used (at ∷ spans) each same =
+    ap (λ field. field ∷ fields_at other spans) (bytes_of-same bytes other used at (All-head (LiesIn used) at spans each) same)
+    ∙ ap (λ fields. bytes_of bytes at ∷ fields) (fields_at-same bytes other used spans (All-tail (LiesIn used) at spans each) same)
+
+-- spans lie within more bytes, too
+pub LiesIn-more : (used more : ℕ) (spans : List FieldSpan) → used ≤ more → All (LiesIn used) spans → All (LiesIn more) spans
+LiesIn-more used more spans le each = All-weaker (LiesIn used) (LiesIn more) (λ at lies. record { order = lies.order; within = omega arith }) spans each
+
+-- the bytes that are used stay where others are written after them
+pub take-kept : (bytes other more : List ℕ) (used whole : ℕ) → used ≤ length bytes → used ≤ whole → take whole other ≡ take used bytes ++ more → take used other ≡ take used bytes
+take-kept bytes other more used whole room le written =
+    let size : length (take used bytes) ≡ used = length-take-le used bytes room in
+    sym (take-take used whole other le) ∙ ap (take used) written ∙ take_at (take used bytes) more used size
 
 -- one more field was written after the bytes that are used
-pub cut_from-put : (ends bytes other field : List ℕ) (used end : ℕ) → EndAt ends bytes used → end ≡ used + length field → end ≤ length other → take end other ≡ take used bytes ++ field
-    → (cut_from 0 (ends ++ end ∷ []) other ≡ cut_from 0 ends bytes ++ field ∷ []) × EndAt (ends ++ end ∷ []) other end
-cut_from-put ends bytes other field used end at is room written =
-    let size : length (take used bytes) ≡ used = length-take-le used bytes at.room in
-    let rise : Rising 0 ends (length (take used bytes)) = rw size at.rise in
-    let last : last_end 0 ends ≡ length (take used bytes) = at.last ∙ sym size in
-    let whole : length (take used bytes ++ field) ≡ end = length-append (take used bytes) field ∙ omega (arith, size) in
-    let grown : Rising 0 (ends ++ end ∷ []) end = rw whole at (Rising-push ends (take used bytes) field end rise (is ∙ ap (λ n. n + length field) (sym size))) in
-    let now : last_end 0 (ends ++ end ∷ []) ≡ end = last-append 0 ends end in (
-      sym (cut-take 0 (ends ++ end ∷ []) other end (rising-more 0 (ends ++ end ∷ []) end (length other) grown room) (omega (arith, now)) room) ∙ ap (cut_from 0 (ends ++ end ∷ [])) written
-          ∙ cut_from-push ends (take used bytes) field end rise last (is ∙ ap (λ n. n + length field) (sym size))
-          ∙ ap (λ fields. fields ++ field ∷ []) (cut-take 0 ends bytes used (rising-more 0 ends used (length bytes) at.rise at.room) (omega (arith, at.last)) at.room),
-      record { rise = grown; last = now; room = room },
+pub fields_at-put : (spans : List FieldSpan) (bytes other field : List ℕ) (used end : ℕ) → SpansIn spans bytes used → end ≡ used + length field → end ≤ length other → take end other ≡ take used bytes ++ field
+    → (fields_at other (spans ++ span used end ∷ []) ≡ fields_at bytes spans ++ field ∷ []) × SpansIn (spans ++ span used end ∷ []) other end
+fields_at-put spans bytes other field used end lie is room written =
+    let le : used ≤ end = omega arith in
+    let size : length (take used bytes) ≡ used = length-take-le used bytes lie.room in
+    let before : fields_at other spans ≡ fields_at bytes spans = fields_at-same bytes other used spans lie.each (take-kept bytes other field used end lie.room le written) in
+    let last : bytes_of other (span used end) ≡ field = between_is other used end ∙ ap (drop used) written ∙ rw size at (drop-append_seam (take used bytes) field) in (
+      fields_at-push other spans (span used end) ∙ rw (before, last) refl,
+      record { each = All-push (LiesIn end) spans (span used end) (LiesIn-more used end spans le lie.each) (record { order = le; within = omega arith }); room = room },
     )

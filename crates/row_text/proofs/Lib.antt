@@ -3,6 +3,7 @@ pub mod Cuts
 pub mod Appended
 pub mod Pieces
 pub mod Reading
+pub mod Legs
 pub mod Words
 pub mod Records
 pub mod Taken
@@ -13,3 +14,5 @@ pub mod Digits
 pub mod SheetRows
 pub mod SheetSteps
 pub mod PlainFields
+pub mod PlainReads
+pub mod PlainRows

@@ -12,7 +12,7 @@ after read rest = rest >>= λ xs. Ok (read ++ xs)
 abbrev pub then_rest : {A : Type 0} → Result A Form → Result (List A) Form → Result (List A) Form
 then_rest first rest = first >>= λ x. rest >>= λ xs. Ok (x ∷ xs)
 
-after-push : {A : Type 0} (read : List A) (x : A) (rest : Result (List A) Form) → after (read ++ x ∷ []) rest ≡ after read (then_rest (Ok x) rest)
+pub after-push : {A : Type 0} (read : List A) (x : A) (rest : Result (List A) Form) → after (read ++ x ∷ []) rest ≡ after read (then_rest (Ok x) rest)
 after-push read x (Err fault) = refl
 after-push read x (Ok xs) = ap Ok (append_assoc read (x ∷ []) xs)
 

@@ -82,6 +82,12 @@ run_legs version start times =
     if version == 2 then (if falls start times then Err form.Order else Ok (legs_of (differences start times)))
     else Ok (legs_of times)
 
+-- the legs of the times that fields say, or the first fault
+abbrev pub legs_in : ℕ → ℕ → Row → Result (List Leg) Form
+legs_in version start fields = do
+  times ← read_each (time_in version) fields
+  run_legs version start times
+
 -- the item of a kind, of the fields of its row
 abbrev pub make_item : ℕ → (k : Kind) → Maker (kind_shape k).sorts (kind_shape k).more Item
 make_item version kind.Block = λ name length_m.

@@ -48,6 +48,7 @@ pub(crate) fn time_at(version: u32, row: &Row<'_>, i: usize) -> Result<u32, Form
 }
 
 // The number that a field of one to nine digits writes.
+#[inline]
 pub(crate) fn number(field: &[u8]) -> Option<u32>
     ensures value { result ≡ number_of field.now }
     ensures small { IfSome result (λ value. value < 10 ^ length field.now) }
@@ -98,6 +99,7 @@ fn class_rate(field: &[u8]) -> Option<u32>
 }
 
 // The time that a field says: seconds.
+#[inline]
 fn time(version: u32, field: &[u8]) -> Option<u32>
     ensures { result ≡ time_of version field.now }
 {

@@ -1,7 +1,8 @@
-//! The fields of a row, kept as one text with the ends of the fields.
+//! The fields of a row, kept as one text with the place of each field in it.
 ghost use Rattle.std.specs.Prelude.{◌≡◌, ◌+◌, ◌<◌, ◌≤◌, ◌^◌, ◌↔◌, [], ◌∷◌, ◌++◌, length, slice_index, slice_range, take, vec_len, vec_capacity, IsTrue, IfSome, IfOk, OnOk, OnErr};
-ghost use Rattle.csv.specs.Records.{IsRecord, cut_from, field_count, fields_of, last_end, prev, Rising, text_of};
-ghost use Rattle.row_text.specs.Cuts.{after_bytes};
+ghost use Rattle.std.specs.List.{All};
+ghost use Rattle.csv.specs.Records.{IsRecord, field_count, fields_of, last_end, prev, text_of};
+ghost use Rattle.row_text.specs.Cuts.{after_bytes, fields_at, LiesIn, span, spans_from};
 ghost use Rattle.row_text.specs.Row.{field};
 
 use crate::put::{make_room, put_bytes};
@@ -15,24 +16,30 @@ use std::marker::Model;
 /// The fields have fewer than 4,294,967,296 bytes together: a push past that finds no memory.
 #[derive(Drop)]
 pub struct Fields {
-    // The bytes of the fields, and spare room after them.
+    // The bytes of the fields, some more between them, and spare room after them.
     bytes: Vec<u8>,
-    // How many bytes the fields have.
+    // How many of the bytes are used.
     used: usize,
-    // Where each field ends.
-    ends: Vec<u32>,
+    // Where each field stands.
+    spans: Vec<FieldSpan>,
+}
+
+// Where a field starts and ends.
+#[derive(Clone, Copy)]
+pub(crate) struct FieldSpan {
+    pub(crate) start: u32,
+    pub(crate) end: u32,
 }
 
 impl Model for Fields {
     ghost use Rattle.std.specs.Prelude.{List, ℕ};
-    ghost use Rattle.csv.specs.Records.{cut_from};
-    ghost use Rattle.row_text.specs.Cuts.{EndAt};
+    ghost use Rattle.row_text.specs.Cuts.{fields_at, SpansIn};
 
     ghost Value = { List (List ℕ) };
 
-    ghost view = { λ f. cut_from 0 f.ends.items f.bytes.items };
+    ghost view = { λ f. fields_at f.bytes.items f.spans.items };
 
-    ghost invariant = { λ f. EndAt f.ends.items f.bytes.items f.used };
+    ghost invariant = { λ f. SpansIn f.spans.items f.bytes.items f.used };
 }
 
 impl Fields {
@@ -43,8 +50,17 @@ impl Fields {
         Fields {
             bytes: Vec::new(alloc),
             used: 0,
-            ends: Vec::new(alloc),
+            spans: Vec::new(alloc),
         }
+    }
+
+    // The fields that stand at these spans of the bytes.
+    pub(crate) fn at_spans(bytes: Vec<u8>, spans: Vec<FieldSpan>) -> Fields
+        requires { All (LiesIn (length bytes.items)) spans.items }
+        ensures { result ≡ fields_at bytes.items spans.items }
+    {
+        let used = bytes.len();
+        Fields { bytes, used, spans }
     }
 
     /// Puts a field at the end. Without memory the fields stay as they were.
@@ -52,32 +68,31 @@ impl Fields {
         ensures ok { OnOk result (self.new ≡ self.old ++ field.now ∷ []) }
         ensures err { OnErr result (self.new ≡ self.old) }
     {
-        let Some(end) = end_after(self.used, field.len()) else {
+        let Some(span) = span_after(self.used, field.len()) else {
             return Err(OutOfMemory);
         };
-        self.ends.push(end)?;
+        self.spans.push(span)?;
         if make_room(&mut self.bytes, self.used, field.len()).is_err() {
-            self.ends.pop();
+            self.spans.pop();
             return Err(OutOfMemory);
         }
         self.used = put_bytes(&mut self.bytes, self.used, field);
         Ok(())
     }
 
-    // Puts the fields of a row at the end: its bytes at once, and then the place where each ends.
+    // Puts the fields of a row at the end: its bytes at once, and then the place of each.
     pub(crate) fn append(&mut self, row: &ByteRecord) -> Result<(), OutOfMemory>
         requires { IsRecord row.now }
         ensures { OnOk result (self.new ≡ self.old ++ fields_of row.now) }
     {
         let text = row.as_slice();
-        let Some(_) = end_after(self.used, text.len()) else {
+        let Some(_) = span_after(self.used, text.len()) else {
             return Err(OutOfMemory);
         };
-        self.ends.reserve(row.len())?;
+        self.spans.reserve(row.len())?;
         make_room(&mut self.bytes, self.used, text.len())?;
-        let end = put_ends(&mut self.ends, self.used, row);
-        let _text_end = put_bytes(&mut self.bytes, self.used, text);
-        self.used = end;
+        put_spans(&mut self.spans, self.used, row);
+        self.used = put_bytes(&mut self.bytes, self.used, text);
         Ok(())
     }
 
@@ -85,7 +100,7 @@ impl Fields {
     pub fn len(&self) -> usize
         ensures { result ≡ length self.now }
     {
-        self.ends.len()
+        self.spans.len()
     }
 
     /// Whether there is no field.
@@ -101,7 +116,7 @@ impl Fields {
         requires { i < length self.now }
         ensures { result.now ≡ field self.now i }
     {
-        field_at(&self.bytes, &self.ends, i)
+        field_at(&self.bytes, &self.spans, i)
     }
 
     /// The fields as a row that only lends them.
@@ -181,15 +196,15 @@ impl<'a> Row<'a> {
     }
 }
 
-// The field at a place of the bytes that end at these places.
+// The field at a place, of those that stand at these spans of the bytes.
 #[inline]
-fn field_at<'a>(bytes: &'a [u8], ends: &[u32], i: usize) -> &'a [u8]
-    requires at { i < length ends.now }
-    requires rise { Rising 0 ends.now (length bytes.now) }
-    ensures { result.now ≡ field (cut_from 0 ends.now bytes.now) i }
+fn field_at<'a>(bytes: &'a [u8], spans: &[FieldSpan], i: usize) -> &'a [u8]
+    requires at { i < length spans.now }
+    requires within { All (LiesIn (length bytes.now)) spans.now }
+    ensures { result.now ≡ field (fields_at bytes.now spans.now) i }
 {
-    let (start, end) = span(ends, i);
-    &bytes[start..end]
+    let span = spans[i];
+    &bytes[span.start as usize..span.end as usize]
 }
 
 // Where the piece at `i` starts and ends, of pieces that end at these places.
@@ -206,22 +221,24 @@ pub(crate) fn span(ends: &[u32], i: usize) -> (usize, usize)
     (ends[i - 1] as usize, end)
 }
 
-// Puts the places where the fields of a row end, as its bytes stand after so many others. Gives
-// the last of them.
+// Puts the places of a row's fields, as its bytes stand after so many others.
 #[inline]
-fn put_ends(ends: &mut Vec<u32>, used: usize, row: &ByteRecord) -> usize
+fn put_spans(spans: &mut Vec<FieldSpan>, used: usize, row: &ByteRecord)
     requires rise { IsRecord row.now }
     requires small { used + length (text_of row.now) < 2 ^ 32 }
-    requires room { vec_len ends.old + field_count row.now ≤ vec_capacity ends.old }
-    ensures places { ends.new.items ≡ ends.old.items ++ after_bytes used row.now.ends }
-    ensures last { result ≡ used + last_end 0 row.now.ends }
+    requires room { vec_len spans.old + field_count row.now ≤ vec_capacity spans.old }
+    ensures { spans.new.items
+        ≡ spans.old.items ++ spans_from used (after_bytes used row.now.ends) }
 {
-    let mut end = used;
+    let mut start = used;
     for i in 0..row.len() {
-        end += field_len(row, i);
-        ends.push_reserved(end as u32);
+        let end = start + field_len(row, i);
+        spans.push_reserved(FieldSpan {
+            start: start as u32,
+            end: end as u32,
+        });
+        start = end;
     }
-    end
 }
 
 // How long the field at `i` of a row is.
@@ -237,12 +254,15 @@ fn field_len(row: &ByteRecord, i: usize) -> usize
     }
 }
 
-// Where a field of a length ends that stands after as many bytes.
-fn end_after(bytes: usize, field: usize) -> Option<u32>
-    ensures { IfSome result (λ end. end ≡ bytes + field) }
+// Where a field of a length stands after so many bytes.
+fn span_after(bytes: usize, field: usize) -> Option<FieldSpan>
+    ensures { IfSome result (λ at. at ≡ span bytes (bytes + field)) }
 {
     match bytes.checked_add(field) {
-        Some(end) if end < MOST_BYTES => Some(end as u32),
+        Some(end) if end < MOST_BYTES => Some(FieldSpan {
+            start: bytes as u32,
+            end: end as u32,
+        }),
         _ => None,
     }
 }

@@ -7,7 +7,7 @@ ghost use Rattle.row_text.specs.Reads.{Reads};
 
 use crate::field::{name_at, number_at, rate_at, time_at};
 use crate::fields::Row;
-use crate::lists::{names_from, run_legs, times_from};
+use crate::lists::{names_from, run_legs};
 use crate::unread::Unread;
 use rail_model::{Block, Connection, Item, Kind, Route, Run, Section, Signal};
 use std::alloc::Global;
@@ -87,8 +87,7 @@ fn run_of(alloc: Global, version: u32, row: &Row<'_>) -> Result<Item, Unread>
     let length_m = number_at(row, 3)?;
     let tail_s = number_at(row, 4)?;
     let start_s = time_at(version, row, 5)?;
-    let times = times_from(alloc, version, row, 6)?;
-    let legs = run_legs(alloc, version, start_s, times.slice())?;
+    let legs = run_legs(alloc, version, start_s, row, 6)?;
     Ok(Item::Run(Run {
         name,
         route,

@@ -9,6 +9,7 @@ mod leg_times;
 mod line;
 mod line_row;
 mod lists;
+mod plain_rows;
 mod put;
 mod row_list;
 mod sheet;

@@ -4,7 +4,7 @@ ghost use Rattle.row_text.specs.Reads.{Reads};
 ghost use Rattle.row_text.specs.Sorts.{name_in, time_in};
 ghost use Rattle.row_text.specs.Lines as lines;
 
-use crate::field::{name_at, time_at};
+use crate::field::{name_at, number_at, time_at};
 use crate::fields::Row;
 use crate::unread::Unread;
 use rail_model::{Form, Leg, List, Name, OutOfMemory};
@@ -18,18 +18,58 @@ pub(crate) fn names_from(alloc: Global, row: &Row<'_>, from: usize) -> Result<Li
 {
     let mut names = Vec::with_capacity(alloc, row.len() - from)?;
     for i in from..row.len() {
-        names.push(name_at(row, i)?)?;
+        names.push_reserved(name_at(row, i)?);
     }
     Ok(List::from_vec(names))
 }
 
-// The times in the fields from one on.
-pub(crate) fn times_from(
+// The legs of a run, of the times in the fields from one on.
+pub(crate) fn run_legs(
     alloc: Global,
     version: u32,
+    start_s: u32,
     row: &Row<'_>,
     from: usize,
-) -> Result<List<u32>, Unread>
+) -> Result<List<Leg>, Unread>
+    requires there { from ≤ length row.now }
+    requires few { length row.now < 2 ^ 63 }
+    ensures { Reads result (lines.legs_in version start_s (drop from row.now)) }
+{
+    if version != 2 {
+        return legs_from(alloc, row, from);
+    }
+    let times = times_from(alloc, version, row, from)?;
+    legs_between(alloc, start_s, times.slice())
+}
+
+// The legs of the running and dwell times in the fields from one on, as in version 1, where they
+// are the same for any start.
+fn legs_from(alloc: Global, row: &Row<'_>, from: usize) -> Result<List<Leg>, Unread>
+    requires there { from ≤ length row.now }
+    requires few { length row.now < 2 ^ 63 }
+    ensures { Reads result (lines.legs_in 1 0 (drop from row.now)) }
+{
+    let len = row.len();
+    let mut legs = Vec::with_capacity(alloc, (len - from).div_ceil(2))?;
+    let mut i = from;
+    while len - i >= 2 {
+        let running_s = number_at(row, i)?;
+        let dwell_s = number_at(row, i + 1)?;
+        legs.push_reserved(Leg { running_s, dwell_s });
+        i += 2;
+    }
+    if i < len {
+        let running_s = number_at(row, i)?;
+        legs.push_reserved(Leg {
+            running_s,
+            dwell_s: 0,
+        });
+    }
+    Ok(List::from_vec(legs))
+}
+
+// The times in the fields from one on.
+fn times_from(alloc: Global, version: u32, row: &Row<'_>, from: usize) -> Result<List<u32>, Unread>
     requires there { from ≤ length row.now }
     requires few { length row.now < 2 ^ 63 }
     ensures { Reads result (lines.read_each (time_in version) (drop from row.now)) }
@@ -41,18 +81,10 @@ pub(crate) fn times_from(
     Ok(List::from_vec(times))
 }
 
-// The legs of a run's times.
-pub(crate) fn run_legs(
-    alloc: Global,
-    version: u32,
-    start_s: u32,
-    times: &[u32],
-) -> Result<List<Leg>, Unread>
-    ensures { Reads result (lines.run_legs version start_s times.now) }
+// The legs of the arrivals and departures after a start.
+fn legs_between(alloc: Global, start_s: u32, times: &[u32]) -> Result<List<Leg>, Unread>
+    ensures { Reads result (lines.run_legs 2 start_s times.now) }
 {
-    if version != 2 {
-        return Ok(legs_of(alloc, times)?);
-    }
     if falls(start_s, times) {
         return Err(Unread::Fault(Form::Order));
     }
@@ -67,17 +99,17 @@ fn legs_of(alloc: Global, times: &[u32]) -> Result<List<Leg>, OutOfMemory>
     let mut legs = Vec::with_capacity(alloc, times.len().div_ceil(2))?;
     let mut i = 0;
     while times.len() - i >= 2 {
-        legs.push(Leg {
+        legs.push_reserved(Leg {
             running_s: times[i],
             dwell_s: times[i + 1],
-        })?;
+        });
         i += 2;
     }
     if i < times.len() {
-        legs.push(Leg {
+        legs.push_reserved(Leg {
             running_s: times[i],
             dwell_s: 0,
-        })?;
+        });
     }
     Ok(List::from_vec(legs))
 }

@@ -1,6 +1,7 @@
 //! The rows of a text.
 ghost use Rattle.std.specs.Prelude.{◌≡◌, ◌<◌, ◌++◌, ◌∷◌, [], length, slice_index_or, IfOk, OnOk, IsTrue, ◌↔◌};
-ghost use Rattle.csv.specs.Records.{fields_of, IsRecord};
+ghost use Rattle.csv.specs.Records.{fields_of, IsRecord, Rising};
+ghost use Rattle.row_text.specs.Pieces.{pieces};
 ghost use Rattle.row_text.specs.Row.{Row as TheRow};
 ghost use Rattle.row_text.specs.Lines.{read_in};
 ghost use Rattle.row_text.specs.Versions.{has_version_row, version_of, version_in, first_line};
@@ -9,6 +10,7 @@ ghost use Rattle.std.specs.Prelude.{List};
 use crate::field::number_at;
 use crate::fields::{Fields, MOST_BYTES, Row, span};
 use crate::line::{Line, read_line};
+use crate::plain_rows::plain_rows;
 use csv::{ByteRecord, ReaderBuilder};
 use rail_model::{Form, OutOfMemory};
 use std::alloc::Global;
@@ -36,6 +38,14 @@ impl Model for RowList {
 }
 
 impl RowList {
+    // Rows of these fields, where those of each row end at these places.
+    pub(crate) fn of_fields(fields: Fields, ends: Vec<u32>) -> RowList
+        requires { Rising 0 ends.items (length fields) }
+        ensures { result ≡ pieces 0 ends.items fields }
+    {
+        RowList { fields, ends }
+    }
+
     /// How many rows there are.
     pub fn len(&self) -> usize
         ensures { result ≡ length self.now }
@@ -138,6 +148,16 @@ ghost use Rattle.row_text.specs.Rows.{rows_of, Takes};
 /// The rows of a text as CSV reads them: commas, double quotes, no header row, rows of any lengths.
 /// A byte order mark at the start is left out. Any error of the reader is that memory ran out.
 pub fn rows(alloc: Global, text: &[u8]) -> Result<RowList, OutOfMemory>
+    ensures { IfOk result (λ rows. rows ≡ rows_of text.now) }
+{
+    match plain_rows(alloc, text)? {
+        Some(rows) => Ok(rows),
+        None => rows_read(alloc, text),
+    }
+}
+
+// The same for any text, by a reader of CSV.
+fn rows_read(alloc: Global, text: &[u8]) -> Result<RowList, OutOfMemory>
     ensures { IfOk result (λ rows. rows ≡ rows_of text.now) }
 {
     let mut reader = ReaderBuilder::new()

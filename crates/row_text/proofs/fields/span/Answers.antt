@@ -1,5 +1,5 @@
 use Rattle.std.proofs.Common.{sym}
-use Rattle.row_text.proofs.Cuts.{prev-zero, prev-is}
+use Rattle.row_text.proofs.Pieces.{prev-zero, prev-is}
 use Rattle.row_text.proofs.fields.span.Goals as goal
 
 pub returns-then-i-eq0-clause-start : goal.returns-then-i-eq0-clause-start

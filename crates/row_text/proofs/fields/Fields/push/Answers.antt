@@ -1,14 +1,13 @@
 use Rattle.std.proofs.Common.{◌≡◌, ◌≤◌, ◌+◌, ◌∷◌, ◌++◌, [], length, sym, ap, ◌∙◌, rules, arith}
 use Rattle.std.specs.Vec.{with_items}
 use Rattle.std.proofs.lemmas.List.{with_items_is}
-use Rattle.csv.specs.Records.{cut_from}
-use Rattle.row_text.specs.Cuts.{EndAt}
-use Rattle.row_text.proofs.Cuts.{cut_from-put}
+use Rattle.row_text.specs.Cuts.{fields_at, span, SpansIn}
+use Rattle.row_text.proofs.Cuts.{fields_at-put}
 use Rattle.row_text.proofs.fields.Fields.push.Goals as goal
 
--- the bytes with the field, and the places with its end
-put : (c : goal.After-self-2-1) → (cut_from 0 c.push.new.self.items (with_items c.make_room.new.text c.put_bytes-self-inside.new.text).items ≡ cut_from 0 c.self.inside.ends.items c.self.inside.bytes.items ++ c.args.field.now ∷ [])
-    × EndAt c.push.new.self.items (with_items c.make_room.new.text c.put_bytes-self-inside.new.text).items c.put_bytes-self-inside.result
+-- the bytes with the field, and the places with its place
+put : (c : goal.After-self-2-1) → (fields_at (with_items c.make_room.new.text c.put_bytes-self-inside.new.text).items c.push.new.self.items ≡ fields_at c.self.inside.bytes.items c.self.inside.spans.items ++ c.args.field.now ∷ [])
+    × SpansIn c.push.new.self.items (with_items c.make_room.new.text c.put_bytes-self-inside.new.text).items c.put_bytes-self-inside.result
 put c =
     let own = c.self.inside in
     let field = c.args.field.now in
@@ -17,9 +16,9 @@ put c =
     let size = ap length c.deref_mut.ensures.value in
     let same : (with_items c.make_room.new.text c.put_bytes-self-inside.new.text).items ≡ c.put_bytes-self-inside.new.text = with_items_is c.make_room.new.text c.put_bytes-self-inside.new.text (c.put_bytes-self-inside.auto.text ∙ size ∙ sym c.make_room.new.text.ok.0) in
     let room : own.used + length field ≤ length c.make_room.new.text.items = search rules in
-    let told : c.in-Some.end ≡ own.used + length field = search rules in
-    let ends : c.push.new.self.items ≡ own.ends.items ++ c.put_bytes-self-inside.result ∷ [] = c.in_ok-push.ensures.items ∙ ap (λ n. own.ends.items ++ n ∷ []) (told ∙ sym end) in
-    rw (same, ends) (cut_from-put own.ends.items own.bytes.items c.put_bytes-self-inside.new.text field own.used c.put_bytes-self-inside.result c.self.invariant end
+    let told : c.in-Some.span ≡ span own.used c.put_bytes-self-inside.result = rw end c.in-Some.ensures in
+    let spans : c.push.new.self.items ≡ own.spans.items ++ span own.used c.put_bytes-self-inside.result ∷ [] = c.in_ok-push.ensures.items ∙ ap (λ at. own.spans.items ++ at ∷ []) told in
+    rw (same, spans) (fields_at-put own.spans.items own.bytes.items c.put_bytes-self-inside.new.text field own.used c.put_bytes-self-inside.result c.self.invariant end
     (omega (arith, end, room, c.put_bytes-self-inside.auto.text, size)) (written ∙ ap (λ bytes. bytes ++ field) (rw c.deref_mut.ensures.value c.make_room.ensures.kept)))
 
 pub invariant_of-self-2 : goal.invariant_of-self-2

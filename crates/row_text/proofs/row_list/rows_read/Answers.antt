@@ -3,7 +3,7 @@ use Rattle.csv.specs.Reading.{Reached, strip_bom}
 use Rattle.csv.specs.Records.{fields_of}
 use Rattle.row_text.proofs.Records.{HasRead-more, HasRead-end}
 use Rattle.row_text.proofs.Taken.{HasTaken-none}
-use Rattle.row_text.proofs.row_list.rows.Goals as goal
+use Rattle.row_text.proofs.row_list.rows_read.Goals as goal
 
 pub rows-init : goal.rows-init
 unfolding Reached

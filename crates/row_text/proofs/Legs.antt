@@ -1,0 +1,58 @@
+-- The legs of times that are read from fields, two fields at a time.
+use Rattle.std.proofs.Common.{◌≡◌, ℕ, ◌+◌, ◌<◌, ◌≤◌, false, ◌==◌, List, [], ◌∷◌, ◌++◌, length, drop, Result, Ok, Err, refl, arith}
+use Rattle.std.proofs.lemmas.List.{append-nil, drop_all}
+use Rattle.rail_model.specs.declared.form.Form.{Form}
+use Rattle.rail_model.specs.declared.items.Leg.{Leg}
+use Rattle.row_text.specs.Row.{Row, field}
+use Rattle.row_text.specs.Sorts.{number_in, time_in}
+use Rattle.row_text.specs.Lines.{◌>>=◌, read_each, legs_of, legs_in}
+use Rattle.row_text.proofs.Reading.{after, then_rest, after-push, read_each-drop}
+
+-- outside version 2 each field is read as in version 1, and the times are running and dwell times
+times-first : (version : ℕ) (fields : Row) → (version == 2) ≡ false → read_each (time_in version) fields ≡ read_each (time_in 1) fields
+times-first version [] other = refl
+times-first version (first ∷ fields) other = rw (other, times-first version fields other) refl
+
+pub legs_in-first : (version start : ℕ) (fields : Row) → (version == 2) ≡ false → legs_in version start fields ≡ legs_in 1 0 fields
+legs_in-first version start fields other = rw (other, times-first version fields other) refl
+
+-- a leg of a running and a dwell time, before what the rest reads as
+two_times : (a b : ℕ) (rest : Result (List ℕ) Form)
+    → (then_rest (Ok a) (then_rest (Ok b) rest) >>= λ times. Ok (legs_of times))
+    ≡ then_rest (Ok (record { running_s = a; dwell_s = b })) (rest >>= λ times. Ok (legs_of times))
+two_times a b (Ok times) = refl
+two_times a b (Err fault) = refl
+
+next_next : (i : ℕ) → i + 1 + 1 ≡ i + 2
+next_next i = omega arith
+
+legs_in-two : (row : Row) (i a b : ℕ) → i + 1 < length row → number_in (field row i) ≡ Ok a → number_in (field row (i + 1)) ≡ Ok b
+    → legs_in 1 0 (drop i row) ≡ then_rest (Ok (record { running_s = a; dwell_s = b })) (legs_in 1 0 (drop (i + 2) row))
+legs_in-two row i a b lt first second =
+    rw (read_each-drop (time_in 1) row i (omega arith), first, read_each-drop (time_in 1) row (i + 1) lt, second, next_next i)
+    (two_times a b (read_each (time_in 1) (drop (i + 2) row)))
+
+-- one leg more was read
+pub after-leg : (row : Row) (i a b : ℕ) (legs : List Leg) → i + 1 < length row → number_in (field row i) ≡ Ok a → number_in (field row (i + 1)) ≡ Ok b
+    → after (legs ++ record { running_s = a; dwell_s = b } ∷ []) (legs_in 1 0 (drop (i + 2) row)) ≡ after legs (legs_in 1 0 (drop i row))
+after-leg row i a b legs lt first second =
+    rw (legs_in-two row i a b lt first second) (after-push legs (record { running_s = a; dwell_s = b }) (legs_in 1 0 (drop (i + 2) row)))
+
+-- a running time has a fault, and a dwell time
+pub after-running_fault : (row : Row) (i : ℕ) (legs : List Leg) (fault : Form) → i < length row → number_in (field row i) ≡ Err fault
+    → after legs (legs_in 1 0 (drop i row)) ≡ Err fault
+after-running_fault row i legs fault lt is = rw (read_each-drop (time_in 1) row i lt, is) refl
+
+pub after-dwell_fault : (row : Row) (i a : ℕ) (legs : List Leg) (fault : Form) → i + 1 < length row → number_in (field row i) ≡ Ok a → number_in (field row (i + 1)) ≡ Err fault
+    → after legs (legs_in 1 0 (drop i row)) ≡ Err fault
+after-dwell_fault row i a legs fault lt first is =
+    rw (read_each-drop (time_in 1) row i (omega arith), first, read_each-drop (time_in 1) row (i + 1) lt, is) refl
+
+-- the last leg has no dwell time
+pub after-last_leg : (row : Row) (i a : ℕ) (legs : List Leg) → i < length row → length row ≤ i + 1 → number_in (field row i) ≡ Ok a
+    → after legs (legs_in 1 0 (drop i row)) ≡ Ok (legs ++ record { running_s = a; dwell_s = 0 } ∷ [])
+after-last_leg row i a legs lt le is = rw (read_each-drop (time_in 1) row i lt, is, drop_all (i + 1) row le) refl
+
+-- all legs were read
+pub after-all_legs : (row : Row) (i : ℕ) (legs : List Leg) → length row ≤ i → after legs (legs_in 1 0 (drop i row)) ≡ Ok legs
+after-all_legs row i legs le = rw (drop_all i row le, append-nil legs) refl

@@ -1,0 +1,172 @@
+-- A text that is cut byte by byte.
+use Rattle.std.proofs.Common.{◌≡◌, ◌≢◌, ℕ, ◌+◌, ◌-◌, ◌<◌, ◌≤◌, ◌==◌, ◌&&◌, true, false, List, [], ◌∷◌, ◌++◌, length, get_or, drop, slice_range, sym, ap, ◌∙◌, refl, arith, append_assoc}
+use Rattle.std.proofs.lemmas.Bool.{and_parts, eq-eqb, eqb-true, ne_eqb}
+use Rattle.std.proofs.lemmas.Bool.Decides.{nat_tests}
+use Rattle.std.proofs.lemmas.List.{append-nil, drop_all, drop_more, drop-append-le, length-append, length-drop, length-take-le, take_all, take_rest}
+use Rattle.std.proofs.lemmas.List.Edits.{between_more}
+use Rattle.std.proofs.lemmas.List.Elements.{All-more, All-nil, All-push}
+use Rattle.csv.specs.Records.{Rising, last_end}
+use Rattle.csv.proofs.RecordFacts.{last-append, rising-end, rising-last, rising-more}
+use Rattle.row_text.specs.declared.plain_rows.Cut.{Cut}
+use Rattle.row_text.specs.Cuts.{fields_at, LiesIn, span}
+use Rattle.row_text.specs.Pieces.{pieces}
+use Rattle.row_text.specs.PlainRows.{cut_rows, ends_line, EndsField, fields_cut, Fits, HasCut, HasCutAll, is_blank, LineEnded, line_fields, rows_cut, with_line}
+use Rattle.row_text.proofs.Cuts.{fields_at-push, length-fields_at}
+use Rattle.row_text.proofs.Pieces.{pieces-more, pieces-push}
+use Rattle.row_text.proofs.PlainReads.{cut-byte, cut-comma, cut-line, cut-none}
+
+-- no bytes lie between a place and itself
+none-there : (text : List ℕ) (i j : ℕ) → i ≡ j → slice_range text i j ≡ []
+none-there text i j e =
+    let none : j - i ≡ 0 = omega arith in
+    rw none refl
+
+-- the line at hand starts within the fields
+first-within : (text : List ℕ) (cut : Cut) → Fits text cut → cut.first ≤ length cut.spans.items
+first-within text cut fits = omega (arith, rising-last 0 cut.ends.items (length cut.spans.items) fits.rise, fits.first)
+
+fields-long : (text : List ℕ) (cut : Cut) → Fits text cut → length (line_fields text cut) + cut.first ≡ length cut.spans.items
+fields-long text cut fits = omega (arith, length-drop cut.first (fields_cut text cut), length-fields_at text cut.spans.items, first-within text cut fits)
+
+field-long : (text : List ℕ) (start i : ℕ) → start ≤ i → i ≤ length text → length (slice_range text start i) + start ≡ i
+field-long text start i order within = omega (arith, length-take-le (i - start) (drop start text) (omega (arith, length-drop start text)))
+
+-- a field was cut
+field-step : (text : List ℕ) (old new : Cut) (i : ℕ) → EndsField old new i → Fits text old → old.start ≤ i → i ≤ length text
+    → (rows_cut text new ≡ rows_cut text old) × (line_fields text new ≡ line_fields text old ++ slice_range text old.start i ∷ []) × Fits text new
+field-step text old new i ended fits order within =
+    let fields = fields_cut text old in
+    let field = slice_range text old.start i in
+    let size : length fields ≡ length old.spans.items = length-fields_at text old.spans.items in
+    let all : fields_cut text new ≡ fields ++ field ∷ [] = rw ended.spans (fields_at-push text old.spans.items (span old.start i)) in
+    let rise : Rising 0 old.ends.items (length fields) = rw size fits.rise in
+    let first : old.first ≤ length fields = omega (arith, first-within text old fits) in
+    let grown : Rising 0 old.ends.items (length (old.spans.items ++ span old.start i ∷ [])) = rising-more 0 old.ends.items _ _ fits.rise (omega (arith, length-append old.spans.items (span old.start i ∷ []))) in (
+      ap (pieces 0 new.ends.items) all ∙ rw ended.ends (pieces-more 0 old.ends.items fields (field ∷ []) rise),
+      ap (drop new.first) all ∙ rw ended.first (drop-append-le old.first fields (field ∷ []) first),
+      record {
+        spans = rw ended.spans (All-push (LiesIn (length text)) old.spans.items (span old.start i) fits.spans (record { order = order; within = within }));
+        rise = rw (ended.spans, ended.ends) grown;
+        first = rw (ended.ends, ended.first) fits.first;
+      },
+    )
+
+-- nothing is cut yet
+pub HasCut-none : (text : List ℕ) (cut : Cut) → cut.spans.items ≡ [] → cut.ends.items ≡ [] → cut.start ≡ 0 → cut.first ≡ 0 → HasCut text cut 0
+unfolding pieces fields_at Rising last_end
+HasCut-none text cut spans ends start first =
+    record {
+      rows = rw (spans, ends, start, first) refl;
+      no_quote = All-nil (λ byte. byte ≢ 34);
+      fits = record { spans = rw spans (All-nil (LiesIn (length text))); rise = rw (spans, ends) (omega arith); first = rw (ends, first) refl };
+      start = omega arith;
+    }
+
+-- a comma
+pub HasCut-comma : (text : List ℕ) (old new : Cut) (i : ℕ) → i < length text → get_or text i 0 ≡ 44 → EndsField old new i → HasCut text old i → HasCut text new (i + 1)
+HasCut-comma text old new i there is ended has =
+    let step = field-step text old new i ended has.fits has.start (omega arith) in
+    let field = slice_range text old.start i in
+    let rest = drop (i + 1) text in
+    let next : cut_rows (line_fields text old) field (drop i text) ≡ cut_rows (line_fields text old ++ field ∷ []) [] rest =
+    ap (cut_rows (line_fields text old) field) (drop_more text i 0 there) ∙ cut-comma (line_fields text old) field (get_or text i 0) rest (eq-eqb (get_or text i 0) 44 is) in
+    record {
+      rows = has.rows ∙ rw (next, step.0, step.1, none-there text new.start (i + 1) ended.start) refl;
+      no_quote = All-more (λ byte. byte ≢ 34) text i 0 there has.no_quote (λ quote. omega arith);
+      fits = step.2;
+      start = omega (arith, ended.start);
+    }
+
+-- the end of a line
+pub HasCut-line : (text : List ℕ) (old new : Cut) (i : ℕ) → i < length text → ends_line (get_or text i 0) ≡ true → LineEnded text old new i → HasCut text old i → HasCut text new (i + 1)
+HasCut-line text old new i there is ended has =
+    let field = slice_range text old.start i in
+    let rest = drop (i + 1) text in
+    let more = cut_rows [] [] rest in
+    let next : cut_rows (line_fields text old) field (drop i text) ≡ with_line (line_fields text old) field more =
+    ap (cut_rows (line_fields text old) field) (drop_more text i 0 there) ∙ cut-line (line_fields text old) field (get_or text i 0) rest is in
+    record {
+      rows = has.rows ∙ ap (λ rows. rows_cut text old ++ rows) next ∙ sym (ended.rows more) ∙ rw (ended.none, none-there text new.start (i + 1) ended.start) refl;
+      no_quote = All-more (λ byte. byte ≢ 34) text i 0 there has.no_quote (λ quote. grind (arith, nat_tests));
+      fits = ended.fits;
+      start = omega (arith, ended.start);
+    }
+
+-- a byte of a field
+pub HasCut-byte : (text : List ℕ) (cut : Cut) (i : ℕ) → i < length text → get_or text i 0 ≢ 34 → get_or text i 0 ≢ 44 → ends_line (get_or text i 0) ≡ false → HasCut text cut i → HasCut text cut (i + 1)
+HasCut-byte text cut i there plain comma line has =
+    let byte = get_or text i 0 in
+    let field = slice_range text cut.start i in
+    let rest = drop (i + 1) text in
+    let next : cut_rows (line_fields text cut) field (drop i text) ≡ cut_rows (line_fields text cut) (field ++ byte ∷ []) rest =
+    ap (cut_rows (line_fields text cut) field) (drop_more text i 0 there) ∙ cut-byte (line_fields text cut) field byte rest (ne_eqb byte 44 comma) line in
+    record {
+      rows = has.rows ∙ rw (next, between_more text cut.start i 0 has.start there) refl;
+      no_quote = All-more (λ byte. byte ≢ 34) text i 0 there has.no_quote plain;
+      fits = has.fits;
+      start = omega (arith, has.start);
+    }
+
+-- a byte past the comma is one of a field, whatever it is
+past-comma : (byte : ℕ) → 44 < byte → ends_line byte ≡ false
+past-comma byte past = grind (arith, nat_tests)
+
+pub HasCut-past : (text : List ℕ) (cut : Cut) (i : ℕ) → i < length text → 44 < get_or text i 0 → HasCut text cut i → HasCut text cut (i + 1)
+HasCut-past text cut i there past has = HasCut-byte text cut i there (λ quote. omega arith) (λ comma. omega arith) (past-comma (get_or text i 0) past) has
+
+-- the end of the text ends its last line
+pub HasCut-end : (text : List ℕ) (old new : Cut) (i : ℕ) → length text ≤ i → LineEnded text old new i → HasCut text old i → HasCutAll text new
+HasCut-end text old new i end ended has =
+    let field = slice_range text old.start i in
+    let next : cut_rows (line_fields text old) field (drop i text) ≡ with_line (line_fields text old) field [] =
+    ap (cut_rows (line_fields text old) field) (drop_all i text end) ∙ cut-none (line_fields text old) field in
+    record {
+      rows = has.rows ∙ ap (λ rows. rows_cut text old ++ rows) next ∙ sym (ended.rows []) ∙ append-nil (rows_cut text new);
+      no_quote = rw (take_all i text end) at has.no_quote;
+      fits = ended.fits;
+    }
+
+-- the test of a blank line, by places and by lengths
+blank-test : (fields first all field start i : ℕ) → fields + first ≡ all → field + start ≡ i → ((fields == 0) && (field == 0)) ≡ ((start == i) && (first == all))
+blank-test fields first all field start i e f = grind (arith, nat_tests)
+
+blank-is : (text : List ℕ) (cut : Cut) (i : ℕ) → Fits text cut → cut.start ≤ i → i ≤ length text
+    → is_blank (line_fields text cut) (slice_range text cut.start i) ≡ ((cut.start == i) && (cut.first == length cut.spans.items))
+blank-is text cut i fits order within =
+    blank-test (length (line_fields text cut)) cut.first (length cut.spans.items) (length (slice_range text cut.start i)) cut.start i (fields-long text cut fits) (field-long text cut.start i order within)
+
+-- a line in which nothing stands
+pub LineEnded-blank : (text : List ℕ) (old new : Cut) (i : ℕ) → i ≤ length text → old.start ≤ i → Fits text old → ((old.start == i) && (old.first == length old.spans.items)) ≡ true
+    → new.spans.items ≡ old.spans.items → new.ends.items ≡ old.ends.items → new.first ≡ old.first → new.start ≡ i + 1 → LineEnded text old new i
+LineEnded-blank text old new i within order fits blank spans ends first start =
+    let is : is_blank (line_fields text old) (slice_range text old.start i) ≡ true = blank-is text old i fits order within ∙ blank in
+    let all : old.first ≡ length old.spans.items = eqb-true old.first (length old.spans.items) (and_parts (old.start == i) (old.first == length old.spans.items) blank).1 in
+    record {
+      rows = λ more. rw (spans, ends, is) refl;
+      none = rw (spans, first) (drop_all old.first (fields_cut text old) (omega (arith, all, length-fields_at text old.spans.items)));
+      fits = record { spans = rw spans fits.spans; rise = rw (spans, ends) fits.rise; first = rw (ends, first) fits.first };
+      start = start;
+    }
+
+-- a line that is a row
+pub LineEnded-row : (text : List ℕ) (old mid new : Cut) (i : ℕ) → i ≤ length text → old.start ≤ i → Fits text old → ((old.start == i) && (old.first == length old.spans.items)) ≡ false → EndsField old mid i
+    → new.spans.items ≡ mid.spans.items → new.ends.items ≡ mid.ends.items ++ length mid.spans.items ∷ [] → new.first ≡ length mid.spans.items → new.start ≡ mid.start → LineEnded text old new i
+LineEnded-row text old mid new i within order fits row ended spans ends first start =
+    let is : is_blank (line_fields text old) (slice_range text old.start i) ≡ false = blank-is text old i fits order within ∙ row in
+    let step = field-step text old mid i ended fits order within in
+    let fields = fields_cut text mid in
+    let count = length mid.spans.items in
+    let size : count ≡ length fields = sym (length-fields_at text mid.spans.items) in
+    let piece : slice_range fields (last_end 0 mid.ends.items) count ≡ line_fields text mid = rw (size, step.2.first) (take_rest fields mid.first) in
+    let all : rows_cut text new ≡ rows_cut text old ++ (line_fields text old ++ slice_range text old.start i ∷ []) ∷ [] =
+    rw (spans, ends) (pieces-push 0 mid.ends.items fields count) ∙ ap (λ last. rows_cut text mid ++ last ∷ []) (piece ∙ step.1) ∙ rw step.0 refl in
+    record {
+      rows = λ more. rw (all, is) (append_assoc (rows_cut text old) ((line_fields text old ++ slice_range text old.start i ∷ []) ∷ []) more);
+      none = rw (spans, first) (drop_all count fields (omega (arith, size)));
+      fits = record {
+        spans = rw spans step.2.spans;
+        rise = rw (spans, ends) (rising-end 0 mid.ends.items count step.2.rise);
+        first = rw (ends, first) (last-append 0 mid.ends.items count);
+      };
+      start = start ∙ ended.start;
+    }

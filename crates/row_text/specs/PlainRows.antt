@@ -1,0 +1,84 @@
+-- The rows of a text that has no double quote.
+use Rattle.std.specs.Prelude.{◌≡◌, ◌≢◌, ℕ, ◌==◌, ◌&&◌, ◌||◌, ◌+◌, ◌≤◌, ◌<◌, Bool, List, [], ◌∷◌, ◌++◌, length, drop, take, get_or, slice_range, if◌then◌else◌}
+use Rattle.std.specs.List.{All}
+use Rattle.csv.specs.Records.{Rising, last_end}
+use Rattle.row_text.specs.declared.plain_rows.Cut.{Cut}
+use Rattle.row_text.specs.Cuts.{fields_at, LiesIn, span}
+use Rattle.row_text.specs.Pieces.{pieces}
+use Rattle.row_text.specs.Row.{Row}
+
+-- whether a byte ends a line: a carriage return or a line feed
+abbrev pub ends_line : ℕ → Bool
+ends_line byte = (byte == 13) || (byte == 10)
+
+-- no byte is a double quote
+abbrev pub HasNoQuote : List ℕ → Type 0
+HasNoQuote text = All (λ byte. byte ≢ 34) text
+
+-- nothing stands in a line: no field, and no byte of another
+abbrev pub is_blank : Row → List ℕ → Bool
+is_blank fields field = (length fields == 0) && (length field == 0)
+
+-- the row of a line, and the rows after it: a line in which nothing stands gives no row
+abbrev pub with_line : Row → List ℕ → List Row → List Row
+with_line fields field rows = if is_blank fields field then rows else (fields ++ field ∷ []) ∷ rows
+
+-- the rows of a text that is cut at its commas and at the ends of its lines, where these fields and
+-- these bytes of one more stand before it in its first line
+unfoldable pub cut_rows : Row → List ℕ → List ℕ → List Row
+cut_rows fields field [] = with_line fields field []
+cut_rows fields field (byte ∷ text) =
+    if byte == 44 then cut_rows (fields ++ field ∷ []) [] text
+    else if ends_line byte then with_line fields field (cut_rows [] [] text)
+    else cut_rows fields (field ++ byte ∷ []) text
+
+-- the fields that were cut from a text so far, and those of the line at hand
+abbrev pub fields_cut : List ℕ → Cut → Row
+fields_cut text cut = fields_at text cut.spans.items
+
+abbrev pub line_fields : List ℕ → Cut → Row
+line_fields text cut = drop cut.first (fields_cut text cut)
+
+-- the rows that were cut so far
+abbrev pub rows_cut : List ℕ → Cut → List Row
+rows_cut text cut = pieces 0 cut.ends.items (fields_cut text cut)
+
+-- the spans that were cut from a text lie within it, and the rows' ends within them
+pub record Fits (text : List ℕ) (cut : Cut) : Type 0 where
+  pub spans : All (LiesIn (length text)) cut.spans.items
+  pub rise : Rising 0 cut.ends.items (length cut.spans.items)
+  pub first : last_end 0 cut.ends.items ≡ cut.first
+
+-- the first bytes of a text were cut, so many
+pub record HasCut (text : List ℕ) (cut : Cut) (i : ℕ) : Type 0 where
+  pub rows : cut_rows [] [] text ≡ rows_cut text cut ++ cut_rows (line_fields text cut) (slice_range text cut.start i) (drop i text)
+  pub no_quote : HasNoQuote (take i text)
+  pub fits : Fits text cut
+  pub start : cut.start ≤ i
+
+-- the whole text was cut
+pub record HasCutAll (text : List ℕ) (cut : Cut) : Type 0 where
+  pub rows : cut_rows [] [] text ≡ rows_cut text cut
+  pub no_quote : HasNoQuote text
+  pub fits : Fits text cut
+
+-- a field ended at a place
+pub record EndsField (old new : Cut) (i : ℕ) : Type 0 where
+  pub spans : new.spans.items ≡ old.spans.items ++ span old.start i ∷ []
+  pub ends : new.ends.items ≡ old.ends.items
+  pub start : new.start ≡ i + 1
+  pub first : new.first ≡ old.first
+
+-- a line ended at a place: its row is cut, and nothing stands in the next one
+pub record LineEnded (text : List ℕ) (old new : Cut) (i : ℕ) : Type 0 where
+  pub rows : (more : List Row) → rows_cut text new ++ more ≡ rows_cut text old ++ with_line (line_fields text old) (slice_range text old.start i) more
+  pub none : line_fields text new ≡ []
+  pub fits : Fits text new
+  pub start : new.start ≡ i + 1
+
+abbrev pub EndsLine : Cut → Cut → ℕ → Type 0
+EndsLine old new i = (text : List ℕ) → i ≤ length text → old.start ≤ i → Fits text old → LineEnded text old new i
+
+-- one byte more was taken
+abbrev pub TakesByte : Cut → Cut → ℕ → ℕ → Type 0
+TakesByte old new i byte = (text : List ℕ) → i < length text → get_or text i 0 ≡ byte → HasCut text old i → HasCut text new (i + 1)

@@ -1,0 +1,142 @@
+//! The rows of a text without double quotes, which is cut at its commas and at the ends of its
+//! lines.
+ghost use Rattle.std.specs.Prelude.{◌≡◌, ◌↔◌, ◌==◌, ◌&&◌, ◌∷◌, [], ◌+◌, ◌<◌, ◌≤◌, ◌^◌, length, IsTrue, IfOk, IfSome, OnOk, take};
+ghost use Rattle.row_text.specs.PlainRows.{ends_line, EndsField, EndsLine, HasCut, HasCutAll, TakesByte};
+ghost use Rattle.row_text.specs.Rows.{rows_of};
+
+use crate::fields::{FieldSpan, Fields, MOST_BYTES};
+use crate::row_list::RowList;
+use rail_model::OutOfMemory;
+use std::alloc::Global;
+
+// The fields and rows that were cut from a text so far.
+#[derive(Drop)]
+struct Cut {
+    // Where each field stands.
+    spans: Vec<FieldSpan>,
+    // How many fields there are up to the end of each row.
+    ends: Vec<u32>,
+    // Where the field at hand starts.
+    start: usize,
+    // How many fields there are before the line at hand.
+    first: usize,
+}
+
+// The rows of a text, as CSV reads them. None for a text that is left to a reader of CSV: one with
+// a double quote, one that may start with a byte order mark, or one that is too long.
+pub(crate) fn plain_rows(alloc: Global, text: &[u8]) -> Result<Option<RowList>, OutOfMemory>
+    ensures { IfOk result (λ found. IfSome found (λ rows. rows ≡ rows_of text.now)) }
+{
+    if text.len() >= MOST_BYTES || starts_with_mark(text) {
+        return Ok(None);
+    }
+    let mut cut = Cut {
+        spans: Vec::new(alloc),
+        ends: Vec::new(alloc),
+        start: 0,
+        first: 0,
+    };
+    if !cut_text(&mut cut, text)? {
+        return Ok(None);
+    }
+    let bytes = Vec::from_slice(alloc, text)?;
+    Ok(Some(RowList::of_fields(Fields::at_spans(bytes, cut.spans), cut.ends)))
+}
+
+// Whether a text starts with the first byte of a byte order mark.
+fn starts_with_mark(text: &[u8]) -> bool
+    ensures { IsTrue result ↔ (take 1 text.now ≡ 0xEF ∷ []) }
+{
+    !text.is_empty() && text[0] == 0xEF
+}
+
+// Cuts a whole text. False where it has a double quote.
+fn cut_text(cut: &mut Cut, text: &[u8]) -> Result<bool, OutOfMemory>
+    requires small { length text.now < 2 ^ 32 }
+    requires fresh { HasCut text.now cut.old 0 }
+    ensures { IfOk result (λ whole. IsTrue whole → HasCutAll text.now cut.new) }
+{
+    for i in 0..text.len() {
+        let byte = text[i];
+        // Each byte that ends a field is a comma, or below it in ASCII.
+        if byte > b',' {
+            continue;
+        }
+        if byte == b',' {
+            end_field(cut, i)?;
+            continue;
+        }
+        if !take_below_comma(cut, i, byte)? {
+            return Ok(false);
+        }
+    }
+    end_line(cut, text.len())?;
+    Ok(true)
+}
+
+// Takes a byte that is below the comma in ASCII. False for a double quote.
+#[inline(never)]
+fn take_below_comma(cut: &mut Cut, i: usize, byte: u8) -> Result<bool, OutOfMemory>
+    requires order { cut.old.start ≤ i }
+    requires small { i < 2 ^ 32 }
+    requires other { byte < 44 }
+    ensures { IfOk result (λ plain. IsTrue plain → TakesByte cut.old cut.new i byte) }
+{
+    if ends_line(byte) {
+        end_line(cut, i)?;
+        return Ok(true);
+    }
+    Ok(byte != b'"')
+}
+
+// Whether a byte ends a line.
+#[inline]
+fn ends_line(byte: u8) -> bool
+    ensures { result ≡ ends_line byte }
+{
+    byte == b'\r' || byte == b'\n'
+}
+
+// Ends the field at hand at a place.
+#[inline]
+fn end_field(cut: &mut Cut, i: usize) -> Result<(), OutOfMemory>
+    requires order { cut.old.start ≤ i }
+    requires small { i < 2 ^ 32 }
+    ensures { OnOk result (EndsField cut.old cut.new i) }
+{
+    cut.spans.push(FieldSpan {
+        start: cut.start as u32,
+        end: i as u32,
+    })?;
+    cut.start = i + 1;
+    Ok(())
+}
+
+// Ends the line at hand at a place. One in which nothing stands is no row.
+#[inline]
+fn end_line(cut: &mut Cut, i: usize) -> Result<(), OutOfMemory>
+    requires order { cut.old.start ≤ i }
+    requires small { i < 2 ^ 32 }
+    ensures { OnOk result (EndsLine cut.old cut.new i) }
+{
+    if is_blank(cut, i) {
+        cut.start = i + 1;
+        return Ok(());
+    }
+    end_field(cut, i)?;
+    let fields = cut.spans.len();
+    if fields >= MOST_BYTES {
+        return Err(OutOfMemory);
+    }
+    cut.ends.push(fields as u32)?;
+    cut.first = fields;
+    Ok(())
+}
+
+// Whether nothing stands in the line at hand up to a place.
+#[inline]
+fn is_blank(cut: &Cut, i: usize) -> bool
+    ensures { result ≡ (cut.now.start == i) && (cut.now.first == length cut.now.spans.items) }
+{
+    cut.start == i && cut.first == cut.spans.len()
+}
