@@ -1,8 +1,10 @@
 -- Sets of routes along the signals of one route.
-use Rattle.std.proofs.Common.{◌≡◌, ℕ, ◌+◌, ◌/◌, ◌<◌, ◌==◌, Bool, true, false, not, ◌&&◌, ◌||◌, List, length, get_or, take, refl, ap, ◌∙◌, arith}
+use Rattle.std.proofs.Common.{◌≡◌, ℕ, ◌+◌, ◌/◌, ◌<◌, ◌==◌, Bool, true, false, not, ◌&&◌, ◌||◌, List, length, get_or, take, map, refl, ap, ◌∙◌, arith}
+use Rattle.std.specs.List.{list_any}
 use Rattle.std.proofs.lemmas.List.Elements.{All-more, All-weaker}
 use Rattle.std.proofs.lemmas.List.Folds.{list_any_more}
 use Rattle.line_tables.specs.RouteSets.{has, SameSets, words_of, NoneShorter, lead_to, HasRoomAt, IsPutAt, IsTakenAt}
+use Rattle.line_tables.proofs.Found.{list_any-map}
 
 put_both : (p l s h : Bool) → ((p && s) || ((l && s) || h)) ≡ (((l || p) && s) || h)
 put_both true true true h = refl
@@ -35,11 +37,13 @@ module _ (f : ℕ → ℕ) (signals : List ℕ) (route i : ℕ) (l : i < length 
       (take_both (here x) (lead_to f (take i signals) x) (r == route) (has old x r))
 
 -- sets that first stayed what they were
-pub put_after : (f : ℕ → ℕ) (signals : List ℕ) (route : ℕ) (old now new : List (List ℕ)) → SameSets old now → IsPutAt f signals route now new → IsPutAt f signals route old new
-put_after f signals route old now new same put x r = put x r ∙ ap (λ h. (lead_to f signals x && r == route) || h) (same x r)
-
 pub take_after : (f : ℕ → ℕ) (signals : List ℕ) (route : ℕ) (old now new : List (List ℕ)) → SameSets old now → IsTakenAt f signals route now new → IsTakenAt f signals route old new
 take_after f signals route old now new same taken x r = taken x r ∙ ap (λ h. not (lead_to f signals x && r == route) && h) (same x r)
+
+-- the route is put in at the blocks of its signals
+pub put_at_images : (f : ℕ → ℕ) (signals images : List ℕ) (route : ℕ) (old new : List (List ℕ)) → images ≡ map f signals → IsPutAt (λ q. q) images route old new → IsPutAt f signals route old new
+put_at_images f signals images route old new are put x r =
+    put x r ∙ ap (λ l. (l && r == route) || has old x r) (ap (list_any (λ q. q == x)) are ∙ list_any-map f (λ q. q == x) signals)
 
 -- ---- room for the route
 

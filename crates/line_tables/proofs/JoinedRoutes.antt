@@ -14,9 +14,9 @@ use Rattle.rail_model.proofs.Sound.{accepted, changeable, free, IsSound-after_pu
 use Rattle.line_tables.specs.declared.entry.Entry.{Entry}
 use Rattle.line_tables.specs.declared.line_tables.LineTables.TheInside.{Inside}
 use Rattle.line_tables.specs.Table.{under, with_change, key_of, item_of, IsTable}
-use Rattle.line_tables.specs.Uses.{count_of, times, SameCounts}
+use Rattle.line_tables.specs.Uses.{count_of, times}
 use Rattle.line_tables.specs.Links.{references, block_of}
-use Rattle.line_tables.specs.RouteSets.{SameSets, IsPutAt, IsTakenAt}
+use Rattle.line_tables.specs.RouteSets.{IsPutAt, IsTakenAt}
 use Rattle.line_tables.specs.declared.route_sets.RouteSets.{RouteSets}
 use Rattle.line_tables.specs.Inside.{items_of, tables_of, names_of_route, names_of_run, IsJoined}
 use Rattle.line_tables.proofs.Filed.{stored_at, some_from_map}
@@ -25,25 +25,8 @@ use Rattle.line_tables.proofs.Found.{key_after_put, key_after_change, key_after_
 use Rattle.line_tables.proofs.Linked.{entry, linked_by_put, linked_by_change, linked_by_drop, linked_to_same, linked_to_rest, references_tell}
 use Rattle.line_tables.proofs.Views.{is_named-map, map-with_item, map-with_change, map-without}
 use Rattle.line_tables.proofs.Under.{swapped_by_put, swapped_by_change, swapped_by_drop}
-use Rattle.line_tables.proofs.Reaches.{sets_same, sets_by_add, sets_by_swap, sets_by_remove}
+use Rattle.line_tables.proofs.Reaches.{sets_by_add, sets_by_swap, sets_by_remove}
 use Rattle.line_tables.proofs.Known.{CountsMore, entry_there, list_any_alike}
-
--- what was made ready for an edit changes nothing
-pub joined_same : (t : Inside) (uses : List ℕ) (sets : RouteSets) → IsJoined t → SameCounts t.signal_uses uses → SameSets t.route_sets.of_signals sets.of_signals → SameSets t.route_sets.of_blocks sets.of_blocks → IsJoined (record t { signal_uses = uses; route_sets = sets })
-joined_same t uses sets j counts listed led = record {
-  sound = j.sound;
-  signals = j.signals;
-  routes = j.routes;
-  runs = j.runs;
-  sections = j.sections;
-  connections = j.connections;
-  block_uses = j.block_uses;
-  signal_uses = λ k. counts k ∙ j.signal_uses k;
-  route_uses = j.route_uses;
-  run_uses = j.run_uses;
-  signal_routes = sets_same (λ q. q) t.routes t.route_sets.of_signals sets.of_signals listed j.signal_routes;
-  block_routes = sets_same (block_of t.signals) t.routes t.route_sets.of_blocks sets.of_blocks led j.block_routes;
-}
 
 pub route_is_new : (t : Inside) (x : Route) → rule_of_put (tables_of t) (item.Route x) ≡ None → is_named (λ e. e.1.item.name) t.routes x.name ≡ false
 route_is_new t x none =

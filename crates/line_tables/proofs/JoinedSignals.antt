@@ -11,7 +11,7 @@ use Rattle.rail_model.specs.declared.edit.Kind.TheVariants as kind
 use Rattle.rail_model.specs.Name.{is_same}
 use Rattle.rail_model.specs.Rules.{is_named, lists, rule_of_put, rule_of_change, rule_of_drop}
 use Rattle.rail_model.specs.Edits.{with_item, without}
-use Rattle.rail_model.proofs.Sound.{accepted, changeable, free, IsSound-after_put, IsSound-after_change, IsSound-after_drop}
+use Rattle.rail_model.proofs.Sound.{accepted, free, IsSound-after_put, IsSound-after_change, IsSound-after_drop}
 use Rattle.line_tables.specs.declared.entry.Entry.{Entry}
 use Rattle.line_tables.specs.declared.line_tables.LineTables.TheInside.{Inside}
 use Rattle.line_tables.specs.Table.{under, with_change, key_of, item_of, IsTable}
@@ -52,10 +52,6 @@ signal_put t key x refs uses j table vacant none found counted =
       signal_routes = j.signal_routes;
       block_routes = sets_by_put t j later key (Some (entry x refs)) (swapped_by_put (λ (e : Entry Signal). e.item.name) t.signals key (entry x refs) table new vacant) table vacant;
     }
-
-pub signal_stays : (t : Inside) (x : Signal) → rule_of_change (tables_of t) (item.Signal x) ≡ None → is_named (λ e. e.1.item.name) t.signals x.name ≡ true
-signal_stays t x none =
-    sym (is_named-map (λ (e : ℕ × Entry Signal). e.1.item) (λ x. x.name) t.signals x.name) ∙ (changeable (tables_of t) (item.Signal x) none).there
 
 pub signal_change : (t : Inside) (key : ℕ) (x : Signal) (refs uses : List ℕ) → IsJoined t → IsTable (λ (e : Entry Signal). e.item.name) t.signals → option_map (λ (e : Entry Signal). e.item.name) (under t.signals key) ≡ Some x.name → rule_of_change (tables_of t) (item.Signal x) ≡ None → map (key_of (λ b. b.name) t.blocks) (names_of_signal x) ≡ map Some refs → ((e : Entry Signal) (k : ℕ) → under t.signals key ≡ Some e → count_of uses k + times k e.refs ≡ count_of t.block_uses k + times k refs) → (from to : ℕ) (sets : RouteSets) → IsTable (λ (b : Block). b.name) t.blocks → block_of t.signals key ≡ from → get_or refs 0 0 ≡ to → sets.of_signals ≡ t.route_sets.of_signals → HasFollowed (get_or t.route_sets.of_signals key []) from to t.route_sets.of_blocks sets.of_blocks → IsJoined (record t { signals = with_change t.signals key (entry x refs); block_uses = uses; route_sets = sets })
 signal_change t key x refs uses j table same none found counted from to sets blocks is goes listed follows =

@@ -14,6 +14,8 @@ pub mod Under
 pub mod Reaches
 pub mod Moves
 pub mod Known
+pub mod RulesOfPut
+pub mod RulesOfChange
 pub mod JoinedSignals
 pub mod JoinedRoutes
 pub mod JoinedTimetable

@@ -95,13 +95,6 @@ follows_after by_signal made_by s from to old made new listed same stays moves =
       here x r ∙ ap (λ h. (to == x && has by_signal s r) || (not (from == x && has by_signal s r) && h)) (same x r);
 }
 
--- the route just put in
-pub same_refs : (o : Option (Entry Route)) (e : Entry Route) (x : Route) (refs : List ℕ) → o ≡ Some e → o ≡ Some (entry x refs) → e.refs ≡ refs
-same_refs o e x refs a b =
-    let both : Some e ≡ Some (entry x refs) = sym a ∙ b in
-    let one : e ≡ entry x refs = cc in
-    ap (λ (e : Entry Route). e.refs) one
-
 module _ (t : Inside) (j : IsJoined t) (signals : IsTable (λ (e : Entry Signal). e.item.name) t.signals) (blocks : IsTable (λ (b : Block). b.name) t.blocks) where
   pub sets_by_change : (later : List (ℕ × Entry Signal)) (k from to : ℕ) (x : Signal) (refs : List ℕ) (new : List (List ℕ)) → IsSwapped t.signals later k (Some (entry x refs)) → block_of t.signals k ≡ from → get_or refs 0 0 ≡ to → HasFollowed (get_or t.route_sets.of_signals k []) from to t.route_sets.of_blocks new → AreSetsOf (block_of later) t.routes new
   sets_by_change later k from to x refs new swapped is goes follows =

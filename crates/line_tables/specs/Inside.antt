@@ -64,8 +64,18 @@ pub record IsJoined (t : Inside) : Type 0 where
   pub signal_routes : AreSetsOf (λ q. q) t.routes t.route_sets.of_signals
   pub block_routes : AreSetsOf (block_of t.signals) t.routes t.route_sets.of_blocks
 
+-- the tables of a line and of its timetable, and how often each block, signal, route and run is referred to
+abbrev pub Line : Type 0
+Line = List (ℕ × Block) × List (ℕ × Entry Signal) × List (ℕ × Entry Route)
+
+abbrev pub Timetable : Type 0
+Timetable = List (ℕ × Entry Run) × List (ℕ × Entry Section) × List (ℕ × Entry Connection)
+
+abbrev pub Counts : Type 0
+Counts = List ℕ × List ℕ × List ℕ × List ℕ
+
 -- the inside of these tables and counts
-abbrev pub parts : Global → List (ℕ × Block) × List (ℕ × Entry Signal) × List (ℕ × Entry Route) → List (ℕ × Entry Run) × List (ℕ × Entry Section) × List (ℕ × Entry Connection) → List ℕ × List ℕ × List ℕ × List ℕ → RouteSets → Inside
+abbrev pub parts : Global → Line → Timetable → Counts → RouteSets → Inside
 parts alloc line timetable counts sets = record {
   alloc = alloc;
   blocks = line.0;

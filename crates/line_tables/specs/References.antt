@@ -1,10 +1,22 @@
--- What refuses an item for what it refers to.
+-- What refuses an item for itself, and what for what it refers to.
 use Rattle.std.specs.Prelude.{if◌then◌else◌, not, Option, Some, None}
 use Rattle.rail_model.specs.declared.items.Item.{Item}
+use Rattle.rail_model.specs.declared.items.Item.TheVariants as item
+use Rattle.rail_model.specs.declared.edit.Edit.{Edit}
+use Rattle.rail_model.specs.declared.edit.Edit.TheVariants as edit
 use Rattle.rail_model.specs.declared.edit.Rule.{Rule}
-use Rattle.rail_model.specs.declared.edit.Rule.TheVariants.{Unknown, Twice}
+use Rattle.rail_model.specs.declared.edit.Rule.TheVariants.{Range, Limit, Unknown, Twice}
 use Rattle.rail_model.specs.declared.tables.Tables.{Tables}
-use Rattle.rail_model.specs.Rules.{refers_to_known, repeats}
+use Rattle.rail_model.specs.Rules.{is_taken, is_full, refers_to_known, repeats, rule_of_put, rule_of_change, rule_of_drop}
+use Rattle.rail_model.specs.Within.{is_within}
+
+-- the item may not be put for its own numbers, for its name, or because its kind has its greatest number of items
+abbrev pub refused_itself : Tables → Item → Option Rule
+refused_itself tables x =
+    if not (is_within x) then Some Range
+    else if is_taken tables x then Some Twice
+    else if is_full tables x then Some Limit
+    else None
 
 -- something that the item refers to isn't there, or stands in it twice
 abbrev pub refused_reference : Tables → Item → Option Rule
@@ -12,3 +24,26 @@ refused_reference tables x =
     if not (refers_to_known tables x) then Some Unknown
     else if repeats tables x then Some Twice
     else None
+
+-- the rule of an edit that is told before it is made: what a route refers to is looked up when it is put, and a signal
+-- and its block when the signal is changed
+abbrev pub rule_before_put : Tables → Item → Option Rule
+rule_before_put tables (item.Block b) = rule_of_put tables (item.Block b)
+rule_before_put tables (item.Signal s) = rule_of_put tables (item.Signal s)
+rule_before_put tables (item.Route r) = refused_itself tables (item.Route r)
+rule_before_put tables (item.Run r) = rule_of_put tables (item.Run r)
+rule_before_put tables (item.Section s) = rule_of_put tables (item.Section s)
+rule_before_put tables (item.Connection c) = rule_of_put tables (item.Connection c)
+
+abbrev pub rule_before_change : Tables → Item → Option Rule
+rule_before_change tables (item.Block b) = rule_of_change tables (item.Block b)
+rule_before_change tables (item.Signal s) = if not (is_within (item.Signal s)) then Some Range else None
+rule_before_change tables (item.Route r) = rule_of_change tables (item.Route r)
+rule_before_change tables (item.Run r) = rule_of_change tables (item.Run r)
+rule_before_change tables (item.Section s) = rule_of_change tables (item.Section s)
+rule_before_change tables (item.Connection c) = rule_of_change tables (item.Connection c)
+
+abbrev pub rule_before : Tables → Edit → Option Rule
+rule_before tables (edit.Put x) = rule_before_put tables x
+rule_before tables (edit.Change x) = rule_before_change tables x
+rule_before tables (edit.Drop k n) = rule_of_drop tables k n

@@ -1,12 +1,21 @@
-//! Adding an item to the tables. No rule refuses it, and without memory the tables stay as they were.
-ghost use Rattle.std.specs.Prelude.{◌≡◌, None, OnOk, OnErr};
+//! Adding an item to the tables. No rule refuses it, save one of what a route refers to; without
+//! memory the tables stay as they were.
+ghost use Rattle.std.specs.Prelude.{◌≡◌, ℕ, ◌+◌, false, Some, None, IfOk, IfErr, OnOk, OnErr};
 ghost use Rattle.rail_model.specs.declared.items.Item.TheVariants as item;
-ghost use Rattle.rail_model.specs.Rules.{rule_of_put};
-ghost use Rattle.rail_model.specs.Edits.{after_put};
+ghost use Rattle.rail_model.specs.Rules.{rule_of_put, is_named};
+ghost use Rattle.rail_model.specs.Edits.{after_put, with_item};
+ghost use Rattle.line_tables.specs.References.{refused_itself};
+ghost use Rattle.line_tables.specs.Table.{under, IsTable};
+ghost use Rattle.line_tables.specs.Uses.{count_of, times, SameCounts};
+ghost use Rattle.line_tables.specs.RouteSets.{SameSets, IsPutAt};
 
 use crate::LineTables;
-use crate::entry::{keys_of, put_entry, take_entry};
-use rail_model::{Block, Connection, OutOfMemory, Route, Run, Section, Signal};
+use crate::entry::{Entry, blocks_of, keys_of, known_keys, put_entry, take_entry};
+use crate::key_set::repeats;
+use crate::named_table::NamedTable;
+use crate::route_sets::RouteSets;
+use crate::uses::Uses;
+use rail_model::{Block, Connection, List, OutOfMemory, Route, Rule, Run, Section, Signal};
 
 impl LineTables {
     pub(crate) fn add_block(&mut self, block: Block) -> Result<(), OutOfMemory>
@@ -28,22 +37,36 @@ impl LineTables {
         Ok(())
     }
 
-    pub(crate) fn add_route(&mut self, route: Route) -> Result<(), OutOfMemory>
-        requires { rule_of_put self.old (item.Route route) ≡ None }
-        ensures after { OnOk result (self.new ≡ after_put self.old (item.Route route)) }
-        ensures kept { OnErr result (self.new ≡ self.old) }
+    // Puts a route in, or tells the rule by which what it refers to refuses it. Its signals are
+    // looked up once: for the rules, for its entry, for the counts and for the sets.
+    pub(crate) fn put_route(&mut self, route: Route) -> Result<Result<(), Rule>, OutOfMemory>
+        requires { refused_itself self.old (item.Route route) ≡ None }
+        ensures refused { IfOk result
+            (λ answer. IfErr answer (λ rule. rule_of_put self.old (item.Route route) ≡ Some rule)) }
+        ensures accepted { IfOk result
+            (λ answer. OnOk answer (rule_of_put self.old (item.Route route) ≡ None)) }
+        ensures after { IfOk result
+            (λ answer. OnOk answer (self.new ≡ after_put self.old (item.Route route))) }
+        ensures kept { IfOk result (λ answer. OnErr answer (self.new ≡ self.old)) }
+        ensures kept_without_memory { OnErr result (self.new ≡ self.old) }
     {
-        let refs = keys_of(self.alloc, &self.signals, route.signals.slice())?;
-        let name = route.name;
-        let key = put_entry(&mut self.routes, &mut self.signal_uses, route, refs)?;
-        let refs = self.routes.get(key).refs.slice();
-        if self.route_sets.make_room(&self.signals, refs, key).is_err() {
-            take_entry(&mut self.routes, &mut self.signal_uses, &name);
-            return Err(OutOfMemory);
+        let _count = self.blocks.len();
+        let Some(signals) = known_keys(self.alloc, &self.signals, &route.signals)? else {
+            return Ok(Err(Rule::Unknown));
+        };
+        let blocks = blocks_of(self.alloc, &self.signals, &signals)?;
+        if repeats(self.alloc, blocks.slice())? {
+            return Ok(Err(Rule::Twice));
         }
-        let refs = self.routes.get(key).refs.slice();
-        self.route_sets.put(&self.signals, refs, key);
-        Ok(())
+        enter_route(
+            &mut self.routes,
+            &mut self.signal_uses,
+            &mut self.route_sets,
+            route,
+            signals,
+            blocks.slice(),
+        )?;
+        Ok(Ok(()))
     }
 
     pub(crate) fn add_run(&mut self, run: Run) -> Result<(), OutOfMemory>
@@ -79,4 +102,43 @@ impl LineTables {
         put_entry(&mut self.connections, &mut self.run_uses, connection, refs)?;
         Ok(())
     }
+}
+
+// Puts a route of a new name in, counts its signals, and puts its key into their sets and into
+// those of their blocks. Without memory all stays.
+fn enter_route(
+    routes: &mut NamedTable<Entry<Route>>,
+    uses: &mut Uses,
+    sets: &mut RouteSets,
+    route: Route,
+    signals: List<usize>,
+    blocks: &[usize],
+) -> Result<usize, OutOfMemory>
+    requires { is_named (λ e. e.1.item.name) routes.old route.name ≡ false }
+    ensures put { IfOk result (λ key. routes.new ≡ with_item (λ e. e.1.item.name) routes.old
+        (key, record { item = route; refs = signals })) }
+    ensures fresh { IfOk result (λ key. under routes.old key ≡ None) }
+    ensures counted { OnOk result
+        ((k : ℕ) → count_of uses.new k ≡ count_of uses.old k + times k signals) }
+    ensures signals { IfOk result
+        (λ key. IsPutAt (λ q. q) signals key sets.old.of_signals sets.new.of_signals) }
+    ensures blocks { IfOk result
+        (λ key. IsPutAt (λ q. q) blocks.now key sets.old.of_blocks sets.new.of_blocks) }
+    ensures kept { OnErr result (routes.new ≡ routes.old) }
+    ensures kept_counts { OnErr result (SameCounts uses.old uses.new) }
+    ensures kept_signals { OnErr result (SameSets sets.old.of_signals sets.new.of_signals) }
+    ensures kept_blocks { OnErr result (SameSets sets.old.of_blocks sets.new.of_blocks) }
+    ensures table { OnOk result (IsTable (λ e. e.item.name) routes.old) }
+{
+    let name = route.name;
+    let key = put_entry(routes, uses, route, signals)?;
+    if sets
+        .make_room(routes.get(key).refs.slice(), blocks, key)
+        .is_err()
+    {
+        take_entry(routes, uses, &name);
+        return Err(OutOfMemory);
+    }
+    sets.put(routes.get(key).refs.slice(), blocks, key);
+    Ok(key)
 }

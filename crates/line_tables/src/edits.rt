@@ -2,6 +2,7 @@
 ghost use Rattle.std.specs.Prelude.{◌≡◌, Some, None, OnOk, OnErr, IfOk, IfErr};
 ghost use Rattle.rail_model.specs.Rules.{rule_of, rule_of_put, rule_of_change, rule_of_drop};
 ghost use Rattle.rail_model.specs.Edits.{after, after_put, after_change, after_drop};
+ghost use Rattle.line_tables.specs.References.{rule_before, rule_before_put, rule_before_change};
 
 use crate::LineTables;
 use rail_model::{Edit, Item, Kind, Name, OutOfMemory, Rule};
@@ -17,12 +18,8 @@ impl LineTables {
         ensures kept { IfOk result (λ answer. OnErr answer (self.new ≡ self.old)) }
         ensures kept_without_memory { OnErr result (self.new ≡ self.old) }
     {
-        if let Some(rule) = self.rule_of(edit)? {
-            return Ok(Err(rule));
-        }
         let own = edit.copy(self.alloc)?;
-        self.make(own)?;
-        Ok(Ok(()))
+        self.take(own)
     }
 
     /// The same as `apply` for an edit that is given away: nothing of it is copied.
@@ -34,60 +31,73 @@ impl LineTables {
         ensures kept { IfOk result (λ answer. OnErr answer (self.new ≡ self.old)) }
         ensures kept_without_memory { OnErr result (self.new ≡ self.old) }
     {
-        if let Some(rule) = self.rule_of(&edit)? {
+        if let Some(rule) = self.rule_before(&edit)? {
             return Ok(Err(rule));
         }
-        self.make(edit)?;
-        Ok(Ok(()))
+        self.make(edit)
     }
 
-    // Makes an edit that no rule refuses.
-    fn make(&mut self, edit: Edit) -> Result<(), OutOfMemory>
-        requires { rule_of self.old edit ≡ None }
-        ensures after { OnOk result (self.new ≡ after self.old edit) }
-        ensures kept { OnErr result (self.new ≡ self.old) }
+    // Makes an edit that no rule refuses, save one of what a put route refers to, or of a changed
+    // signal and its block: that is told here.
+    fn make(&mut self, edit: Edit) -> Result<Result<(), Rule>, OutOfMemory>
+        requires { rule_before self.old edit ≡ None }
+        ensures refused { IfOk result
+            (λ answer. IfErr answer (λ rule. rule_of self.old edit ≡ Some rule)) }
+        ensures accepted { IfOk result (λ answer. OnOk answer (rule_of self.old edit ≡ None)) }
+        ensures after { IfOk result (λ answer. OnOk answer (self.new ≡ after self.old edit)) }
+        ensures kept { IfOk result (λ answer. OnErr answer (self.new ≡ self.old)) }
+        ensures kept_without_memory { OnErr result (self.new ≡ self.old) }
     {
         match edit {
             Edit::Put(item) => self.add(item),
             Edit::Change(item) => self.replace(item),
             Edit::Drop(kind, name) => {
                 self.remove(kind, &name);
-                Ok(())
+                Ok(Ok(()))
             }
         }
     }
 
-    fn add(&mut self, item: Item) -> Result<(), OutOfMemory>
-        requires { rule_of_put self.old item ≡ None }
-        ensures after { OnOk result (self.new ≡ after_put self.old item) }
-        ensures kept { OnErr result (self.new ≡ self.old) }
+    fn add(&mut self, item: Item) -> Result<Result<(), Rule>, OutOfMemory>
+        requires { rule_before_put self.old item ≡ None }
+        ensures refused { IfOk result
+            (λ answer. IfErr answer (λ rule. rule_of_put self.old item ≡ Some rule)) }
+        ensures accepted { IfOk result (λ answer. OnOk answer (rule_of_put self.old item ≡ None)) }
+        ensures after { IfOk result (λ answer. OnOk answer (self.new ≡ after_put self.old item)) }
+        ensures kept { IfOk result (λ answer. OnErr answer (self.new ≡ self.old)) }
+        ensures kept_without_memory { OnErr result (self.new ≡ self.old) }
     {
         match item {
-            Item::Block(block) => self.add_block(block),
-            Item::Signal(signal) => self.add_signal(signal),
-            Item::Route(route) => self.add_route(route),
-            Item::Run(run) => self.add_run(run),
-            Item::Section(section) => self.add_section(section),
-            Item::Connection(connection) => self.add_connection(connection),
+            Item::Block(block) => self.add_block(block)?,
+            Item::Signal(signal) => self.add_signal(signal)?,
+            Item::Route(route) => return self.put_route(route),
+            Item::Run(run) => self.add_run(run)?,
+            Item::Section(section) => self.add_section(section)?,
+            Item::Connection(connection) => self.add_connection(connection)?,
         }
+        Ok(Ok(()))
     }
 
-    fn replace(&mut self, item: Item) -> Result<(), OutOfMemory>
-        requires { rule_of_change self.old item ≡ None }
-        ensures after { OnOk result (self.new ≡ after_change self.old item) }
-        ensures kept { OnErr result (self.new ≡ self.old) }
+    fn replace(&mut self, item: Item) -> Result<Result<(), Rule>, OutOfMemory>
+        requires { rule_before_change self.old item ≡ None }
+        ensures refused { IfOk result
+            (λ answer. IfErr answer (λ rule. rule_of_change self.old item ≡ Some rule)) }
+        ensures accepted { IfOk result
+            (λ answer. OnOk answer (rule_of_change self.old item ≡ None)) }
+        ensures after { IfOk result
+            (λ answer. OnOk answer (self.new ≡ after_change self.old item)) }
+        ensures kept { IfOk result (λ answer. OnErr answer (self.new ≡ self.old)) }
+        ensures kept_without_memory { OnErr result (self.new ≡ self.old) }
     {
         match item {
-            Item::Block(block) => {
-                self.replace_block(block);
-                Ok(())
-            }
-            Item::Signal(signal) => self.replace_signal(signal),
-            Item::Route(route) => self.replace_route(route),
-            Item::Run(run) => self.replace_run(run),
-            Item::Section(section) => self.replace_section(section),
-            Item::Connection(connection) => self.replace_connection(connection),
+            Item::Block(block) => self.replace_block(block),
+            Item::Signal(signal) => return self.change_signal(signal),
+            Item::Route(route) => self.replace_route(route)?,
+            Item::Run(run) => self.replace_run(run)?,
+            Item::Section(section) => self.replace_section(section)?,
+            Item::Connection(connection) => self.replace_connection(connection)?,
         }
+        Ok(Ok(()))
     }
 
     fn remove(&mut self, kind: Kind, name: &Name)

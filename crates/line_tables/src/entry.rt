@@ -1,5 +1,6 @@
 //! Items with the keys of what they refer to, found once when an item is put or changed.
-ghost use Rattle.std.specs.Prelude.{◌≡◌, ◌≤◌, ◌+◌, ℕ, true, false, map, length, All, Some, None, is_some, IfSome, IfOk, OnOk, OnErr};
+ghost use Rattle.std.specs.Prelude.{◌≡◌, ◌≤◌, ◌+◌, ℕ, true, false, [], ◌∷◌, map, length, All};
+ghost use Rattle.std.specs.Prelude.{Some, None, is_some, IfSome, IfOk, OnOk, OnErr};
 ghost use Rattle.std.specs.Option.{option_map};
 ghost use Rattle.std.specs.List.{list_all};
 ghost use Rattle.rail_model.specs.Rules.{is_named};
@@ -94,7 +95,7 @@ pub(crate) fn keys_of<T: Stored>(
 pub(crate) fn known_keys<T: Stored>(
     alloc: Global,
     table: &NamedTable<T>,
-    names: &[Name],
+    names: &List<Name>,
 ) -> Result<Option<List<usize>>, OutOfMemory>
     ensures known { IfOk result
         (λ found. is_some found ≡ list_all (is_named (tables.named T.label) table.now) names.now) }
@@ -103,15 +104,22 @@ pub(crate) fn known_keys<T: Stored>(
     ensures table { tables.IsTable T.label table.now }
 {
     let _count = table.len();
-    let mut keys = List::from_vec(Vec::with_capacity(alloc, names.len())?);
+    let mut keys = Vec::with_capacity(alloc, names.len())?;
     let mut near = 0;
-    for name in names {
+    for name in names.slice() {
         let Some(key) = table.key_near(name, &mut near) else {
             return Ok(None);
         };
-        keys.push(key)?;
+        keys.push_reserved(key);
     }
-    Ok(Some(keys))
+    Ok(Some(List::from_vec(keys)))
+}
+
+/// A list of one key.
+pub(crate) fn one_key(alloc: Global, key: usize) -> Result<List<usize>, OutOfMemory>
+    ensures { IfOk result (λ keys. keys ≡ key ∷ []) }
+{
+    Ok(List::from_vec(Vec::from_slice(alloc, &[key])?))
 }
 
 /// The key of the block beyond the signal under a key.
@@ -121,6 +129,23 @@ pub(crate) fn block_of(signals: &NamedTable<Entry<Signal>>, key: usize) -> usize
     ensures { result ≡ block_of signals.now key }
 {
     signals.get(key).refs.slice()[0]
+}
+
+/// The keys of the blocks beyond the signals under keys, in their order.
+pub(crate) fn blocks_of(
+    alloc: Global,
+    signals: &NamedTable<Entry<Signal>>,
+    keys: &List<usize>,
+) -> Result<List<usize>, OutOfMemory>
+    requires there { All (IsKey signals.now) keys.now }
+    requires one { All (λ e. length e.1.refs ≡ 1) signals.now }
+    ensures { IfOk result (λ blocks. blocks ≡ map (block_of signals.now) keys.now) }
+{
+    let mut blocks = Vec::with_capacity(alloc, keys.len())?;
+    for key in keys.slice() {
+        blocks.push_reserved(block_of(signals, *key));
+    }
+    Ok(List::from_vec(blocks))
 }
 
 /// Puts an item of a new name in, and counts the keys that it refers to. Without memory all stays.

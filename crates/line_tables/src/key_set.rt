@@ -11,6 +11,9 @@ use std::marker::Model;
 /// How many keys a word has bits for.
 const WORD: usize = 64;
 
+/// For how many words a set asks at first, so that few sets move while they grow.
+const FIRST_WORDS: usize = 16;
+
 /// A set of keys, seen as the words that have a bit for each key.
 #[derive(Drop)]
 pub(crate) struct KeySet {
@@ -151,6 +154,12 @@ fn grow(words: &mut Vec<u64>, count: usize) -> Result<(), OutOfMemory>
     ensures longer { length words.old.items ≤ length words.new.items }
     ensures within { OnOk result (count ≤ length words.new.items) }
 {
+    if words.len() >= count {
+        return Ok(());
+    }
+    if words.is_empty() {
+        words.reserve(FIRST_WORDS)?;
+    }
     while words.len() < count {
         words.push(0)?;
     }

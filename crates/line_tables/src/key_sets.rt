@@ -1,9 +1,10 @@
 //! Sets of keys, one at each key of a table.
 ghost use Rattle.std.specs.Prelude.{◌≡◌, ℕ, ◌/◌, ◌<◌, ◌≤◌, ◌==◌, ◌&&◌, ◌||◌, not, [], length, slice_index_or, IfOk, OnOk};
 ghost use Rattle.line_tables.specs.KeySet.{holds};
-ghost use Rattle.line_tables.specs.RouteSets.{has, words_of, SameSets, NoneShorter};
+ghost use Rattle.line_tables.specs.RouteSets.{has, words_of};
+ghost use Rattle.line_tables.specs.RouteSets.{SameSets, NoneShorter, HasRoomAt, IsPutAt};
 
-use crate::key_set::KeySet;
+use crate::key_set::{KeySet, words_for};
 use rail_model::OutOfMemory;
 use std::alloc::Global;
 use std::marker::Model;
@@ -63,6 +64,28 @@ impl KeySets {
     {
         let set = &mut self.sets[at];
         set.put(key);
+    }
+
+    /// Makes room for a key in the sets at others; no set changes.
+    pub(crate) fn make_room_at(&mut self, places: &[usize], key: usize) -> Result<(), OutOfMemory>
+        ensures same { SameSets self.old self.new }
+        ensures room { OnOk result (HasRoomAt (λ q. q) places.now key self.new) }
+    {
+        let words = words_for(key);
+        for at in places {
+            self.make_room(*at, words)?;
+        }
+        Ok(())
+    }
+
+    /// Puts a key into the sets at others.
+    pub(crate) fn put_at(&mut self, places: &[usize], key: usize)
+        requires { HasRoomAt (λ q. q) places.now key self.old }
+        ensures { IsPutAt (λ q. q) places.now key self.old self.new }
+    {
+        for at in places {
+            self.put(*at, key);
+        }
     }
 
     /// Takes a key out of the set at another.

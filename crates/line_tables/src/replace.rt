@@ -1,13 +1,14 @@
-//! Putting an item in the place of the one of its name. No rule refuses it, and without memory the tables
-//! stay as they were.
-ghost use Rattle.std.specs.Prelude.{◌≡◌, None, OnOk, OnErr};
+//! Putting an item in the place of the one of its name. No rule refuses it, save one of a signal
+//! and its block; without memory the tables stay as they were.
+ghost use Rattle.std.specs.Prelude.{◌≡◌, true, Some, None, IfOk, IfErr, OnOk, OnErr};
 ghost use Rattle.rail_model.specs.declared.items.Item.TheVariants as item;
 ghost use Rattle.rail_model.specs.Rules.{rule_of_change};
+ghost use Rattle.rail_model.specs.Within.{is_within};
 ghost use Rattle.rail_model.specs.Edits.{after_change};
 
 use crate::LineTables;
-use crate::entry::{block_of, change_entry, keys_of, swap_entry};
-use rail_model::{Block, Connection, OutOfMemory, Route, Run, Section, Signal};
+use crate::entry::{block_of, blocks_of, change_entry, keys_of, one_key, swap_entry};
+use rail_model::{Block, Connection, OutOfMemory, Route, Rule, Run, Section, Signal};
 
 impl LineTables {
     pub(crate) fn replace_block(&mut self, block: Block)
@@ -18,19 +19,36 @@ impl LineTables {
         self.blocks.change(key, block);
     }
 
-    pub(crate) fn replace_signal(&mut self, signal: Signal) -> Result<(), OutOfMemory>
-        requires { rule_of_change self.old (item.Signal signal) ≡ None }
-        ensures after { OnOk result (self.new ≡ after_change self.old (item.Signal signal)) }
-        ensures kept { OnErr result (self.new ≡ self.old) }
+    // Puts a signal in the place of the one of its name, or tells the rule by which its name or its
+    // block refuses it. Both are looked up once: for the rules, for its entry, for the counts and
+    // for the sets.
+    pub(crate) fn change_signal(&mut self, signal: Signal) -> Result<Result<(), Rule>, OutOfMemory>
+        requires { is_within (item.Signal signal) ≡ true }
+        ensures refused { IfOk result (λ answer. IfErr answer
+            (λ rule. rule_of_change self.old (item.Signal signal) ≡ Some rule)) }
+        ensures accepted { IfOk result
+            (λ answer. OnOk answer (rule_of_change self.old (item.Signal signal) ≡ None)) }
+        ensures after { IfOk result
+            (λ answer. OnOk answer (self.new ≡ after_change self.old (item.Signal signal))) }
+        ensures kept { IfOk result (λ answer. OnErr answer (self.new ≡ self.old)) }
+        ensures kept_without_memory { OnErr result (self.new ≡ self.old) }
     {
-        let refs = keys_of(self.alloc, &self.blocks, &[signal.block])?;
-        let key = self.signals.key_of(&signal.name).unwrap();
+        let _count = self.routes.len();
+        let Some(key) = self.signals.key_of(&signal.name) else {
+            return Ok(Err(Rule::Unknown));
+        };
+        let Some(to) = self.blocks.key_of(&signal.block) else {
+            return Ok(Err(Rule::Unknown));
+        };
         let from = block_of(&self.signals, key);
-        let to = refs.slice()[0];
+        if self.route_sets.meet_where_moved(key, from, to) {
+            return Ok(Err(Rule::Twice));
+        }
+        let refs = one_key(self.alloc, to)?;
         self.route_sets.make_room_to_move(key, from, to)?;
         change_entry(&mut self.signals, &mut self.block_uses, key, signal, refs)?;
         self.route_sets.move_routes(key, from, to);
-        Ok(())
+        Ok(Ok(()))
     }
 
     pub(crate) fn replace_route(&mut self, route: Route) -> Result<(), OutOfMemory>
@@ -41,10 +59,12 @@ impl LineTables {
         let refs = keys_of(self.alloc, &self.signals, route.signals.slice())?;
         let key = self.routes.key_of(&route.name).unwrap();
         self.signal_uses.make_room(refs.slice())?;
-        self.route_sets.make_room(&self.signals, refs.slice(), key)?;
+        let blocks = blocks_of(self.alloc, &self.signals, &refs)?;
+        self.route_sets
+            .make_room(refs.slice(), blocks.slice(), key)?;
         let old = self.routes.get(key).refs.slice();
         self.route_sets.take(&self.signals, old, key);
-        self.route_sets.put(&self.signals, refs.slice(), key);
+        self.route_sets.put(refs.slice(), blocks.slice(), key);
         swap_entry(&mut self.routes, &mut self.signal_uses, key, route, refs);
         Ok(())
     }

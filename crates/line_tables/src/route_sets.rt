@@ -5,7 +5,7 @@ ghost use Rattle.line_tables.specs.Links.{block_of, IsKey};
 ghost use Rattle.line_tables.specs.RouteSets.{words_of, SameSets, NoneShorter, HasRoomAt, IsPutAt, IsTakenAt, IsMoved};
 
 use crate::entry::{Entry, block_of};
-use crate::key_set::{meet, words_for};
+use crate::key_set::meet;
 use crate::key_sets::KeySets;
 use crate::named_table::NamedTable;
 use rail_model::{OutOfMemory, Signal};
@@ -31,43 +31,36 @@ impl RouteSets {
         }
     }
 
-    /// Makes room to put the route under a key into the sets of these signals and of their blocks.
+    /// Makes room to put the route under a key into the sets of these signals and of these blocks.
     /// No set changes.
     pub(crate) fn make_room(
         &mut self,
-        signals: &NamedTable<Entry<Signal>>,
-        refs: &[usize],
+        signals: &[usize],
+        blocks: &[usize],
         route: usize,
     ) -> Result<(), OutOfMemory>
-        requires there { All (IsKey signals.now) refs.now }
-        requires one { All (λ e. length e.1.refs ≡ 1) signals.now }
         ensures signals { SameSets self.old.of_signals self.new.of_signals }
         ensures blocks { SameSets self.old.of_blocks self.new.of_blocks }
-        ensures signal_room { OnOk result (HasRoomAt (λ q. q) refs.now route self.new.of_signals) }
+        ensures signal_room { OnOk result
+            (HasRoomAt (λ q. q) signals.now route self.new.of_signals) }
         ensures block_room { OnOk result
-            (HasRoomAt (block_of signals.now) refs.now route self.new.of_blocks) }
+            (HasRoomAt (λ q. q) blocks.now route self.new.of_blocks) }
     {
-        let words = words_for(route);
-        for key in refs {
-            self.of_signals.make_room(*key, words)?;
-            self.of_blocks.make_room(block_of(signals, *key), words)?;
-        }
-        Ok(())
+        self.of_signals.make_room_at(signals, route)?;
+        self.of_blocks.make_room_at(blocks, route)
     }
 
-    /// Puts the route under a key into the sets of these signals and of their blocks.
-    pub(crate) fn put(&mut self, signals: &NamedTable<Entry<Signal>>, refs: &[usize], route: usize)
-        requires there { All (IsKey signals.now) refs.now }
-        requires one { All (λ e. length e.1.refs ≡ 1) signals.now }
-        requires signal_room { HasRoomAt (λ q. q) refs.now route self.old.of_signals }
-        requires block_room { HasRoomAt (block_of signals.now) refs.now route self.old.of_blocks }
-        ensures signals { IsPutAt (λ q. q) refs.now route self.old.of_signals self.new.of_signals }
-        ensures blocks { IsPutAt (block_of signals.now) refs.now route self.old.of_blocks self.new.of_blocks }
+    /// Puts the route under a key into the sets of these signals and of these blocks.
+    pub(crate) fn put(&mut self, signals: &[usize], blocks: &[usize], route: usize)
+        requires signal_room { HasRoomAt (λ q. q) signals.now route self.old.of_signals }
+        requires block_room { HasRoomAt (λ q. q) blocks.now route self.old.of_blocks }
+        ensures signals { IsPutAt (λ q. q) signals.now route
+            self.old.of_signals self.new.of_signals }
+        ensures blocks { IsPutAt (λ q. q) blocks.now route
+            self.old.of_blocks self.new.of_blocks }
     {
-        for key in refs {
-            self.of_signals.put(*key, route);
-            self.of_blocks.put(block_of(signals, *key), route);
-        }
+        self.of_signals.put_at(signals, route);
+        self.of_blocks.put_at(blocks, route);
     }
 
     /// Takes the route under a key out of the sets of these signals and of their blocks.
@@ -120,14 +113,27 @@ impl RouteSets {
         self.of_blocks.put_all(to, routes);
     }
 
-    /// Whether some route lists a signal and has one of a block.
-    pub(crate) fn meet(&self, signal: usize, block: usize) -> bool
+    // Whether some route lists a signal and has one of a block.
+    fn meet(&self, signal: usize, block: usize) -> bool
         ensures some { result ≡ true → Meets
             (slice_index_or self.now.of_signals signal []) (slice_index_or self.now.of_blocks block []) }
         ensures none { result ≡ false → KeepsApart
             (slice_index_or self.now.of_signals signal []) (slice_index_or self.now.of_blocks block []) }
     {
         meet(self.of_signals.words(signal), self.of_blocks.words(block))
+    }
+
+    /// Whether some route lists a signal and has one of the block to which it moves from another.
+    pub(crate) fn meet_where_moved(&self, signal: usize, from: usize, to: usize) -> bool
+        ensures stays { from ≡ to → result ≡ false }
+        ensures some { from ≢ to → result ≡ true → Meets
+            (slice_index_or self.now.of_signals signal [])
+            (slice_index_or self.now.of_blocks to []) }
+        ensures none { from ≢ to → result ≡ false → KeepsApart
+            (slice_index_or self.now.of_signals signal [])
+            (slice_index_or self.now.of_blocks to []) }
+    {
+        from != to && self.meet(signal, to)
     }
 
     /// The same sets again.

@@ -1,47 +1,66 @@
 //! Which rule refuses an edit.
-ghost use Rattle.std.specs.Prelude.{◌≡◌, ◌<◌, ◌==◌, ◌&&◌, true, false, not, if◌then◌else◌, map, length, All, Some, None, IfOk, is_some};
+ghost use Rattle.std.specs.Prelude.{◌≡◌, true, false, not, if◌then◌else◌, length, Some, None, IfOk};
 ghost use Rattle.rail_model.specs.declared.items.Item.TheVariants as item;
 ghost use Rattle.rail_model.specs.declared.edit.Kind.TheVariants as kind;
 ghost use Rattle.rail_model.specs.Tables.{route_named};
 ghost use Rattle.rail_model.specs.declared.edit.Rule.TheVariants as rule;
 ghost use Rattle.rail_model.specs.Rules as rules;
-ghost use Rattle.line_tables.specs.References.{refused_reference};
+ghost use Rattle.line_tables.specs.References.{refused_itself, refused_reference};
+ghost use Rattle.line_tables.specs.References.{rule_before_put, rule_before_change, rule_before};
 ghost use Rattle.rail_model.specs.Sound.{IsSound};
-ghost use Rattle.line_tables.specs.Links.{block_of, IsKey};
 
 use crate::LineTables;
-use crate::entry::{Entry, block_of, known_keys};
+use crate::entry::{blocks_of, known_keys};
 use crate::key_set::repeats;
-use crate::named_table::NamedTable;
 use rail_model::{
-    BLOCKS, CONNECTIONS, Connection, Edit, Item, Kind, List, Name, OutOfMemory, ROUTES, RUNS,
-    Route, Rule, Run, SECTIONS, SIGNALS, Section, Signal, is_within,
+    BLOCKS, CONNECTIONS, Connection, Edit, Item, Kind, Name, OutOfMemory, ROUTES, RUNS, Route,
+    Rule, SECTIONS, SIGNALS, Section, is_within,
 };
-use std::alloc::Global;
 
 impl LineTables {
-    /// The first rule that refuses an edit, if one does.
-    pub(crate) fn rule_of(&self, edit: &Edit) -> Result<Option<Rule>, OutOfMemory>
-        ensures { IfOk result (λ rule. rule ≡ rules.rule_of self.now edit.now) }
+    /// The first rule that refuses an edit, if one does, but for what a put route refers to, and
+    /// for a changed signal and its block: they are looked up when the edit is made.
+    pub(crate) fn rule_before(&self, edit: &Edit) -> Result<Option<Rule>, OutOfMemory>
+        ensures { IfOk result (λ rule. rule ≡ rule_before self.now edit.now) }
     {
         match edit {
-            Edit::Put(item) => self.rule_of_put(item),
-            Edit::Change(item) => self.rule_of_change(item),
+            Edit::Put(item) => self.rule_before_put(item),
+            Edit::Change(item) => self.rule_before_change(item),
             Edit::Drop(kind, name) => Ok(self.rule_of_drop(*kind, name)),
+        }
+    }
+
+    fn rule_before_put(&self, item: &Item) -> Result<Option<Rule>, OutOfMemory>
+        ensures { IfOk result (λ rule. rule ≡ rule_before_put self.now item.now) }
+    {
+        match item {
+            Item::Route(_) => Ok(self.refused_itself(item)),
+            Item::Block(_)
+            | Item::Signal(_)
+            | Item::Run(_)
+            | Item::Section(_)
+            | Item::Connection(_) => self.rule_of_put(item),
+        }
+    }
+
+    fn rule_before_change(&self, item: &Item) -> Result<Option<Rule>, OutOfMemory>
+        ensures { IfOk result (λ rule. rule ≡ rule_before_change self.now item.now) }
+    {
+        match item {
+            Item::Signal(_) => Ok(range_unless(is_within(item))),
+            Item::Block(_)
+            | Item::Route(_)
+            | Item::Run(_)
+            | Item::Section(_)
+            | Item::Connection(_) => self.rule_of_change(item),
         }
     }
 
     fn rule_of_put(&self, item: &Item) -> Result<Option<Rule>, OutOfMemory>
         ensures { IfOk result (λ rule. rule ≡ rules.rule_of_put self.now item.now) }
     {
-        if !is_within(item) {
-            return Ok(Some(Rule::Range));
-        }
-        if self.is_taken(item) {
-            return Ok(Some(Rule::Twice));
-        }
-        if self.is_full(item) {
-            return Ok(Some(Rule::Limit));
+        if let Some(rule) = self.refused_itself(item) {
+            return Ok(Some(rule));
         }
         if let Some(rule) = self.refused_reference(item)? {
             return Ok(Some(rule));
@@ -52,7 +71,25 @@ impl LineTables {
         Ok(None)
     }
 
+    // The rule that refuses to put an item whatever it refers to.
+    fn refused_itself(&self, item: &Item) -> Option<Rule>
+        ensures { result ≡ refused_itself self.now item.now }
+    {
+        if !is_within(item) {
+            return Some(Rule::Range);
+        }
+        if self.is_taken(item) {
+            return Some(Rule::Twice);
+        }
+        if self.is_full(item) {
+            return Some(Rule::Limit);
+        }
+        None
+    }
+
+    // The first rule that refuses to change an item that is no signal.
     fn rule_of_change(&self, item: &Item) -> Result<Option<Rule>, OutOfMemory>
+        requires { rules.makes_repeat self.now item.now ≡ false }
         ensures { IfOk result (λ rule. rule ≡ rules.rule_of_change self.now item.now) }
     {
         if !is_within(item) {
@@ -63,9 +100,6 @@ impl LineTables {
         }
         if let Some(rule) = self.refused_reference(item)? {
             return Ok(Some(rule));
-        }
-        if self.makes_repeat(item) {
-            return Ok(Some(Rule::Twice));
         }
         if self.miscounts_legs(item) || self.makes_miscount(item) {
             return Ok(Some(Rule::Count));
@@ -195,17 +229,17 @@ impl LineTables {
         ensures { IfOk result (λ rule. rule ≡ refused_reference self.now (item.Route route.now)) }
     {
         let _count = self.blocks.len();
-        let Some(signals) = known_keys(self.alloc, &self.signals, route.signals.slice())? else {
+        let Some(signals) = known_keys(self.alloc, &self.signals, &route.signals)? else {
             return Ok(Some(Rule::Unknown));
         };
-        let blocks = blocks_of(self.alloc, &self.signals, signals.slice())?;
+        let blocks = blocks_of(self.alloc, &self.signals, &signals)?;
         Ok(twice_if(repeats(self.alloc, blocks.slice())?))
     }
 
     fn refused_block(&self, section: &Section) -> Result<Option<Rule>, OutOfMemory>
         ensures { IfOk result (λ rule. rule ≡ refused_reference self.now (item.Section section.now)) }
     {
-        let Some(blocks) = known_keys(self.alloc, &self.blocks, section.blocks.slice())? else {
+        let Some(blocks) = known_keys(self.alloc, &self.blocks, &section.blocks)? else {
             return Ok(Some(Rule::Unknown));
         };
         Ok(twice_if(repeats(self.alloc, blocks.slice())?))
@@ -302,33 +336,12 @@ impl LineTables {
             Kind::Section | Kind::Connection => false,
         }
     }
+}
 
-    // With the changed signal in the place of the old one some route would have two signals of its block.
-    fn makes_repeat(&self, item: &Item) -> bool
-        requires there { rules.is_there self.now item.now ≡ true }
-        requires known { rules.refers_to_known self.now item.now ≡ true }
-        ensures { result ≡ rules.makes_repeat self.now item.now }
-    {
-        match item {
-            Item::Signal(signal) => self.meets_on_a_route(signal),
-            Item::Block(_)
-            | Item::Route(_)
-            | Item::Run(_)
-            | Item::Section(_)
-            | Item::Connection(_) => false,
-        }
-    }
-
-    fn meets_on_a_route(&self, signal: &Signal) -> bool
-        requires there { rules.has_signal self.now signal.now.name ≡ true }
-        requires known { rules.has_block self.now signal.now.block ≡ true }
-        ensures { result ≡ rules.makes_repeat self.now (item.Signal signal.now) }
-    {
-        let key = self.signals.key_of(&signal.name).unwrap();
-        let block = self.blocks.key_of(&signal.block).unwrap();
-        let _count = self.routes.len();
-        block != block_of(&self.signals, key) && self.route_sets.meet(key, block)
-    }
+fn range_unless(within: bool) -> Option<Rule>
+    ensures { result ≡ (if not within then Some rule.Range else None) }
+{
+    if within { None } else { Some(Rule::Range) }
 }
 
 fn unknown_unless(known: bool) -> Option<Rule>
@@ -341,21 +354,4 @@ fn twice_if(twice: bool) -> Option<Rule>
     ensures { result ≡ (if twice then Some rule.Twice else None) }
 {
     if twice { Some(Rule::Twice) } else { None }
-}
-
-// The keys of the blocks beyond the signals under keys, in their order.
-fn blocks_of(
-    alloc: Global,
-    signals: &NamedTable<Entry<Signal>>,
-    keys: &[usize],
-) -> Result<List<usize>, OutOfMemory>
-    requires there { All (IsKey signals.now) keys.now }
-    requires one { All (λ e. length e.1.refs ≡ 1) signals.now }
-    ensures { IfOk result (λ blocks. blocks ≡ map (block_of signals.now) keys.now) }
-{
-    let mut blocks = List::from_vec(Vec::with_capacity(alloc, keys.len())?);
-    for key in keys {
-        blocks.push(block_of(signals, *key))?;
-    }
-    Ok(blocks)
 }

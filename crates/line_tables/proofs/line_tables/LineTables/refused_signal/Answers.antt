@@ -13,21 +13,21 @@ pub returns-in_default : goal.returns-in_default
 returns-in_default c =
     let t = c.self.inside in
     let x = c.args.route.now in
-    let known = rw c.slice.ensures at c.in_ok-signals.ensures.known in
+    let known = c.in_ok-signals.ensures.known in
     let unknown : refers_to_known (tables_of t) (item.Route x) ≡ false = route_known_by t x ∙ sym known ∙ ap is_some c.in_default.is in
     rw (← c.self.view_is) (sym (refused_unknown (tables_of t) (item.Route x) unknown))
 
 pub blocks_of-requires-clause-there : goal.blocks_of-requires-clause-there
 blocks_of-requires-clause-there c =
     let keyed = rw c.in-Some.is at c.in_ok-signals.ensures.keys in
-    rw c.slice-2.ensures (all_keys (λ (e : Entry Signal). e.item.name) c.self.inside.signals c.in_ok-signals.ensures.table c.slice.result.now c.in-Some.signals keyed)
+    all_keys (λ (e : Entry Signal). e.item.name) c.self.inside.signals c.in_ok-signals.ensures.table c.args.route.now.signals c.in-Some.signals keyed
 
 pub returns : goal.returns
 returns c =
     let t = c.self.inside in
     let x = c.args.route.now in
-    let known = rw c.slice.ensures at c.in_ok-signals.ensures.known in
+    let known = c.in_ok-signals.ensures.known in
     let there : refers_to_known (tables_of t) (item.Route x) ≡ true = route_known_by t x ∙ sym known ∙ ap is_some c.in-Some.is in
-    let keyed = rw c.in-Some.is at (rw c.slice.ensures at c.in_ok-signals.ensures.keys) in
-    let twice = repeats_by_key t c.self.invariant c.in_ok-signals.ensures.table c.len-count.ensures.table x c.in-Some.signals keyed ∙ sym (rw (c.slice-3.ensures, c.in_ok-blocks.ensures, c.slice-2.ensures) at c.in_ok-repeats.ensures) in
+    let keyed = rw c.in-Some.is at c.in_ok-signals.ensures.keys in
+    let twice = repeats_by_key t c.self.invariant c.in_ok-signals.ensures.table c.len-count.ensures.table x c.in-Some.signals keyed ∙ sym (rw (c.slice.ensures, c.in_ok-blocks.ensures) at c.in_ok-repeats.ensures) in
     rw (← c.self.view_is) (c.twice_if.ensures ∙ sym (refused_twice (tables_of t) (item.Route x) c.in_ok-repeats.field-0 there twice))

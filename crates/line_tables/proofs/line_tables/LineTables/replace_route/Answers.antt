@@ -1,4 +1,4 @@
-use Rattle.std.proofs.Common.{◌≡◌, ℕ, ◌+◌, ◌==◌, Some, refl, ap, sym, ◌∙◌, arith}
+use Rattle.std.proofs.Common.{◌≡◌, ℕ, ◌+◌, ◌==◌, Some, map, refl, ap, sym, ◌∙◌, arith}
 use Rattle.rail_model.specs.declared.items.Signal.{Signal}
 use Rattle.rail_model.specs.declared.items.Route.{Route}
 use Rattle.rail_model.specs.declared.items.Item.TheVariants as item
@@ -12,7 +12,7 @@ use Rattle.line_tables.proofs.Found.{name_under, found_by_key}
 use Rattle.line_tables.proofs.Linked.{entry}
 use Rattle.line_tables.proofs.Views.{map-with_change}
 use Rattle.line_tables.proofs.Meets.{all_keys}
-use Rattle.line_tables.proofs.Along.{take_after}
+use Rattle.line_tables.proofs.Along.{take_after, put_at_images}
 use Rattle.line_tables.proofs.Moves.{one_block, listed_keys}
 use Rattle.line_tables.proofs.Known.{refs_of_found, route_knows}
 use Rattle.line_tables.proofs.JoinedRoutes.{route_stays, route_change}
@@ -38,13 +38,13 @@ swap_entry-requires-clause-counted_before c e k h =
     let key = c.unwrap-key.result in
     omega (arith, c.self.invariant.signal_uses k, c.make_room.ensures.same k, refs_of_found (λ u. u.0 == key) t.routes e k h)
 
-pub make_room-requires-2-clause-there : goal.make_room-requires-2-clause-there
-make_room-requires-2-clause-there c =
+pub blocks_of-requires-clause-there : goal.blocks_of-requires-clause-there
+blocks_of-requires-clause-there c =
     let t = c.self.inside in
-    rw c.slice-3.ensures (all_keys (λ (e : Entry Signal). e.item.name) t.signals c.in_ok-refs.ensures.table c.slice.result.now c.in_ok-refs.refs c.in_ok-refs.ensures.keys)
+    all_keys (λ (e : Entry Signal). e.item.name) t.signals c.in_ok-refs.ensures.table c.slice.result.now c.in_ok-refs.refs c.in_ok-refs.ensures.keys
 
-pub make_room-requires-2-clause-one : goal.make_room-requires-2-clause-one
-make_room-requires-2-clause-one c = one_block c.self.inside c.self.invariant
+pub blocks_of-requires-clause-one : goal.blocks_of-requires-clause-one
+blocks_of-requires-clause-one c = one_block c.self.inside c.self.invariant
 
 pub get-requires : goal.get-requires
 get-requires c =
@@ -58,14 +58,6 @@ take-requires-clause-there c =
 pub take-requires-clause-one : goal.take-requires-clause-one
 take-requires-clause-one c = one_block c.self.inside c.self.invariant
 
-pub put-requires-clause-there : goal.put-requires-clause-there
-put-requires-clause-there c =
-    let t = c.self.inside in
-    rw c.slice-4.ensures (all_keys (λ (e : Entry Signal). e.item.name) t.signals c.in_ok-refs.ensures.table c.slice.result.now c.in_ok-refs.refs c.in_ok-refs.ensures.keys)
-
-pub put-requires-clause-one : goal.put-requires-clause-one
-put-requires-clause-one c = one_block c.self.inside c.self.invariant
-
 pub invariant_of-self-2 : goal.invariant_of-self-2
 invariant_of-self-2 c =
     let t = c.self.inside in
@@ -75,6 +67,7 @@ invariant_of-self-2 c =
     let done = c.swap_entry.ensures in
     let made = c.make_room-2.ensures in
     let before = c.get.result.now in
+    let blocks : c.slice-6.result.now ≡ map f refs = c.slice-6.ensures ∙ c.in_ok-blocks.ensures in
     let same = name_under (λ (e : Entry _). e.item.name) t.routes c.args.route.name key c.key_of.ensures.table (sym c.key_of.ensures.key ∙ c.unwrap-key.ensures) in
     let counted : (e : Entry Route) (k : ℕ) → under t.routes key ≡ Some e → count_of c.swap_entry.new.uses k + times k e.refs ≡ count_of t.signal_uses k + times k refs =
     λ e k h. omega (arith, done.counted e k h, c.make_room.ensures.same k) in
@@ -82,7 +75,8 @@ invariant_of-self-2 c =
     (route_change t key c.args.route refs c.swap_entry.new.uses c.self.invariant c.key_of.ensures.table same (rw (← c.self.view_is) at c.requires) (rw c.slice.ensures at c.in_ok-refs.ensures.keys) counted before c.take.new.self c.put.new.self c.get.ensures.item
     (take_after (λ q. q) before.refs key t.route_sets.of_signals c.make_room-2.new.self.of_signals c.take.new.self.of_signals made.signals (rw c.slice-old.ensures at c.take.ensures.signals))
     (take_after f before.refs key t.route_sets.of_blocks c.make_room-2.new.self.of_blocks c.take.new.self.of_blocks made.blocks (rw c.slice-old.ensures at c.take.ensures.blocks))
-    (rw c.slice-4.ensures at c.put.ensures.signals) (rw c.slice-4.ensures at c.put.ensures.blocks))
+    (rw c.slice-5.ensures at c.put.ensures.signals)
+    (put_at_images f refs c.slice-6.result.now key c.take.new.self.of_blocks c.put.new.self.of_blocks blocks c.put.ensures.blocks))
 
 pub returns-clause-after : goal.returns-clause-after
 returns-clause-after c =

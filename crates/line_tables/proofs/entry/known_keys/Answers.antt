@@ -1,0 +1,34 @@
+use Rattle.std.proofs.Common.{◌≡◌, get_or, sym, ap, ◌∙◌, refl, arith}
+use Rattle.std.proofs.lemmas.Bool.{and_from}
+use Rattle.std.proofs.lemmas.List.{map-append, map_more}
+use Rattle.std.proofs.lemmas.List.Folds.{list_all_at, list_all_more}
+use Rattle.rail_model.specs.Rules.{is_named}
+use Rattle.line_tables.specs.Table.{key_of, named}
+use Rattle.line_tables.proofs.entry.known_keys.Goals as goal
+
+pub returns-in_default-clause-known : goal.returns-in_default-clause-known
+returns-in_default-clause-known g c =
+    let p = is_named (named g.T.Named.label) c.args.table.now in
+    let names = c.args.names.now in
+    let i = c.loop-name.name-index in
+    let n = c.name-item.result in
+    let within = rw c.slice-name-items.ensures at c.loop-name-test.true in
+    let is : n ≡ get_or names i n = c.name-item.is ∙ ap (λ l. get_or l i n) c.slice-name-items.ensures in
+    sym (list_all_at p names i n within (ap p (sym is) ∙ sym c.in_default.ensures.there))
+
+pub loop-name-preserved : goal.loop-name-preserved
+loop-name-preserved g c =
+    let p = is_named (named g.T.Named.label) c.args.table.now in
+    let f = key_of g.T.Named.label c.args.table.now in
+    let names = c.args.names.now in
+    let i = c.loop-name.name-index in
+    let n = c.name-item.result in
+    let so_far = c.loop-name.invariant in
+    let within = rw c.slice-name-items.ensures at c.loop-name-test.true in
+    let is : n ≡ get_or names i n = c.name-item.is ∙ ap (λ l. get_or l i n) c.slice-name-items.ensures in
+    record {
+      known = list_all_more p names i n within ∙ and_from _ _ so_far.known (ap p (sym is) ∙ sym c.in-Some.ensures.there);
+      keys = map_more f names i n within ∙ rw (so_far.keys, ← is, ← c.in-Some.ensures.key, c.push_reserved.ensures.items, map-append) refl;
+      count = omega (arith, so_far.count, c.push_reserved.ensures.len);
+      room = c.push_reserved.ensures.capacity ∙ so_far.room;
+    }
