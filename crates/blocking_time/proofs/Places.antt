@@ -83,16 +83,3 @@ mark_within path fits k on = record { place = place_most path fits k on; departu
 -- the k-th mark of the table of all marks
 pub marks_at : (path : Path) (k : ℕ) (d : Mark) → k ≤ hop_count path → get_or (marks_of path) k d ≡ mark_of path k
 marks_at path k d on = get_or-map-range_with_len (mark_of path) 0 (hop_count path + 1) k k d (omega arith) (omega arith)
-
--- when the head reaches a place of the block beyond the k-th one, by that block and the mark before it
-pub reach_near : (path : Path) (k x : ℕ) (mark : Mark) (h : Hop) → k < hop_count path → mark ≡ mark_of path k → h ≡ get_or path.hops k no_hop → mark.place_m < x → x ≤ place path (k + 1) → mark.departure_s + div_ceil ((x - mark.place_m) * h.running_s) h.block_m ≡ reach path x
-reach_near path k x mark h on at_mark at_hop beyond within =
-    let below : place path k < x = omega (arith, ap (λ (m : Mark). m.place_m) at_mark) in
-    ap (λ (m : Mark). m.departure_s + div_ceil ((x - m.place_m) * h.running_s) h.block_m) at_mark ∙ ap (λ (h : Hop). departure path k + div_ceil ((x - place path k) * h.running_s) h.block_m) at_hop
-    ∙ sym (reach_is path k x (sym (blocks_before_is path k x on (inr below) within)))
-
-pub reach_down_near : (path : Path) (k x : ℕ) (mark : Mark) (h : Hop) → k < hop_count path → mark ≡ mark_of path k → h ≡ get_or path.hops k no_hop → mark.place_m < x → x ≤ place path (k + 1) → mark.departure_s + ((x - mark.place_m) * h.running_s) / h.block_m ≡ reach_down path x
-reach_down_near path k x mark h on at_mark at_hop beyond within =
-    let below : place path k < x = omega (arith, ap (λ (m : Mark). m.place_m) at_mark) in
-    ap (λ (m : Mark). m.departure_s + ((x - m.place_m) * h.running_s) / h.block_m) at_mark ∙ ap (λ (h : Hop). departure path k + ((x - place path k) * h.running_s) / h.block_m) at_hop
-    ∙ sym (reach_down_is path k x (sym (blocks_before_is path k x on (inr below) within)))

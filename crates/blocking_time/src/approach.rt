@@ -20,6 +20,7 @@ pub fn no_stop_yet() -> Mark
 }
 
 /// The last stop after a block with this mark at its end.
+#[inline]
 pub fn stop_after(stop: Mark, mark: Mark, hop: &Hop) -> Mark
     ensures { result ≡ (if nat_lt 0 hop.now.dwell_s then mark else stop) }
 {
@@ -44,6 +45,7 @@ pub fn last_stop(path: &Path, k: usize) -> Mark
 
 /// The later of the moment at which the head comes to a point and, where the last stop isn't before the
 /// point, the departure from that stop.
+#[inline]
 pub fn after_stop(reached_s: u64, point_m: u64, stop: Mark) -> u64
     ensures { result
         ≡ (if nat_le point_m stop.place_m then max reached_s stop.departure_s else reached_s) }

@@ -24,6 +24,7 @@ pub struct Moments {
 }
 
 /// The use of a block, from the forming of its route to its release.
+#[inline]
 pub fn use_at(moments: Moments, hop: &Hop) -> Use
     requires bounded { AreBounded moments }
     requires within { IsHopWithin hop.now }
@@ -57,6 +58,7 @@ pub fn parts_at(moments: Moments, hop: &Hop) -> [i64; 6]
 }
 
 /// Where the head stands when the rear has cleared a block and its overlap.
+#[inline]
 pub fn clearing_place(mark: Mark, hop: &Hop, length_m: u32) -> u64
     requires { IsMarkWithin mark }
     ensures { result ≡ mark.place_m + hop.now.overlap_m + length_m }
@@ -65,6 +67,7 @@ pub fn clearing_place(mark: Mark, hop: &Hop, length_m: u32) -> u64
 }
 
 /// When the end of the path is clear: the tail after the last arrival, since the run ends without a dwell.
+#[inline]
 pub fn tail_end(path: &Path, last: Mark) -> u64
     requires bounded { IsMarkWithin last }
     requires fits { Fits path.now }
@@ -86,7 +89,7 @@ pub fn clearing_seconds(path: &Path, k: usize) -> u64
     let hop = motion::hop_at(path, k);
     let mark = motion::mark_at(path, k);
     let last = motion::mark_at(path, path.hops.len());
-    let place_m = clearing_place(mark, &hop, path.length_m);
+    let place_m = clearing_place(mark, hop, path.length_m);
     if place_m <= last.place_m {
         motion::seconds_at(path, place_m)
     } else {
@@ -120,5 +123,5 @@ pub fn parts(path: &Path, k: u32) -> [i64; 6]
     ensures sum { fold ◌+ℤ◌ (pos 0) result ≡ blocking_end path.now k -ℤ blocking_start path.now k }
 {
     let hop = motion::hop_at(path, k as usize);
-    parts_at(moments_at(path, k as usize), &hop)
+    parts_at(moments_at(path, k as usize), hop)
 }

@@ -29,14 +29,15 @@ pub struct Mark {
 }
 
 /// The k-th hop of a path, from 1.
-pub fn hop_at(path: &Path, k: usize) -> Hop
+#[inline]
+pub fn hop_at(path: &Path, k: usize) -> &Hop
     requires fits { Fits path.now }
     requires some { 1 ≤ k }
     requires on_path { k ≤ hop_count path.now }
-    ensures hop { result ≡ hop path.now k }
-    ensures within { IsHopWithin result }
+    ensures hop { result.now ≡ hop path.now k }
+    ensures within { IsHopWithin result.now }
 {
-    path.hops.slice()[k - 1]
+    &path.hops.slice()[k - 1]
 }
 
 /// The mark of the path's start.
@@ -50,6 +51,7 @@ pub fn first_mark(path: &Path) -> Mark
 }
 
 /// The mark of the end of the block beyond this mark.
+#[inline]
 pub fn next_mark(mark: Mark, hop: &Hop) -> Mark
     requires { IsMarkWithin mark }
     ensures place { result.place_m ≡ mark.place_m + hop.now.block_m }
@@ -95,6 +97,7 @@ pub fn blocks_before(path: &Path, metres: u64) -> usize
 }
 
 /// When the head reaches a place of the block beyond a mark, rounded up to a second.
+#[inline]
 pub fn moment_in(mark: Mark, hop: &Hop, metres: u64) -> u64
     requires within { IsHopWithin hop.now }
     requires beyond { mark.place_m ≤ metres }
@@ -109,6 +112,7 @@ pub fn moment_in(mark: Mark, hop: &Hop, metres: u64) -> u64
 }
 
 /// The same, rounded down.
+#[inline]
 pub fn moment_down_in(mark: Mark, hop: &Hop, metres: u64) -> u64
     requires within { IsHopWithin hop.now }
     requires beyond { mark.place_m ≤ metres }

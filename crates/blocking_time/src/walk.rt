@@ -2,14 +2,14 @@
 
 ghost use Rattle.std.specs.Prelude.{◌≡◌, ◌≢◌, ◌≤◌, ◌<◌, ◌+◌, ◌-◌, ◌<ℤ◌, IfOk, map, All, AllPairs};
 ghost use Rattle.std.specs.List.{range_with_len};
-ghost use Rattle.rail_model.specs.Path.{hop, hop_count, Fits};
+ghost use Rattle.rail_model.specs.Path.{hop as hop_of, hop_count, Fits};
 ghost use Rattle.rail_model.specs.Blocking.{stairway as stairway_of, stair_of, use_of};
 ghost use Rattle.blocking_time.specs.Mark.{marks_of, stop_mark};
 ghost use Rattle.blocking_time.specs.Blocking.{blocking_of, IsUseBounded};
 
 use crate::motion::{self, Mark};
 use crate::{approach, course, moments};
-use rail_model::{List, OutOfMemory, Path, Stair, Use};
+use rail_model::{Hop, List, OutOfMemory, Path, Stair, Use};
 use std::alloc::Global;
 
 /// A run's blocking of one block.
@@ -32,26 +32,28 @@ pub fn blockings(alloc: Global, path: &Path) -> Result<List<Blocking>, OutOfMemo
     let mut stop = approach::no_stop_yet();
     let mut all = Vec::with_capacity(alloc, path.hops.len())?;
     for i in 0..path.hops.len() {
-        all.push(blocking_in(path, &marks, i + 1, stop))?;
-        stop = course::next_stop(path, &marks, i + 1, stop);
+        let hop = motion::hop_at(path, i + 1);
+        all.push(blocking_in(path, &marks, i + 1, hop, stop))?;
+        stop = course::next_stop(path, &marks, i + 1, hop, stop);
     }
     Ok(List::from_vec(all))
 }
 
 // The blocking of the k-th block, from 1, by the last stop before it.
-fn blocking_in(path: &Path, marks: &[Mark], k: usize, stop: Mark) -> Blocking
+#[inline]
+fn blocking_in(path: &Path, marks: &[Mark], k: usize, hop: &Hop, stop: Mark) -> Blocking
     requires fits { Fits path.now }
     requires table { marks.now ≡ marks_of path.now }
     requires some { 1 ≤ k }
     requires on_path { k ≤ hop_count path.now }
+    requires hop { hop.now ≡ hop_of path.now k }
     requires stop { stop ≡ stop_mark path.now (k - 1) }
     ensures { result ≡ blocking_of path.now k }
 {
-    let hop = motion::hop_at(path, k);
-    let at = course::moments_in(path, marks, k, stop);
+    let at = course::moments_in(path, marks, k, hop, stop);
     Blocking {
-        used: moments::use_at(at, &hop),
-        parts: moments::parts_at(at, &hop),
+        used: moments::use_at(at, hop),
+        parts: moments::parts_at(at, hop),
     }
 }
 
@@ -79,21 +81,23 @@ fn stairway(alloc: Global, path: &Path) -> Result<List<Use>, OutOfMemory>
     let mut stop = approach::no_stop_yet();
     let mut uses = Vec::with_capacity(alloc, path.hops.len())?;
     for done in 0..path.hops.len() {
-        uses.push(use_in(path, &marks, done + 1, stop))?;
-        stop = course::next_stop(path, &marks, done + 1, stop);
+        let hop = motion::hop_at(path, done + 1);
+        uses.push(use_in(path, &marks, done + 1, hop, stop))?;
+        stop = course::next_stop(path, &marks, done + 1, hop, stop);
     }
     Ok(List::from_vec(uses))
 }
 
 // The use of the k-th block, from 1, by the last stop before it.
-fn use_in(path: &Path, marks: &[Mark], k: usize, stop: Mark) -> Use
+#[inline]
+fn use_in(path: &Path, marks: &[Mark], k: usize, hop: &Hop, stop: Mark) -> Use
     requires fits { Fits path.now }
     requires table { marks.now ≡ marks_of path.now }
     requires some { 1 ≤ k }
     requires on_path { k ≤ hop_count path.now }
+    requires hop { hop.now ≡ hop_of path.now k }
     requires stop { stop ≡ stop_mark path.now (k - 1) }
     ensures { result ≡ use_of path.now k }
 {
-    let hop = motion::hop_at(path, k);
-    moments::use_at(course::moments_in(path, marks, k, stop), &hop)
+    moments::use_at(course::moments_in(path, marks, k, hop, stop), hop)
 }

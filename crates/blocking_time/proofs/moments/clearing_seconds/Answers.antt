@@ -8,7 +8,7 @@ pub returns-then-place_m-last-clause-moment : goal.returns-then-place_m-last-cla
 returns-then-place_m-last-clause-moment c =
     let path = c.args.path.now in
     c.seconds_at.ensures.moment
-    ∙ clearing_reached path c.args.k c.clearing_place-place_m.result c.mark_at-mark.result c.mark_at-last.result c.hop_at-hop.result.overlap_m
+    ∙ clearing_reached path c.args.k c.clearing_place-place_m.result c.mark_at-mark.result c.mark_at-last.result c.hop_at-hop.result.now.overlap_m
     c.mark_at-mark.ensures.mark (c.mark_at-last.ensures.mark ∙ ap (mark_of path) c.len.ensures.count)
     (ap (λ (h : Hop). h.overlap_m) c.hop_at-hop.ensures.hop) c.clearing_place-place_m.ensures (omega (arith, c.if-place_m-last.true))
 
@@ -16,6 +16,6 @@ pub returns-else-place_m-last-clause-moment : goal.returns-else-place_m-last-cla
 returns-else-place_m-last-clause-moment c =
     let path = c.args.path.now in
     c.tail_end.ensures.moment
-    ∙ clearing_ended path c.requires.fits c.args.k c.clearing_place-place_m.result c.mark_at-mark.result c.mark_at-last.result c.hop_at-hop.result.overlap_m
+    ∙ clearing_ended path c.requires.fits c.args.k c.clearing_place-place_m.result c.mark_at-mark.result c.mark_at-last.result c.hop_at-hop.result.now.overlap_m
     c.mark_at-mark.ensures.mark (c.mark_at-last.ensures.mark ∙ ap (mark_of path) c.len.ensures.count)
     (ap (λ (h : Hop). h.overlap_m) c.hop_at-hop.ensures.hop) c.clearing_place-place_m.ensures (omega (arith, c.if-place_m-last.false))

@@ -1,0 +1,5 @@
+use Rattle.std.proofs.Common.{rules}
+use Rattle.blocking_time.proofs.moments.use_at.Goals as goal
+
+pub returns : goal.returns
+returns c = search rules
