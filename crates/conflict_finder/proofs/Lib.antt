@@ -4,3 +4,6 @@ pub mod Laid
 pub mod Order
 pub mod Whole
 pub mod Room
+pub mod Joins
+pub mod Stretched
+pub mod Moves

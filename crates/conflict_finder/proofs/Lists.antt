@@ -1,5 +1,5 @@
 -- Lists that are made piece by piece, and pairs of their elements.
-use Rattle.std.proofs.Common.{◌≡◌, ℕ, zero, suc, ◌+◌, ◌-◌, ◌<◌, ◌≤◌, ◌⊎◌, Bool, true, List, [], ◌∷◌, ◌++◌, length, map, get_or, refl, sym, ap, ◌∙◌, subst, inl, inr, arith, append-nil, length-append}
+use Rattle.std.proofs.Common.{◌≡◌, ℕ, zero, suc, ◌+◌, ◌-◌, ◌<◌, ◌≤◌, ◌⊎◌, Bool, true, List, [], ◌∷◌, ◌++◌, length, map, get_or, refl, sym, ap, ◌∙◌, subst, inl, inr, arith, append-nil, append_assoc, length-append}
 use Rattle.std.specs.List.{AllPairs, Contains, flat_map, range_with_len, prefix_len, swap}
 use Rattle.std.specs.List.Sorted.{IsPermutation}
 use Rattle.std.proofs.lemmas.Bool.{cases_lt, cases_eq}
@@ -17,10 +17,15 @@ map_same : (xs : List ℕ) → map (λ k. k) xs ≡ xs
 map_same [] = refl
 map_same (x ∷ xs) = ap (λ ys. x ∷ ys) (map_same xs)
 
-range_more : (n : ℕ) → range_with_len 0 (n + 1) ≡ range_with_len 0 n ++ n ∷ []
+pub range_more : (n : ℕ) → range_with_len 0 (n + 1) ≡ range_with_len 0 n ++ n ∷ []
 range_more n =
     sym (map_same (range_with_len 0 (n + 1))) ∙ map-range_with_len_more (λ k. k) 0 n n (omega arith)
     ∙ ap (λ xs. xs ++ n ∷ []) (map_same (range_with_len 0 n))
+
+pieces_more : {X : Type 0} (f : ℕ → List X) (n : ℕ) → flat_map f (range_with_len 0 (n + 1)) ≡ flat_map f (range_with_len 0 n) ++ f n
+pieces_more f n =
+    ap (flat_map f) (range_more n) ∙ flat_map-append f (range_with_len 0 n) (n ∷ [])
+    ∙ ap (λ ys. flat_map f (range_with_len 0 n) ++ ys) (append-nil (f n))
 
 module _ {X : Type 0} (f : ℕ → List X) where
   pub upto : ℕ → List X
@@ -31,13 +36,31 @@ module _ {X : Type 0} (f : ℕ → List X) where
   upto_is n = refl
 
   pub upto_more : (n : ℕ) → flat_map f (range_with_len 0 (n + 1)) ≡ flat_map f (range_with_len 0 n) ++ f n
-  upto_more n =
-      ap (flat_map f) (range_more n) ∙ flat_map-append f (range_with_len 0 n) (n ∷ [])
-      ∙ ap (λ ys. flat_map f (range_with_len 0 n) ++ ys) (append-nil (f n))
+  upto_more n = pieces_more f n
 
   pub upto_suc : (n : ℕ) → upto (suc n) ≡ upto n ++ f n
   unfolding upto
   upto_suc n = let e : n + 1 ≡ suc n = omega arith in subst (λ m. flat_map f (range_with_len 0 m) ≡ flat_map f (range_with_len 0 n) ++ f n) e (upto_more n)
+
+  -- the pieces of a + b numbers are those of a, and then those of b more
+  pub upto_plus : (a b : ℕ) → upto (a + b) ≡ upto a ++ flat_map (λ k. f (a + k)) (range_with_len 0 b)
+  upto_plus a zero = let none : a + 0 ≡ a = omega arith in rw none (sym (append-nil (upto a)))
+  upto_plus a (suc b) =
+      let more : a + suc b ≡ suc (a + b) = omega arith in
+      let last : b + 1 ≡ suc b = omega arith in
+      let next : flat_map (λ k. f (a + k)) (range_with_len 0 (b + 1)) ≡ flat_map (λ k. f (a + k)) (range_with_len 0 b) ++ f (a + b) = pieces_more (λ k. f (a + k)) b in
+      ap upto more ∙ upto_suc (a + b) ∙ ap (λ v. v ++ f (a + b)) (upto_plus a b)
+      ∙ append_assoc (upto a) (flat_map (λ k. f (a + k)) (range_with_len 0 b)) (f (a + b))
+      ∙ ap (λ v. upto a ++ v) (sym next) ∙ ap (λ m. upto a ++ flat_map (λ k. f (a + k)) (range_with_len 0 m)) last
+
+  -- pieces that are the same one by one
+  pub upto_same : (g : ℕ → List X) (n : ℕ) → ((k : ℕ) → k < n → f k ≡ g k) → flat_map f (range_with_len 0 n) ≡ flat_map g (range_with_len 0 n)
+  upto_same g zero h = refl
+  upto_same g (suc n) h =
+      let e : n + 1 ≡ suc n = omega arith in
+      subst (λ m. flat_map f (range_with_len 0 m) ≡ flat_map g (range_with_len 0 m)) e (
+      upto_more n ∙ ap (λ v. v ++ f n) (upto_same g n (λ k l. h k (omega arith)))
+      ∙ ap (λ v. flat_map g (range_with_len 0 n) ++ v) (h n (omega arith)) ∙ sym (pieces_more g n))
 
   -- what is in a piece is in the whole, and the other way round
   pub in_upto : (n k : ℕ) (x : X) → k < n → Contains (f k) x → Contains (upto n) x

@@ -1,11 +1,12 @@
 -- Listing as long as there is room.
-use Rattle.std.proofs.Common.{◌≡◌, ℕ, zero, suc, ◌+◌, ◌-◌, ◌<◌, ◌≤◌, Bool, false, List, [], ◌∷◌, ◌++◌, length, get_or, map, take, drop, refl, ap, ◌∙◌, arith}
+use Rattle.std.proofs.Common.{◌≡◌, ℕ, zero, suc, ◌+◌, ◌-◌, ◌<◌, ◌≤◌, Bool, false, List, [], ◌∷◌, ◌++◌, length, get_or, map, take, drop, refl, sym, ap, ◌∙◌, arith, append_assoc, length-append}
 use Rattle.std.specs.List.{take_while}
 use Rattle.std.proofs.lemmas.List.{length-map, length-take, length-drop}
 use Rattle.std.proofs.lemmas.List.Folds.{length-prefix_len}
 use Rattle.std.proofs.lemmas.List.Sums.{prefix_len-le-length, prefix_len_is}
 use Rattle.rail_model.specs.Conflict as whole
 use Rattle.conflict_finder.specs.declared.blocked.Blocked.{Blocked}
+use Rattle.conflict_finder.specs.declared.found.Conflict.{Conflict}
 use Rattle.conflict_finder.specs.declared.found.TheConstants.{LISTED}
 use Rattle.conflict_finder.specs.Found.{listed}
 
@@ -37,10 +38,32 @@ listed_count all =
 pub listed_most : (all : List whole.Conflict) → length (map listed (take LISTED all)) ≤ LISTED
 listed_most all = (listed_count all).0
 
+-- more conflicts are listed as far as there is room for r
+pub listed_rest : (r : ℕ) (all more : List whole.Conflict) → map listed (take r all) ++ map listed (take (r - length all) more) ≡ map listed (take r (all ++ more))
+listed_rest r all more = rw (take_both r all more, map_both listed (take r all) (take (r - length all) more)) refl
+
 -- more conflicts are listed as far as there is room
-pub listed_more : (all : List whole.Conflict) (f : Blocked → whole.Conflict) (met : List Blocked) → map listed (take LISTED all) ++ map (λ y. listed (f y)) (take (LISTED - length (map listed (take LISTED all))) met) ≡ map listed (take LISTED (all ++ map f met))
-listed_more all f met =
-    rw ((listed_count all).2, take_both LISTED all (map f met), map_both listed (take LISTED all) (take (LISTED - length all) (map f met)), take_mapped f (LISTED - length all) met, map_twice listed f (take (LISTED - length all) met)) refl
+pub listed_more : (all more : List whole.Conflict) → map listed (take LISTED all) ++ map listed (take (LISTED - length (map listed (take LISTED all))) more) ≡ map listed (take LISTED (all ++ more))
+listed_more all more = rw (listed_count all).2 (listed_rest LISTED all more)
+
+-- the same of those that one meets, beside what was listed before
+pub met_more : (old : List Conflict) (all : List whole.Conflict) (f : Blocked → whole.Conflict) (met : List Blocked) → (old ++ map listed (take (LISTED - length old) all)) ++ map (λ y. listed (f y)) (take (LISTED - length (old ++ map listed (take (LISTED - length old) all))) met) ≡ old ++ map listed (take (LISTED - length old) (all ++ map f met))
+met_more old all f met =
+    let r = LISTED - length old in
+    let some = map listed (take r all) in
+    let count = length-append old some ∙ ap (λ n. length old + n) (length-map (take r all) listed ∙ length-take r all) in
+    let left : LISTED - length (old ++ some) ≡ r - length all = omega (arith, count) in
+    let next : map (λ y. listed (f y)) (take (r - length all) met) ≡ map listed (take (r - length all) (map f met)) = sym (ap (map listed) (take_mapped f (r - length all) met) ∙ map_twice listed f (take (r - length all) met)) in
+    append_assoc old some (map (λ y. listed (f y)) (take (LISTED - length (old ++ some)) met))
+    ∙ ap (λ n. old ++ (some ++ map (λ y. listed (f y)) (take n met))) left
+    ∙ ap (λ v. old ++ (some ++ v)) next
+    ∙ ap (λ v. old ++ v) (listed_rest r all (map f met))
+
+-- no more are listed than there is room for
+pub listed_within : (old : List Conflict) (all : List whole.Conflict) → length old ≤ LISTED → length (old ++ map listed (take (LISTED - length old) all)) ≤ LISTED
+listed_within old all few =
+    let r = LISTED - length old in
+    omega (arith, length-append old (map listed (take r all)), length-map (take r all) listed, length-take r all)
 
 pub listed_count_is : (all : List whole.Conflict) → length all - length (map listed (take LISTED all)) ≡ length all - LISTED
 listed_count_is all =

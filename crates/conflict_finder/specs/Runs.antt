@@ -1,12 +1,13 @@
 -- Runs in the order of their names, and what they block.
-use Rattle.std.specs.Prelude.{ℕ, ℤ, List, [], map, length, slice_index_or}
+use Rattle.std.specs.Prelude.{ℕ, ℤ, Bool, List, [], map, length, slice_index_or}
 use Rattle.std.specs.List.{flat_map, range_with_len}
 use Rattle.std.specs.declared.cmp.Ordering.{Ordering}
-use Rattle.std.specs.Ordering.{nat_cmp, int_cmp, ordering_then}
+use Rattle.std.specs.Ordering.{nat_cmp, int_cmp, ordering_then, is_lt}
 use Rattle.rail_model.specs.declared.stair.Use.{Use}
 use Rattle.rail_model.specs.declared.stair.Stair.{Stair}
 use Rattle.conflict_finder.specs.declared.ranked.Ranked.{Ranked}
 use Rattle.conflict_finder.specs.declared.blocked.Blocked.{Blocked}
+use Rattle.conflict_finder.specs.declared.entering.Entering.{Entering}
 
 -- placeholders where there is none
 abbrev pub no_stair : Stair
@@ -31,13 +32,15 @@ abbrev pub uses_of : List Stair → List Ranked → ℕ → List Use
 uses_of stairs runs k =
     (slice_index_or stairs (slice_index_or runs k no_ranked).stair no_stair).uses
 
--- what the first n runs block
-abbrev pub blocked_upto : List Stair → List Ranked → ℕ → List Blocked
-blocked_upto stairs runs n =
-    flat_map (λ k. map (blocked_of k) (uses_of stairs runs k)) (range_with_len 0 n)
-
+-- what the runs block, in the order of their numbers
 abbrev pub all_blocked : List Stair → List Ranked → List Blocked
-all_blocked stairs runs = blocked_upto stairs runs (length runs)
+all_blocked stairs runs =
+    flat_map (λ k. map (blocked_of k) (uses_of stairs runs k)) (range_with_len 0 (length runs))
+
+-- what the runs block one after another, in the order in which they enter the line
+abbrev pub blocked_in_turn : List Stair → List Ranked → List Entering → List Blocked
+blocked_in_turn stairs runs entering =
+    flat_map (λ e. map (blocked_of e.run) (uses_of stairs runs e.run)) entering
 
 -- the order of the sweep: by block, then by start, then by run
 abbrev pub key_of : Blocked → ℕ × ℤ × ℕ
@@ -45,3 +48,7 @@ key_of b = (b.block, b.start, b.run)
 
 abbrev pub key_cmp : ℕ × ℤ × ℕ → ℕ × ℤ × ℕ → Ordering
 key_cmp x y = ordering_then (ordering_then (nat_cmp x.0 y.0) (int_cmp x.1 y.1)) (nat_cmp x.2 y.2)
+
+-- whether one blocking comes before another in this order
+abbrev pub is_before : Blocked → Blocked → Bool
+is_before a b = is_lt (key_cmp (key_of a) (key_of b))

@@ -1,9 +1,10 @@
 //! What runs block, in the order in which it is swept.
 ghost use Rattle.std.specs.Prelude.{◌<◌, All, length, IfOk};
-ghost use Rattle.std.specs.List.Sorted.{IsPermutation, IsSortedByKey};
-ghost use Rattle.conflict_finder.specs.Runs.{all_blocked, key_of, key_cmp};
+ghost use Rattle.std.specs.List.Sorted.{IsPermutation};
+ghost use Rattle.conflict_finder.specs.Runs.{all_blocked};
+ghost use Rattle.conflict_finder.specs.Stretches.{joined, AreByBlock, AreSorted};
 
-use crate::in_order::in_one;
+use crate::in_order::put_in_order;
 use crate::ranked::Ranked;
 use crate::stretches::by_block;
 use rail_model::{OutOfMemory, Stair};
@@ -19,22 +20,22 @@ pub(crate) struct Blocked {
     pub(crate) run: u32,
 }
 
-// All that the runs block, by block, then by start, then by run.
+// All that the runs block, in a stretch for each block, and each stretch in the order of starts and
+// runs. Numbers that no block of a line's tables has share the last stretch, in the order of blocks
+// first.
 pub(crate) fn blocked_in_order(
     alloc: Global,
     stairs: &[Stair],
     runs: &[Ranked],
-) -> Result<Vec<Blocked>, OutOfMemory>
+) -> Result<Vec<Vec<Blocked>>, OutOfMemory>
     requires few { length runs.now < 4_294_967_296 }
     requires there { All (λ r. r.stair < length stairs.now) runs.now }
-    ensures same { IfOk result (λ blocked.
-        IsPermutation (all_blocked stairs.now runs.now) blocked.items) }
-    ensures order { IfOk result (λ blocked. IsSortedByKey key_of key_cmp blocked.items) }
+    ensures same { IfOk result (λ stretches.
+        IsPermutation (all_blocked stairs.now runs.now) (joined stretches.items)) }
+    ensures blocks { IfOk result (λ stretches. AreByBlock stretches.items) }
+    ensures order { IfOk result (λ stretches. AreSorted stretches.items) }
 {
-    let stretches = by_block(alloc, stairs, runs)?;
-    let mut blocked = in_one(alloc, &stretches)?;
-    // Where each stretch is one block's, all is in order by now, and this sort is one look over
-    // neighbours.
-    blocked.sort_unstable_by_key(|one| (one.block, one.start, one.run));
-    Ok(blocked)
+    let mut stretches = by_block(alloc, stairs, runs)?;
+    put_in_order(&mut stretches);
+    Ok(stretches)
 }

@@ -2,6 +2,7 @@
 #![tactic(auto)]
 
 mod blocked;
+mod entering;
 mod found;
 mod in_order;
 mod ranked;

@@ -1,10 +1,11 @@
 //! The conflicts, found by one sweep over what is blocked.
 ghost use Rattle.std.specs.Prelude.{◌≡◌, ◌-◌, ◌*◌, ◌<◌, ◌≤◌, [], ◌++◌, false};
 ghost use Rattle.std.specs.Prelude.{All, map, take, length, IfOk, OnOk};
-ghost use Rattle.std.specs.List.{take_while};
+ghost use Rattle.std.specs.List.{take_while, prefix_len};
 ghost use Rattle.std.specs.List.Sorted.{IsPartitionedBy};
 ghost use Rattle.conflict_finder.specs.Timetable.{IsTimetable};
 ghost use Rattle.conflict_finder.specs.Found.{IsFound, listed};
+ghost use Rattle.conflict_finder.specs.Stretches.{joined, AreByBlock};
 ghost use Rattle.conflict_finder.specs.Sweep as swept;
 ghost use Rattle.rail_model.specs.declared.limits.TheConstants.{RUNS, PATH_HOPS};
 
@@ -20,33 +21,63 @@ pub fn conflicts(alloc: Global, stairs: &List<Stair>) -> Result<Conflicts, OutOf
     ensures { IfOk result (λ found. IsFound stairs.now found) }
 {
     let runs = by_name(alloc, stairs.slice())?;
-    let blocked = blocked_in_order(alloc, stairs.slice(), &runs)?;
-    sweep(alloc, &runs, &blocked)
+    let stretches = blocked_in_order(alloc, stairs.slice(), &runs)?;
+    sweep(alloc, &runs, &stretches)
 }
 
-// Walks over what is blocked, in order. Each overlaps some of those next to it, and none past the
-// first that it doesn't overlap.
-fn sweep(alloc: Global, runs: &[Ranked], blocked: &[Blocked]) -> Result<Conflicts, OutOfMemory>
-    requires most { length blocked.now ≤ RUNS * PATH_HOPS }
-    requires there { All (λ b. b.run < length runs.now) blocked.now }
-    requires order { swept.IsSwept blocked.now }
+// Walks over the stretches, one after another. Blockings of two stretches are of two blocks, so
+// they don't meet.
+fn sweep(
+    alloc: Global,
+    runs: &[Ranked],
+    stretches: &[Vec<Blocked>],
+) -> Result<Conflicts, OutOfMemory>
+    requires most { length (joined stretches.now) ≤ RUNS * PATH_HOPS }
+    requires there { All (λ b. b.run < length runs.now) (joined stretches.now) }
+    requires order { swept.IsSwept (joined stretches.now) }
+    requires blocks { AreByBlock stretches.now }
     ensures list { IfOk result (λ found. found.list ≡
-        map listed (take LISTED (swept.found runs.now blocked.now))) }
+        map listed (take LISTED (swept.found runs.now (joined stretches.now)))) }
     ensures more { IfOk result (λ found. found.more ≡
-        length (swept.found runs.now blocked.now) - LISTED) }
+        length (swept.found runs.now (joined stretches.now)) - LISTED) }
 {
     let mut list = List::new(alloc);
     let mut count: u64 = 0;
-    for (i, one) in blocked.iter().enumerate() {
-        let met = met_by(one, &blocked[i + 1..]);
-        list_met(&mut list, runs, one, met)?;
-        count += met.len() as u64;
+    for stretch in stretches {
+        count += sweep_stretch(&mut list, runs, stretch)?;
     }
     let more = count - list.len() as u64;
     Ok(Conflicts { list, more })
 }
 
+// Walks over one stretch, in order. Each blocking overlaps some of those next to it, and none past
+// the first that it doesn't overlap. The conflicts are listed as long as there is room, and all of
+// them are counted.
+fn sweep_stretch(
+    list: &mut List<Conflict>,
+    runs: &[Ranked],
+    stretch: &[Blocked],
+) -> Result<u64, OutOfMemory>
+    requires room { length list.old ≤ LISTED }
+    requires most { length stretch.now ≤ RUNS * PATH_HOPS }
+    requires there { All (λ b. b.run < length runs.now) stretch.now }
+    requires order { swept.IsSwept stretch.now }
+    ensures list { OnOk result (list.new ≡ list.old ++
+        map listed (take (LISTED - length list.old) (swept.found runs.now stretch.now))) }
+    ensures count { IfOk result (λ count. count ≡ length (swept.found runs.now stretch.now)) }
+    ensures most { IfOk result (λ count. count ≤ length stretch.now * (RUNS * PATH_HOPS)) }
+{
+    let mut count: u64 = 0;
+    for (i, one) in stretch.iter().enumerate() {
+        let met = met_by(one, &stretch[i + 1..]);
+        list_met(list, runs, one, met)?;
+        count += met.len() as u64;
+    }
+    Ok(count)
+}
+
 // Those of the later ones that one meets: they come first among them.
+#[inline]
 fn met_by<'a>(one: &Blocked, later: &'a [Blocked]) -> &'a [Blocked]
     requires { IsPartitionedBy (swept.meets one.now) later.now }
     ensures { result.now ≡ take_while (swept.meets one.now) later.now }
@@ -54,17 +85,35 @@ fn met_by<'a>(one: &Blocked, later: &'a [Blocked]) -> &'a [Blocked]
     if !meets_next(one, later) {
         return &later[..0];
     }
-    let count = later.partition_point(|other| meets(one, other));
-    &later[..count]
+    &later[..count_met(one, later)]
 }
 
-// Whether one meets the first of the later ones: mostly it meets none.
+// Among how many others those that one meets are counted one by one, before they are searched.
+const FEW: usize = 7;
+
+// How many of the later ones it meets: they come first among them, and mostly they are few.
+#[inline(never)]
+fn count_met(one: &Blocked, later: &[Blocked]) -> usize
+    requires { IsPartitionedBy (swept.meets one.now) later.now }
+    ensures { result ≡ prefix_len (swept.meets one.now) later.now }
+{
+    for i in 0..FEW.min(later.len()) {
+        if !meets(one, &later[i]) {
+            return i;
+        }
+    }
+    later.partition_point(|other| meets(one, other))
+}
+
+// Whether one meets the first of the later ones.
+#[inline]
 fn meets_next(one: &Blocked, later: &[Blocked]) -> bool
     ensures { result ≡ false → take_while (swept.meets one.now) later.now ≡ [] }
 {
     !later.is_empty() && meets(one, &later[0])
 }
 
+#[inline]
 fn meets(one: &Blocked, other: &Blocked) -> bool
     ensures { result ≡ swept.meets one.now other.now }
 {
@@ -85,6 +134,10 @@ fn list_met(
         ++ map (λ other. listed (swept.conflict_of runs.now one.now other))
         (take (LISTED - length list.old) met.now)) }
 {
+    // Mostly it meets none.
+    if met.is_empty() {
+        return Ok(());
+    }
     let room = LISTED - list.len();
     for other in &met[..room.min(met.len())] {
         list.push(conflict_of(runs, one, other))?;

@@ -1,9 +1,10 @@
 use Rattle.std.proofs.Common.{◌≡◌, ◌*◌, ◌<◌, ◌≤◌, List, length, ap, subst, arith}
-use Rattle.std.specs.Prelude.{Result, Ok, Err, IfOk, ◌-◌, map, take}
+use Rattle.std.specs.Prelude.{Result, Ok, Err, IfOk, Vec, ◌-◌, map, take}
 use Rattle.std.specs.List.{All}
 use Rattle.std.specs.List.Sorted.{IsPermutation, IsSortedByKey}
 use Rattle.std.specs.Cmp.Lexicographic.{slice_cmp}
 use Rattle.std.specs.Ordering.{nat_cmp}
+use Rattle.std.specs.declared.alloc.Global.{Global}
 use Rattle.rail_model.specs.declared.stair.Stair.{Stair}
 use Rattle.rail_model.specs.declared.limits.TheConstants.{RUNS, PATH_HOPS}
 use Rattle.rail_model.specs.declared.memory.OutOfMemory.{OutOfMemory}
@@ -14,11 +15,13 @@ use Rattle.rail_model.specs.Conflict.{AreConflicts}
 use Rattle.conflict_finder.specs.declared.ranked.Ranked.{Ranked}
 use Rattle.conflict_finder.specs.declared.blocked.Blocked.{Blocked}
 use Rattle.conflict_finder.specs.Timetable.{IsTimetable}
-use Rattle.conflict_finder.specs.Runs.{runs_of, all_blocked, key_of, key_cmp}
+use Rattle.conflict_finder.specs.Runs.{runs_of, all_blocked}
+use Rattle.conflict_finder.specs.Stretches.{joined, AreByBlock, AreSorted}
 use Rattle.conflict_finder.specs.Sweep.{IsSwept, found}
 use Rattle.conflict_finder.proofs.Ranks.{AreRanked, ranked_by}
 use Rattle.conflict_finder.proofs.Order.{swept, few, runs_there}
 use Rattle.conflict_finder.proofs.Whole.{all_found}
+use Rattle.conflict_finder.proofs.Stretched.{joined_in_order}
 use Rattle.conflict_finder.proofs.sweep.conflicts.Goals as goal
 
 ranked_in : (stairs seen : List Stair) (runs : List Ranked) → IsTimetable stairs → seen ≡ stairs → IsPermutation (runs_of seen) runs → IsSortedByKey (λ r. r.name) (slice_cmp nat_cmp) runs → AreRanked stairs runs
@@ -32,9 +35,11 @@ record IsReady (stairs : List Stair) (runs : List Ranked) (blocked : List Blocke
   order : IsSwept blocked
   conflicts : AreConflicts stairs (found runs blocked)
 
-ready : (stairs seen : List Stair) (runs read : List Ranked) (blocked : List Blocked) → IsTimetable stairs → AreRanked stairs runs → seen ≡ stairs → read ≡ runs → IsPermutation (all_blocked seen read) blocked → IsSortedByKey key_of key_cmp blocked → IsReady stairs runs blocked
-ready stairs seen runs read blocked t ranked here this permuted order =
+ready : (stairs seen : List Stair) (runs read : List Ranked) (stretches : List (Vec Blocked Global)) → IsTimetable stairs → AreRanked stairs runs → seen ≡ stairs → read ≡ runs → IsPermutation (all_blocked seen read) (joined stretches) → AreByBlock stretches → AreSorted stretches → IsReady stairs runs (joined stretches)
+ready stairs seen runs read stretches t ranked here this permuted blocks sorted =
+    let blocked = joined stretches in
     let same : IsPermutation (all_blocked stairs runs) blocked = subst (λ r. IsPermutation (all_blocked stairs r) blocked) this (subst (λ s. IsPermutation (all_blocked s read) blocked) here permuted) in
+    let order = joined_in_order stretches blocks sorted in
     let in_order = swept stairs runs t ranked blocked same order in
     record {
       few = few stairs runs t ranked blocked same order;
@@ -53,10 +58,10 @@ blocked_in_order-requires-clause-there c =
     let ranked = ranked_in c.args.stairs.now c.slice.result.now c.in_ok-runs.runs.items c.requires c.slice.ensures c.in_ok-runs.ensures.same c.in_ok-runs.ensures.order in
     rw (c.slice-2.ensures, c.deref.ensures.value) ranked.there
 
-at_sweep : (c : goal.After-deref-3) → IsReady c.args.stairs.now c.in_ok-runs.runs.items c.in_ok-blocked.blocked.items
+at_sweep : (c : goal.After-deref-3) → IsReady c.args.stairs.now c.in_ok-runs.runs.items (joined c.in_ok-stretches.stretches.items)
 at_sweep c =
     let ranked = ranked_in c.args.stairs.now c.slice.result.now c.in_ok-runs.runs.items c.requires c.slice.ensures c.in_ok-runs.ensures.same c.in_ok-runs.ensures.order in
-    ready c.args.stairs.now c.slice-2.result.now c.in_ok-runs.runs.items c.deref.result.now c.in_ok-blocked.blocked.items c.requires ranked c.slice-2.ensures c.deref.ensures.value c.in_ok-blocked.ensures.same c.in_ok-blocked.ensures.order
+    ready c.args.stairs.now c.slice-2.result.now c.in_ok-runs.runs.items c.deref.result.now c.in_ok-stretches.stretches.items c.requires ranked c.slice-2.ensures c.deref.ensures.value c.in_ok-stretches.ensures.same c.in_ok-stretches.ensures.blocks c.in_ok-stretches.ensures.order
 
 pub sweep-requires-clause-most : goal.sweep-requires-clause-most
 sweep-requires-clause-most c = rw c.deref-3.ensures.value (at_sweep c).few
@@ -81,5 +86,5 @@ found_by stairs runs read blocked seen w same swept (Err e) l m = tt
 pub returns : goal.returns
 returns c =
     let ranked = ranked_in c.args.stairs.now c.slice.result.now c.in_ok-runs.runs.items c.requires c.slice.ensures c.in_ok-runs.ensures.same c.in_ok-runs.ensures.order in
-    let all = ready c.args.stairs.now c.slice-2.result.now c.in_ok-runs.runs.items c.deref.result.now c.in_ok-blocked.blocked.items c.requires ranked c.slice-2.ensures c.deref.ensures.value c.in_ok-blocked.ensures.same c.in_ok-blocked.ensures.order in
-    found_by c.args.stairs.now c.in_ok-runs.runs.items c.deref-2.result.now c.in_ok-blocked.blocked.items c.deref-3.result.now all c.deref-2.ensures.value c.deref-3.ensures.value c.sweep.result c.sweep.ensures.list c.sweep.ensures.more
+    let all = ready c.args.stairs.now c.slice-2.result.now c.in_ok-runs.runs.items c.deref.result.now c.in_ok-stretches.stretches.items c.requires ranked c.slice-2.ensures c.deref.ensures.value c.in_ok-stretches.ensures.same c.in_ok-stretches.ensures.blocks c.in_ok-stretches.ensures.order in
+    found_by c.args.stairs.now c.in_ok-runs.runs.items c.deref-2.result.now (joined c.in_ok-stretches.stretches.items) (joined c.deref-3.result.now) all c.deref-2.ensures.value (ap joined c.deref-3.ensures.value) c.sweep.result c.sweep.ensures.list c.sweep.ensures.more

@@ -1,49 +1,73 @@
-use Rattle.std.proofs.Common.{◌≡◌, ◌+◌, ◌-◌, ◌++◌, length, map, drop, get_or, sym, ap, ◌∙◌, subst, arith, length-append}
-use Rattle.std.specs.List.{take_while}
-use Rattle.std.specs.List.Sorted.{IsPartitionedBy}
-use Rattle.std.proofs.lemmas.List.{length-map, take_all, length-drop}
+use Rattle.std.proofs.Common.{◌≡◌, ◌+◌, ◌-◌, ◌<◌, ◌++◌, length, take, get_or, sym, ap, ◌∙◌, subst, arith, length-append}
+use Rattle.std.specs.Prelude.{Vec}
+use Rattle.std.specs.List.{All}
+use Rattle.std.specs.declared.alloc.Global.{Global}
+use Rattle.std.proofs.lemmas.List.{take_all}
+use Rattle.conflict_finder.specs.declared.blocked.Blocked.{Blocked}
 use Rattle.conflict_finder.specs.declared.found.TheConstants.{LISTED}
-use Rattle.conflict_finder.specs.Sweep.{meets, conflict_of, no_blocked, found_at, found_upto}
-use Rattle.conflict_finder.proofs.Lists.{upto_more}
-use Rattle.conflict_finder.proofs.Whole.{partitioned}
-use Rattle.conflict_finder.proofs.Room.{listed_most, listed_more, listed_some, listed_count_is, met_within}
+use Rattle.conflict_finder.specs.Stretches.{joined}
+use Rattle.conflict_finder.specs.Sweep.{IsSwept, ComesBefore, found}
+use Rattle.conflict_finder.proofs.Laid.{next_stretch}
+use Rattle.conflict_finder.proofs.Room.{listed_most, listed_more, listed_some, listed_count_is}
+use Rattle.conflict_finder.proofs.Stretched.{each_all, each_pairs, each_few, found_more}
 use Rattle.conflict_finder.proofs.sweep.sweep.Goals as goal
 
-pub met_by-met-requires : goal.met_by-met-requires
-met_by-met-requires c =
-    let blocked = c.args.blocked.now in
-    let i = c.loop-i.i in
-    let rest = drop (i + 1) blocked in
-    let whole = take_all (length blocked - (i + 1)) rest (omega (arith, length-drop (i + 1) blocked)) in
-    subst (IsPartitionedBy (meets (get_or blocked i no_blocked))) (sym whole) (partitioned blocked c.requires.order i c.loop-i-test.true)
+-- the stretch that is walked over
+is_stretch : (c : goal.After-deref) → c.deref.result.now ≡ (get_or c.args.stretches.now c.loop-stretch.stretch-index c.stretch-item.result).items
+is_stretch c = c.deref.ensures.value ∙ ap (λ (v : Vec Blocked Global). v.items) c.stretch-item.is
 
-pub list_met-requires-clause-room : goal.list_met-requires-clause-room
-list_met-requires-clause-room c = rw c.loop-i.invariant.list (listed_most (found_upto c.args.runs.now c.args.blocked.now c.loop-i.i))
+pub sweep_stretch-requires-clause-room : goal.sweep_stretch-requires-clause-room
+sweep_stretch-requires-clause-room c =
+    rw c.loop-stretch.invariant.list (listed_most (found c.args.runs.now (joined (take c.loop-stretch.stretch-index c.args.stretches.now))))
 
-pub loop-i-preserved : goal.loop-i-preserved
-loop-i-preserved c =
-    let blocked = c.args.blocked.now in
+pub sweep_stretch-requires-clause-most : goal.sweep_stretch-requires-clause-most
+sweep_stretch-requires-clause-most c =
+    omega (arith, ap length (is_stretch c), each_few c.args.stretches.now c.stretch-item.result c.loop-stretch.stretch-index c.loop-stretch-test.true, c.requires.most)
+
+pub sweep_stretch-requires-clause-there : goal.sweep_stretch-requires-clause-there
+sweep_stretch-requires-clause-there c =
+    subst (All (λ (b : Blocked). b.run < length c.args.runs.now)) (sym (is_stretch c))
+    (each_all c.args.stretches.now c.stretch-item.result (λ (b : Blocked). b.run < length c.args.runs.now) c.loop-stretch.stretch-index c.loop-stretch-test.true c.requires.there)
+
+pub sweep_stretch-requires-clause-order : goal.sweep_stretch-requires-clause-order
+sweep_stretch-requires-clause-order c =
+    subst IsSwept (sym (is_stretch c)) (each_pairs c.args.stretches.now c.stretch-item.result ComesBefore c.loop-stretch.stretch-index c.loop-stretch-test.true c.requires.order)
+
+pub overflow_add-count : goal.overflow_add-count
+overflow_add-count c =
+    let stretches = c.args.stretches.now in
+    let i = c.loop-stretch.stretch-index in
+    let is = c.deref.ensures.value ∙ ap (λ (v : Vec Blocked Global). v.items) c.stretch-item.is in
+    omega (arith, ap length is, each_few stretches c.stretch-item.result i c.loop-stretch-test.true, c.requires.most, c.loop-stretch.invariant.most, c.in_ok-count.ensures.most)
+
+pub loop-stretch-preserved : goal.loop-stretch-preserved
+loop-stretch-preserved c =
+    let stretches = c.args.stretches.now in
     let runs = c.args.runs.now in
-    let i = c.loop-i.i in
-    let rest = drop (i + 1) blocked in
-    let whole = take_all (length blocked - (i + 1)) rest (omega (arith, length-drop (i + 1) blocked)) in
-    let met = take_while (meets (get_or blocked i no_blocked)) rest in
-    let is : c.met_by-met.result.now ≡ met = c.met_by-met.ensures ∙ ap (take_while (meets (get_or blocked i no_blocked))) whole in
-    let so_far = found_upto runs blocked i in
-    let more : found_upto runs blocked (i + 1) ≡ so_far ++ map (conflict_of runs (get_or blocked i no_blocked)) met = upto_more (found_at runs blocked) i in
-    let count : length (found_upto runs blocked (i + 1)) ≡ length so_far + length met =
-    ap length more ∙ length-append so_far (map (conflict_of runs (get_or blocked i no_blocked)) met) ∙ ap (λ n. length so_far + n) (length-map met (conflict_of runs (get_or blocked i no_blocked))) in
+    let i = c.loop-stretch.stretch-index in
+    let d = c.stretch-item.result in
+    let seen = c.deref.result.now in
+    let so_far = found runs (joined (take i stretches)) in
+    let is : seen ≡ (get_or stretches i d).items = c.deref.ensures.value ∙ ap (λ (v : Vec Blocked Global). v.items) c.stretch-item.is in
+    let more : found runs (joined (take (i + 1) stretches)) ≡ so_far ++ found runs seen =
+    found_more stretches d c.requires.blocks runs i c.loop-stretch-test.true ∙ ap (λ s. so_far ++ found runs s) (sym is) in
+    let count : length (found runs (joined (take (i + 1) stretches))) ≡ length so_far + length (found runs seen) = ap length more ∙ length-append so_far (found runs seen) in
+    let long : length (joined (take (i + 1) stretches)) ≡ length (joined (take i stretches)) + length seen =
+    ap length (next_stretch (λ (v : Vec Blocked Global). v.items) stretches i d c.loop-stretch-test.true) ∙ length-append (joined (take i stretches)) (get_or stretches i d).items
+    ∙ ap (λ s. length (joined (take i stretches)) + length s) (sym is) in
     record {
-      list = c.in_ok-list_met.ensures ∙ rw (c.loop-i.invariant.list, is, more) (listed_more so_far (conflict_of runs (get_or blocked i no_blocked)) met);
-      count = omega (arith, c.loop-i.invariant.count, count, ap length is);
-      most = omega (arith, c.loop-i.invariant.most, ap length is, met_within (meets (get_or blocked i no_blocked)) blocked i, c.requires.most);
+      list = c.in_ok-count.ensures.list ∙ rw (c.loop-stretch.invariant.list, more) (listed_more so_far (found runs seen));
+      count = omega (arith, c.loop-stretch.invariant.count, c.in_ok-count.ensures.count, count);
+      most = omega (arith, c.loop-stretch.invariant.most, c.in_ok-count.ensures.most, long);
     }
 
 pub overflow_sub-more : goal.overflow_sub-more
-overflow_sub-more c = omega (arith, c.len.ensures.count, ap length c.loop-i.invariant.list, c.loop-i.invariant.count, listed_some (found_upto c.args.runs.now c.args.blocked.now c.loop-i.i))
+overflow_sub-more c =
+    omega (arith, c.len.ensures.count, ap length c.loop-stretch.invariant.list, c.loop-stretch.invariant.count, listed_some (found c.args.runs.now (joined (take c.loop-stretch.stretch-index c.args.stretches.now))))
 
 pub returns-clause-more : goal.returns-clause-more
 returns-clause-more c =
-    let all = found_upto c.args.runs.now c.args.blocked.now c.loop-i.i in
-    let last : c.loop-i.i ≡ length c.args.blocked.now = omega (arith, c.loop-i-test.false, c.loop-i.auto.i-end) in
-    rw (c.len.ensures.count, c.loop-i.invariant.list, c.loop-i.invariant.count) (listed_count_is all ∙ ap (λ n. length (found_upto c.args.runs.now c.args.blocked.now n) - LISTED) last)
+    let stretches = c.args.stretches.now in
+    let all = found c.args.runs.now (joined (take c.loop-stretch.stretch-index stretches)) in
+    let last = take_all c.loop-stretch.stretch-index stretches (omega (arith, c.loop-stretch-test.false)) in
+    rw (c.len.ensures.count, c.loop-stretch.invariant.list, c.loop-stretch.invariant.count) (listed_count_is all ∙ ap (λ s. length (found c.args.runs.now (joined s)) - LISTED) last)

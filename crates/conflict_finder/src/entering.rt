@@ -1,0 +1,47 @@
+//! Runs in the order in which they enter the line.
+ghost use Rattle.std.specs.Prelude.{◌≡◌, ◌<◌, All, map, length, IfOk};
+ghost use Rattle.std.specs.List.{range_with_len};
+ghost use Rattle.std.specs.List.Sorted.{IsPermutation};
+
+use crate::ranked::Ranked;
+use rail_model::{OutOfMemory, Stair, Use};
+use std::alloc::Global;
+
+// A run's number, and the start of its first blocking.
+#[derive(Clone, Copy)]
+pub(crate) struct Entering {
+    pub(crate) start: i64,
+    pub(crate) run: u32,
+}
+
+// The runs by the starts of their first blockings. What they block is laid in this order, which is
+// nearly that of its starts where trains overtake few others.
+pub(crate) fn by_start(
+    alloc: Global,
+    stairs: &[Stair],
+    runs: &[Ranked],
+) -> Result<Vec<Entering>, OutOfMemory>
+    requires few { length runs.now < 4_294_967_296 }
+    requires there { All (λ r. r.stair < length stairs.now) runs.now }
+    ensures same { IfOk result (λ entering.
+        IsPermutation (range_with_len 0 (length runs.now)) (map (λ e. e.run) entering.items)) }
+    ensures there { IfOk result (λ entering. All (λ e. e.run < length runs.now) entering.items) }
+{
+    let mut entering = Vec::with_capacity(alloc, runs.len())?;
+    for (i, run) in runs.iter().enumerate() {
+        entering.push(Entering {
+            start: first_start(stairs[run.stair].uses.slice()),
+            run: i as u32,
+        })?;
+    }
+    entering.sort_unstable_by_key(|one| (one.start, one.run));
+    Ok(entering)
+}
+
+// When the first of a run's blockings starts.
+fn first_start(uses: &[Use]) -> i64 {
+    if uses.is_empty() {
+        return 0;
+    }
+    uses[0].start
+}
