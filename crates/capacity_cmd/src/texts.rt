@@ -19,9 +19,9 @@ use conflict_finder::conflicts;
 use headway_table::matrix;
 use line_tables::LineTables;
 use plan_model::{Answer, Cut, MEMBERS, Reading};
-use rail_model::{List, Name, OutOfMemory, Stair};
+use rail_model::{Name, OutOfMemory};
 use row_text::Sheet;
-use section_cut::{cut_among, cut_of};
+use section_cut::{Timetable, cut_among, cut_of, stairways};
 use std::alloc::Global;
 use std::thread::Threads;
 
@@ -123,7 +123,7 @@ fn cut_named(
 fn report_text(alloc: Global, tables: &LineTables) -> Result<Vec<u8>, OutOfMemory>
     ensures { IfOk result (λ text. outcome.IsReportText tables.now text.items) }
 {
-    let stairs = section_cut::stairways(alloc, tables)?;
+    let stairs = Timetable::of(alloc, stairways(alloc, tables)?)?;
     let mut sheet = Sheet::new(alloc);
     let mut tally = Tally::new();
     add_heads(alloc, &mut sheet, &mut tally, tables, &stairs)?;
@@ -137,7 +137,7 @@ fn add_heads(
     sheet: &mut Sheet,
     tally: &mut Tally,
     tables: &LineTables,
-    stairs: &List<Stair>,
+    stairs: &Timetable,
 ) -> Result<(), OutOfMemory>
     requires stairs { stairs.now ≡ timetable tables.now }
     requires rows { sheet.old.rows ≡ [] }
@@ -157,7 +157,7 @@ fn add_head(
     sheet: &mut Sheet,
     tally: &mut Tally,
     tables: &LineTables,
-    stairs: &List<Stair>,
+    stairs: &Timetable,
     number: u32,
 ) -> Result<(), OutOfMemory>
     requires stairs { stairs.now ≡ timetable tables.now }

@@ -15,6 +15,8 @@ pub mod BlockUses
 pub mod ConnectionUses
 pub mod SoundRow
 pub mod TwoRows
+pub mod Outside
+pub mod Starts
 pub mod PlacesDiffer
 pub mod SoundCut
 pub mod Leads

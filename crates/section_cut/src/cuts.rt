@@ -9,9 +9,10 @@ use crate::connections::connections;
 use crate::late::stairways_to;
 use crate::members::{Entered, members};
 use crate::positions::positions;
+use crate::timetable::Timetable;
 use line_tables::LineTables;
 use plan_model::Cut;
-use rail_model::{List, Name, OutOfMemory, Stair};
+use rail_model::{Name, OutOfMemory};
 use std::alloc::Global;
 
 /// The cut of the section of a name, each row with this stamp, and `None` exactly where the section
@@ -30,16 +31,17 @@ pub fn cut_of(
     let Some(number) = tables.section_number(section) else {
         return Ok(None);
     };
-    let stairs = stairways_to(alloc, tables, number)?;
-    Ok(Some(cut_by(alloc, tables, stairs.slice(), number, stamp)?))
+    let stairs = Timetable::of(alloc, stairways_to(alloc, tables, number)?)?;
+    Ok(Some(cut_by(alloc, tables, &stairs, number, stamp)?))
 }
 
 /// The same cut of the section of a number, by the stairways of all runs, which `stairways` makes once
-/// for many sections.
+/// for many sections. A run whose blockings all start before the section's window, or all after it, is
+/// passed over without a look at each of them.
 pub fn cut_among(
     alloc: Global,
     tables: &LineTables,
-    stairs: &List<Stair>,
+    stairs: &Timetable,
     section: u32,
     stamp: u64,
 ) -> Result<Cut, OutOfMemory>
@@ -49,14 +51,14 @@ pub fn cut_among(
         ≡ stamped stamp (cuts.section_cut tables.now (section_at tables.now section))) }
     ensures sound { IfOk result IsSoundCut }
 {
-    cut_by(alloc, tables, stairs.slice(), section, stamp)
+    cut_by(alloc, tables, stairs, section, stamp)
 }
 
 // The same cut by stairs that may be without the uses of runs that are no members.
 fn cut_by(
     alloc: Global,
     tables: &LineTables,
-    stairs: &[Stair],
+    stairs: &Timetable,
     section: u32,
     stamp: u64,
 ) -> Result<Cut, OutOfMemory>

@@ -2,7 +2,7 @@
 //! it, and which connections bind them.
 //!
 //! `cut_of` makes the cut of one section. For the cuts of many sections `stairways` makes the
-//! stairways of all runs once, and `cut_among` takes each cut from them.
+//! stairways of all runs once, and `cut_among` takes each cut from a `Timetable` of them.
 #![tactic(auto)]
 
 mod connections;
@@ -13,4 +13,4 @@ mod positions;
 mod timetable;
 
 pub use cuts::{cut_among, cut_of};
-pub use timetable::stairways;
+pub use timetable::{Timetable, stairways};

@@ -1,12 +1,14 @@
 //! The members of a section: the runs that enter it within its window.
-ghost use Rattle.std.specs.Prelude.{◌≡◌, ◌≤◌, ◌++◌, ◌∷◌, [], length, map, IfOk, OnOk, option_map};
+ghost use Rattle.std.specs.Prelude.{◌≡◌, ◌≤◌, ◌<◌, All, ◌++◌, ◌∷◌, [], length, map, IfOk, OnOk, option_map};
 ghost use Rattle.std.specs.Option.{option_to_list};
 ghost use Rattle.plan_model.specs.Cut.{least};
 ghost use Rattle.section_cut.specs.Late.{AreStairsFor};
-ghost use Rattle.section_cut.specs.Positions.{IsPositions};
+ghost use Rattle.section_cut.specs.Positions.{IsPositions, uses_in};
+ghost use Rattle.section_cut.specs.Timetable.{stair_at};
 ghost use Rattle.section_cut.specs.Members as rows;
 
 use crate::positions::gather;
+use crate::timetable::Timetable;
 use line_tables::LineTables;
 use plan_model::CutRow;
 use rail_model::{List, Name, OutOfMemory, PATH_HOPS, Section, Stair, Use};
@@ -32,7 +34,7 @@ pub(crate) fn members(
     tables: &LineTables,
     section: &Section,
     positions: &[u32],
-    stairs: &[Stair],
+    stairs: &Timetable,
     stamp: u64,
 ) -> Result<Entered, OutOfMemory>
     requires stairs { AreStairsFor tables.now section.now stairs.now }
@@ -44,18 +46,42 @@ pub(crate) fn members(
         (λ all. all.of_run.items ≡ rows.members_by_run tables.now section.now) }
 {
     let _count = tables.runs();
-    let blocks = section.blocks.len() as u32;
     let mut all = Entered {
         rows: List::new(alloc),
         of_run: Vec::with_capacity(alloc, stairs.len())?,
     };
     let mut uses = Vec::new(alloc);
-    for stair in stairs {
-        gather(&mut uses, positions, blocks, stair.uses.slice())?;
-        let row = member_row(alloc, section, stair.run, stamp, &uses)?;
+    for n in 0..stairs.len() {
+        let row = row_at(alloc, section, positions, stairs, n, stamp, &mut uses)?;
         add_run(&mut all, row)?;
     }
     Ok(all)
+}
+
+// The row of the run of the stairway at a place, if it is a member. The uses of the section's blocks
+// are gathered in a list that serves run after run.
+fn row_at(
+    alloc: Global,
+    section: &Section,
+    positions: &[u32],
+    stairs: &Timetable,
+    n: usize,
+    stamp: u64,
+    found: &mut Vec<Use>,
+) -> Result<Option<CutRow>, OutOfMemory>
+    requires at { n < length stairs.now }
+    requires there { All (λ u. u.block < length positions.now) (stair_at stairs.now n).uses }
+    requires blocks { length section.now.blocks ≤ PATH_HOPS }
+    ensures { IfOk result (λ row. row ≡ rows.member_row section.now (stair_at stairs.now n).run stamp
+        (uses_in positions.now (length section.now.blocks) (stair_at stairs.now n).uses)) }
+{
+    if stairs.passes_by(n, section) {
+        return Ok(None);
+    }
+    let stair = stairs.stair(n);
+    let blocks = section.blocks.len() as u32;
+    gather(found, positions, blocks, stair.uses.slice())?;
+    member_row(alloc, section, stair.run, stamp, found)
 }
 
 // The row of a run with these uses of the section's blocks, if it is a member.

@@ -1,11 +1,12 @@
-//! The stairways of a line's runs.
-ghost use Rattle.std.specs.Prelude.{◌≡◌, IfOk};
-ghost use Rattle.section_cut.specs.Timetable.{timetable};
+//! The stairways of a line's runs, and between which moments each of them starts to keep blocks.
+ghost use Rattle.std.specs.Prelude.{◌≡◌, ◌<◌, ◌≤ℤ◌, ◌||◌, pos, int_lt, int_le, true, length, IfOk};
+ghost use Rattle.section_cut.specs.Timetable.{timetable, StartsBetween, StartsOutside, stair_at};
 
 use blocking_time::stairs;
 use line_tables::LineTables;
-use rail_model::{List, OutOfMemory, Stair};
+use rail_model::{List, OutOfMemory, Section, Stair, Use};
 use std::alloc::Global;
+use std::marker::Model;
 
 /// The stairway of each run, in the order of the runs' names.
 pub fn stairways(alloc: Global, tables: &LineTables) -> Result<List<Stair>, OutOfMemory>
@@ -18,4 +19,99 @@ pub fn stairways(alloc: Global, tables: &LineTables) -> Result<List<Stair>, OutO
         all.push(stairs(alloc, &path)?)?;
     }
     Ok(all)
+}
+
+/// The stairways of a line's runs, for the cuts of many sections. Contracts see the list of the
+/// stairways.
+#[derive(Drop)]
+pub struct Timetable {
+    stairs: List<Stair>,
+    starts: Vec<Starts>,
+}
+
+// No use of a stairway starts before the first moment or after the last.
+#[derive(Clone, Copy)]
+pub(crate) struct Starts {
+    pub(crate) first: i64,
+    pub(crate) last: i64,
+}
+
+impl Model for Timetable {
+    ghost use Rattle.std.specs.Prelude.{List};
+    ghost use Rattle.rail_model.specs.declared.stair.Stair.{Stair};
+    ghost use Rattle.section_cut.specs.Timetable.{AreStartsOf};
+
+    ghost Value = { List Stair };
+
+    ghost view = { λ t. t.stairs };
+
+    ghost invariant = { λ t. AreStartsOf t.stairs t.starts.items };
+}
+
+impl Timetable {
+    /// These stairways.
+    pub fn of(alloc: Global, stairs: List<Stair>) -> Result<Timetable, OutOfMemory>
+        ensures { IfOk result (λ all. all ≡ stairs) }
+    {
+        let mut starts = Vec::with_capacity(alloc, stairs.len())?;
+        for stair in stairs.slice() {
+            starts.push(starts_of(stair.uses.slice()))?;
+        }
+        Ok(Timetable { stairs, starts })
+    }
+
+    /// How many stairways there are.
+    pub(crate) fn len(&self) -> usize
+        ensures { result ≡ length self.now }
+    {
+        self.stairs.len()
+    }
+
+    /// The stairway at a place.
+    pub(crate) fn stair(&self, n: usize) -> &Stair
+        requires { n < length self.now }
+        ensures { result.now ≡ stair_at self.now n }
+    {
+        &self.stairs.slice()[n]
+    }
+
+    /// Whether all uses of the stairway at a place start before a section's window, or all after it.
+    pub(crate) fn passes_by(&self, n: usize, section: &Section) -> bool
+        requires { n < length self.now }
+        ensures { result ≡ true → StartsOutside section.now (stair_at self.now n).uses }
+    {
+        is_outside(self.starts[n], section)
+    }
+}
+
+// Whether the last of these moments is before a section's window, or the first after it.
+fn is_outside(starts: Starts, section: &Section) -> bool
+    ensures { result ≡ (int_lt starts.last (pos section.now.from_s) || int_le (pos section.now.to_s) starts.first) }
+{
+    starts.last < i64::from(section.from_s) || i64::from(section.to_s) <= starts.first
+}
+
+// Between which moments uses start. Of no uses any moments would do.
+fn starts_of(uses: &[Use]) -> Starts
+    ensures { StartsBetween result uses.now }
+{
+    let mut starts = Starts {
+        first: i64::MAX,
+        last: i64::MIN,
+    };
+    for one in uses {
+        starts = with_use(starts, one);
+    }
+    starts
+}
+
+// The moments with the start of one use more between them.
+fn with_use(starts: Starts, one: &Use) -> Starts
+    ensures first { (result.first ≤ℤ starts.first) × (result.first ≤ℤ one.now.start) }
+    ensures last { (starts.last ≤ℤ result.last) × (one.now.start ≤ℤ result.last) }
+{
+    Starts {
+        first: starts.first.min(one.start),
+        last: starts.last.max(one.start),
+    }
 }

@@ -3,7 +3,7 @@ use super::{LINE, joined, tables_of};
 use plan_model::Cut;
 use rail_model::{Name, OutOfMemory};
 use row_text::Sheet;
-use section_cut::{cut_among, cut_of, stairways};
+use section_cut::{Timetable, cut_among, cut_of, stairways};
 use std::alloc::Global;
 use std::test::Fail;
 
@@ -93,7 +93,7 @@ fn a_section_among_others(rt: HostRuntime) -> Result<(), Fail> {
     let Some(section) = tables.section_number(&Name::read(b"S")?) else {
         return Err(OutOfMemory.into());
     };
-    let stairs = stairways(alloc, &tables)?;
+    let stairs = Timetable::of(alloc, stairways(alloc, &tables)?)?;
     let cut = cut_among(alloc, &tables, &stairs, section, 7)?;
     assert_eq!(rt; told(alloc, &cut)?.text(), CUTS[5].1.as_bytes());
     Ok(())

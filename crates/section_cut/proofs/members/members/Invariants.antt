@@ -6,8 +6,8 @@ use Rattle.section_cut.specs.Members.{row_on_blocks, member_at}
 use Rattle.section_cut.proofs.members.members.Given as goal
 
 -- the rows and the members so far
-abbrev pub invariant-loop-stair : goal.invariant-loop-stair
-invariant-loop-stair l = record {
-  rows : l.all.rows ≡ map (row_on_blocks l.tables l.section l.stamp) (filter (is_member l.tables l.section) (take l.stair-index l.tables.runs));
-  of_run : l.all.of_run.items ≡ map (member_at l.tables l.section) (range_with_len 0 l.stair-index);
+abbrev pub invariant-loop-n : goal.invariant-loop-n
+invariant-loop-n l = record {
+  rows : l.all.rows ≡ map (row_on_blocks l.tables l.section l.stamp) (filter (is_member l.tables l.section) (take l.n l.tables.runs));
+  of_run : l.all.of_run.items ≡ map (member_at l.tables l.section) (range_with_len 0 l.n);
 }

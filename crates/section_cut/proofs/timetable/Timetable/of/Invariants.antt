@@ -1,0 +1,7 @@
+use Rattle.std.proofs.Common.{take}
+use Rattle.section_cut.specs.Timetable.{AreStartsOf}
+use Rattle.section_cut.proofs.timetable.Timetable.of.Given as goal
+
+-- the moments of the stairways so far
+abbrev pub invariant-loop-stair : goal.invariant-loop-stair
+invariant-loop-stair l = AreStartsOf (take l.stair-index l.stair-items) l.starts.items
