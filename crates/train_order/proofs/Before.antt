@@ -10,12 +10,7 @@ use Rattle.plan_model.specs.declared.cut.Cut.{Cut}
 use Rattle.plan_model.specs.Members.{member, member_count, no_member}
 use Rattle.plan_model.specs.Precedence.{comes_before}
 use Rattle.plan_model.specs.Cut.{IsSoundCut}
-use Rattle.train_order.specs.declared.visits.Visit.{Visit}
-use Rattle.train_order.specs.Visits.{key_of, key_cmp}
-
--- a visit is before another
-abbrev pub is_earlier : Visit → Visit → Bool
-is_earlier v w = is_lt (key_cmp (key_of v) (key_of w))
+use Rattle.train_order.specs.Visits.{is_earlier}
 
 pub less : (i j : ℕ) → i < j → is_lt (nat_cmp i j) ≡ true
 less i j l = let t = lt-ltb i j l in rw t refl

@@ -8,8 +8,7 @@ use Rattle.std.proofs.Math.Seq.{drop-cons}
 use Rattle.train_order.specs.declared.member_set.MemberSet.{MemberSet}
 use Rattle.train_order.specs.declared.visits.Visit.{Visit}
 use Rattle.train_order.specs.Sets.{holds, no_set, relates}
-use Rattle.train_order.specs.Visits.{comes_first}
-use Rattle.train_order.proofs.Preceding.{no_visit}
+use Rattle.train_order.specs.Visits.{no_visit, comes_first}
 
 module _ (visits : List Visit) (left at : ℕ) (is : at + 1 ≡ left) (l : at < length visits) where
   abbrev v : Visit

@@ -6,6 +6,7 @@ pub mod Visitors
 pub mod Once
 pub mod Preceding
 pub mod Later
+pub mod Following
 pub mod Gathered
 pub mod Among
 pub mod Waiting
@@ -21,4 +22,5 @@ pub mod Walks
 pub mod Cycle
 pub mod Ringed
 pub mod Opposed
+pub mod KeptOrder
 pub mod Answered

@@ -2,7 +2,7 @@
 use Rattle.std.proofs.Common.{◌≡◌, ℕ, zero, suc, ◌<◌, ◌≤◌, Bool, true, false, ◌&&◌, ◌||◌, ◌==◌, List, [], ◌∷◌, length, get_or, inl, inr, refl, sym, ap, subst, ◌∙◌, arith}
 use Rattle.std.specs.List.{list_any, Contains}
 use Rattle.std.specs.List.Sorted.{IsPermutation, IsSortedByKey}
-use Rattle.std.specs.Prelude.{pos, int_lt}
+use Rattle.std.specs.Prelude.{int_lt}
 use Rattle.std.specs.Cmp.{IsTotalOrder}
 use Rattle.std.specs.Ordering.{is_lt}
 use Rattle.std.proofs.lemmas.Bool.{cases_Bool, cases_order, and_parts, and_from, or_cases, or_left, or_right, eqb-true, eq-eqb, both_ways}
@@ -18,13 +18,10 @@ use Rattle.plan_model.specs.Cut.{IsSoundCut}
 use Rattle.train_order.specs.declared.visits.Visit.{Visit}
 use Rattle.train_order.specs.declared.member_set.MemberSet.{MemberSet}
 use Rattle.train_order.specs.Sets.{relates}
-use Rattle.train_order.specs.Visits.{visit_of, visits, key_of, key_cmp, comes_first}
-use Rattle.train_order.proofs.Before.{is_earlier, earlier_is, less}
+use Rattle.train_order.specs.Visits.{no_visit, visit_of, visits, key_of, key_cmp, is_earlier, comes_first}
+use Rattle.train_order.proofs.Before.{earlier_is, less}
 use Rattle.train_order.proofs.Visitors.{IsVisit, in_visits, from_visits}
 use Rattle.train_order.proofs.Once.{not_twice}
-
-abbrev pub no_visit : Visit
-no_visit = record { start = pos 0; member = 0 }
 
 -- ---- two visits by their places in a list
 
@@ -84,7 +81,7 @@ from_stands (v ∷ visits) i j (suc k) (suc l) lt ll p q =
 
 -- ---- the order
 
-key_cmp_total : IsTotalOrder key_cmp
+pub key_cmp_total : IsTotalOrder key_cmp
 key_cmp_total = then_total (on_total (λ x. x.0) int_cmp_total) (on_total (λ x. x.1) nat_cmp_total)
 
 same_test : (a b : Bool) → (a ≡ true → b ≡ true) → (b ≡ true → a ≡ true) → a ≡ b

@@ -1,12 +1,16 @@
 -- The visits of a place: the members that use it, each with its start there.
-use Rattle.std.specs.Prelude.{◌≡◌, ◌≢◌, ℕ, ◌<◌, ℤ, Bool, false, not, nat_lt, ◌==◌, ◌&&◌, ◌||◌, List, [], ◌∷◌, ◌++◌, length, map, filter, AllPairs, slice_index_or}
+use Rattle.std.specs.Prelude.{◌≡◌, ◌≢◌, ℕ, pos, ◌<◌, ℤ, Bool, false, not, nat_lt, ◌==◌, ◌&&◌, ◌||◌, List, [], ◌∷◌, ◌++◌, length, map, filter, AllPairs, slice_index_or}
 use Rattle.std.specs.List.{list_any, flat_map, range_with_len}
-use Rattle.std.specs.Ordering.{nat_cmp, int_cmp, ordering_then}
+use Rattle.std.specs.Ordering.{nat_cmp, int_cmp, is_lt, ordering_then}
 use Rattle.std.specs.declared.cmp.Ordering.{Ordering}
 use Rattle.rail_model.specs.declared.stair.Use.{Use}
 use Rattle.plan_model.specs.declared.cut.Cut.{Cut}
 use Rattle.plan_model.specs.Members.{member, member_count}
 use Rattle.train_order.specs.declared.visits.Visit.{Visit}
+
+-- stands where there is no visit
+abbrev pub no_visit : Visit
+no_visit = record { start = pos 0; member = 0 }
 
 -- a member's visit by a use
 abbrev pub visit_of : ℕ → Use → Visit
@@ -44,6 +48,10 @@ key_of v = (v.start, v.member)
 
 abbrev pub key_cmp : ℤ × ℕ → ℤ × ℕ → Ordering
 key_cmp x y = ordering_then (int_cmp x.0 y.0) (nat_cmp x.1 y.1)
+
+-- a visit is before another of the same place
+abbrev pub is_earlier : Visit → Visit → Bool
+is_earlier v w = is_lt (key_cmp (key_of v) (key_of w))
 
 -- among some visits one of member i stands before one of member j
 abbrev pub comes_first : List Visit → ℕ → ℕ → Bool

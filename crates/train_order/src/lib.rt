@@ -4,6 +4,7 @@
 
 mod disorder;
 mod found;
+mod kept;
 mod link_place;
 mod member_list;
 mod member_set;

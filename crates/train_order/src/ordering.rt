@@ -6,6 +6,7 @@ ghost use Rattle.train_order.specs.Ordering.{IsOrdering};
 
 use crate::disorder::disordered;
 use crate::found::{Disorder, Order};
+use crate::kept::kept_order;
 use crate::precedence::preceded;
 use crate::taking::taken_up;
 use crate::told::tell;
@@ -24,6 +25,10 @@ pub fn order(alloc: Global, cut: &Cut) -> Result<Result<Order, Disorder>, OutOfM
     requires few { member_count cut.now ≤ MEMBERS }
     ensures { IfOk result (λ answer. IsOrdering cut.now answer) }
 {
+    // Where trains keep one order at each place, it takes no sets to find it.
+    if let Some(order) = kept_order(alloc, cut)? {
+        return Ok(Ok(order));
+    }
     let sets = preceded(alloc, cut)?;
     let taken = taken_up(&sets);
     if taken.len() == sets.len() {

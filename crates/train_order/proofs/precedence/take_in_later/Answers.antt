@@ -1,6 +1,6 @@
 use Rattle.std.proofs.Common.{◌≡◌, ◌+◌, ◌-◌, ◌<◌, length, get_or, ◌∙◌, arith, length-set}
+use Rattle.train_order.specs.Visits.{no_visit}
 use Rattle.train_order.proofs.Later.{later_more, sets_more}
-use Rattle.train_order.proofs.Preceding.{no_visit}
 use Rattle.train_order.proofs.precedence.take_in_later.Goals as goal
 
 pub loop-left-preserved : goal.loop-left-preserved
