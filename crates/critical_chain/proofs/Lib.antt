@@ -6,7 +6,6 @@ pub mod Behind
 pub mod Checked
 pub mod Unique
 pub mod Opposite
-pub mod Ranked
 pub mod Visited
 pub mod Gathered
 pub mod InTurn

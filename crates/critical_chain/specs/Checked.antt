@@ -1,10 +1,9 @@
 -- What is looked at in a timetable to tell whether it is the compressed one of a cut.
-use Rattle.std.specs.Prelude.{◌≡◌, ◌↔◌, ℕ, ◌<◌, ℤ, List, [], map, None, IsTrue}
+use Rattle.std.specs.Prelude.{◌≡◌, ◌↔◌, ℕ, ◌<◌, ℤ, List, [], map, None}
 use Rattle.plan_model.specs.declared.cut.Cut.{Cut}
 use Rattle.plan_model.specs.declared.answer.Tie.TheVariants.{Start}
 use Rattle.plan_model.specs.declared.answer.Plan.{Plan}
 use Rattle.plan_model.specs.Members.{member_count}
-use Rattle.plan_model.specs.Precedence.{precedes_somewhere}
 use Rattle.plan_model.specs.Cut.{IsSoundCut}
 use Rattle.plan_model.specs.Disorder.{remaining, opposite}
 use Rattle.plan_model.specs.Schedule.{window_start, entry_at, IsSchedule}
@@ -31,13 +30,3 @@ CheckedIsCompressed =
 -- where no member remains, no two members are opposite
 abbrev pub OrderedIsNotOpposite : Type 0
 OrderedIsNotOpposite = (cut : Cut) → remaining cut ≡ [] → opposite cut ≡ None
-
--- ranks of the members: of two members, the one that precedes the other somewhere has the lesser
-pub record AreRanks (cut : Cut) (rank : ℕ → ℕ) : Type 0 where
-  pub within : (j : ℕ) → j < member_count cut → rank j < member_count cut
-  pub rises : (i j : ℕ) → i < member_count cut → j < member_count cut → IsTrue (precedes_somewhere cut i j)
-      → rank i < rank j
-
--- where the members have ranks, none remains
-abbrev pub RankedIsOrdered : Type 0
-RankedIsOrdered = (cut : Cut) (rank : ℕ → ℕ) → AreRanks cut rank → remaining cut ≡ []

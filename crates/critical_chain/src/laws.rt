@@ -1,6 +1,6 @@
 //! Laws of the definitions: each function does nothing, and its contract is the law.
 ghost use Rattle.critical_chain.specs.Chain.{ChainIsUnique, ChainIsOf};
-ghost use Rattle.critical_chain.specs.Checked.{CheckedIsCompressed, OrderedIsNotOpposite, RankedIsOrdered};
+ghost use Rattle.critical_chain.specs.Checked.{CheckedIsCompressed, OrderedIsNotOpposite};
 
 /// A train of a plan has at most one chain.
 pub fn chain_is_unique()
@@ -23,10 +23,4 @@ pub fn checked_is_compressed()
 /// disorder.
 pub fn ordered_is_not_opposite()
     ensures { OrderedIsNotOpposite }
-{}
-
-/// Where members have ranks by which each comes after those that precede it somewhere, none
-/// remains. So ranks show that there is an order, and none is looked for.
-pub fn ranked_is_ordered()
-    ensures { RankedIsOrdered }
 {}

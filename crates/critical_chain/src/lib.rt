@@ -18,7 +18,5 @@ mod trains;
 mod visits;
 
 pub use answered::is_answer;
-pub use laws::{
-    chain_is_of, chain_is_unique, checked_is_compressed, ordered_is_not_opposite, ranked_is_ordered,
-};
+pub use laws::{chain_is_of, chain_is_unique, checked_is_compressed, ordered_is_not_opposite};
 pub use links::chain;
