@@ -219,3 +219,38 @@ fn fields_and_spell(rt: HostRuntime) -> Result<(), Fail> {
     assert_eq!(rt; again.row().len(), 2);
     Ok(())
 }
+
+// The rows of a text: a bar after each field, and a slash after each row.
+fn listed(alloc: Global, text: &[u8]) -> Result<Vec<u8>, Fail> {
+    let rows = rows(alloc, text)?;
+    let mut list = Vec::new(alloc);
+    for i in 0..rows.len() {
+        let row = rows.get(i);
+        for k in 0..row.len() {
+            list.extend_from_slice(row.get(k))?;
+            list.push(b'|')?;
+        }
+        list.push(b'/')?;
+    }
+    Ok(list)
+}
+
+// A double quote changes how a text is read, and not what its other rows are.
+#[test]
+fn rows_with_and_without_quotes(rt: HostRuntime) -> Result<(), Fail> {
+    let alloc = rt.alloc();
+    let texts: [(&[u8], &[u8], &[u8]); 7] = [
+        (b"ask,S", b"ask,\"S\"", b"ask|S|/"),
+        (b"ask,S\n", b"\"ask\",S\n", b"ask|S|/"),
+        (b"a,b\r\nc,d\r\n", b"a,\"b\"\r\nc,d\r\n", b"a|b|/c|d|/"),
+        (b"\n\r\ra\r\n\n\rb\r", b"\n\r\r\"a\"\r\n\n\rb\r", b"a|/b|/"),
+        (b",\na,,\n,b", b",\na,,\n,\"b\"", b"||/a|||/|b|/"),
+        (b"a b\0,\xff'\n", b"a b\0,\"\xff'\"\n", b"a b\0|\xff'|/"),
+        (b"\xef\xbb\xbfa,b\n", b"\xef\xbb\xbf\"a\",b\n", b"a|b|/"),
+    ];
+    for (plain, quoted, list) in texts {
+        assert_eq!(rt; &listed(alloc, plain)?[..], list, "{plain:?}");
+        assert_eq!(rt; &listed(alloc, quoted)?[..], list, "{quoted:?}");
+    }
+    Ok(())
+}
