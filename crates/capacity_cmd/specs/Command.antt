@@ -17,6 +17,6 @@ command_of (word ∷ section ∷ []) =
     else None
 command_of words = None
 
--- a call with these words waits for nobody; today no command waits
+-- a call with these words waits for nobody: no command waits
 abbrev pub IsAlone : List (List ℕ) → Type 0
 IsAlone words = ⊤

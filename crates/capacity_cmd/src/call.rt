@@ -17,7 +17,7 @@ use rail_outside::{Gate, Sink, Source, Taken, take_all};
 use std::sync::Wait;
 use std::thread::Threads;
 
-/// Whether a call with these words waits for nobody. Today all do.
+/// Whether a call with these words waits for nobody: no command waits.
 pub fn alone(words: &[String]) -> bool
     ensures { IsTrue result ↔ IsAlone (map string_bytes words.now) }
 {

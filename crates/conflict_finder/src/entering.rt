@@ -7,15 +7,15 @@ use crate::ranked::Ranked;
 use rail_model::{OutOfMemory, Stair, Use};
 use std::alloc::Global;
 
-// A run's number, and the start of its first blocking.
+// A run's number, and the start of its blocking on the first block of its path.
 #[derive(Clone, Copy)]
 pub(crate) struct Entering {
     pub(crate) start: i64,
     pub(crate) run: u32,
 }
 
-// The runs by the starts of their first blockings. What they block is laid in this order, which is
-// nearly that of its starts where trains overtake few others.
+// The runs by the starts of their blockings on the first block of each path. What they block is laid
+// in this order, which is nearly that of its starts where trains overtake few others.
 pub(crate) fn by_start(
     alloc: Global,
     stairs: &[Stair],
@@ -38,7 +38,7 @@ pub(crate) fn by_start(
     Ok(entering)
 }
 
-// When the first of a run's blockings starts.
+// When a run's blocking on the first block of its path starts.
 fn first_start(uses: &[Use]) -> i64 {
     if uses.is_empty() {
         return 0;

@@ -1,4 +1,4 @@
--- Members that keep one order at each place.
+-- Members that keep an order, as that of their entries, at each place.
 use Rattle.std.specs.Prelude.{◌≡◌, ℕ, ◌<◌, true, false, List, length, All, slice_index, slice_index_or}
 use Rattle.rail_model.specs.declared.stair.Use.{Use}
 use Rattle.plan_model.specs.declared.cut.Cut.{Cut}

@@ -25,7 +25,7 @@ pub fn order(alloc: Global, cut: &Cut) -> Result<Result<Order, Disorder>, OutOfM
     requires few { member_count cut.now ≤ MEMBERS }
     ensures { IfOk result (λ answer. IsOrdering cut.now answer) }
 {
-    // Where trains keep one order at each place, it takes no sets to find it.
+    // Where trains keep the order of their entries at each place, it takes no sets to find it.
     if let Some(order) = kept_order(alloc, cut)? {
         return Ok(Ok(order));
     }
