@@ -1,7 +1,7 @@
 #!/usr/bin/env python3
 """Writes a large line as rows: bench/make_line.py RUNS BLOCKS DWELLS
 
-RUNS trains run over one route of BLOCKS blocks; each stops DWELLS times on its way. Names are in no
+RUNS trains run over one route of BLOCKS blocks; each stops at least DWELLS times on its way. Names are in no
 order of their own, times and lengths vary from train to train, and the rows are the same at each call.
 Two sections lie on the line, one of eight blocks and one of all.
 """

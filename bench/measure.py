@@ -3,7 +3,7 @@
 
 Prints for each line the size of its input, the wall time (best of five), the peak memory and, where
 valgrind is there, the instructions of the whole program for each hop, reading and writing included.
-A line has RUNS trains over one route of BLOCKS blocks, each with four stops on its way.
+A line has RUNS trains over one route of BLOCKS blocks, each with some five stops on its way.
 """
 import pathlib
 import re
