@@ -24,7 +24,7 @@ use Rattle.critical_chain.specs.Chain.{no_train, train_at}
 use Rattle.critical_chain.specs.Checked.{entries_of, IsChecked}
 use Rattle.critical_chain.specs.Parts.{HasFrame, HasTrains, HasTie, tie_in, KeepsAll}
 use Rattle.critical_chain.proofs.Checked.{tied_by}
-use Rattle.critical_chain.proofs.Late.{bounded}
+use Rattle.critical_chain.proofs.EntryBounds.{bounded}
 use Rattle.critical_chain.proofs.Tied.{touching, tie_by, has_tie, first_touch}
 use Rattle.critical_chain.proofs.Users.{users_there}
 

@@ -12,6 +12,6 @@ pub mod InTurn
 pub mod LastMember
 pub mod Users
 pub mod Tied
-pub mod Late
+pub mod EntryBounds
 pub mod Fitting
 pub mod RingLinks

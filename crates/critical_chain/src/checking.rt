@@ -10,7 +10,7 @@ ghost use Rattle.critical_chain.specs.Chain.{train_at};
 ghost use Rattle.critical_chain.specs.Checked.{IsChecked, entries_of};
 ghost use Rattle.critical_chain.specs.Parts as parts;
 
-use crate::kept::keeps_place;
+use crate::keeping::keeps_place;
 use crate::last::critical;
 use crate::touched::has_tie;
 use crate::trains::{has_frame, has_trains};

@@ -8,7 +8,7 @@
 
 mod answered;
 mod checking;
-mod kept;
+mod keeping;
 mod last;
 mod laws;
 mod links;

@@ -28,11 +28,11 @@ pub fn chain(alloc: Global, plan: &Plan, train: u32) -> Result<List<Link>, OutOf
         links.push(link(plan, before, block, next))?;
         next = before;
     }
-    Ok(turned(links))
+    Ok(turn_round(links))
 }
 
 // The links the other way round.
-fn turned(mut links: Vec<Link>) -> List<Link>
+fn turn_round(mut links: Vec<Link>) -> List<Link>
     requires { length links.items < 2 ^ 63 }
     ensures { result ≡ reverse links.items }
 {

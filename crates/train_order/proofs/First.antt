@@ -4,6 +4,7 @@ use Rattle.std.specs.Int.{bit_at, trailing_zeros}
 use Rattle.std.proofs.lemmas.Bool.{cases_lt, eq-eqb, ne_eqb}
 use Rattle.std.proofs.lemmas.Nat.{shr-shr, shr_le}
 use Rattle.std.proofs.lemmas.Nat.Bits.{bit_at-trailing_zeros, bit_at-zero, bit_at_above}
+use Rattle.plan_model.specs.declared.limits.TheConstants.{MEMBERS}
 use Rattle.train_order.specs.Sets.{IsFirstBit, IsFirstMember, holds}
 
 -- ---- bits
@@ -73,6 +74,6 @@ first_later words from later found l none first = record {
   there = first.there;
 }
 
-pub first_past : (words : List ℕ) (from found : ℕ) → 768 ≤ found → from ≤ found
+pub first_past : (words : List ℕ) (from found : ℕ) → MEMBERS ≤ found → from ≤ found
     → ((k : ℕ) → from ≤ k → k < found → holds words k ≡ false) → IsFirstMember words from found
 first_past words from found l lf none = record { from_on = lf; none = none; there = λ b. absurd (omega arith) }

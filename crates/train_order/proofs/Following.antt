@@ -18,7 +18,7 @@ use Rattle.plan_model.specs.Precedence.{precedes}
 use Rattle.plan_model.specs.Cut.{IsSoundCut}
 use Rattle.train_order.specs.declared.visits.Visit.{Visit}
 use Rattle.train_order.specs.Visits.{no_visit, visit_of, key_of, is_earlier}
-use Rattle.train_order.specs.Kept.{last_at, Follow}
+use Rattle.train_order.specs.EntryOrder.{last_at, Follow}
 use Rattle.train_order.proofs.Before.{earlier_is, less}
 use Rattle.train_order.proofs.Preceding.{key_cmp_total}
 

@@ -22,5 +22,5 @@ pub mod Walks
 pub mod Cycle
 pub mod Ringed
 pub mod Opposed
-pub mod KeptOrder
+pub mod InOrder
 pub mod Answered

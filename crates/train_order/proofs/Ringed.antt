@@ -81,8 +81,8 @@ module _ (sets : List MemberSet) (taken : List ℕ) (up : AreTakenUp sets taken)
   }
 
   module _ (walked : List ℕ) (from : ℕ) (round : IsRound sets left walked from) where
-    pub walked_short : length walked ≤ length sets
-    walked_short = walk_short sets left within walked _ round.is_walk
+    pub walk_is_short : length walked ≤ length sets
+    walk_is_short = walk_short sets left within walked _ round.is_walk
 
     pub ring_of : (cut : Cut) → ArePreceded cut sets → IsRingOf cut (from_least (reverse (drop from walked)))
     ring_of cut told =

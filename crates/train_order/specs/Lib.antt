@@ -5,4 +5,4 @@ pub mod Taking
 pub mod Opposite
 pub mod Starts
 pub mod Walk
-pub mod Kept
+pub mod EntryOrder

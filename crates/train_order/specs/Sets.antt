@@ -1,6 +1,7 @@
 -- Sets of members, as bits of words, and tables that have a set for each member.
 use Rattle.std.specs.Prelude.{◌≡◌, ℕ, ◌<◌, ◌≤◌, ◌/◌, ◌%◌, ◌==◌, Bool, true, false, List, [], length, slice_index, slice_index_or}
 use Rattle.std.specs.Int.{bit_at}
+use Rattle.plan_model.specs.declared.limits.TheConstants.{MEMBERS}
 use Rattle.plan_model.specs.declared.cut.Cut.{Cut}
 use Rattle.plan_model.specs.Members.{member_count}
 use Rattle.plan_model.specs.Precedence.{precedes_somewhere}
@@ -21,7 +22,7 @@ pub record IsFirstBit (word from found : ℕ) : Type 0 where
 pub record IsFirstMember (words : List ℕ) (from found : ℕ) : Type 0 where
   pub from_on : from ≤ found
   pub none : (k : ℕ) → from ≤ k → k < found → holds words k ≡ false
-  pub there : found < 768 → holds words found ≡ true
+  pub there : found < MEMBERS → holds words found ≡ true
 
 -- stands where there is no set
 abbrev pub no_set : MemberSet

@@ -12,7 +12,7 @@ use crate::member_set::MemberSet;
 use crate::opposite::opposite_members;
 use crate::precedence::put_preceded;
 use crate::ring::ring_members;
-use crate::taking::taken_up;
+use crate::taking::take_up_all;
 use plan_model::{Cut, MEMBERS};
 
 /// Why a cut's trains have no order, if they have none. It takes no memory.
@@ -40,15 +40,15 @@ fn disorder_by(cut: &Cut, sets: &mut [MemberSet]) -> Option<Disordered>
     ensures in_turn { IfSome result (PrecedeInTurn cut.now) }
 {
     put_preceded(cut, sets);
-    let taken = taken_up(sets);
+    let taken = take_up_all(sets);
     if taken.len() == sets.len() {
         return None;
     }
-    Some(disordered(sets, taken.slice()))
+    Some(find_disorder(sets, taken.slice()))
 }
 
 /// Which members have no order, where not all are taken up.
-pub(crate) fn disordered(sets: &[MemberSet], taken: &[u32]) -> Disordered
+pub(crate) fn find_disorder(sets: &[MemberSet], taken: &[u32]) -> Disordered
     requires few { length sets.now ≤ MEMBERS }
     requires taken { AreTakenUp sets.now taken.now }
     requires some { length taken.now < length sets.now }

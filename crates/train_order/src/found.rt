@@ -1,7 +1,7 @@
 //! What is found: an order, or disorder.
 ghost use Rattle.std.specs.Prelude.{◌≡◌};
 
-use crate::member_list::MemberList;
+use crate::members::Members;
 use plan_model::Link;
 use rail_model::{List, Name};
 use std::marker::Model;
@@ -43,7 +43,7 @@ pub enum Disordered {
 /// see the list of them.
 #[derive(Drop)]
 pub struct RingMembers {
-    members: MemberList,
+    members: Members,
 }
 
 impl Model for RingMembers {
@@ -59,7 +59,7 @@ impl Model for RingMembers {
 
 impl RingMembers {
     /// The members of a list.
-    pub(crate) fn new(members: MemberList) -> Self
+    pub(crate) fn new(members: Members) -> Self
         ensures { result ≡ members }
     {
         RingMembers { members }

@@ -3,11 +3,11 @@
 #![tactic(auto)]
 
 mod disorder;
+mod entry_order;
 mod found;
-mod kept;
 mod link_place;
-mod member_list;
 mod member_set;
+mod members;
 mod opposite;
 mod ordering;
 mod precedence;

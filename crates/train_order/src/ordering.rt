@@ -4,11 +4,11 @@ ghost use Rattle.plan_model.specs.Members.{member_count};
 ghost use Rattle.plan_model.specs.Cut.{IsSoundCut};
 ghost use Rattle.train_order.specs.Ordering.{IsOrdering};
 
-use crate::disorder::disordered;
+use crate::disorder::find_disorder;
+use crate::entry_order::order_by_entry;
 use crate::found::{Disorder, Order};
-use crate::kept::kept_order;
-use crate::precedence::preceded;
-use crate::taking::taken_up;
+use crate::precedence::precedence_sets;
+use crate::taking::take_up_all;
 use crate::told::tell;
 use plan_model::{Cut, MEMBERS};
 use rail_model::{List, OutOfMemory};
@@ -26,15 +26,15 @@ pub fn order(alloc: Global, cut: &Cut) -> Result<Result<Order, Disorder>, OutOfM
     ensures { IfOk result (λ answer. IsOrdering cut.now answer) }
 {
     // Where trains keep the order of their entries at each place, it takes no sets to find it.
-    if let Some(order) = kept_order(alloc, cut)? {
+    if let Some(order) = order_by_entry(alloc, cut)? {
         return Ok(Ok(order));
     }
-    let sets = preceded(alloc, cut)?;
-    let taken = taken_up(&sets);
+    let sets = precedence_sets(alloc, cut)?;
+    let taken = take_up_all(&sets);
     if taken.len() == sets.len() {
         let positions = List::from_vec(Vec::from_slice(alloc, taken.slice())?);
         return Ok(Ok(Order { positions }));
     }
-    let told = tell(alloc, cut, &disordered(&sets, taken.slice()))?;
+    let told = tell(alloc, cut, &find_disorder(&sets, taken.slice()))?;
     Ok(Err(told))
 }

@@ -15,7 +15,7 @@ use rail_model::{List, OutOfMemory};
 use std::alloc::Global;
 
 /// For each member the set of those that it precedes somewhere.
-pub(crate) fn preceded(alloc: Global, cut: &Cut) -> Result<Vec<MemberSet>, OutOfMemory>
+pub(crate) fn precedence_sets(alloc: Global, cut: &Cut) -> Result<Vec<MemberSet>, OutOfMemory>
     requires sound { IsSoundCut cut.now }
     requires few { member_count cut.now ≤ MEMBERS }
     ensures { IfOk result (λ sets. ArePreceded cut.now sets.items) }

@@ -7,31 +7,31 @@ ghost use Rattle.train_order.specs.Sets.{ArePreceded, holds};
 ghost use Rattle.train_order.specs.Taking.{is_among, AreTakenUp};
 ghost use Rattle.train_order.specs.Walk.{step as step_of, ArePrecededWithin, IsRound, IsRingOf};
 
-use crate::member_list::MemberList;
 use crate::member_set::MemberSet;
+use crate::members::Members;
 use plan_model::MEMBERS;
 
 /// The members of the ring in the direction of precedence and from the least on, where not all
 /// members are taken up.
-pub(crate) fn ring_members(sets: &[MemberSet], taken: &[u32]) -> MemberList
+pub(crate) fn ring_members(sets: &[MemberSet], taken: &[u32]) -> Members
     requires few { length sets.now ≤ MEMBERS }
     requires taken { AreTakenUp sets.now taken.now }
     requires some { length taken.now < length sets.now }
     ensures { (cut : Cut) → ArePreceded cut sets.now → IsRingOf cut result }
 {
     let left = left_members(sets.len(), taken);
-    let (walk, from) = walked(sets, left.slice());
-    turned(walk.slice(), from)
+    let (walk, from) = walk_back(sets, left.slice());
+    turn_round(walk.slice(), from)
 }
 
 // The members that are not taken up.
-fn left_members(count: usize, taken: &[u32]) -> MemberList
+fn left_members(count: usize, taken: &[u32]) -> Members
     requires few { count ≤ MEMBERS }
     requires there { All (λ k. k < count) taken.now }
     ensures { result ≡ filter (λ i. not (is_among taken.now i)) (range_with_len 0 count) }
 {
     let gone = set_of(taken);
-    let mut left = MemberList::new();
+    let mut left = Members::new();
     for j in 0..count {
         if !gone.has(j) {
             left.push(j as u32);
@@ -52,13 +52,13 @@ fn set_of(members: &[u32]) -> MemberSet
 }
 
 // The walk over the members that are left, and where the one came first that comes a second time.
-fn walked(sets: &[MemberSet], left: &[u32]) -> (MemberList, usize)
+fn walk_back(sets: &[MemberSet], left: &[u32]) -> (Members, usize)
     requires few { length sets.now ≤ MEMBERS }
     requires some { 0 < length left.now }
     requires preceded { ArePrecededWithin sets.now left.now }
     ensures { IsRound sets.now left.now result.0 result.1 }
 {
-    let mut walk = MemberList::new();
+    let mut walk = Members::new();
     let mut next = left[0] as usize;
     while place_in(walk.slice(), next) == walk.len() {
         walk.push(next as u32);
@@ -96,12 +96,12 @@ fn step(sets: &[MemberSet], left: &[u32], j: usize) -> usize
 }
 
 // The members of a walk from a place on, in the direction of precedence and from the least on.
-fn turned(walk: &[u32], from: usize) -> MemberList
+fn turn_round(walk: &[u32], from: usize) -> Members
     requires few { length walk.now ≤ MEMBERS }
     requires there { from < length walk.now }
     ensures { result ≡ disorder.from_least (reverse (drop from walk.now)) }
 {
-    let mut members = MemberList::of(&walk[from..]);
+    let mut members = Members::of(&walk[from..]);
     members.reverse();
     let least = least_place(members.slice());
     members.rotate_left(least);

@@ -4,21 +4,21 @@ ghost use Rattle.std.specs.List.{range_with_len};
 ghost use Rattle.train_order.specs.Sets.{holds, relates};
 ghost use Rattle.train_order.specs.Taking.{AreTakenUp, IsDistinct, is_among, is_freed};
 
-use crate::member_list::MemberList;
 use crate::member_set::MemberSet;
+use crate::members::Members;
 use plan_model::MEMBERS;
 
 /// The members that can be taken up, in such an order.
-pub(crate) fn taken_up(sets: &[MemberSet]) -> MemberList
+pub(crate) fn take_up_all(sets: &[MemberSet]) -> Members
     requires { length sets.now ≤ MEMBERS }
     ensures { AreTakenUp sets.now result }
 {
     let mut room = [0; MEMBERS];
-    taken_by_counts(sets, &mut room[..sets.len()])
+    take_up_by_counts(sets, &mut room[..sets.len()])
 }
 
 // The same, with a place for the count of each member.
-fn taken_by_counts(sets: &[MemberSet], waits: &mut [u32]) -> MemberList
+fn take_up_by_counts(sets: &[MemberSet], waits: &mut [u32]) -> Members
     requires few { length sets.now ≤ MEMBERS }
     requires places { length waits.old ≡ length sets.now }
     requires zero { (j : ℕ) → slice_index waits.old j ≡ 0 }
@@ -29,7 +29,7 @@ fn taken_by_counts(sets: &[MemberSet], waits: &mut [u32]) -> MemberList
     let mut at = 0;
     while at < taken.len() {
         let member = taken.slice()[at] as usize;
-        take_up(&mut taken, waits, &sets[member]);
+        take_up_one(&mut taken, waits, &sets[member]);
         at += 1;
     }
     taken
@@ -65,12 +65,12 @@ fn count_in(waits: &mut [u32], set: &MemberSet)
 }
 
 // The members that wait for none.
-fn free_at_first(waits: &[u32]) -> MemberList
+fn free_at_first(waits: &[u32]) -> Members
     requires { length waits.now ≤ MEMBERS }
     ensures { result
         ≡ filter (λ j. slice_index waits.now j == 0) (range_with_len 0 (length waits.now)) }
 {
-    let mut free = MemberList::new();
+    let mut free = Members::new();
     for (j, count) in waits.iter().enumerate() {
         if *count == 0 {
             free.push(j as u32);
@@ -81,7 +81,7 @@ fn free_at_first(waits: &[u32]) -> MemberList
 
 // Takes up the member with this set: lowers the counts of those in it, and adds those that wait for
 // no other.
-fn take_up(taken: &mut MemberList, waits: &mut [u32], set: &MemberSet)
+fn take_up_one(taken: &mut Members, waits: &mut [u32], set: &MemberSet)
     requires few { length waits.old ≤ MEMBERS }
     requires counted { (j : ℕ) → j < length waits.old → holds set.now.words j ≡ true
         → 0 < slice_index waits.old j }

@@ -57,10 +57,10 @@ returns c =
         c.loop-next.next,
         walked.there,
         start,
-        subst (λ (ls : List Link). Leads plan c.loop-next.next ls c.args.train) (sym c.turned.ensures) walked.leads,
+        subst (λ (ls : List Link). Leads plan c.loop-next.next ls c.args.train) (sym c.turn_round.ensures) walked.leads,
       );
       same =
-          c.turned.ensures
+          c.turn_round.ensures
           ∙ sym (walked.behind
           ∙ ap (λ (ls : List Link). ls ++ reverse c.loop-next.links.items) (none_behind plan _ c.loop-next.next start));
     }

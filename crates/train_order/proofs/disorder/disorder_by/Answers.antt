@@ -8,18 +8,18 @@ pub returns-then-len-sets-clause-disorder : goal.returns-then-len-sets-clause-di
 returns-then-len-sets-clause-disorder c =
     let cut = c.args.cut.now in
     let sets = c.put_preceded.new.sets in
-    let taken = c.taken_up-taken.result in
-    let up = c.taken_up-taken.ensures in
+    let taken = c.take_up_all-taken.result in
+    let up = c.take_up_all-taken.ensures in
     let whole : length taken ≡ length sets = omega (arith, c.len.ensures, c.if-len-sets.true) in (
       none_opposite cut (not_both cut sets c.put_preceded.ensures taken up whole),
       none_remain cut sets c.put_preceded.ensures taken up whole,
     )
 
-pub disordered-requires-clause-some : goal.disordered-requires-clause-some
-disordered-requires-clause-some c =
+pub find_disorder-requires-clause-some : goal.find_disorder-requires-clause-some
+find_disorder-requires-clause-some c =
     let sets = c.put_preceded.new.sets in
-    let taken = c.taken_up-taken.result in
-    let up = c.taken_up-taken.ensures in
+    let taken = c.take_up_all-taken.result in
+    let up = c.take_up_all-taken.ensures in
     omega (
       arith,
       whole_length (length sets) taken up.sound.within up.sound.once,

@@ -14,9 +14,9 @@ pub returns-then-len : goal.returns-then-len
 returns-then-len c =
     let cut = c.args.cut.now in
     let sets = c.in_ok-sets.sets.items in
-    let taken = c.taken_up-taken.result in
+    let taken = c.take_up_all-taken.result in
     let told : ArePreceded cut sets = c.in_ok-sets.ensures in
-    let up : AreTakenUp sets taken = subst (λ ss. AreTakenUp ss taken) c.deref.ensures.value c.taken_up-taken.ensures in
+    let up : AreTakenUp sets taken = subst (λ ss. AreTakenUp ss taken) c.deref.ensures.value c.take_up_all-taken.ensures in
     let whole : length taken ≡ length sets = omega (arith, c.len.ensures, c.len-2.ensures, c.if-len.true) in (
       ap (option_map (opposite_of cut)) (none_opposite cut (not_both cut sets told taken up whole)),
       none_remain cut sets told taken up whole,
@@ -24,11 +24,11 @@ returns-then-len c =
           (is_order cut sets told taken up whole),
     )
 
-pub disordered-requires-clause-some : goal.disordered-requires-clause-some
-disordered-requires-clause-some c =
+pub find_disorder-requires-clause-some : goal.find_disorder-requires-clause-some
+find_disorder-requires-clause-some c =
     let sets = c.in_ok-sets.sets.items in
-    let taken = c.taken_up-taken.result in
-    let up : AreTakenUp sets taken = subst (λ ss. AreTakenUp ss taken) c.deref.ensures.value c.taken_up-taken.ensures in
+    let taken = c.take_up_all-taken.result in
+    let up : AreTakenUp sets taken = subst (λ ss. AreTakenUp ss taken) c.deref.ensures.value c.take_up_all-taken.ensures in
     omega (
       arith,
       whole_length (length sets) taken up.sound.within up.sound.once,
@@ -44,4 +44,4 @@ returns c =
     let cut = c.args.cut.now in
     let told : ArePreceded cut c.deref-2.result.now =
     subst (λ ss. ArePreceded cut ss) (sym c.deref-2.ensures.value) c.in_ok-sets.ensures in
-    told_is cut c.disordered.result c.in_ok-told.told (c.disordered.ensures.is cut told) c.in_ok-told.ensures
+    told_is cut c.find_disorder.result c.in_ok-told.told (c.find_disorder.ensures.is cut told) c.in_ok-told.ensures

@@ -1,5 +1,6 @@
 use Rattle.std.proofs.Common.{◌≤◌, ◌+◌, ◌*◌, inl, inr, arith}
 use Rattle.std.proofs.lemmas.Bool.{cases_lt}
+use Rattle.plan_model.specs.declared.limits.TheConstants.{MEMBERS}
 use Rattle.train_order.proofs.First.{none_in_word, first_in_word, first_later, first_past}
 use Rattle.train_order.proofs.member_set.MemberSet.first_after.Goals as goal
 
@@ -23,5 +24,5 @@ returns-then-bit-lt-WORD c =
 pub returns : goal.returns
 returns c =
     let done : 12 ≤ c.loop-later.later = omega (arith, c.loop-later-test.false) in
-    first_past c.args.self.now.words (64 * c.args.place + 64) 768 (omega arith) (omega (arith, c.requires))
+    first_past c.args.self.now.words (64 * c.args.place + 64) MEMBERS (omega arith) (omega (arith, c.requires))
     (λ k low high. c.loop-later.invariant k low (omega arith))

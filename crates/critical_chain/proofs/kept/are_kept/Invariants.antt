@@ -1,6 +1,0 @@
-use Rattle.std.proofs.Common.{ℕ, ◌+◌, ◌<◌}
-use Rattle.critical_chain.specs.Parts.{MayFollowAt}
-use Rattle.critical_chain.proofs.kept.are_kept.Given as goal
-
-abbrev pub invariant-loop-k : goal.invariant-loop-k
-invariant-loop-k l = (m : ℕ) → m + 1 < l.k → MayFollowAt l.cut l.placed l.place l.visits m

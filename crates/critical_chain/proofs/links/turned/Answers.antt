@@ -1,5 +1,0 @@
-use Rattle.std.proofs.Common.{rules}
-use Rattle.critical_chain.proofs.links.turned.Goals as goal
-
-pub returns : goal.returns
-returns c = search rules

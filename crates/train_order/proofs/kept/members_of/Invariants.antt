@@ -1,5 +1,0 @@
-use Rattle.std.proofs.Common.{◌≡◌, map, take}
-use Rattle.train_order.proofs.kept.members_of.Given as goal
-
-abbrev pub invariant-loop-visit : goal.invariant-loop-visit
-invariant-loop-visit l = l.members.items ≡ map (λ v. v.member) (take l.visit-index l.visits)
