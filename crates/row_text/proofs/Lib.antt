@@ -16,3 +16,4 @@ pub mod SheetSteps
 pub mod PlainFields
 pub mod PlainReads
 pub mod PlainRows
+pub mod Adds

@@ -5,7 +5,7 @@ use Rattle.std.specs.Char.{is_ascii_digit}
 use Rattle.std.specs.Fmt.{signed_decimal}
 use Rattle.std.proofs.lemmas.Bool.{and_parts, ne_eqb}
 use Rattle.std.proofs.lemmas.Bool.Decides.{nat_tests}
-use Rattle.csv.specs.Writing.{default_writer, needs_byte, field_text}
+use Rattle.csv.specs.Writing.{default_writer, needs_byte, needs_quotes, field_text}
 use Rattle.std.proofs.Common.{◌+◌, ◌++◌, ◌||◌, ◌==◌, not, map, take, length, get_or}
 use Rattle.std.proofs.lemmas.List.{take_more, map-append}
 use Rattle.row_text.specs.Put.{separator, more_text}
@@ -21,6 +21,10 @@ digits-plain [] all = refl
 digits-plain (b ∷ digits) all =
     let both = and_parts (is_ascii_digit b) (list_all is_ascii_digit digits) all in
     rw (digit-plain b both.0, digits-plain digits both.1) refl
+
+-- a field that needs no quotes is written as it is
+pub field_text-plain : (field : List ℕ) → needs_quotes default_writer field ≡ false → field_text default_writer field ≡ field
+field_text-plain field plain = rw plain refl
 
 -- a number never needs quotes
 pub field_text-decimal : (n : ℕ) → n < 2 ^ 64 → field_text default_writer (decimal n) ≡ decimal n

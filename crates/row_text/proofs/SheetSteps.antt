@@ -1,6 +1,9 @@
 -- What each step of writing leaves a sheet as.
-use Rattle.std.proofs.Common.{◌≡◌, ℕ, ◌+◌, ◌-◌, ◌≤◌, true, false, ◌==◌, ◌&&◌, ◌||◌, List, [], ◌∷◌, ◌++◌, length, take, drop, slice_range, inl, inr, if◌then◌else◌, refl, sym, ap, ◌∙◌, append_assoc, arith, rules}
+use Rattle.std.proofs.Common.{◌≡◌, ℕ, ◌+◌, ◌-◌, ◌≤◌, Bool, true, false, ◌==◌, ◌&&◌, ◌||◌, List, [], ◌∷◌, ◌++◌, length, take, drop, slice_range, inl, inr, if◌then◌else◌, refl, sym, ap, ◌∙◌, append_assoc, arith, rules}
 use Rattle.std.specs.List.{list_all}
+use Rattle.std.specs.Global.{Vec}
+use Rattle.std.specs.Vec.{with_items}
+use Rattle.std.proofs.lemmas.List.{with_items_is}
 use Rattle.std.proofs.lemmas.Bool.{cases_Bool, and_from, eqb-true, eqb-false, ne_eqb, eq-eqb}
 use Rattle.std.proofs.lemmas.List.{append-nil, length-take-le, length-drop, take-take, drop-take, take-append-drop, take-append-le, drop-append-le}
 use Rattle.std.proofs.lemmas.List.Folds.{list_all-append}
@@ -62,6 +65,27 @@ pushed old new roomy more h ended has_field kept written grown room =
       body = rw ended (open_more ∙ ap (λ open_bytes. open_bytes ++ text) h.body ∙ ap (λ has. row_body default_writer row ++ more_text has more) begun ∙ sym (row_body-append row more));
       begun = has_field ∙ ap (λ has. has || has_fields more) begun ∙ sym (has_fields-append row more);
     }
+
+-- the sheet whose text has other bytes, of which more are used
+abbrev pub with_bytes : Inside → Vec ℕ → List ℕ → ℕ → Bool → Inside
+with_bytes old room bytes used has_field = record {
+  text = with_items room bytes;
+  ended = old.ended;
+  used = used;
+  has_field = has_field;
+}
+
+-- fields are written into the room that was made for them
+pub pushed_in : (old : Inside) (room : Vec ℕ) (before after : List ℕ) (used : ℕ) (has_field : Bool) (more : Row) → IsSheet old
+    → before ≡ room.items → take old.used room.items ≡ take old.used old.text.items → length after ≡ length before
+    → has_field ≡ (old.has_field || has_fields more) → take used after ≡ take old.used before ++ more_text old.has_field more → old.used ≤ used → used ≤ length before
+    → HoldsRows (with_bytes old room after used has_field) (sheet_rows old).rows ((sheet_rows old).row ++ more)
+pushed_in old room before after used has_field more h is kept size begun written grown within =
+    let whole = room.ok.0 in
+    let long : length after ≡ room.len = size ∙ ap length is ∙ sym whole in
+    let same : (with_items room after).items ≡ after = with_items_is room after long in
+    pushed old (with_bytes old room after used has_field) room.items more h refl begun kept
+    (rw same (written ∙ rw is refl)) grown (rw same (omega (arith, size)))
 
 -- whether the row that is being written shows nothing
 pub is_blank-is : (sheet : Inside) (rows : List Row) (row : Row) → HoldsRows sheet rows row → (sheet.used == sheet.ended) ≡ (length (open_text sheet) == 0)

@@ -8,7 +8,9 @@ pub mod Reads
 pub mod Lines
 pub mod Versions
 pub mod Spelling
+pub mod FieldText
 pub mod SheetRows
+pub mod Adds
 pub mod Sheet
 pub mod SheetText
 pub mod Put

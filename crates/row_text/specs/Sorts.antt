@@ -5,7 +5,7 @@ use Rattle.std.specs.Char.{is_ascii_digit}
 use Rattle.rail_model.specs.Name.{is_same, name_of}
 use Rattle.rail_model.specs.declared.form.Form.{Form}
 use Rattle.rail_model.specs.declared.form.Form.TheVariants as form
-use Rattle.row_text.specs.declared.field.TheConstants.{NUMBER_DIGITS, HOUR_DIGITS}
+use Rattle.row_text.specs.declared.read_field.TheConstants.{NUMBER_DIGITS, HOUR_DIGITS}
 
 -- what a field may be: a name; a number; a rate in per cent; a time in seconds
 pub data Sort : Type 0 where

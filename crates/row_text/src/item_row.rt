@@ -5,9 +5,9 @@ ghost use Rattle.row_text.specs.Words.{kind_shape, allows};
 ghost use Rattle.row_text.specs.Lines.{item_in};
 ghost use Rattle.row_text.specs.Reads.{Reads};
 
-use crate::field::{name_at, number_at, rate_at, time_at};
 use crate::fields::Row;
 use crate::lists::{names_from, run_legs};
+use crate::read_field::{name_at, number_at, rate_at, time_at};
 use crate::unread::Unread;
 use rail_model::{Block, Connection, Item, Kind, Route, Run, Section, Signal};
 use std::alloc::Global;

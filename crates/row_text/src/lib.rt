@@ -2,7 +2,6 @@
 //! spells a line; and the text of rows that are written.
 #![tactic(auto)]
 
-mod field;
 mod fields;
 mod item_row;
 mod leg_times;
@@ -11,18 +10,21 @@ mod line_row;
 mod lists;
 mod plain_rows;
 mod put;
+mod read_field;
 mod row_list;
 mod sheet;
 mod time_text;
 mod unread;
 mod word;
+mod write_field;
 mod written;
 
-pub use field::{HOUR_DIGITS, NUMBER_DIGITS};
 pub use fields::{Fields, Row};
 pub use line::{Line, read_line, read_row, read_row_in};
 pub use line_row::{has_times_in, spell, spell_in};
+pub use read_field::{HOUR_DIGITS, NUMBER_DIGITS};
 pub use row_list::{RowList, rows};
 pub use sheet::Sheet;
 pub use time_text::GREATEST_CLOCK_S;
+pub use write_field::Field;
 pub use written::Written;

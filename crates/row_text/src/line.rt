@@ -5,9 +5,9 @@ ghost use Rattle.row_text.specs.Words as words;
 ghost use Rattle.row_text.specs.Lines as lines;
 ghost use Rattle.row_text.specs.Reads.{Reads};
 
-use crate::field::{name_at, number_at};
 use crate::fields::{Fields, Row};
 use crate::item_row::item_of;
+use crate::read_field::{name_at, number_at};
 use crate::unread::Unread;
 use crate::word::{Word, word_of};
 use rail_model::{Edit, Form, Name, OutOfMemory};

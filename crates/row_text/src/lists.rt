@@ -4,8 +4,8 @@ ghost use Rattle.row_text.specs.Reads.{Reads};
 ghost use Rattle.row_text.specs.Sorts.{name_in, time_in};
 ghost use Rattle.row_text.specs.Lines as lines;
 
-use crate::field::{name_at, number_at, time_at};
 use crate::fields::Row;
+use crate::read_field::{name_at, number_at, time_at};
 use crate::unread::Unread;
 use rail_model::{Form, Leg, List, Name, OutOfMemory};
 use std::alloc::Global;

@@ -7,10 +7,10 @@ ghost use Rattle.row_text.specs.Lines.{read_in};
 ghost use Rattle.row_text.specs.Versions.{has_version_row, version_of, version_in, first_line};
 ghost use Rattle.std.specs.Prelude.{List};
 
-use crate::field::number_at;
 use crate::fields::{Fields, MOST_BYTES, Row, span};
 use crate::line::{Line, read_line};
 use crate::plain_rows::plain_rows;
+use crate::read_field::number_at;
 use csv::{ByteRecord, ReaderBuilder};
 use rail_model::{Form, OutOfMemory};
 use std::alloc::Global;

@@ -1,11 +1,14 @@
 //! The text of rows that are written.
-ghost use Rattle.std.specs.Prelude.{◌≡◌, ◌<◌, [], length, map, decimal, OnOk, OnErr};
+ghost use Rattle.std.specs.Prelude.{◌≡◌, ◌<◌, [], length, map, decimal, false, OnOk, OnErr};
 ghost use Rattle.std.specs.Fmt.{signed_decimal};
+ghost use Rattle.csv.specs.Writing.{default_writer, needs_quotes};
+ghost use Rattle.row_text.specs.FieldText.{text_of};
 ghost use Rattle.row_text.specs.SheetRows.{with_field, with_fields, with_row, text_of_rows};
 
 use crate::fields::Fields;
 use crate::put::{make_room, put_end, put_numbers, put_signed, put_text, put_unsigned};
-use crate::written::Written;
+use crate::write_field::Field;
+use crate::written::{Written, needs_quotes};
 use rail_model::OutOfMemory;
 use std::alloc::Global;
 use std::marker::Model;
@@ -109,9 +112,46 @@ impl Sheet {
         ensures ok { OnOk result (self.new ≡ with_field self.old field.now) }
         ensures err { OnErr result (self.new ≡ self.old) }
     {
+        if needs_quotes(field) {
+            return self.push_quoted(field);
+        }
+        self.push_plain(field)
+    }
+
+    // The same of one that stands in quotes.
+    #[inline(never)]
+    fn push_quoted(&mut self, field: &[u8]) -> Result<(), OutOfMemory>
+        ensures ok { OnOk result (self.new ≡ with_field self.old field.now) }
+        ensures err { OnErr result (self.new ≡ self.old) }
+    {
         let alloc = *self.text.allocator();
         let written = Written::new(alloc, field)?;
         self.push_written(&written)
+    }
+
+    // The same of one that stands as it is.
+    fn push_plain(&mut self, field: &[u8]) -> Result<(), OutOfMemory>
+        requires { needs_quotes default_writer field.now ≡ false }
+        ensures ok { OnOk result (self.new ≡ with_field self.old field.now) }
+        ensures err { OnErr result (self.new ≡ self.old) }
+    {
+        make_room(&mut self.text, self.used, field.len() + 1)?;
+        self.used = put_text(&mut self.text, self.used, self.has_field, field);
+        self.has_field = true;
+        Ok(())
+    }
+
+    // Adds a field of a row that is written at once.
+    fn push(&mut self, field: &Field<'_>) -> Result<(), OutOfMemory>
+        ensures ok { OnOk result (self.new ≡ with_field self.old (text_of field.now)) }
+        ensures err { OnErr result (self.new ≡ self.old) }
+    {
+        match field {
+            Field::Text(text) => self.push_field(text),
+            Field::Name(name) => self.push_field(name.bytes()),
+            Field::Count(number) => self.push_count(*number),
+            Field::Number(number) => self.push_number(*number),
+        }
     }
 
     /// Ends the row that is being written.
@@ -137,8 +177,21 @@ impl Sheet {
         self.has_field = false;
     }
 
-    /// Writes a whole row. A row that is being written is dropped first; where memory runs out, the rows
-    /// stay as they were.
+    /// Writes a whole row of these fields. A row that is being written is dropped first; where
+    /// memory runs out, the rows stay as they were.
+    pub fn write(&mut self, fields: &[Field<'_>]) -> Result<(), OutOfMemory>
+        requires { 0 < length fields.now }
+        ensures ok { OnOk result (self.new ≡ with_row self.old (map text_of fields.now)) }
+        ensures err { OnErr result (self.new.rows ≡ self.old.rows) }
+    {
+        self.drop_row();
+        for field in fields {
+            self.push(field)?;
+        }
+        self.end_row()
+    }
+
+    /// The same of fields that are kept.
     pub fn write_row(&mut self, fields: &Fields) -> Result<(), OutOfMemory>
         requires { 0 < length fields.now }
         ensures ok { OnOk result (self.new ≡ with_row self.old fields.now) }

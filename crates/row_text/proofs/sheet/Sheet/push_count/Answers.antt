@@ -1,34 +1,21 @@
-use Rattle.std.proofs.Common.{◌≡◌, ◌++◌, ◌∷◌, [], length, decimal, true, refl, sym, ap, ◌∙◌, arith}
-use Rattle.row_text.proofs.PlainFields.{field_text-decimal}
-use Rattle.std.specs.Vec.{with_items}
-use Rattle.std.proofs.lemmas.List.{with_items_is, append-nil}
-use Rattle.row_text.specs.declared.sheet.Sheet.TheInside.{Inside}
+use Rattle.std.proofs.Common.{◌++◌, ◌∷◌, [], length, decimal, true, sym, ap, arith}
+use Rattle.std.proofs.lemmas.List.{append-nil}
 use Rattle.row_text.specs.Sheet.{sheet_rows}
 use Rattle.row_text.specs.SheetText.{HoldsRows}
+use Rattle.row_text.proofs.PlainFields.{field_text-decimal}
 use Rattle.row_text.proofs.SheetRows.{or_true, sheet_rows-is, IsSheet-from}
-use Rattle.row_text.proofs.SheetSteps.{pushed}
+use Rattle.row_text.proofs.SheetSteps.{with_bytes, pushed_in}
 use Rattle.row_text.proofs.sheet.Sheet.push_count.Goals as goal
 
--- the sheet with the fields
-abbrev after : goal.After-self-3-1 → Inside
-after c = record {
-  text = with_items c.make_room.new.text c.put_unsigned-self-inside.new.text;
-  ended = c.self.inside.ended;
-  used = c.put_unsigned-self-inside.result;
-  has_field = true;
-}
-
-holds : (c : goal.After-self-3-1) → HoldsRows (after c) (sheet_rows c.self.inside).rows ((sheet_rows c.self.inside).row ++ (decimal c.args.number ∷ []))
+holds : (c : goal.After-self-3-1) → HoldsRows (with_bytes c.self.inside c.make_room.new.text c.put_unsigned-self-inside.new.text c.put_unsigned-self-inside.result true) (sheet_rows c.self.inside).rows ((sheet_rows c.self.inside).row ++ (decimal c.args.number ∷ []))
 holds c =
-    let room = c.in_ok-make_room.ensures in
     let put = c.put_unsigned-self-inside.ensures in
-    let size = ap length c.deref_mut.ensures.value in
-    let same : (after c).text.items ≡ c.put_unsigned-self-inside.new.text = with_items_is c.make_room.new.text c.put_unsigned-self-inside.new.text (c.put_unsigned-self-inside.auto.text ∙ size ∙ sym c.make_room.new.text.ok.0) in
-    pushed c.self.inside (after c) c.deref_mut.result.now (decimal c.args.number ∷ []) c.self.invariant refl (sym (or_true c.self.inside.has_field))
-    (rw c.deref_mut.ensures.value room.kept) (rw same (rw (field_text-decimal c.args.number (omega arith), append-nil) put.written)) put.more (rw same (omega (arith, put.within, room.ok, c.put_unsigned-self-inside.auto.text, size)))
+    let room = c.in_ok-make_room.ensures in
+    pushed_in c.self.inside c.make_room.new.text c.deref_mut.result.now c.put_unsigned-self-inside.new.text c.put_unsigned-self-inside.result true (decimal c.args.number ∷ []) c.self.invariant
+    c.deref_mut.ensures.value room.kept c.put_unsigned-self-inside.auto.text (sym (or_true c.self.inside.has_field)) (rw (field_text-decimal c.args.number (omega arith), append-nil) put.written) put.more (omega (arith, put.within, room.ok, ap length c.deref_mut.ensures.value))
 
 pub invariant_of-self-2 : goal.invariant_of-self-2
-invariant_of-self-2 c = IsSheet-from (after c) _ _ (holds c)
+invariant_of-self-2 c = IsSheet-from _ _ _ (holds c)
 
 pub returns-clause-ok : goal.returns-clause-ok
-returns-clause-ok c = rw (← c.self.view_is) (sheet_rows-is (after c) _ _ (holds c))
+returns-clause-ok c = rw (← c.self.view_is) (sheet_rows-is _ _ _ (holds c))

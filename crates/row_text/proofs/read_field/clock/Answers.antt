@@ -1,7 +1,7 @@
 use Rattle.std.proofs.Common.{◌<◌, ◌-◌, length, take, arith}
 use Rattle.std.proofs.Math.Nat.{pow-le-pow_right}
 use Rattle.std.proofs.lemmas.List.{length-take-le}
-use Rattle.row_text.proofs.field.clock.Goals as goal
+use Rattle.row_text.proofs.read_field.clock.Goals as goal
 
 -- the hours have at most five digits
 few_hours : (c : goal.Else-seconds-ge60) → c.in_ok-hours.hours < 100000

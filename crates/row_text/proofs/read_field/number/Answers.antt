@@ -1,6 +1,6 @@
 use Rattle.std.proofs.Common.{ℕ, ◌<◌, ◌≤◌, ◌^◌, arith}
 use Rattle.std.proofs.Math.Nat.{pow-le-pow_right}
-use Rattle.row_text.proofs.field.number.Goals as goal
+use Rattle.row_text.proofs.read_field.number.Goals as goal
 
 -- a number of up to eight digits leaves room for one more
 eight_digits : (value i n : ℕ) → value < 10 ^ i → i < n → n ≤ 9 → value < 10 ^ 8
