@@ -14,3 +14,6 @@ pub mod LeastTied
 pub mod Greatest
 pub mod Closing
 pub mod Reduced
+pub mod Sound
+pub mod UseFound
+pub mod FirstWith

@@ -1,13 +1,14 @@
 -- The use of a place that a member uses: one of its uses, which in a sound cut takes some time.
 use Rattle.std.proofs.Common.{◌≡◌, ℕ, suc, ◌<◌, Bool, true, List, [], ◌∷◌, length, get_or, inl, inr, refl, subst, arith}
-use Rattle.std.specs.Prelude.{◌<ℤ◌, ◌==◌, find, unwrap_or}
+use Rattle.std.specs.Prelude.{◌<ℤ◌, ◌==◌, Some, find, unwrap_or}
 use Rattle.std.specs.List.{list_any}
 use Rattle.std.proofs.lemmas.Bool.{cases_Bool, eqb-true}
 use Rattle.std.proofs.lemmas.List.Folds.{Any-from_list_any}
 use Rattle.plan_model.specs.Places.{place_count}
 use Rattle.rail_model.specs.declared.stair.Use.{Use}
+use Rattle.plan_model.specs.declared.cut.CutRow.{CutRow}
 use Rattle.plan_model.specs.declared.cut.Cut.{Cut}
-use Rattle.plan_model.specs.Members.{member, member_count, no_member, uses_place, use_at, no_use}
+use Rattle.plan_model.specs.Members.{member, member_count, no_member, uses_place, use_of, use_at, no_use}
 use Rattle.plan_model.specs.Cut.{IsSoundCut}
 
 -- what passes a test is found at some place
@@ -40,3 +41,15 @@ place_there cut sound i place l h =
     let is : at.1.block ≡ place = eqb-true at.1.block place at.4 in
     let here = ((sound.each i no_member l).each at.0 at.1 at.2).place in
     subst (λ b. b < place_count cut) is (subst (λ (u : Use). u.block < place_count cut) at.3 here)
+
+-- where a member uses a place, its use of it is found
+pub used : (row : CutRow) (place : ℕ) → uses_place row place ≡ true → use_of row place ≡ Some (use_at row place)
+used row place h = at row.uses h where
+  at : (uses : List Use) → list_any (λ u. u.block == place) uses ≡ true
+      → find (λ u. u.block == place) uses ≡ Some (unwrap_or (find (λ u. u.block == place) uses) no_use)
+  at [] h = absurd (cc)
+  at (u ∷ uses) h =
+      elim (cases_Bool (u.block == place)) [
+        | inl e ↦ rw e refl
+        | inr e ↦ rw e (at uses (rw e at h))
+      ]

@@ -1,5 +1,5 @@
 -- The value of a cut, and which cuts are sound.
-use Rattle.std.specs.Prelude.{◌≡◌, ◌≢◌, ℕ, ◌<◌, ◌≤◌, ℤ, pos, ◌-ℤ◌, ◌<ℤ◌, ◌≤ℤ◌, Bool, not, nat_lt, List, [], ◌∷◌, ◌++◌, length, map, filter, count_by, fold, All, AllPairs}
+use Rattle.std.specs.Prelude.{◌≡◌, ◌≢◌, ℕ, ◌^◌, ◌<◌, ◌≤◌, ℤ, pos, ◌-ℤ◌, ◌<ℤ◌, ◌≤ℤ◌, Bool, not, nat_lt, List, [], ◌∷◌, ◌++◌, length, map, filter, count_by, fold, All, AllPairs}
 use Rattle.std.specs.Int.{int_min}
 use Rattle.rail_model.specs.declared.stair.Use.{Use}
 use Rattle.rail_model.specs.declared.limits.TheConstants.{RUNS, CONNECTIONS, PATH_HOPS, GREATEST_MOMENT_S}
@@ -7,7 +7,8 @@ use Rattle.rail_model.specs.Name.{NamesRise}
 use Rattle.plan_model.specs.declared.cut.CutRow.{CutRow}
 use Rattle.plan_model.specs.declared.cut.Cut.{Cut}
 use Rattle.plan_model.specs.Places.{place_names, block_count, place_count}
-use Rattle.plan_model.specs.Members.{uses_place}
+use Rattle.plan_model.specs.Members.{member_count, uses_place}
+use Rattle.plan_model.specs.declared.limits.TheConstants.{MEMBERS}
 
 -- a row, and a cut at each row, with this stamp
 abbrev pub stamped_row : ℕ → CutRow → CutRow
@@ -39,6 +40,11 @@ connection_uses cut row = filter (λ u. not (is_block cut u.block)) row.uses
 pub record IsMoment (t : ℤ) : Type 0 where
   pub after : (pos 0 -ℤ GREATEST_MOMENT_S) ≤ℤ t
   pub before : t ≤ℤ GREATEST_MOMENT_S
+
+-- a moment of trains that are moved: from -2^50 to 2^50 seconds
+pub record IsBounded (t : ℤ) : Type 0 where
+  pub after : (pos 0 -ℤ pos (2 ^ 50)) ≤ℤ t
+  pub before : t ≤ℤ pos (2 ^ 50)
 
 -- a use of a sound cut: it is of a place of the cut, keeps it for some time, and its moments are within the limit
 pub record IsSoundUse (cut : Cut) (u : Use) : Type 0 where
@@ -72,3 +78,24 @@ pub record IsSoundCut (cut : Cut) : Type 0 where
   pub names_rise : NamesRise (λ r. r.name) cut.rows
   pub each : All (IsSoundRow cut) cut.rows
   pub two_rows : (c : ℕ) → block_count cut ≤ c → c < place_count cut → count_by (λ r. uses_place r c) cut.rows ≡ 2
+
+-- no two uses are of one place
+abbrev pub AreOfOtherPlaces : List Use → Type 0
+AreOfOtherPlaces uses = AllPairs (λ u v. u.block ≢ v.block) uses
+
+-- the uses of blocks, whose positions are below this number, stand before those of connections
+abbrev pub AreBlocksFirst : ℕ → List Use → Type 0
+AreBlocksFirst blocks uses =
+    uses ≡ filter (λ u. nat_lt u.block blocks) uses ++ filter (λ u. not (nat_lt u.block blocks)) uses
+
+-- what an engine asks of a row: its times are moments, and its uses are of so many places
+pub record IsUsable (places : ℕ) (row : CutRow) : Type 0 where
+  pub entry : IsMoment row.entry
+  pub starts : All (λ u. IsMoment u.start) row.uses
+  pub ends : All (λ u. IsMoment u.«end») row.uses
+  pub there : All (λ u. u.block < places) row.uses
+
+-- a sound cut with no more members than are compressed
+pub record IsFitCut (cut : Cut) : Type 0 where
+  pub sound : IsSoundCut cut
+  pub few : member_count cut ≤ MEMBERS

@@ -1,5 +1,5 @@
 -- The members of a cut, and their uses of its places.
-use Rattle.std.specs.Prelude.{ℕ, pos, Bool, ◌==◌, List, [], length, unwrap_or, slice_index_or, find}
+use Rattle.std.specs.Prelude.{ℕ, pos, Bool, ◌==◌, List, [], length, Option, unwrap_or, slice_index_or, find}
 use Rattle.std.specs.List.{list_any, range_with_len}
 use Rattle.rail_model.specs.declared.stair.Use.{Use}
 use Rattle.plan_model.specs.declared.cut.CutRow.{CutRow}
@@ -28,6 +28,10 @@ no_use = record { block = 0; start = pos 0; «end» = pos 0 }
 abbrev pub uses_place : CutRow → ℕ → Bool
 uses_place row place = list_any (λ u. u.block == place) row.uses
 
--- its use of the place
+-- its use of the place, if it uses it
+abbrev pub use_of : CutRow → ℕ → Option Use
+use_of row place = find (λ u. u.block == place) row.uses
+
+-- its use of the place, which it uses
 abbrev pub use_at : CutRow → ℕ → Use
 use_at row place = unwrap_or (find (λ u. u.block == place) row.uses) no_use

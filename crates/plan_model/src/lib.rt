@@ -8,6 +8,7 @@
 mod answer;
 mod copies;
 mod cut;
+mod fit_cut;
 mod laws;
 mod limits;
 mod reading;
@@ -15,6 +16,7 @@ mod rows;
 
 pub use answer::{Answer, Done, Link, Placed, Plan, Tie};
 pub use cut::{Cut, CutRow};
+pub use fit_cut::{FitCut, SoundCut, shift};
 pub use laws::{
     answer_is_unique, comes_before_is_tested, conflict_is_overlap, fraction_is_reduced,
     least_is_tied, least_is_unique, none_is_later, occupancy_is_to_closing, reduced_is_unique,

@@ -1,0 +1,309 @@
+//! A cut that carries its facts.
+ghost use Rattle.std.specs.Prelude.{◌≡◌, ◌<◌, ◌≤◌, ◌==◌, IfOk, IfSome, All, IsTrue, find, ◌++◌, ◌-ℤ◌, ◌+ℤ◌};
+ghost use Rattle.plan_model.specs.declared.limits.TheConstants.{MEMBERS};
+ghost use Rattle.rail_model.specs.declared.limits.TheConstants.{RUNS, PATH_HOPS};
+ghost use Rattle.plan_model.specs.Cut.{IsSoundCut, IsSoundUse, IsMoment, IsBounded, IsUsable, AreOfOtherPlaces, AreBlocksFirst};
+ghost use Rattle.plan_model.specs.Members as members;
+ghost use Rattle.plan_model.specs.Places as places;
+ghost use Rattle.plan_model.specs.Schedule as schedule;
+
+use crate::{Cut, CutRow};
+use rail_model::{List, Name, OutOfMemory, Use};
+use std::alloc::Global;
+use std::marker::Model;
+
+/// A sound cut.
+#[derive(Drop)]
+pub struct SoundCut<'a> {
+    cut: &'a Cut,
+}
+
+impl<'a> Model for SoundCut<'a> {
+    ghost use Rattle.plan_model.specs.declared.cut.Cut.{Cut};
+
+    ghost Value = { Cut };
+
+    ghost use Rattle.plan_model.specs.Cut.{IsSoundCut};
+
+    ghost view = { λ s. s.cut.now };
+
+    ghost invariant = { λ s. IsSoundCut s.cut.now };
+}
+
+impl<'a> SoundCut<'a> {
+    /// This cut.
+    pub fn of(cut: &'a Cut) -> SoundCut<'a>
+        requires { IsSoundCut cut.now }
+        ensures { result ≡ cut.now }
+    {
+        SoundCut { cut }
+    }
+
+    /// The cut itself.
+    pub fn cut(&self) -> &'a Cut
+        ensures cut { result.now ≡ self.now }
+        ensures sound { IsSoundCut self.now }
+    {
+        self.cut
+    }
+
+    /// How many members there are.
+    pub fn member_count(&self) -> u32
+        ensures count { result ≡ members.member_count self.now }
+        ensures most { result ≤ RUNS }
+        ensures sound { IsSoundCut self.now }
+    {
+        self.cut.rows.len() as u32
+    }
+
+    /// How many places are blocks: the first ones.
+    pub fn block_count(&self) -> u32
+        ensures count { result ≡ places.block_count self.now }
+        ensures most { result ≤ PATH_HOPS }
+    {
+        self.cut.section.blocks.len() as u32
+    }
+
+    /// How many places there are.
+    pub fn place_count(&self) -> u32
+        ensures { result ≡ places.place_count self.now }
+    {
+        (self.cut.section.blocks.len() + self.cut.connections.len()) as u32
+    }
+
+    /// The window's start: seconds from the timetable's origin.
+    pub fn window_start(&self) -> i64
+        ensures start { result ≡ schedule.window_start self.now }
+        ensures moment { IsMoment result }
+    {
+        i64::from(self.cut.section.from_s)
+    }
+
+    /// The rows, in the order of their names.
+    pub fn rows(&self) -> &'a [CutRow]
+        ensures rows { result.now ≡ self.now.rows }
+        ensures sound { IsSoundCut self.now }
+        ensures usable { All (IsUsable (places.place_count self.now)) result.now }
+    {
+        self.cut.rows.slice()
+    }
+
+    /// The row at a position.
+    pub fn row(&self, i: u32) -> &'a CutRow
+        requires { i < members.member_count self.now }
+        ensures row { result.now ≡ members.member self.now i }
+        ensures sound { IsSoundCut self.now }
+        ensures usable { IsUsable (places.place_count self.now) result.now }
+    {
+        &self.rows()[i as usize]
+    }
+
+    /// The name of a place: of a block or of a connection.
+    pub fn place_name(&self, place: u32) -> &'a Name
+        requires { place < places.place_count self.now }
+        ensures { result.now ≡ places.place_name self.now place }
+    {
+        let blocks = self.cut.section.blocks.slice();
+        let place = place as usize;
+        if place < blocks.len() {
+            &blocks[place]
+        } else {
+            &self.cut.connections.slice()[place - blocks.len()]
+        }
+    }
+
+    /// The names of all places.
+    pub fn place_names(&self, alloc: Global) -> Result<List<Name>, OutOfMemory>
+        ensures { IfOk result (λ names. names ≡ places.place_names self.now) }
+    {
+        joined(
+            alloc,
+            &self.cut.section.blocks,
+            self.cut.connections.slice(),
+        )
+    }
+
+    /// The use of a place by the member at a position, if it uses it.
+    pub fn use_at(&self, i: u32, place: u32) -> Option<Use>
+        requires { i < members.member_count self.now }
+        ensures is { result ≡ members.use_of (members.member self.now i) place }
+        ensures sound { IfSome result (IsSoundUse self.now) }
+    {
+        use_in(self.row(i).uses.slice(), self.block_count(), place)
+    }
+
+    /// When a member that enters at a moment starts its use of a place.
+    pub fn start_at(&self, i: u32, entry: i64, place: u32) -> i64
+        requires there { i < members.member_count self.now }
+        requires bounded { IsBounded entry }
+        requires uses { IsTrue (members.uses_place (members.member self.now i) place) }
+        ensures { result ≡ schedule.start_at (members.member self.now i) entry place }
+    {
+        shift(self.used(i, place).start, self.row(i).entry, entry)
+    }
+
+    /// When a member that enters at a moment ends its use of a place.
+    pub fn end_at(&self, i: u32, entry: i64, place: u32) -> i64
+        requires there { i < members.member_count self.now }
+        requires bounded { IsBounded entry }
+        requires uses { IsTrue (members.uses_place (members.member self.now i) place) }
+        ensures { result ≡ schedule.end_at (members.member self.now i) entry place }
+    {
+        shift(self.used(i, place).end, self.row(i).entry, entry)
+    }
+
+    // The use of a place that a member uses.
+    fn used(&self, i: u32, place: u32) -> Use
+        requires there { i < members.member_count self.now }
+        requires uses { IsTrue (members.uses_place (members.member self.now i) place) }
+        ensures is { result ≡ members.use_at (members.member self.now i) place }
+        ensures sound { IsSoundUse self.now result }
+    {
+        self.use_at(i, place).unwrap()
+    }
+
+    /// Whether a member and one of its places come before another pair of them, by name.
+    pub fn comes_first(&self, a: (u32, u32), b: (u32, u32)) -> bool
+        requires first { a.1 < places.place_count self.now }
+        requires second { b.1 < places.place_count self.now }
+        ensures { result ≡ places.comes_first self.now a b }
+    {
+        a.0 < b.0 || a.0 == b.0 && self.place_name(a.1) < self.place_name(b.1)
+    }
+
+    /// Whether the name of a place comes before that of the best so far, or there is none so far.
+    pub fn leads(&self, best: Option<u32>, place: u32) -> bool
+        requires there { place < places.place_count self.now }
+        requires best { IfSome best (λ b. b < places.place_count self.now) }
+        ensures { result ≡ places.leads self.now best place }
+    {
+        match best {
+            Some(best) => self.place_name(place) < self.place_name(best),
+            None => true,
+        }
+    }
+
+    /// The first by name of the best so far and of one place more.
+    pub fn first_with(&self, best: Option<u32>, place: u32) -> Option<u32>
+        requires there { place < places.place_count self.now }
+        requires best { IfSome best (λ b. b < places.place_count self.now) }
+        ensures first { result ≡ places.first_with self.now best place }
+        ensures there { IfSome result (λ b. b < places.place_count self.now) }
+    {
+        if self.leads(best, place) {
+            Some(place)
+        } else {
+            best
+        }
+    }
+}
+
+/// A sound cut with no more members than are compressed.
+#[derive(Drop)]
+pub struct FitCut<'a> {
+    sound: SoundCut<'a>,
+}
+
+impl<'a> Model for FitCut<'a> {
+    ghost use Rattle.std.specs.Prelude.{◌≤◌};
+    ghost use Rattle.plan_model.specs.declared.cut.Cut.{Cut};
+
+    ghost Value = { Cut };
+
+    ghost use Rattle.plan_model.specs.declared.limits.TheConstants.{MEMBERS};
+    ghost use Rattle.plan_model.specs.Members.{member_count};
+
+    ghost view = { λ f. f.sound };
+
+    ghost invariant = { λ f. member_count f.sound ≤ MEMBERS };
+}
+
+impl<'a> FitCut<'a> {
+    /// This cut.
+    pub fn of(cut: &'a Cut) -> FitCut<'a>
+        requires sound { IsSoundCut cut.now }
+        requires few { members.member_count cut.now ≤ MEMBERS }
+        ensures { result ≡ cut.now }
+    {
+        FitCut {
+            sound: SoundCut::of(cut),
+        }
+    }
+
+    /// The same as a sound cut.
+    pub fn sound(&self) -> &SoundCut<'a>
+        ensures cut { result.now ≡ self.now }
+        ensures few { members.member_count self.now ≤ MEMBERS }
+    {
+        &self.sound
+    }
+
+    /// How many members there are.
+    pub fn member_count(&self) -> u32
+        ensures count { result ≡ members.member_count self.now }
+        ensures few { result ≤ MEMBERS }
+    {
+        self.sound.member_count()
+    }
+}
+
+/// A moment of a train that is planned to enter at one moment and enters at another.
+pub fn shift(time: i64, planned: i64, entry: i64) -> i64
+    requires time { IsMoment time }
+    requires planned { IsMoment planned }
+    requires entry { IsBounded entry }
+    ensures { result ≡ time -ℤ planned +ℤ entry }
+{
+    time - planned + entry
+}
+
+// Some names and then others.
+fn joined(alloc: Global, first: &List<Name>, then: &[Name]) -> Result<List<Name>, OutOfMemory>
+    ensures { IfOk result (λ names. names ≡ first.now ++ then.now) }
+{
+    let mut names = first.copy(alloc)?;
+    for name in then {
+        names.push(*name)?;
+    }
+    Ok(names)
+}
+
+// The use of a place, if there is one.
+fn use_in(uses: &[Use], blocks: u32, place: u32) -> Option<Use>
+    requires differ { AreOfOtherPlaces uses.now }
+    requires first { AreBlocksFirst blocks uses.now }
+    ensures { result ≡ find (λ u. u.block == place) uses.now }
+{
+    if place < blocks {
+        use_of_block(uses, place)
+    } else {
+        use_of_connection(uses, blocks, place)
+    }
+}
+
+fn use_of_block(uses: &[Use], place: u32) -> Option<Use>
+    ensures { result ≡ find (λ u. u.block == place) uses.now }
+{
+    uses.iter().copied().find(|one| one.block == place)
+}
+
+// Looks from the back, where the uses of connections stand.
+fn use_of_connection(uses: &[Use], blocks: u32, place: u32) -> Option<Use>
+    requires differ { AreOfOtherPlaces uses.now }
+    requires first { AreBlocksFirst blocks uses.now }
+    requires behind { blocks ≤ place }
+    ensures { result ≡ find (λ u. u.block == place) uses.now }
+{
+    let mut left = uses.len();
+    while left > 0 {
+        left -= 1;
+        let one = uses[left];
+        if one.block == place {
+            return Some(one);
+        }
+        if one.block < blocks {
+            return None;
+        }
+    }
+    None
+}
