@@ -1,6 +1,5 @@
-//! Tests of what a section is answered, by rows of small lines: cuts, orders and disorder, occupancy
-//! and rates, the compressed timetable, and the texts of the commands that write it. They stand apart
-//! from the other tests of whole texts, so that both are proved side by side.
+//! Tests of what a section is answered, by rows of small lines: cuts and readings, orders and disorder,
+//! occupancy and rates, the compressed timetable and its checker.
 #![tactic(auto)]
 
 #[cfg(test)]

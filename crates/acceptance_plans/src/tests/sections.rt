@@ -1,9 +1,10 @@
 //! Cuts of sections, by rows that were worked out by hand.
-use super::{LINE, joined, tables_of};
+use line_tables::LineTables;
 use plan_model::Cut;
 use rail_model::{Name, OutOfMemory};
 use row_text::Sheet;
 use section_cut::{Timetable, cut_among, cut_of, stairways};
+use small_lines::{LINE, joined, tables_of};
 use std::alloc::Global;
 use std::test::Fail;
 
@@ -72,29 +73,45 @@ const CUTS: [(&str, &str); 8] = [
     ),
 ];
 
+// The rows of the cut of a section, if it is there.
+fn cut_told(alloc: Global, tables: &LineTables, name: &Name) -> Result<Option<Sheet>, OutOfMemory> {
+    match cut_of(alloc, tables, name, 7)? {
+        Some(cut) => Ok(Some(told(alloc, &cut)?)),
+        None => Ok(None),
+    }
+}
+
 #[test]
 fn cuts_of_a_section(rt: HostRuntime) -> Result<(), Fail> {
-    let alloc = rt.alloc();
     let name = Name::read(b"S")?;
     for (rows, text) in CUTS {
-        let tables = tables_of(alloc, &joined(alloc, &[LINE, rows])?)?;
-        let cut = cut_of(alloc, &tables, &name, 7)?.ok_or(OutOfMemory)?;
-        assert_eq!(rt; told(alloc, &cut)?.text(), text.as_bytes(), "{rows}");
+        let tables = tables_of(rt.alloc(), &joined(rt.alloc(), &[LINE, rows])?)?;
+        let found = cut_told(rt.alloc(), &tables, &name)?;
+        assert!(rt;
+            found.is_some_and(|sheet: Sheet| -> bool { sheet.text() == text.as_bytes() }),
+            "{rows}"
+        );
     }
     Ok(())
 }
 
+// The rows of the cut of the only section, by stairways that are made once.
+fn cut_told_among(alloc: Global, tables: &LineTables) -> Result<Option<Sheet>, OutOfMemory> {
+    if tables.sections() != 1 {
+        return Ok(None);
+    }
+    let stairs = Timetable::of(alloc, stairways(alloc, tables)?)?;
+    let cut = cut_among(alloc, tables, &stairs, 0, 7)?;
+    Ok(Some(told(alloc, &cut)?))
+}
+
 #[test]
 fn a_section_among_others(rt: HostRuntime) -> Result<(), Fail> {
-    let alloc = rt.alloc();
-    let tables = tables_of(alloc, &joined(alloc, &[LINE, CUTS[5].0])?)?;
-    let none = cut_of(alloc, &tables, &Name::read(b"X")?, 7)?;
-    assert_eq!(rt; (none.is_none(), tables.sections()), (true, 1));
-    let Some(section) = tables.section_number(&Name::read(b"S")?) else {
+    let tables = tables_of(rt.alloc(), &joined(rt.alloc(), &[LINE, CUTS[5].0])?)?;
+    assert!(rt; cut_told(rt.alloc(), &tables, &Name::read(b"X")?)?.is_none());
+    let Some(found) = cut_told_among(rt.alloc(), &tables)? else {
         return Err(OutOfMemory.into());
     };
-    let stairs = Timetable::of(alloc, stairways(alloc, &tables)?)?;
-    let cut = cut_among(alloc, &tables, &stairs, section, 7)?;
-    assert_eq!(rt; told(alloc, &cut)?.text(), CUTS[5].1.as_bytes());
+    assert_eq!(rt; found.text(), CUTS[5].1.as_bytes());
     Ok(())
 }

@@ -1,9 +1,9 @@
 //! Words that spell no command, and what is said of statuses.
-use super::{FIRST_RUN, FIRST_USES, LINE, REST, REST_USES, joined, only, source_of, words_of};
+use super::{USES, WORKING, sink_of, source_of, words_of};
 use capacity_cmd::{Cause, Status, alone, run, run_alone};
-use rail_model::{Form, List, Rule};
+use rail_model::{Form, List, OutOfMemory, Rule};
 use rail_outside::{Failed, MemorySink, OpenGate, Source};
-use std::process::Abort;
+use small_lines::{FIRST_RUN, LINE, REST, joined};
 use std::sync::Wait;
 use std::test::Fail;
 use std::thread::Threads;
@@ -37,7 +37,7 @@ type Ended = (Status, usize, Result<usize, Failed>, Result<usize, Failed>);
 fn call_and_read<R: AllocGlobal + Threads + Wait + Sync>(
     rt: &R,
     words: &[&str],
-) -> Result<Ended, Fail> {
+) -> Result<Ended, OutOfMemory> {
     let words = words_of(rt.alloc(), words)?;
     let mut source = source_of(rt.alloc(), b"block,A,5\n", 16, 1)?;
     let mut sink = MemorySink::new(rt.alloc(), 10, List::new(rt.alloc()));
@@ -50,29 +50,28 @@ fn call_and_read<R: AllocGlobal + Threads + Wait + Sync>(
 
 #[test]
 fn commands_run_alone(rt: HostRuntime) -> Result<(), Fail> {
-    let text = joined(rt.alloc(), &[FIRST_USES, REST_USES])?;
-    for (word, text) in [("stairs", text.as_str()), ("check", "conflicts,0,0\n")] {
-        runs_alone(&rt, word, text)?;
+    assert!(rt; alone(&[]));
+    for (word, text) in [("stairs", USES), ("check", "conflicts,0,0\n")] {
+        assert!(rt; writes_alone(&rt, word, text.as_bytes())?, "{word}");
     }
     Ok(())
 }
 
-fn runs_alone<R: Abort + AllocGlobal + Threads + Sync>(
+// Whether a command that runs alone is done, and writes this text.
+fn writes_alone<R: AllocGlobal + Threads + Sync>(
     rt: &R,
     word: &str,
-    text: &str,
-) -> Result<(), Fail> {
+    text: &[u8],
+) -> Result<bool, OutOfMemory> {
     let words = words_of(rt.alloc(), &[word])?;
+    if !alone(&words) {
+        return Ok(false);
+    }
     let input = joined(rt.alloc(), &[LINE, FIRST_RUN, REST])?;
     let mut source = source_of(rt.alloc(), input.as_bytes(), 16, 0)?;
-    let mut sink = MemorySink::new(rt.alloc(), 10, only(rt.alloc(), 0)?);
-    sink.reserve(text.len())?;
-    assert!(rt; alone(&words));
-    assert!(rt; alone(&[]));
+    let mut sink = sink_of(rt.alloc(), WORKING)?;
     let status = run_alone(rt, &words, &mut source, &mut sink);
-    assert_eq!(rt; status, Status::Done);
-    assert_eq!(rt; sink.bytes(), text.as_bytes());
-    Ok(())
+    Ok(status == Status::Done && sink.bytes() == text)
 }
 
 #[test]

@@ -1,6 +1,6 @@
 //! Sources, sinks and the gate, each call once.
 use super::{only, source_of};
-use rail_model::List;
+use rail_model::{List, OutOfMemory};
 use rail_outside::{
     Failed, Gate, MemorySink, OpenGate, Point, Sink, Source, StdSink, StdSource, Taken, send_all,
     take_all,
@@ -48,7 +48,7 @@ fn taken_of(
     piece: usize,
     failing_read: u64,
     limit: usize,
-) -> Result<Result<bool, Taken>, Fail> {
+) -> Result<Result<bool, Taken>, OutOfMemory> {
     let mut source = source_of(alloc, b"abcde", piece, failing_read)?;
     let taken = take_all(alloc, &mut source, limit.min(8))?;
     Ok(taken.map(|bytes| bytes.slice() == b"abcde".as_slice()))

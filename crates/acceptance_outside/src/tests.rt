@@ -1,16 +1,8 @@
-//! What the tests of whole texts share: the rows of a small line, and a call of the program over bytes in
-//! memory.
-mod checks;
-mod desk;
-mod edits;
+//! A call of the program over bytes in memory, whose reads and writes may fail.
 mod faults;
-mod lines;
-mod names;
-mod refusals;
-mod row_lines;
+mod long_texts;
 mod statuses;
 mod streams;
-mod texts;
 
 use capacity_cmd::{Status, run};
 use rail_model::{List, OutOfMemory};
@@ -21,24 +13,10 @@ use std::sync::Wait;
 use std::test::Fail;
 use std::thread::Threads;
 
-// Two blocks with their signals, and a route over both.
-const LINE: &str = "block,A,1000\n\
-    block,B,1000\n\
-    signal,SA,A,1000,10,5,0,5\n\
-    signal,SB,B,1000,10,5,0,5\n\
-    route,R,SA,SB\n";
-
-// The line's first run, then its second and a section.
-const FIRST_RUN: &str = "run,T1,R,100,10,100,60,0,60\n";
-
-const REST: &str = "run,T2,R,100,10,400,60,0,60\n\
-    section,S,0,3600,33,A,B\n";
-
-// The blocking times of the runs.
-const FIRST_USES: &str = "use,T1,A,85,171,5,10,0,60,6,5\n\
-    use,T1,B,85,235,5,10,60,60,10,5\n";
-
-const REST_USES: &str = "use,T2,A,385,471,5,10,0,60,6,5\n\
+// The blocking times of the two runs of a small line.
+const USES: &str = "use,T1,A,85,171,5,10,0,60,6,5\n\
+    use,T1,B,85,235,5,10,60,60,10,5\n\
+    use,T2,A,385,471,5,10,0,60,6,5\n\
     use,T2,B,385,535,5,10,60,60,10,5\n";
 
 // How the outside of a call behaves.
@@ -72,8 +50,7 @@ fn assert_ends<R: Abort + AllocGlobal + Threads + Wait + Sync>(
     text: &[u8],
 ) -> Result<(), Fail> {
     let (ended, sink) = called(rt, "stairs", input.as_bytes(), outside)?;
-    assert_eq!(rt; ended, status, "{input}");
-    assert_eq!(rt; sink.bytes(), text, "{input}");
+    assert!(rt; ended == status && sink.bytes() == text, "{ended:?}");
     Ok(())
 }
 
@@ -83,16 +60,11 @@ fn called<R: AllocGlobal + Threads + Wait + Sync>(
     word: &str,
     input: &[u8],
     outside: Outside,
-) -> Result<(Status, MemorySink), Fail> {
+) -> Result<(Status, MemorySink), OutOfMemory> {
     let alloc = rt.alloc();
     let words = words_of(alloc, &[word])?;
     let mut source = source_of(alloc, input, outside.source_piece, outside.failing_read)?;
-    let mut sink = MemorySink::new(
-        alloc,
-        outside.sink_piece.max(1),
-        only(alloc, outside.failing_write)?,
-    );
-    sink.reserve(outside.room)?;
+    let mut sink = sink_of(alloc, outside)?;
     let status = run(rt, &words, &mut source, &mut sink, &OpenGate);
     Ok((status, sink))
 }
@@ -102,9 +74,16 @@ fn source_of(
     bytes: &[u8],
     piece: usize,
     failing_read: u64,
-) -> Result<MemorySource, Fail> {
+) -> Result<MemorySource, OutOfMemory> {
     let bytes = List::from_vec(Vec::from_slice(alloc, bytes)?);
     Ok(MemorySource::new(bytes, piece.max(1), only(alloc, failing_read)?))
+}
+
+fn sink_of(alloc: Global, outside: Outside) -> Result<MemorySink, OutOfMemory> {
+    let fails = only(alloc, outside.failing_write)?;
+    let mut sink = MemorySink::new(alloc, outside.sink_piece.max(1), fails);
+    sink.reserve(outside.room)?;
+    Ok(sink)
 }
 
 // The list of one call's number.
@@ -114,19 +93,10 @@ fn only(alloc: Global, call: u64) -> Result<List<u64>, OutOfMemory> {
     Ok(calls)
 }
 
-fn words_of(alloc: Global, words: &[&str]) -> Result<Vec<String>, Fail> {
+fn words_of(alloc: Global, words: &[&str]) -> Result<Vec<String>, OutOfMemory> {
     let mut owned = Vec::new(alloc);
     for word in words {
         owned.push(String::from_str(alloc, word)?)?;
     }
     Ok(owned)
-}
-
-// The texts, one after the other.
-fn joined(alloc: Global, texts: &[&str]) -> Result<String, Fail> {
-    let mut joined = String::new(alloc);
-    for text in texts {
-        joined.push_str(text)?;
-    }
-    Ok(joined)
 }

@@ -1,6 +1,7 @@
 //! Calls of the outside that fail.
-use super::{FIRST_RUN, FIRST_USES, LINE, Outside, REST, REST_USES, WORKING, assert_ends, joined};
+use super::{Outside, USES, WORKING, assert_ends};
 use capacity_cmd::Status;
+use small_lines::{FIRST_RUN, LINE, REST, joined};
 use std::test::Fail;
 
 #[test]
@@ -21,15 +22,13 @@ fn each_read_fails_once(rt: HostRuntime) -> Result<(), Fail> {
         failing_read: reads + 1,
         ..WORKING
     };
-    let text = joined(rt.alloc(), &[FIRST_USES, REST_USES])?;
-    assert_ends(&rt, &input, outside, Status::Done, text.as_bytes())
+    assert_ends(&rt, &input, outside, Status::Done, USES.as_bytes())
 }
 
 #[test]
 fn each_write_and_the_flush_fail_once(rt: HostRuntime) -> Result<(), Fail> {
     let input = joined(rt.alloc(), &[LINE, FIRST_RUN, REST])?;
-    let text = joined(rt.alloc(), &[FIRST_USES, REST_USES])?;
-    let text = text.as_bytes();
+    let text = USES.as_bytes();
     // One more call than there are pieces of the text: the flush.
     let pieces = text.len().div_ceil(WORKING.sink_piece);
     assert_eq!(rt; pieces, 13);
@@ -61,4 +60,17 @@ fn the_row_of_a_refusal_fails(rt: HostRuntime) -> Result<(), Fail> {
         ..WORKING
     };
     assert_ends(&rt, "train,A,1\n", outside, Status::WriteFault, b"")
+}
+
+#[test]
+fn pieces_of_the_source_make_no_difference(rt: HostRuntime) -> Result<(), Fail> {
+    let input = joined(rt.alloc(), &[LINE, FIRST_RUN, REST])?;
+    for source_piece in [1, 16, 4_096] {
+        let outside = Outside {
+            source_piece,
+            ..WORKING
+        };
+        assert_ends(&rt, &input, outside, Status::Done, USES.as_bytes())?;
+    }
+    Ok(())
 }

@@ -1,0 +1,2 @@
+//! Desks.
+mod desk;

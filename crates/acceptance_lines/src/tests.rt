@@ -1,0 +1,3 @@
+//! Tables and blocking times.
+mod blockings;
+mod edits;

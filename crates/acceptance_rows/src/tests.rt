@@ -1,0 +1,3 @@
+//! Names, lists and rows.
+mod names;
+mod row_lines;
