@@ -1,5 +1,5 @@
 -- The rows of the conflicts that were found are those of the definition.
-use Rattle.std.proofs.Common.{◌≡◌, ℕ, ◌<◌, [], ◌∷◌, ◌++◌, length, map, take, drop, get_or, refl, sym, ap, ◌∙◌, append_assoc, subst, arith}
+use Rattle.std.proofs.Common.{◌≡◌, ℕ, ◌<◌, [], ◌∷◌, ◌++◌, length, map, take, drop, get_or, refl, sym, ap, ◌∙◌, append_assoc, arith}
 use Rattle.std.specs.Prelude.{pos}
 use Rattle.std.specs.List.{Contains}
 use Rattle.std.proofs.lemmas.List.{length-map, get_or-map, get_or-take, length-take, map-append, take-append-drop}
@@ -7,8 +7,9 @@ use Rattle.std.proofs.lemmas.List.Elements.{Contains-get_or}
 use Rattle.std.proofs.lemmas.Simd.{map-map}
 use Rattle.rail_model.specs.declared.tables.Tables.{Tables}
 use Rattle.rail_model.specs.Conflict as whole
-use Rattle.rail_model.specs.Conflict.{AreConflicts, IsConflict}
+use Rattle.rail_model.specs.Conflict.{AreConflicts}
 use Rattle.rail_model.specs.Sound.{IsSound}
+use Rattle.rail_model.proofs.Timetables.{conflict_there}
 use Rattle.conflict_finder.specs.declared.found.Conflict.{Conflict}
 use Rattle.conflict_finder.specs.declared.found.Conflicts.{Conflicts}
 use Rattle.conflict_finder.specs.declared.found.TheConstants.{LISTED}
@@ -18,12 +19,6 @@ use Rattle.capacity_report.specs.Added.{AddsPrefix}
 use Rattle.section_cut.specs.Timetable.{timetable}
 use Rattle.capacity_report.specs.Check.{conflict_row, found_row, count_row, check_rows}
 use Rattle.capacity_report.proofs.Rows.{prefix_from}
-use Rattle.capacity_report.proofs.Timetables.{used_there}
-
--- the block of a conflict is one of the tables
-conflict_there : (tables : Tables) → IsSound tables → (c : whole.Conflict) → IsConflict (timetable tables) c → c.block < length tables.blocks
-conflict_there tables sound c h =
-    subst (λ b. b < length tables.blocks) (sym h.8.block) (used_there tables sound h.0 h.1 h.4 h.6)
 
 pub listed_there : (tables : Tables) → IsSound tables → (found : Conflicts) → IsFound (timetable tables) found → (i : ℕ) (d : Conflict) → i < length found.list → (get_or found.list i d).block < length tables.blocks
 listed_there tables sound found f i d l =

@@ -201,10 +201,8 @@ module _ (stairs : List Stair) (runs : List Ranked) (t : IsTimetable stairs) (ra
         m.u,
         stair_of n.k,
         n.u,
-        in_timetable m.k m.within,
-        in_timetable n.k n.within,
-        m.used,
-        n.used,
+        (in_timetable m.k m.within, m.used),
+        (in_timetable n.k n.within, n.used),
         makes_conflict m.k n.k m.u n.u m.within n.within (not_empty b n) c g,
       ))
 
@@ -299,11 +297,11 @@ module _ (stairs : List Stair) (runs : List Ranked) (t : IsTimetable stairs) (ra
 
   pub in_found : (c : whole.Conflict) → IsConflict stairs c → Contains (found runs blocked) c
   in_found c h =
-      let m : Makes h.0 h.1 h.2 h.3 c = h.8 in
-      let one = number h.0 h.4 in
-      let other = number h.2 h.5 in
-      let uses_one : Contains (stair_of one.k).uses h.1 = subst (λ (x : Stair). Contains x.uses h.1) (sym one.is) h.6 in
-      let uses_other : Contains (stair_of other.k).uses h.3 = subst (λ (x : Stair). Contains x.uses h.3) (sym other.is) h.7 in
+      let m : Makes h.0 h.1 h.2 h.3 c = h.6 in
+      let one = number h.0 h.4.0 in
+      let other = number h.2 h.5.0 in
+      let uses_one : Contains (stair_of one.k).uses h.1 = subst (λ (x : Stair). Contains x.uses h.1) (sym one.is) h.4.1 in
+      let uses_other : Contains (stair_of other.k).uses h.3 = subst (λ (x : Stair). Contains x.uses h.3) (sym other.is) h.5.1 in
       in_found_by c one.k other.k h.1 h.3 one.within other.within uses_one uses_other
       (subst (λ (x : Stair). Makes (stair_of one.k) h.1 x h.3 c) (sym other.is) (subst (λ (x : Stair). Makes x h.1 h.2 h.3 c) (sym one.is) m))
 

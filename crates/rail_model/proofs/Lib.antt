@@ -1,9 +1,13 @@
 mod Examples
 mod EditExamples
 mod NameTests
+pub mod Numbers
+pub mod Lists
 pub mod NameOrder
 pub mod Places
 pub mod Members
 pub mod Sound
+pub mod Edited
 pub mod Facts
 pub mod Paths
+pub mod Timetables

@@ -9,7 +9,7 @@ use Rattle.std.proofs.lemmas.Bool.{cases_Bool, ltb-true, leb-true, lt-ltb, le-le
 use Rattle.std.proofs.lemmas.Bool.Decides.{nat_tests}
 use Rattle.std.proofs.lemmas.List.Sums.{AllPass-from_list_all, list_all-from_AllPass}
 use Rattle.rail_model.specs.declared.name.TheConstants.{NAME_BYTES}
-use Rattle.rail_model.specs.Name.{IsNameByte, IsName, is_name_byte, is_name, is_plain_text, is_printable_byte}
+use Rattle.rail_model.specs.Name.{IsNameByte, IsName, is_name_byte, is_name}
 
 -- the test for UTF-8 says whether reading it succeeded
 pub is_utf8-from_result : {S E : Type 0} (bytes : List ℕ) (P : S → Type 0) (Q : E → Type 0) (r : Result S E) → MatchResult r (λ s. P s × IsUtf8 bytes) (λ e. (IsUtf8 bytes → ⊥) × Q e) → is_ok r ≡ is_utf8 bytes
@@ -31,6 +31,9 @@ is_name_byte-from_IsNameByte : (b : ℕ) → IsNameByte b → is_name_byte b ≡
 is_name_byte-from_IsNameByte b h = both_true (le-leb 32 b h.0) (grind (arith, nat_tests, h.1))
 
 -- printable bytes of ASCII are plain text
+abbrev is_printable_byte : ℕ → Bool
+is_printable_byte b = nat_le 32 b && nat_lt b 127
+
 printable_is_plain : (b : ℕ) → is_printable_byte b ≡ true → (is_name_byte b ≡ true) × (b < 128)
 printable_is_plain b h =
     let parts = and-split (nat_le 32 b) (nat_lt b 127) h in
@@ -48,7 +51,7 @@ printable_all_plain (b ∷ bytes) h =
     let parts = and-split (is_printable_byte b) _ h in
     both_true (printable_is_plain b parts.0).0 (printable_all_plain bytes parts.1)
 
-pub printable_is_plain_text : (bytes : List ℕ) → list_all is_printable_byte bytes ≡ true → is_plain_text bytes ≡ true
+pub printable_is_plain_text : (bytes : List ℕ) → list_all is_printable_byte bytes ≡ true → (list_all is_name_byte bytes && is_utf8 bytes) ≡ true
 printable_is_plain_text bytes h =
     both_true (printable_all_plain bytes h) (is_utf8-from_IsUtf8 bytes (IsUtf8-from_ascii bytes (printable_is_ascii bytes h)))
 

@@ -48,12 +48,12 @@ one_less true rest at n there more = omega arith
 one_less false rest at n there more = omega (arith, more there)
 
 -- the place of an item that passes, if one does
-place_within : {X : Type 0} (p : X → Bool) (xs : List X) → list_any p xs ≡ true → position_or_len p xs < length xs
+pub place_within : {X : Type 0} (p : X → Bool) (xs : List X) → list_any p xs ≡ true → position_or_len p xs < length xs
 place_within p [] there = absurd (false≢true there)
 place_within p (x ∷ xs) there = one_less (p x) (list_any p xs) (position_or_len p xs) (length xs) there (place_within p xs)
 
 -- no name is the same as a later one
-none_repeated : (names : List (List ℕ)) → has_repeat names ≡ false → (i j : ℕ) (d : List ℕ) → i < j → j < length names → bytes_eq (get_or names i d) (get_or names j d) ≡ false
+pub none_repeated : (names : List (List ℕ)) → has_repeat names ≡ false → (i j : ℕ) (d : List ℕ) → i < j → j < length names → bytes_eq (get_or names i d) (get_or names j d) ≡ false
 none_repeated [] none i j d before below = absurd (omega arith)
 none_repeated (a ∷ names) none zero zero d before below = absurd (omega arith)
 none_repeated (a ∷ names) none zero (suc j) d before below =
@@ -65,7 +65,7 @@ none_repeated (a ∷ names) none (suc i) (suc j) d before below =
     none_repeated names both.1 i j d (omega arith) (omega arith)
 
 -- items at one number have one name
-numbers_differ : (tables : Tables) (a b : List ℕ) → has_block tables a ≡ true → has_block tables b ≡ true → bytes_eq a b ≡ false → block_number tables a ≢ block_number tables b
+pub numbers_differ : (tables : Tables) (a b : List ℕ) → has_block tables a ≡ true → has_block tables b ≡ true → bytes_eq a b ≡ false → block_number tables a ≢ block_number tables b
 numbers_differ tables a b at_a at_b differ same =
     let p : List ℕ → Block → Bool = λ n x. bytes_eq x.name n in
     let first : bytes_eq (block_named tables a).name a ≡ true = passes_at_first (p a) tables.blocks no_block (place_within (p a) tables.blocks at_a) in
@@ -88,7 +88,7 @@ route_stands tables sound n there =
     sound.routes.each (position_or_len p tables.routes) no_route (place_within p tables.routes there)
 
 -- the numbers of a hop beyond a signal that is there are within the limits
-hop_fits : (tables : Tables) → IsSound tables → (n : List ℕ) (leg : Leg) → has_signal tables n ≡ true → is_leg_within leg ≡ true → IsHopWithin (hop_beyond tables (signal_named tables n) leg)
+pub hop_fits : (tables : Tables) → IsSound tables → (n : List ℕ) (leg : Leg) → has_signal tables n ≡ true → is_leg_within leg ≡ true → IsHopWithin (hop_beyond tables (signal_named tables n) leg)
 hop_fits tables sound n leg there timed =
     let s = signal_named tables n in
     let stands = signal_stands tables sound n there in
@@ -113,7 +113,7 @@ hop_fits tables sound n leg there timed =
     }
 
 -- signals of different blocks have different numbers of blocks
-hops_differ : (tables : Tables) → IsSound tables → (names : List (List ℕ)) (legs : List Leg) → list_all (has_signal tables) names ≡ true → has_repeat (map (λ n. (signal_named tables n).block) names) ≡ false → AllPairs (λ a b. a ≢ b) (map (λ (h : Hop). h.block) (hops_in tables names legs))
+pub hops_differ : (tables : Tables) → IsSound tables → (names : List (List ℕ)) (legs : List Leg) → list_all (has_signal tables) names ≡ true → has_repeat (map (λ n. (signal_named tables n).block) names) ≡ false → AllPairs (λ a b. a ≢ b) (map (λ (h : Hop). h.block) (hops_in tables names legs))
 hops_differ tables sound names legs there none i j d before below =
     let f : List ℕ → List ℕ = λ n. (signal_named tables n).block in
     let blocks = length-map (hops_in tables names legs) (λ (h : Hop). h.block) in

@@ -39,10 +39,14 @@ pub record Makes (i : Stair) (u : Use) (j : Stair) (v : Use) (c : Conflict) : Ty
   pub from : c.from ≡ v.start
   pub to : c.to ≡ int_min u.«end» v.«end»
 
--- some two runs of the timetable make this conflict
+-- a run of the timetable has this use
+abbrev pub HasUse : List Stair → Stair → Use → Type 0
+HasUse stairs i u = Contains stairs i × Contains i.uses u
+
+-- some two runs of the timetable make this conflict, each by a use of its own
 abbrev pub IsConflict : List Stair → Conflict → Type 0
 IsConflict stairs c =
-    (i : Stair) × (u : Use) × (j : Stair) × (v : Use) × Contains stairs i × Contains stairs j × Contains i.uses u × Contains j.uses v × Makes i u j v c
+    (i : Stair) × (u : Use) × (j : Stair) × (v : Use) × HasUse stairs i u × HasUse stairs j v × Makes i u j v c
 
 -- conflicts are listed by block, then by the first run's start and name, then by the second run's
 abbrev pub IsListedBefore : Conflict → Conflict → Type 0

@@ -1,5 +1,5 @@
 -- Names of blocks, signals, routes, runs, sections and connections.
-use Rattle.std.specs.Prelude.{◌≡◌, ◌≢◌, ℕ, ◌-◌, ◌<◌, ◌≤◌, Bool, false, not, ◌==◌, ◌&&◌, ◌||◌, nat_lt, nat_le, if◌then◌else◌, Option, Some, None, List, [], ◌∷◌, ◌++◌, length, replicate, All, AllPairs}
+use Rattle.std.specs.Prelude.{◌≡◌, ◌≢◌, ℕ, ◌<◌, ◌≤◌, Bool, false, not, ◌==◌, ◌&&◌, ◌||◌, nat_lt, nat_le, if◌then◌else◌, Option, Some, None, List, [], ◌∷◌, length, All, AllPairs}
 use Rattle.std.specs.List.{list_any, list_all}
 use Rattle.std.specs.Cmp.Lexicographic.{slice_cmp}
 use Rattle.std.specs.Ordering.{nat_cmp, is_lt}
@@ -17,10 +17,6 @@ pub record IsName (bytes : List ℕ) : Type 0 where
   pub short : length bytes ≤ NAME_BYTES
   pub plain : All IsNameByte bytes
   pub text : IsUtf8 bytes
-
--- the bytes, filled up with zeros to the room of a name
-abbrev pub padded : List ℕ → List ℕ
-padded bytes = bytes ++ replicate (NAME_BYTES - length bytes) 0
 
 -- names are ordered by their bytes
 abbrev pub IsBefore : List ℕ → List ℕ → Type 0
@@ -49,13 +45,6 @@ is_name_byte b = nat_le 32 b && not (b == 127)
 abbrev pub is_name : List ℕ → Bool
 is_name bytes =
     nat_lt 0 (length bytes) && nat_le (length bytes) NAME_BYTES && list_all is_name_byte bytes && is_utf8 bytes
-
--- the last two of its tests, which printable bytes of ASCII pass
-abbrev pub is_plain_text : List ℕ → Bool
-is_plain_text bytes = list_all is_name_byte bytes && is_utf8 bytes
-
-abbrev pub is_printable_byte : ℕ → Bool
-is_printable_byte b = nat_le 32 b && nat_lt b 127
 
 -- the name that the bytes are, if they are one
 abbrev pub name_of : List ℕ → Option (List ℕ)

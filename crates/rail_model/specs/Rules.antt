@@ -98,44 +98,30 @@ repeats_block tables r = has_repeat (map (λ n. (signal_named tables n).block) r
 
 -- the item names something twice: a route has two signals of one block, a section one block or a connection one run twice
 abbrev pub repeats : Tables → Item → Bool
-repeats tables (item.Block b) = false
-repeats tables (item.Signal s) = false
 repeats tables (item.Route r) = repeats_block tables r
-repeats tables (item.Run r) = false
 repeats tables (item.Section s) = has_repeat s.blocks
 repeats tables (item.Connection c) = is_same c.first c.second
+repeats tables x = false
 
 -- a run hasn't one leg for each signal of its route
 abbrev pub miscounts_legs : Tables → Item → Bool
-miscounts_legs tables (item.Block b) = false
-miscounts_legs tables (item.Signal s) = false
-miscounts_legs tables (item.Route r) = false
 miscounts_legs tables (item.Run r) = not (length r.legs == length (route_named tables r.route).signals)
-miscounts_legs tables (item.Section s) = false
-miscounts_legs tables (item.Connection c) = false
+miscounts_legs tables x = false
 
 -- ---- tests of a change and of a drop
 
 -- with the changed signal in the place of the old one, a route that lists it would have two signals of one block
 abbrev pub makes_repeat : Tables → Item → Bool
-makes_repeat tables (item.Block b) = false
 makes_repeat tables (item.Signal s) =
     list_any (λ r. lists r.signals s.name
     && repeats_block (record tables { signals = with_changed (λ x. x.name) tables.signals s }) r) tables.routes
-makes_repeat tables (item.Route r) = false
-makes_repeat tables (item.Run r) = false
-makes_repeat tables (item.Section s) = false
-makes_repeat tables (item.Connection c) = false
+makes_repeat tables x = false
 
 -- a run on the changed route hasn't one leg for each of its signals
 abbrev pub makes_miscount : Tables → Item → Bool
-makes_miscount tables (item.Block b) = false
-makes_miscount tables (item.Signal s) = false
 makes_miscount tables (item.Route r) =
     list_any (λ run. is_same run.route r.name && not (length run.legs == length r.signals)) tables.runs
-makes_miscount tables (item.Run r) = false
-makes_miscount tables (item.Section s) = false
-makes_miscount tables (item.Connection c) = false
+makes_miscount tables x = false
 
 -- another item names the one of this kind and name: a signal or a section its block, a route its signal, a run its route, a
 -- connection its run
@@ -145,8 +131,7 @@ is_used tables kind.Block n =
 is_used tables kind.Signal n = list_any (λ r. lists r.signals n) tables.routes
 is_used tables kind.Route n = list_any (λ r. is_same r.route n) tables.runs
 is_used tables kind.Run n = list_any (λ c. is_same c.first n || is_same c.second n) tables.connections
-is_used tables kind.Section n = false
-is_used tables kind.Connection n = false
+is_used tables k n = false
 
 -- ---- the first rule that refuses an edit, in this order
 

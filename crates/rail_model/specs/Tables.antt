@@ -6,10 +6,13 @@ use Rattle.rail_model.specs.declared.items.Signal.{Signal}
 use Rattle.rail_model.specs.declared.items.Route.{Route}
 use Rattle.rail_model.specs.declared.items.Leg.{Leg}
 use Rattle.rail_model.specs.declared.items.Run.{Run}
+use Rattle.rail_model.specs.declared.items.Section.{Section}
 use Rattle.rail_model.specs.declared.tables.Tables.{Tables}
 use Rattle.rail_model.specs.declared.path.Hop.{Hop}
 use Rattle.rail_model.specs.declared.path.Path.{Path}
 use Rattle.rail_model.specs.Name.{is_same}
+use Rattle.rail_model.specs.Path.{hop_count}
+use Rattle.rail_model.specs.Motion.{arrival}
 
 -- the place of a name among items, from 0, or how many there are where it isn't there
 abbrev pub number_of : {X : Type 0} → (X → List ℕ) → List X → List ℕ → ℕ
@@ -28,9 +31,19 @@ no_route = record { name = []; signals = [] }
 abbrev pub no_run : Run
 no_run = record { name = []; route = []; length_m = 0; tail_s = 0; start_s = 0; legs = [] }
 
--- the run with a number
+abbrev pub no_section : Section
+no_section = record { name = []; from_s = 0; to_s = 0; add_percent = 0; blocks = [] }
+
+-- the run, and the section, with a number
 abbrev pub run_at : Tables → ℕ → Run
 run_at tables n = slice_index_or tables.runs n no_run
+
+abbrev pub section_at : Tables → ℕ → Section
+section_at tables n = slice_index_or tables.sections n no_section
+
+-- the name of the block with a number
+abbrev pub block_name : Tables → ℕ → List ℕ
+block_name tables n = (slice_index_or tables.blocks n no_block).name
 
 -- the number of a block, and of a route
 abbrev pub block_number : Tables → List ℕ → ℕ
@@ -48,6 +61,9 @@ signal_named tables name = slice_index_or tables.signals (number_of (λ s. s.nam
 
 abbrev pub route_named : Tables → List ℕ → Route
 route_named tables name = slice_index_or tables.routes (route_number tables name) no_route
+
+abbrev pub run_named : Tables → List ℕ → Run
+run_named tables name = slice_index_or tables.runs (number_of (λ r. r.name) tables.runs name) no_run
 
 -- the hop of a run over the block beyond a signal, with the run's leg
 abbrev pub hop_beyond : Tables → Signal → Leg → Hop
@@ -72,3 +88,7 @@ path_in tables run = record {
   start_s = run.start_s;
   hops = map (λ p. hop_beyond tables (signal_named tables p.0) p.1) (zip (route_named tables run.route).signals run.legs);
 }
+
+-- when a run comes to the end of its path
+abbrev pub last_arrival : Tables → Run → ℕ
+last_arrival tables run = let path = path_in tables run in arrival path (hop_count path)

@@ -8,6 +8,7 @@ mod copies;
 mod edit;
 mod form;
 mod items;
+pub mod laws;
 mod limits;
 mod list;
 mod memory;

@@ -27,20 +27,22 @@ pub struct Name {
 }
 
 impl Model for Name {
-    ghost use Rattle.std.specs.Prelude.{◌≡◌, ◌≤◌, ℕ, List, length, take};
+    ghost use Rattle.std.specs.Prelude.{◌≡◌, ◌≤◌, ◌-◌, ◌++◌, ℕ, List, length, replicate, take};
     ghost use Rattle.std.specs.Coded.{coded_list, coded_ℕ};
 
     ghost Value = { List ℕ };
 
     ghost coded = { coded_list coded_ℕ };
 
-    ghost use Rattle.rail_model.specs.Name.{IsName, padded};
+    ghost use Rattle.rail_model.specs.declared.name.TheConstants.{NAME_BYTES};
+    ghost use Rattle.rail_model.specs.Name.{IsName};
 
     ghost view = { λ n. take n.len n.bytes };
 
-    ghost invariant = { λ n. (n.len ≤ length n.bytes) × (n.bytes ≡ padded (take n.len n.bytes)) × ∥ IsName (take n.len n.bytes) ∥₁ };
+    // Past the name's own bytes all are 0.
+    ghost invariant = { λ n. let own = take n.len n.bytes in (n.len ≤ length n.bytes) × (n.bytes ≡ own ++ replicate (NAME_BYTES - length own) 0) × ∥ IsName own ∥₁ };
 
-    ghost inverse = { λ bytes. record { len = length bytes; bytes = padded bytes } };
+    ghost inverse = { λ bytes. record { len = length bytes; bytes = bytes ++ replicate (NAME_BYTES - length bytes) 0 } };
 }
 
 impl Name {
@@ -72,10 +74,10 @@ impl Name {
     }
 }
 
-ghost use Rattle.std.specs.Prelude.{IsTrue, ◌≤◌, length};
+ghost use Rattle.std.specs.Prelude.{IsTrue, ◌≤◌, ◌-◌, ◌++◌, ◌&&◌, nat_le, nat_lt, length, replicate};
 ghost use Rattle.std.specs.List.{list_all};
 ghost use Rattle.std.specs.Str.{is_utf8};
-ghost use Rattle.rail_model.specs.Name.{IsName, is_name, is_name_byte, is_plain_text, is_printable_byte, padded as padded_of};
+ghost use Rattle.rail_model.specs.Name.{IsName, is_name, is_name_byte};
 
 // Whether the bytes are a name.
 fn is_name(bytes: &[u8]) -> bool
@@ -86,14 +88,14 @@ fn is_name(bytes: &[u8]) -> bool
 
 // Whether the bytes are UTF-8 without a control character of ASCII.
 fn is_plain_text(bytes: &[u8]) -> bool
-    ensures { result ≡ is_plain_text bytes.now }
+    ensures { result ≡ (list_all is_name_byte bytes.now && is_utf8 bytes.now) }
 {
     is_printable(bytes) || (is_plain(bytes) && is_text(bytes))
 }
 
 // Whether every byte is a printable one of ASCII, as in most names: such bytes are plain text.
 fn is_printable(bytes: &[u8]) -> bool
-    ensures { result ≡ list_all is_printable_byte bytes.now }
+    ensures { result ≡ list_all (λ b. nat_le 32 b && nat_lt b 127) bytes.now }
 {
     bytes.iter().all(|b| *b >= 32 && *b < 127)
 }
@@ -111,9 +113,10 @@ fn is_text(bytes: &[u8]) -> bool
     str::from_utf8(bytes).is_ok()
 }
 
+// The bytes, filled up with zeros to the room of a name.
 fn padded(bytes: &[u8]) -> [u8; 64]
     requires { length bytes.now ≤ NAME_BYTES }
-    ensures { result ≡ padded_of bytes.now }
+    ensures { result ≡ bytes.now ++ replicate (NAME_BYTES - length bytes.now) 0 }
 {
     let mut room = [0u8; 64];
     room[..bytes.len()].copy_from_slice(bytes);
