@@ -1,8 +1,11 @@
 -- Entries and passes that are made one after the other.
-use Rattle.std.proofs.Common.{◌≡◌, ℕ, zero, suc, ◌+◌, ◌-◌, ◌≤◌, List, [], ◌∷◌, ◌++◌, length, sym, refl, ap}
+use Rattle.std.proofs.Common.{◌≡◌, ℕ, ◌+◌, ◌-◌, ◌≤◌, List, [], ◌∷◌, ◌++◌, get_or, drop, sym, refl, ap}
 use Rattle.std.proofs.Common.{◌∙◌, subst, append_assoc, append-nil, length-append, arith}
+use Rattle.std.specs.List.{range_with_len}
 use Rattle.std.specs.Prelude.{Option, All, Result, Ok, Err, OnErr}
-use Rattle.std.proofs.lemmas.List.Elements.{All-nil, All-cons, All-push}
+use Rattle.std.proofs.lemmas.List.Elements.{All-nil, All-push, All-map}
+use Rattle.std.proofs.lemmas.List.FromFn.{map-range_with_len_more, length-map-range_with_len}
+use Rattle.std.proofs.lemmas.List.FromFn.{get_or-map-range_with_len}
 use Rattle.atomic_table.specs.Seated.{TableId}
 use Rattle.atomic_table.specs.declared.shared.Seat.{Seat}
 use Rattle.turn_desk.specs.declared.rule.View.{View}
@@ -10,9 +13,11 @@ use Rattle.turn_desk.specs.declared.kept.TheConstants.{MOST_PASSES}
 use Rattle.turn_desk.specs.Entering.{Issues, EntersSome, EntersAll}
 use Rattle.turn_desk.specs.Journal.{GoesOn, AddsOwn, Calls}
 use Rattle.turn_desk.specs.Known.{Known, IsSamePass, new_pass, new_passes}
+use Rattle.turn_desk.specs.Laws.{NewPassesStandInOrder, NumbersTellDesks}
 use Rattle.turn_desk.specs.Seats.{known, known_of}
 use Rattle.turn_desk.specs.Views.{newcomer, one_fewer, with_drawn}
 use Rattle.turn_desk.specs.Steps.{Mine}
+use Rattle.turn_desk.proofs.Fitting.{all_of}
 
 module _ {E : Type 0} (pass_of : E → ℕ) (issued_by : List E → ℕ) where
   pub issues_none : (number : ℕ) (xs : List E) → Issues pass_of issued_by number 0 xs xs
@@ -80,26 +85,13 @@ on_err (Ok x) h = tt
 on_err (Err e) h = h
 
 module _ {E : Type 0} where
-  pub new_passes-push : (desk : TableId) (seen : List E) (first count : ℕ)
-      → new_passes desk seen first count ++ new_pass desk (first + count) seen ∷ [] ≡ new_passes desk seen first
-      (count + 1)
-  new_passes-push desk seen first zero =
-      let e : first + 0 ≡ first = omega arith in λ i. new_pass desk (e i) seen ∷ []
-  new_passes-push desk seen first (suc count) =
-      let e : first + suc count ≡ first + 1 + count = omega arith in
-      let last : new_passes desk seen first (suc count) ++ new_pass desk (first + suc count) seen ∷ [] ≡ new_passes
-      desk seen first (suc count) ++ new_pass desk (first + 1 + count) seen ∷ [] =
-      λ i. new_passes desk seen first (suc count) ++ new_pass desk (e i) seen ∷ [] in
-      let s : suc count + 1 ≡ suc (count + 1) = omega arith in
-      last ∙ (ap (λ l. new_pass desk first seen ∷ l) (new_passes-push desk seen (first + 1) count)
-      ∙ ap (λ n. new_passes desk seen first n) (sym s))
-
   pub new_passes-more : (passes more : List (Known E)) (k : Known E) (desk : TableId) (seen : List E)
       (first count : ℕ)
       → more ≡ passes ++ k ∷ [] → passes ≡ new_passes desk seen first count → k ≡ new_pass desk (first + count) seen
       → more ≡ new_passes desk seen first (count + 1)
   new_passes-more passes more k desk seen first count is was new =
-      is ∙ ((λ i. was i ++ new i ∷ []) ∙ new_passes-push desk seen first count)
+      is ∙ ((λ i. was i ++ new i ∷ [])
+      ∙ sym (map-range_with_len_more (λ n. new_pass desk n seen) first count (first + count) refl))
 
   -- one number more has gone to a pass
   pub one_fewer_drawn : {V : Type 0} (start before after : Mine V E) (first count i : ℕ)
@@ -123,12 +115,25 @@ module _ {E : Type 0} where
   -- each of the new passes is of the desk, idle, and has its own number alone
   pub new_passes-all : (P : Known E → Type 0) (desk : TableId) (seen : List E) (first count : ℕ)
       → ((k : ℕ) → P (new_pass desk k seen)) → All P (new_passes desk seen first count)
-  new_passes-all P desk seen first zero each = All-nil P
-  new_passes-all P desk seen first (suc count) each =
-      All-cons P (new_pass desk first seen) (new_passes desk seen (first + 1) count) (each first)
-      (new_passes-all P desk seen (first + 1) count each)
+  new_passes-all P desk seen first count each =
+      All-map P (λ n. new_pass desk n seen) (range_with_len first count)
+      (all_of (λ n. P (new_pass desk n seen)) each (range_with_len first count))
 
-  pub length-new_passes : (desk : TableId) (seen : List E) (first count : ℕ)
-      → length (new_passes desk seen first count) ≡ count
-  length-new_passes desk seen first zero = refl
-  length-new_passes desk seen first (suc count) = ap suc (length-new_passes desk seen (first + 1) count)
+  pub new_passes-order : (desk : TableId) (seen : List E) (first count : ℕ)
+      → NewPassesStandInOrder desk seen first count
+  new_passes-order desk seen first count = let pass = λ (n : ℕ). new_pass desk n seen in record {
+    many = length-map-range_with_len pass first count;
+    at = λ i other lt. get_or-map-range_with_len pass first count i (first + i) other lt refl;
+    more = map-range_with_len_more pass first count (first + count) refl;
+  }
+
+pub same_desk : NumbersTellDesks
+same_desk a b e = let at = λ (i : ℕ). ap (λ (ns : List ℕ). get_or ns i 0) e in λ i. record {
+  words = at 0 i;
+  slots = at 1 i;
+  views_name = at 2 i;
+  atom = at 3 i;
+  block = at 4 i;
+  offset = at 5 i;
+  slot_names = ap (drop 6) e i;
+}

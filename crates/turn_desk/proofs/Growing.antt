@@ -5,7 +5,7 @@ use Rattle.std.specs.Prelude.{All, Contains, Bool, true, false, nat_lt, if◌the
 use Rattle.std.proofs.lemmas.Bool.Decides.{nat_tests}
 use Rattle.std.proofs.lemmas.List.Elements.{All-nil, All-cons, All-head, All-tail, All-append, All-weaker}
 use Rattle.std.proofs.lemmas.List.Elements.{Contains-append_cases}
-use Rattle.turn_desk.specs.Journal.{IsOthers, GoesOn, AddsOwn}
+use Rattle.turn_desk.specs.Journal.{IsOthers, GoesOn, OneGoesOn, AddsOwn}
 use Rattle.turn_desk.specs.Views.{longer}
 
 module _ {X : Type 0} (P : X → Type 0) where
@@ -115,7 +115,7 @@ module _ {E : Type 0} (pass_of : E → ℕ) where
       }
 
   -- where one seen part goes on from the other, the longer goes on from both
-  pub agreed : (ns ms : List ℕ) (xs ys : List E) → GoesOn pass_of ns xs ys ⊎ GoesOn pass_of ms ys xs
+  pub agreed : (ns ms : List ℕ) (xs ys : List E) → OneGoesOn pass_of ns xs ms ys
       → GoesOn pass_of ns xs (longer xs ys) × GoesOn pass_of ms ys (longer xs ys)
   agreed ns ms xs ys (inl g) = elim (longer_is xs ys) [
     | inl e ↦ let same : ys ≡ xs = g.is ∙ no_more xs g.more (subst (λ zs. length zs ≤ length xs) g.is e.1) in
@@ -138,7 +138,7 @@ module _ {E : Type 0} (pass_of : E → ℕ) where
           (goes_on-both ns ms ys log (goes_on-later ns ms xs ys log g h e.1) h)
     ]
 
-    pub one_goes_on : GoesOn pass_of ns xs ys ⊎ GoesOn pass_of ms ys xs
+    pub one_goes_on : OneGoesOn pass_of ns xs ms ys
     one_goes_on = elim (longer_is xs ys) [
       | inl e ↦ inr (goes_on-within ms ns ys xs log h g e.1)
       | inr e ↦ inl (goes_on-within ns ms xs ys log g h e.1)

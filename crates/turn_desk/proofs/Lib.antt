@@ -6,4 +6,4 @@ pub mod Passing
 pub mod Waiting
 pub mod Drawing
 pub mod Passes
-pub mod OwnEntries
+pub mod Facts

@@ -1,6 +1,7 @@
 -- What holds at each place of a list still does after a change of one place, or one more at the end.
 use Rattle.std.proofs.Common.{◌≡◌, ◌≢◌, ◌⊎◌, ℕ, zero, suc, ◌+◌, ◌<◌, List, [], ◌∷◌, ◌++◌, length, set, sym, ap, ◌∙◌}
-use Rattle.std.proofs.Common.{subst, refl, inl, inr, ⊎_elim, arith}
+use Rattle.std.proofs.Common.{get_or, subst, refl, inl, inr, ⊎_elim, arith}
+use Rattle.std.proofs.lemmas.List.Sums.{sum_by-set, sum_by_push}
 use mathlib.Core.Option.{some, some-injective, some-ne-none}
 use lib.ListN.{get_elem?}
 use Rattle.atomic_table.proofs.Lists.{at_set, set_here, set_else}
@@ -14,6 +15,11 @@ module _ {A : Type 0} where
   at_short [] i a e = absurd (some-ne-none a (sym e))
   at_short (x ∷ xs) zero a e = omega arith
   at_short (x ∷ xs) (suc i) a e = let h = at_short xs i a e in omega arith
+
+  pub at_is : (l : List A) (i : ℕ) (a : A) → get_elem? l i ≡ some a → get_or l i a ≡ a
+  at_is [] i a e = refl
+  at_is (x ∷ xs) zero a e = some-injective x a e
+  at_is (x ∷ xs) (suc i) a e = at_is xs i a e
 
   pub at_same : (l : List A) (i : ℕ) (a b : A) → get_elem? l i ≡ some a → get_elem? l i ≡ some b → a ≡ b
   at_same l i a b e f = some-injective a b (sym e ∙ f)
@@ -60,11 +66,10 @@ module _ {A : Type 0} where
 module _ {E : Type 0} where
   pub steps_of-set : (l : List (View E)) (i : ℕ) (v w : View E) → At l i v
       → steps_of (set l i w) + v.steps ≡ steps_of l + w.steps
-  steps_of-set [] i v w e = absurd (some-ne-none v (sym e))
-  steps_of-set (x ∷ xs) zero v w e = let h : x.steps ≡ v.steps =
-      ap (λ (y : View E). y.steps) (some-injective x v e) in omega arith
-  steps_of-set (x ∷ xs) (suc i) v w e = let h = steps_of-set xs i v w e in omega arith
+  steps_of-set l i v w e =
+      let steps = λ (u : View E). u.steps in
+      let here : steps (get_or l i v) ≡ v.steps = ap steps (at_is l i v e) in
+      omega (arith, sum_by-set steps l i w v (at_short l i v e))
 
   pub steps_of-end : (l : List (View E)) (w : View E) → steps_of (l ++ w ∷ []) ≡ steps_of l + w.steps
-  steps_of-end [] w = omega arith
-  steps_of-end (x ∷ xs) w = let h = steps_of-end xs w in omega arith
+  steps_of-end l w = sum_by_push (λ (u : View E). u.steps) l w

@@ -10,8 +10,8 @@ use Rattle.std.proofs.lemmas.List.Elements.{All-append, All-weaker, Contains-app
 use Rattle.atomic_table.specs.Table.{State, keeps, step, Allows, Splits, Joins}
 use Rattle.atomic_table.proofs.Lists.{set_else, set_again, at_longer}
 use Rattle.turn_desk.specs.declared.rule.View.{View}
-use Rattle.turn_desk.specs.Journal.{IsOthers}
-use Rattle.turn_desk.specs.Views.{one_fewer, newcomer, joined, spent, sight, longer}
+use Rattle.turn_desk.specs.Journal.{IsOthers, OneGoesOn}
+use Rattle.turn_desk.specs.Views.{one_fewer, newcomer, joined, spent, longer}
 use Rattle.turn_desk.specs.Rule as rule
 use Rattle.turn_desk.specs.Rule.{At, IsDrawn, Owns, OwnedOnce, steps_of, Dated, Taken, Free}
 use Rattle.turn_desk.specs.Steps as steps
@@ -287,7 +287,7 @@ module _ {V E : Type 0} (entries : V → List E) (pass_of : E → ℕ) (issued_b
       }
 
   pub telling : (slots id : ℕ) (me : Mine V E) → Allows Rule slots id me 0 (λ n. n)
-      (steps.told entries pass_of issued_by is_legal (step slots 0 0 0 none) me)
+      (steps.IsTell entries pass_of issued_by is_legal (step slots 0 0 0 none) me)
   telling slots id me s r _ at _ =
       let f = r.each id me.0 at in
       let put = λ (ws : List ℕ). set ws 0 (get_or ws 0 0) in
@@ -305,7 +305,7 @@ module _ {V E : Type 0} (entries : V → List E) (pass_of : E → ℕ) (issued_b
 
   -- what holds of a pass still does after another has left into it
   pub pass_joined : (m o m' : Mine V E) (number other : ℕ) → m' ≡ (joined m.0 o.0, m.1)
-      → rule.Agree pass_of (sight m.0) (sight o.0)
+      → OneGoesOn pass_of m.0.numbers m.0.seen o.0.numbers o.0.seen
       → IsPass issued_by is_legal m number → IsPass issued_by is_legal o other → IsPass issued_by is_legal m' number
   pass_joined m o m' number other is agree p q =
       let xs = m.0.seen in

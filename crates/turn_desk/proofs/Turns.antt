@@ -95,7 +95,7 @@ module _ {V E : Type 0} (entries : V → List E) (pass_of : E → ℕ) (issued_b
   win : (s : State (Option V) (View E)) (r : Rule s) (f : Open s r.log) (slots id : ℕ) (me : Mine V E)
       → At s.views id me.0
       → Can s id me (λ x. either (eqb x 0) 1 x)
-      (steps.took entries pass_of issued_by is_legal (step slots 0 0 1 none) me) (0 ∷ [])
+      (steps.IsTake entries pass_of issued_by is_legal (step slots 0 0 1 none) me) (0 ∷ [])
   win s r f slots id me at =
       let moment = steps_of s.views + 1 in
       let log = entries f.value in
@@ -147,7 +147,7 @@ module _ {V E : Type 0} (entries : V → List E) (pass_of : E → ℕ) (issued_b
   lose : (s : State (Option V) (View E)) (r : Rule s) (t : Held s r.log) (slots id : ℕ) (me : Mine V E)
       → At s.views id me.0 → me.0.holds ≡ false
       → Can s id me (λ x. either (eqb x 0) 1 x)
-      (steps.took entries pass_of issued_by is_legal (step slots 0 0 1 none) me) (1 ∷ [])
+      (steps.IsTake entries pass_of issued_by is_legal (step slots 0 0 1 none) me) (1 ∷ [])
   lose s r t slots id me at idle =
       let moment = steps_of s.views + 1 in
       let w = lost moment me.0 in
@@ -183,10 +183,10 @@ module _ {V E : Type 0} (entries : V → List E) (pass_of : E → ℕ) (issued_b
 
   pub taking : (slots id : ℕ) (me : Mine V E) → me.0.holds ≡ false
       → Allows Rule slots id me 0 (λ x. either (eqb x 0) 1 x)
-      (steps.took entries pass_of issued_by is_legal (step slots 0 0 1 none) me)
+      (steps.IsTake entries pass_of issued_by is_legal (step slots 0 0 1 none) me)
   taking slots id me idle s r _ at _ =
       let P : List ℕ → Type 0 = Can s id me (λ x. either (eqb x 0) 1 x)
-      (steps.took entries pass_of issued_by is_legal (step slots 0 0 1 none) me) in
+      (steps.IsTake entries pass_of issued_by is_legal (step slots 0 0 1 none) me) in
       elim r.turn [
         | inl f ↦ subst P (sym f.word) (win s r f slots id me at)
         | inr t ↦ subst P (sym t.word) (lose s r t slots id me at idle)
@@ -299,14 +299,14 @@ module _ {V E : Type 0} (entries : V → List E) (pass_of : E → ℕ) (issued_b
   pub giving : (slots id : ℕ) (me : Mine V E) (number : ℕ) (value : V) → me.1 ≡ (0, Some value) ∷ []
       → me.0.holds ≡ true → Contains me.0.numbers number
       → AddsOwn pass_of number me.0.seen (entries value) → is_legal (entries value)
-      → Allows Rule slots id me 0 (λ _. 0) (λ _. steps.gave entries pass_of issued_by is_legal (step slots 0 0 0 none)
+      → Allows Rule slots id me 0 (λ _. 0) (λ _. steps.IsGive entries pass_of issued_by is_legal (step slots 0 0 0 none)
       me 0)
   giving slots id me number value hand on own adds legal s r _ at _ =
       let v = me.0 in
       let moment = steps_of s.views + 1 in
       let P : List (ℕ × Option V) → Type 0 = λ hs. (w : View E) × (a : Act (Option V)) × Valid s.homes hs a
       × Rule (stepped s 0 0 id hs w a)
-      × steps.gave entries pass_of issued_by is_legal (step slots 0 0 0 none) (v, hs) 0 (w, carried_after hs a) in
+      × steps.IsGive entries pass_of issued_by is_legal (step slots 0 0 0 none) (v, hs) 0 (w, carried_after hs a) in
       subst P (sym hand) (
         given issued_by moment (entries value) v,
         gives,
@@ -319,13 +319,13 @@ module _ {V E : Type 0} (entries : V → List E) (pass_of : E → ℕ) (issued_b
   pub giving_after : (slots id : ℕ) (m m' : Mine V E) (number : ℕ) (value : V)
       → m' ≡ (m.0, (0, Some value) ∷ rest m.1) → m.1 ≡ (0, None) ∷ [] → m.0.holds ≡ true
       → Contains m.0.numbers number → AddsOwn pass_of number m.0.seen (entries value) → is_legal (entries value)
-      → Allows Rule slots id m' 0 (λ _. 0) (λ _. steps.gave entries pass_of issued_by is_legal (step slots 0 0 0 none)
+      → Allows Rule slots id m' 0 (λ _. 0) (λ _. steps.IsGive entries pass_of issued_by is_legal (step slots 0 0 0 none)
       m' 0)
   giving_after slots id m m' number value is hand on own adds legal =
       let now : m' ≡ (m.0, (0, Some value) ∷ []) = is
       ∙ ap (λ (hs : List (ℕ × Option V)). (m.0, (0, Some value) ∷ rest hs)) hand in
       subst (λ z. Allows Rule slots id z 0 (λ _. 0)
-      (λ _. steps.gave entries pass_of issued_by is_legal (step slots 0 0 0 none) z 0)) (sym now)
+      (λ _. steps.IsGive entries pass_of issued_by is_legal (step slots 0 0 0 none) z 0)) (sym now)
       (giving slots id (m.0, (0, Some value) ∷ []) number value refl on own adds legal)
 
   close : (s : State (Option V) (View E)) (r : Rule s) (id : ℕ) (v : View E) → At s.views id v → v.holds ≡ true
@@ -364,14 +364,14 @@ module _ {V E : Type 0} (entries : V → List E) (pass_of : E → ℕ) (issued_b
       }
 
   pub shutting : (slots id : ℕ) (me : Mine V E) → me.1 ≡ (0, None) ∷ [] → me.0.holds ≡ true
-      → Allows Rule slots id me 0 (λ _. 1) (λ _. steps.shut entries pass_of issued_by is_legal (step slots 0 1 0 none)
+      → Allows Rule slots id me 0 (λ _. 1) (λ _. steps.IsShut entries pass_of issued_by is_legal (step slots 0 1 0 none)
       me 1)
   shutting slots id me hand on s r _ at _ =
       let v = me.0 in
       let moment = steps_of s.views + 1 in
       let P : List (ℕ × Option V) → Type 0 = λ hs. (w : View E) × (a : Act (Option V)) × Valid s.homes hs a
       × Rule (stepped s 0 1 id hs w a)
-      × steps.shut entries pass_of issued_by is_legal (step slots 0 1 0 none) (v, hs) 1 (w, carried_after hs a) in
+      × steps.IsShut entries pass_of issued_by is_legal (step slots 0 1 0 none) (v, hs) 1 (w, carried_after hs a) in
       subst P (sym hand) (closing moment v, gives, tt, close s r id v at on, λ _. (moment, refl))
 
   -- once a pass has closed the desk, the slot that comes back is empty

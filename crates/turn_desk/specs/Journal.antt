@@ -1,5 +1,5 @@
 -- A list of entries that grows, as one who has seen a prefix of it finds it again.
-use Rattle.std.specs.Prelude.{◌≡◌, ℕ, ◌≤◌, List, ◌∷◌, ◌++◌, All, Contains}
+use Rattle.std.specs.Prelude.{◌≡◌, ◌⊎◌, ℕ, ◌≤◌, List, ◌∷◌, ◌++◌, All, Contains}
 
 -- a longer list that begins with a list has issued no fewer passes
 abbrev pub NeverIssuesFewer : {E : Type 0} → (List E → ℕ) → Type 0
@@ -8,6 +8,10 @@ NeverIssuesFewer {E} issued_by = (xs ys : List E) → issued_by xs ≤ issued_by
 -- each prefix of a legal list that has at least one entry is legal
 abbrev pub HasLegalPrefixes : {E : Type 0} → (List E → Type 0) → Type 0
 HasLegalPrefixes {E} is_legal = (e : E) (xs ys : List E) → is_legal (e ∷ xs ++ ys) → is_legal (e ∷ xs)
+
+-- no number stands in both lists
+abbrev pub HaveNoneInCommon : List ℕ → List ℕ → Type 0
+HaveNoneInCommon ns ms = (n : ℕ) → Contains ns n → Contains ms n → ⊥
 
 module _ {E : Type 0} (pass_of : E → ℕ) where
   -- the entry carries none of the numbers
@@ -19,6 +23,11 @@ module _ {E : Type 0} (pass_of : E → ℕ) where
     pub more : List E
     pub is : log ≡ seen ++ more
     pub others : All (IsOthers numbers) more
+
+  -- one of two seen parts begins with the other, and what the longer has beyond it carries none of the
+  -- numbers of the pass with the shorter
+  abbrev pub OneGoesOn : List ℕ → List E → List ℕ → List E → Type 0
+  OneGoesOn ns xs ms ys = GoesOn ns xs ys ⊎ GoesOn ms ys xs
 
   -- the list is what was found, and then entries that carry the number
   pub record AddsOwn (number : ℕ) (found log : List E) : Type 0 where

@@ -1,7 +1,8 @@
 -- What contracts see of a pass, and how the calls of a desk change it.
-use Rattle.std.specs.Prelude.{◌≡◌, ◌⊎◌, ℕ, ◌+◌, zero, suc, Bool, true, false, List, [], ◌∷◌, ◌++◌, Contains}
+use Rattle.std.specs.Prelude.{◌≡◌, ℕ, ◌+◌, Bool, true, false, List, [], ◌∷◌, ◌++◌, map}
+use Rattle.std.specs.List.{range_with_len}
 pub use Rattle.atomic_table.specs.Seated.{TableId}
-use Rattle.turn_desk.specs.Journal.{GoesOn}
+use Rattle.turn_desk.specs.Journal.{OneGoesOn, HaveNoneInCommon}
 use Rattle.turn_desk.specs.Views.{longer}
 
 pub record Known (E : Type 0) : Type 0 where
@@ -40,8 +41,7 @@ module _ {E : Type 0} where
 
   -- the passes of this many numbers, from the first on
   abbrev pub new_passes : TableId → List E → ℕ → ℕ → List (Known E)
-  new_passes desk seen first zero = []
-  new_passes desk seen first (suc count) = new_pass desk first seen ∷ new_passes desk seen (first + 1) count
+  new_passes desk seen first count = map (λ number. new_pass desk number seen) (range_with_len first count)
 
   -- the pass after one try that took the turn, with this list
   abbrev pub with_turn : Known E → List E → Known E
@@ -86,9 +86,8 @@ module _ {E : Type 0} where
   -- one of two seen parts begins with the other, and what the longer has beyond it carries none of the
   -- numbers of the pass with the shorter
   abbrev pub AgreeOn : (E → ℕ) → Known E → Known E → Type 0
-  AgreeOn pass_of k other =
-      GoesOn pass_of k.numbers k.seen other.seen ⊎ GoesOn pass_of other.numbers other.seen k.seen
+  AgreeOn pass_of k other = OneGoesOn pass_of k.numbers k.seen other.numbers other.seen
 
   -- the two passes have no number in common
   abbrev pub HaveNoCommonNumber : Known E → Known E → Type 0
-  HaveNoCommonNumber k other = (n : ℕ) → Contains k.numbers n → Contains other.numbers n → ⊥
+  HaveNoCommonNumber k other = HaveNoneInCommon k.numbers other.numbers

@@ -1,34 +1,38 @@
--- Laws on calls by passes, for those who keep facts about the entries of a pass.
-use Rattle.std.specs.Prelude.{◌≡◌, ◌≢◌, ℕ, ◌<◌, ◌==◌, List, ◌∷◌, ◌++◌, Contains, filter}
-use Rattle.turn_desk.specs.Journal.{GoesOn, Calls}
-use Rattle.turn_desk.specs.Known.{Known, AgreeOn}
+-- Laws for those who keep facts about what passes have seen.
+use Rattle.std.specs.Prelude.{◌≡◌, ℕ, ◌+◌, ◌<◌, List, [], ◌∷◌, ◌++◌, length, slice_index_or, All}
+use Rattle.turn_desk.specs.Journal.{GoesOn}
+use Rattle.turn_desk.specs.Known.{Known, TableId, AgreeOn, new_pass, new_passes}
 use Rattle.turn_desk.specs.Views.{longer}
 
-module _ {E : Type 0} (pass_of : E → ℕ) where
-  -- the entries that carry this number
-  abbrev pub own_entries : ℕ → List E → List E
-  own_entries number xs = filter (λ e. pass_of e == number) xs
+module _ {E : Type 0} where
+  -- each entry that carries the number has the property
+  abbrev pub AllOwn : (E → ℕ) → (E → Type 0) → ℕ → List E → Type 0
+  AllOwn pass_of P number xs = All (λ e. pass_of e ≡ number → P e) xs
 
-  -- a call by a pass adds its own entries to those of its number, and none to those of its other numbers
-  pub record CallsKeepOwn : Type 0 where
-    pub mine : (number : ℕ) (numbers : List ℕ) (before after : List E) (c : Calls pass_of number numbers before after)
-        → Contains numbers number
-        → own_entries number after ≡ own_entries number before ++ c.adds_own.own
-    pub others : (number other : ℕ) (numbers : List ℕ) (before after : List E)
-        → Calls pass_of number numbers before after → Contains numbers other → other ≢ number
-        → own_entries other after ≡ own_entries other before
+  -- What is seen once one pass has left into another goes on from what either had seen, by entries of none of
+  -- its numbers
+  abbrev pub LeavingGoesOn : (E → ℕ) → Type 0
+  LeavingGoesOn pass_of = (k other : Known E) → AgreeOn pass_of k other
+      → GoesOn pass_of k.numbers k.seen (longer k.seen other.seen)
+      × GoesOn pass_of other.numbers other.seen (longer k.seen other.seen)
 
-  -- a pass into which another has left has seen just those entries of each of its numbers that the one of the
-  -- two which had the number had seen
-  pub record JoinKeepsOwn : Type 0 where
-    pub mine : (k other : Known E) (number : ℕ) → AgreeOn pass_of k other → Contains k.numbers number
-        → own_entries number (longer k.seen other.seen) ≡ own_entries number k.seen
-    pub theirs : (k other : Known E) (number : ℕ) → AgreeOn pass_of k other → Contains other.numbers number
-        → own_entries number (longer k.seen other.seen) ≡ own_entries number other.seen
+  -- a list that goes on from one which goes on from what was seen goes on from it, too
+  abbrev pub GoingOnAddsUp : (E → ℕ) → Type 0
+  GoingOnAddsUp pass_of = (numbers : List ℕ) (seen found log : List E) → GoesOn pass_of numbers seen found
+      → GoesOn pass_of numbers found log → GoesOn pass_of numbers seen log
 
-  -- where a pass has all numbers that are issued in what it has seen, and the next entry of a journal carries
-  -- an issued number, there is no next entry: the journal is what the pass has seen
-  abbrev pub AllHaveLeft : (List E → ℕ) → Type 0
-  AllHaveLeft issued_by = (numbers : List ℕ) (seen log : List E) → GoesOn pass_of numbers seen log
-      → ((n : ℕ) → n < issued_by seen → Contains numbers n)
-      → ((e : E) (more : List E) → log ≡ seen ++ e ∷ more → pass_of e < issued_by seen) → log ≡ seen
+  -- There are as many new passes as numbers were drawn, each at the place of its number. One more number gives
+  -- one more pass at the end
+  pub record NewPassesStandInOrder (desk : TableId) (seen : List E) (first count : ℕ) : Type 0 where
+    pub many : length (new_passes desk seen first count) ≡ count
+    pub at : (i : ℕ) (other : Known E) → i < count
+        → slice_index_or (new_passes desk seen first count) i other ≡ new_pass desk (first + i) seen
+    pub more : new_passes desk seen first (count + 1)
+        ≡ new_passes desk seen first count ++ new_pass desk (first + count) seen ∷ []
+
+-- the numbers of a desk, which are those of no other
+abbrev pub numbers_of : TableId → List ℕ
+numbers_of d = d.words ∷ d.slots ∷ d.views_name ∷ d.atom ∷ d.block ∷ d.offset ∷ d.slot_names
+
+abbrev pub NumbersTellDesks : Type 0
+NumbersTellDesks = (a b : TableId) → numbers_of a ≡ numbers_of b → a ≡ b

@@ -1,12 +1,11 @@
 -- The rule between any two steps.
-use Rattle.std.specs.Prelude.{◌≡◌, ◌⊎◌, ℕ, ◌+◌, ◌<◌, ◌≤◌, true, false, List, [], ◌∷◌, slice_index, All, Contains}
+use Rattle.std.specs.Prelude.{◌≡◌, ◌⊎◌, ℕ, ◌+◌, ◌<◌, ◌≤◌, true, false, List, [], ◌∷◌, slice_index, sum_by, All, Contains}
 use Rattle.std.specs.Prelude.{Option, Some, None}
 use mathlib.Core.Option.{some, none}
 use lib.ListN.{get_elem?}
 use Rattle.atomic_table.specs.Table.{State}
-use Rattle.turn_desk.specs.declared.rule.Sight.{Sight}
 use Rattle.turn_desk.specs.declared.rule.View.{View}
-use Rattle.turn_desk.specs.Journal.{GoesOn}
+use Rattle.turn_desk.specs.Journal.{GoesOn, OneGoesOn, HaveNoneInCommon}
 
 module _ {E : Type 0} where
   -- the number is drawn for a pass that is not made yet
@@ -19,16 +18,7 @@ module _ {E : Type 0} where
 
   -- all steps on the word
   abbrev pub steps_of : List (View E) → ℕ
-  steps_of [] = 0
-  steps_of (v ∷ vs) = v.steps + steps_of vs
-
-  -- no number stands in both
-  abbrev pub Apart : Sight E → Sight E → Type 0
-  Apart one two = (n : ℕ) → Contains one.numbers n → Contains two.numbers n → ⊥
-
-  -- one seen part begins with the other, and goes on by entries of others
-  abbrev pub Agree : (E → ℕ) → Sight E → Sight E → Type 0
-  Agree pass_of one two = GoesOn pass_of one.numbers one.seen two.seen ⊎ GoesOn pass_of two.numbers two.seen one.seen
+  steps_of views = sum_by (λ v. v.steps) views
 
   -- the view at this seat
   abbrev pub At : List (View E) → ℕ → View E → Type 0
@@ -48,8 +38,8 @@ module _ {E : Type 0} (pass_of : E → ℕ) (issued_by : List E → ℕ) where
     pub drawn_below : v.drawn + v.left ≤ issued_by v.seen
     pub either : (n : ℕ) → Contains v.numbers n → IsDrawn v n → ⊥
     pub unused : All (λ e. IsDrawn v (pass_of e) → ⊥) log
-    pub agree : Agree pass_of v.one v.two
-    pub apart : Apart v.one v.two
+    pub agree : OneGoesOn pass_of v.one.numbers v.one.seen v.two.numbers v.two.seen
+    pub apart : HaveNoneInCommon v.one.numbers v.two.numbers
 
 module _ {V E : Type 0} where
   -- The turn is taken: just one pass holds, and has seen the whole journal. The slot is with it, or it is

@@ -6,6 +6,7 @@ ghost use Rattle.turn_desk.specs.Known.{IsReady, IsSamePass, AgreeOn, HaveNoComm
 ghost use Rattle.turn_desk.specs.Known.{with_turn, refused, without_turn, with_other};
 
 use crate::drawn::draw_all;
+use crate::kept::learn_legal;
 use crate::rule::{Law, View};
 use crate::steps::{give_back, join_one, shut_down, try_turn};
 use crate::{Kept, MOST_PASSES, Pass, Turn};
@@ -54,7 +55,7 @@ impl<V: Kept> Desk<V> {
         requires zero { All (λ e. V.pass_of e ≡ 0) (V.entries value) }
         ensures { IfOk result (λ r. r.1 ≡ new_pass r.0 0 (V.entries value)) }
     {
-        let _issued = value.issued();
+        learn_legal(&value);
         let key = Snapshot::of(&value);
         let mut slots = Vec::new(alloc);
         slots.push(Some(value))?;
@@ -65,12 +66,13 @@ impl<V: Kept> Desk<V> {
     }
 
     /// One try to take the turn, which does not wait. What the value's list has beyond the pass's
-    /// seen part are entries of others. `Busy` comes exactly where the turn was taken at the pass's
+    /// seen part are entries of others, and the list is legal. `Busy` comes exactly where the turn was taken at the pass's
     /// one step: the word was 1 then, and nothing but counts has changed.
     pub fn try_take(&self, pass: &mut Pass<V>) -> Result<Turn<V>, Busy>
         requires { IsReady self.now pass.old }
         ensures goes_on { IfOk result
             (λ turn. GoesOn V.pass_of pass.old.numbers pass.old.seen (V.entries turn)) }
+        ensures legal { IfOk result (λ turn. V.is_legal (V.entries turn)) }
         ensures ok { IfOk result (λ turn. pass.new ≡ with_turn pass.old (V.entries turn)) }
         ensures busy { OnErr result (pass.new ≡ refused pass.old) }
     {
@@ -89,17 +91,18 @@ impl<V: Kept> Desk<V> {
         ensures { pass.new ≡ without_turn pass.old (V.entries turn) }
     {
         let value = turn.into_value();
-        let _issued = value.issued();
+        learn_legal(&value);
         give_back(&self.table.shared, &mut pass.seat, pass.number, value);
     }
 
     /// Takes the turn. It sleeps while another pass has it. What the value's list has beyond the
-    /// pass's seen part are entries of others. Each try is one step, and the last found the turn
-    /// free.
+    /// pass's seen part are entries of others, and the list is legal. Each try is one step, and the
+    /// last found the turn free.
     pub fn take<R: Wait>(&self, rt: &R, pass: &mut Pass<V>) -> Turn<V>
         requires { IsReady self.now pass.old }
         ensures pass { IsSamePass pass.old pass.new }
         ensures goes_on { GoesOn V.pass_of pass.old.numbers pass.old.seen (V.entries result) }
+        ensures legal { V.is_legal (V.entries result) }
         ensures seen { pass.new.seen ≡ V.entries result }
         ensures holds { pass.new.holds ≡ true }
         ensures tries { pass.old.tries < pass.new.tries }
@@ -119,7 +122,11 @@ impl<V: Kept> Desk<V> {
     /// Draws `count` numbers in one turn, one after the other, and gives a new pass for each, in
     /// the order of the numbers. `Full` comes exactly where so many numbers are not left; no entry
     /// is then made. Out of memory, some of the entries may stand in the journal, and no pass has
-    /// their numbers. In each case the pass has taken the turn, and given it back by one more step.
+    /// their numbers. In each case the pass has taken the turn, and given it back by one more step,
+    /// and what it has seen is legal.
+    ///
+    /// No number goes to two passes of a desk. A caller learns this where one of the two leaves
+    /// into the other: `leave` says that they have no number in common.
     pub fn enter<R: Wait>(
         &self,
         rt: &R,
@@ -130,6 +137,7 @@ impl<V: Kept> Desk<V> {
         requires { IsReady self.now pass.old }
         ensures pass { IsSamePass pass.old pass.new }
         ensures idle { pass.new.holds ≡ false }
+        ensures legal { V.is_legal pass.new.seen }
         ensures tries { pass.old.tries < pass.new.tries }
         ensures found { pass.new.found ≡ 0 }
         ensures steps { pass.new.steps ≡ pass.old.steps + (pass.new.tries - pass.old.tries) + 1 }
@@ -167,15 +175,13 @@ impl<V: Kept> Desk<V> {
         join_one(&self.table.shared, &mut pass.seat, other.into_seat());
     }
 
-    /// Takes the last turn, and keeps its value. What its list has beyond the pass's seen part are
-    /// entries of others.
-    pub fn close<R: Wait>(self, rt: &R, pass: Pass<V>) -> V
-        requires { IsReady self pass }
-        ensures goes_on { GoesOn V.pass_of pass.numbers pass.seen (V.entries result) }
-        ensures legal { V.is_legal (V.entries result) }
+    /// Closes the desk with the turn that the pass holds, and gives the turn's value as it is. No
+    /// pass takes a turn afterwards.
+    pub fn shut(self, pass: Pass<V>, turn: Turn<V>) -> V
+        requires desk { pass.desk ≡ self }
+        requires holds { pass.holds ≡ true }
+        ensures { result ≡ turn }
     {
-        let mut pass = pass;
-        let value = self.take(rt, &mut pass).into_value();
         let mut seat = pass.into_seat();
         shut_down(&self.table.shared, &mut seat);
         let Desk { table } = self;
@@ -183,6 +189,18 @@ impl<V: Kept> Desk<V> {
         let left = closed.take(0);
         let None = left else { unreachable!() };
         closed.free();
-        value
+        turn.into_value()
+    }
+
+    /// Takes the last turn, and keeps its value: a `take` and then a `shut`. What the value's list
+    /// has beyond the pass's seen part are entries of others, and the list is legal.
+    pub fn close<R: Wait>(self, rt: &R, pass: Pass<V>) -> V
+        requires { IsReady self pass }
+        ensures goes_on { GoesOn V.pass_of pass.numbers pass.seen (V.entries result) }
+        ensures legal { V.is_legal (V.entries result) }
+    {
+        let mut pass = pass;
+        let turn = self.take(rt, &mut pass);
+        self.shut(pass, turn)
     }
 }

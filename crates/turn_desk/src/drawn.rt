@@ -5,7 +5,8 @@ ghost use Rattle.turn_desk.specs.Known.{new_passes, without_turn};
 ghost use Rattle.turn_desk.specs.Seats.{IsSmall, IsPass, known};
 ghost use Rattle.turn_desk.specs.Views.{with_drawn};
 
-use crate::steps::{Seat, Shared, cut_one, give_back};
+use crate::kept::learn_legal;
+use crate::steps::{Seat, Shared, give_back, new_seat};
 use crate::{Kept, MOST_PASSES, Pass};
 use rail_model::{List, OutOfMemory};
 use std::alloc::Global;
@@ -26,7 +27,7 @@ pub(crate) fn enter_all<V: Kept>(value: &mut V, by: u32, count: u32) -> Result<(
 }
 
 // The passes of the numbers that were drawn in the last turn, from the first on.
-pub(crate) fn cut_all<V: Kept>(
+pub(crate) fn make_passes<V: Kept>(
     alloc: Global,
     shared: &Shared<V>,
     seat: &mut Seat<V>,
@@ -46,7 +47,7 @@ pub(crate) fn cut_all<V: Kept>(
 {
     let mut passes = List::new(alloc);
     for i in 0..count {
-        let seat = cut_one(shared, seat);
+        let seat = new_seat(shared, seat);
         passes.push(Pass {
             seat,
             number: first + i,
@@ -77,8 +78,8 @@ pub(crate) fn draw_all<V: Kept>(
     let mut value = value;
     let first = value.issued();
     let entered = enter_all(&mut value, number, count);
-    let _issued = value.issued();
+    learn_legal(&value);
     give_back(shared, seat, number, value);
     entered?;
-    cut_all(alloc, shared, seat, first, count)
+    make_passes(alloc, shared, seat, first, count)
 }

@@ -7,6 +7,13 @@ use rail_model::OutOfMemory;
 /// The most passes that can be issued at one desk, pass 0 among them.
 pub const MOST_PASSES: u32 = u32::MAX;
 
+// Learns that the value's list is legal.
+pub(crate) fn learn_legal<V: Kept>(value: &V)
+    ensures { V.is_legal (V.entries value.now) }
+{
+    let _issued = value.issued();
+}
+
 /// A value that a desk hands from thread to thread. It keeps a list of entries, to which every
 /// change is added at the end.
 pub trait Kept {

@@ -1,22 +1,29 @@
-//! Laws on calls by passes, for those who keep facts about the entries of a pass.
-ghost use Rattle.turn_desk.specs.Laws.{CallsKeepOwn, JoinKeepsOwn, AllHaveLeft};
+//! Laws for those who keep facts about what passes have seen. That a fact of all entries of a number
+//! is kept as the journal goes on is the lemmas of `proofs/Facts.antt`.
+ghost use Rattle.std.specs.Prelude.{ℕ, List};
+ghost use Rattle.turn_desk.specs.Known.{TableId};
+ghost use Rattle.turn_desk.specs.Laws.{LeavingGoesOn, GoingOnAddsUp};
+ghost use Rattle.turn_desk.specs.Laws.{NewPassesStandInOrder, NumbersTellDesks};
 
 use crate::Kept;
 
-/// A call adds its own entries to those of its pass's number, and none to those of the pass's other
-/// numbers.
-pub fn calls_keep_own_entries<V: Kept>()
-    ensures { CallsKeepOwn V.pass_of }
+/// What is seen once a pass has left into another goes on from what either had seen.
+pub fn leaving_goes_on<V: Kept>()
+    ensures { LeavingGoesOn V.pass_of }
 {}
 
-/// A pass into which another has left has seen the own entries of both, and no others of their
-/// numbers.
-pub fn leaving_keeps_own_entries<V: Kept>()
-    ensures { JoinKeepsOwn V.pass_of }
+/// What goes on from a list that goes on from what a pass had seen goes on from that, too.
+pub fn going_on_adds_up<V: Kept>()
+    ensures { GoingOnAddsUp V.pass_of }
 {}
 
-/// Where all issued passes have left into one, and where the next entry of the journal would carry
-/// an issued number, the journal is what that one has seen.
-pub fn all_is_seen_once_all_have_left<V: Kept>()
-    ensures { AllHaveLeft V.pass_of V.issued_by }
+/// New passes stand in the order of their numbers, each as it was given.
+pub fn new_passes_stand_in_order<V: Kept>()
+    ensures { (desk : TableId) (seen : List V.Entry) (first count : ℕ)
+        → NewPassesStandInOrder desk seen first count }
+{}
+
+/// Two desks of the same numbers are one.
+pub fn numbers_tell_desks()
+    ensures { NumbersTellDesks }
 {}

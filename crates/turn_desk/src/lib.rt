@@ -16,6 +16,6 @@ mod turn;
 
 pub use desk::{Busy, Desk, Full};
 pub use kept::{Kept, MOST_PASSES};
-pub use laws::{all_is_seen_once_all_have_left, calls_keep_own_entries, leaving_keeps_own_entries};
+pub use laws::{going_on_adds_up, leaving_goes_on, new_passes_stand_in_order, numbers_tell_desks};
 pub use pass::Pass;
 pub use turn::Turn;

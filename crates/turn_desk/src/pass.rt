@@ -35,7 +35,6 @@ impl<V: Kept> Pass<V> {
         ensures below { result < V.issued_by self.now.seen }
         ensures legal { V.is_legal self.now.seen }
     {
-        let _seat = &self.seat;
         self.number
     }
 

@@ -1,13 +1,13 @@
 //! The steps that a pass makes on the desk's table.
 ghost use Rattle.std.specs.Prelude.{◌≡◌, ℕ, ◌<◌, true, false, [], ◌∷◌, Contains, None, MatchOption};
 ghost use Rattle.turn_desk.specs.Journal.{AddsOwn};
-ghost use Rattle.turn_desk.specs.Rule.{Agree, Apart};
-ghost use Rattle.turn_desk.specs.Seats.{IsSmall};
+ghost use Rattle.turn_desk.specs.Known.{AgreeOn, HaveNoCommonNumber};
+ghost use Rattle.turn_desk.specs.Seats.{IsSmall, known};
 ghost use Rattle.turn_desk.specs.Steps.{Finds};
-ghost use Rattle.turn_desk.specs.Views.{lost, given, closing, one_fewer, newcomer, joined, sight};
+ghost use Rattle.turn_desk.specs.Views.{lost, given, closing, one_fewer, newcomer, joined};
 
 use crate::Kept;
-use crate::plays::{Cut, Give, Glue, Shut, Take, Tell};
+use crate::plays::{Give, Glue, NewPass, Shut, Take, Tell};
 use crate::rule::{Law, View};
 use std::snapshot::Snapshot;
 
@@ -64,7 +64,7 @@ pub(crate) fn shut_down<V: Kept>(shared: &Shared<V>, seat: &mut Seat<V>)
 }
 
 // A seat for the least number that was drawn and is not given to a pass yet.
-pub(crate) fn cut_one<V: Kept>(shared: &Shared<V>, seat: &mut Seat<V>) -> Seat<V>
+pub(crate) fn new_seat<V: Kept>(shared: &Shared<V>, seat: &mut Seat<V>) -> Seat<V>
     requires table { (seat.old.table_id ≡ shared.now.table_id) × IsSmall shared.now.table_id }
     requires drawn { 0 < seat.old.me.0.left }
     ensures table { (seat.new.table_id ≡ seat.old.table_id)
@@ -72,7 +72,7 @@ pub(crate) fn cut_one<V: Kept>(shared: &Shared<V>, seat: &mut Seat<V>) -> Seat<V
     ensures fewer { seat.new.me ≡ (one_fewer seat.old.me.0, seat.old.me.1) }
     ensures new { result.me ≡ (newcomer seat.old.me.0, []) }
 {
-    shared.split_seat::<Cut>(seat)
+    shared.split_seat::<NewPass>(seat)
 }
 
 // One seat with what both have seen, and what is thereby known of both.
@@ -82,8 +82,8 @@ pub(crate) fn join_one<V: Kept>(shared: &Shared<V>, seat: &mut Seat<V>, other: S
     requires idle { (seat.old.me.0.holds ≡ false) × (other.me.0.holds ≡ false) × (other.me.1 ≡ []) }
     ensures table { seat.new.table_id ≡ seat.old.table_id }
     ensures joined { seat.new.me ≡ (joined seat.old.me.0 other.me.0, seat.old.me.1) }
-    ensures agree { Agree V.pass_of (sight seat.old.me.0) (sight other.me.0) }
-    ensures apart { Apart (sight seat.old.me.0) (sight other.me.0) }
+    ensures agree { AgreeOn V.pass_of (known seat.old) (known other) }
+    ensures apart { HaveNoCommonNumber (known seat.old) (known other) }
 {
     shared.join_seat::<Glue>(seat, other);
     shared.load::<Tell>(seat, 0);

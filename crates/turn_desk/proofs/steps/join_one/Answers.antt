@@ -1,5 +1,5 @@
 use Rattle.std.proofs.Common.{rules, subst}
-use Rattle.turn_desk.specs.Rule.{Apart}
+use Rattle.turn_desk.specs.Journal.{HaveNoneInCommon}
 use Rattle.turn_desk.specs.Steps.{Mine}
 use Rattle.turn_desk.proofs.Passing.{joining, telling}
 use Rattle.turn_desk.proofs.steps.join_one.Goals as goal
@@ -24,5 +24,5 @@ load-requires g c = let kept = g.V.Kept in
     )
 
 pub returns-clause-apart : goal.returns-clause-apart
-returns-clause-apart g c = subst (λ (m : Mine g.row.V.Denot g.row.V-Entry.Denot). Apart m.0.one m.0.two)
+returns-clause-apart g c = subst (λ (m : Mine g.row.V.Denot g.row.V-Entry.Denot). HaveNoneInCommon m.0.one.numbers m.0.two.numbers)
     c.join_seat.ensures.2 c.load.ensures.2.2

@@ -15,4 +15,4 @@ invariant_of-pass g c =
     z.2) (λ i. (number i, seen i, log i)) c.requires.own in
     pass_given kept.pass_of kept.issued_by kept.is_legal g.met.V.Kept.longer_issues_no_fewer s.me
     c.give_back.new.seat.me c.pass.inside.number _ _ c.give_back.ensures.given.1 adds
-    c.issued-issued.ensures.legal c.pass.invariant
+    c.learn_legal.ensures c.pass.invariant

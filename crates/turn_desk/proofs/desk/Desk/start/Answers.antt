@@ -15,4 +15,4 @@ new-requires g c =
     kept.is_legal (opening (0 ∷ []) z.0 (first_view (kept.entries z.1))))
     (λ i. (sym items i, sym key i))
     (opens kept.entries kept.pass_of kept.issued_by kept.is_legal g.met.V.Kept.longer_issues_no_fewer c.args.value
-    c.issued-issued.ensures.legal c.requires.alone c.requires.zero)
+    c.learn_legal.ensures c.requires.alone c.requires.zero)

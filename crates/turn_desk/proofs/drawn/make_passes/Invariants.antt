@@ -1,7 +1,7 @@
 use Rattle.std.proofs.Common.{◌≡◌, ◌+◌, ◌-◌}
 use Rattle.turn_desk.specs.Known.{new_passes}
 use Rattle.turn_desk.specs.Views.{with_drawn}
-use Rattle.turn_desk.proofs.drawn.cut_all.Given as goal
+use Rattle.turn_desk.proofs.drawn.make_passes.Given as goal
 
 abbrev pub invariant-loop-i : goal.invariant-loop-i
 invariant-loop-i g l =

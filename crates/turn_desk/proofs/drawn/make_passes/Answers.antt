@@ -1,6 +1,6 @@
 use Rattle.std.proofs.Common.{◌≡◌, ◌+◌, ◌∙◌}
 use Rattle.turn_desk.proofs.Drawing.{new_passes-more, known_newcomer, one_fewer_drawn}
-use Rattle.turn_desk.proofs.drawn.cut_all.Goals as goal
+use Rattle.turn_desk.proofs.drawn.make_passes.Goals as goal
 
 pub loop-i-preserved : goal.loop-i-preserved
 loop-i-preserved g c =
@@ -8,7 +8,7 @@ loop-i-preserved g c =
     let first = c.args.first in
     let i = c.loop-i.i in
     let seen = s.me.0.seen in
-    let cut = c.cut_one-seat in
+    let cut = c.new_seat-seat in
     let was = c.loop-i.invariant in
     let at : cut.result.table_id ≡ s.table_id = cut.ensures.table.1 ∙ was.0 in
     let new = known_newcomer cut.result s.table_id s.me c.loop-i.seat.me (first + i) _ at cut.ensures.new was.1 in (

@@ -1,6 +1,6 @@
 use Rattle.std.proofs.Common.{rules}
 use Rattle.turn_desk.proofs.Passing.{splitting}
-use Rattle.turn_desk.proofs.steps.cut_one.Goals as goal
+use Rattle.turn_desk.proofs.steps.new_seat.Goals as goal
 
 pub split_seat-requires : goal.split_seat-requires
 split_seat-requires g c = let kept = g.V.Kept in let seat = c.args.seat.now in (
