@@ -9,6 +9,8 @@ pub mod Later
 pub mod Following
 pub mod Gathered
 pub mod Among
+pub mod Apart
+pub mod Users
 pub mod Waiting
 pub mod Step
 pub mod Raised
@@ -24,3 +26,4 @@ pub mod Ringed
 pub mod Opposed
 pub mod InOrder
 pub mod Answered
+pub mod Next

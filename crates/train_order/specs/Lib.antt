@@ -6,3 +6,4 @@ pub mod Opposite
 pub mod Starts
 pub mod Walk
 pub mod EntryOrder
+pub mod Laws

@@ -5,6 +5,7 @@
 mod disorder;
 mod entry_order;
 mod found;
+mod laws;
 mod link_place;
 mod member_set;
 mod members;
@@ -18,5 +19,6 @@ mod visits;
 
 pub use disorder::disorder_of;
 pub use found::{Disorder, Disordered, Order, RingMembers};
+pub use laws::each_comes_next;
 pub use link_place::place_of_link;
 pub use ordering::order;

@@ -1,0 +1,35 @@
+-- Where one member precedes another at a place, both are members and use it; of two that use a place one precedes the
+-- other.
+use Rattle.std.proofs.Common.{◌≡◌, ℕ, ◌<◌, true, false, ◌&&◌, inl, inr, ap}
+use Rattle.std.specs.List.{range_with_len}
+use Rattle.std.proofs.lemmas.Bool.{cases_lt, and_parts}
+use Rattle.std.proofs.lemmas.List.{get_or_past}
+use Rattle.plan_model.specs.declared.cut.Cut.{Cut}
+use Rattle.plan_model.specs.Places.{place_count}
+use Rattle.plan_model.specs.Members.{member, member_count, no_member, uses_place, use_at}
+use Rattle.plan_model.specs.Precedence.{precedes, precedes_somewhere, comes_before}
+use Rattle.plan_model.proofs.MemberTests.{has-range, has_any}
+
+pub user_there : (cut : Cut) (i place : ℕ) → uses_place (member cut i) place ≡ true → i < member_count cut
+user_there cut i place h =
+    elim (cases_lt i (member_count cut)) [
+      | inl l ↦ l
+      | inr past ↦
+          absurd (let none : uses_place (member cut i) place ≡ false = ap (λ r. uses_place r place)
+          (get_or_past cut.rows i no_member past) in (cc))
+    ]
+
+pub users : (cut : Cut) (i j place : ℕ) → precedes (member cut i) (member cut j) place ≡ true
+    → (uses_place (member cut i) place ≡ true) × (uses_place (member cut j) place ≡ true)
+users cut i j place p =
+    and_parts (uses_place (member cut i) place) (uses_place (member cut j) place)
+    (and_parts (uses_place (member cut i) place && uses_place (member cut j) place)
+    (comes_before (use_at (member cut i) place).start (member cut i).name (use_at (member cut j) place).start
+    (member cut j).name)
+    p).0
+
+pub somewhere : (cut : Cut) (i j place : ℕ) → place < place_count cut → precedes (member cut i) (member cut j) place ≡ true
+    → precedes_somewhere cut i j ≡ true
+somewhere cut i j place l p =
+    has_any (precedes (member cut i) (member cut j)) (range_with_len 0 (place_count cut)) place
+    (has-range (place_count cut) place l) p

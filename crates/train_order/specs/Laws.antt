@@ -1,0 +1,21 @@
+-- Laws of orders.
+use Rattle.std.specs.Prelude.{◌≡◌, ℕ, ◌<◌, true, false, List, length, take, slice_index, IsTrue}
+use Rattle.plan_model.specs.declared.cut.Cut.{Cut}
+use Rattle.plan_model.specs.Members.{member, member_count}
+use Rattle.plan_model.specs.Precedence.{precedes}
+use Rattle.plan_model.specs.Cut.{IsSoundCut}
+use Rattle.train_order.specs.Taking.{is_among}
+use Rattle.train_order.specs.Ordering.{IsOrder}
+
+-- a member comes next after some others: it isn't one of them, all that precede it are, and it precedes none of them
+pub record ComesNext (cut : Cut) (some : List ℕ) (j : ℕ) : Type 0 where
+  pub there : j < member_count cut
+  pub not_yet : is_among some j ≡ false
+  pub before : (i place : ℕ) → IsTrue (precedes (member cut i) (member cut j) place) → is_among some i ≡ true
+  pub none_after : (i place : ℕ) → is_among some i ≡ true → IsTrue (precedes (member cut j) (member cut i) place) → ⊥
+
+-- each member of an order of a sound cut comes next after those that stand before it
+abbrev pub EachComesNext : Type 0
+EachComesNext =
+    (cut : Cut) (order : List ℕ) → IsSoundCut cut → IsOrder cut order
+    → (k : ℕ) → k < length order → ComesNext cut (take k order) (slice_index order k)
