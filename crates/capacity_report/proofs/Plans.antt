@@ -37,7 +37,7 @@ module _ (cut : Cut) (entries : List ℤ) (sound : IsSoundCut cut) (schedule : I
   train_there : (i : ℕ) → i < member_count cut → IsTrainOf (plan_of cut entries) (placed_at cut entries i)
   train_there i l = record {
     planned = omega (arith, ints, (sound.each i no_member l).from_window);
-    entry = omega (arith, ints, schedule.window i l);
+    entry = omega (arith, ints, schedule.from i l);
     tie = tie_there i (tie_of cut entries i) refl;
   }
 

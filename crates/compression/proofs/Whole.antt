@@ -15,7 +15,7 @@ use Rattle.plan_model.specs.Places.{place_count, places, block_count, blocks}
 use Rattle.plan_model.specs.Members.{member, member_count, members, uses_place, use_at}
 use Rattle.plan_model.specs.Cut.{IsSoundCut}
 use Rattle.plan_model.specs.Disorder.{remaining}
-use Rattle.plan_model.specs.Schedule.{window_start, entry_at, end_by, IsSchedule, IsLeast}
+use Rattle.plan_model.specs.Schedule.{window_start, window_floor, entry_at, end_by, IsSchedule, IsLeast}
 use Rattle.plan_model.specs.Tie.{touches, touching_member, touching_place, touch, tie_of}
 use Rattle.plan_model.specs.Occupancy.{users, used_blocks, last_end, time_kept, occupancy, busiest, last_member, critical}
 use Rattle.plan_model.specs.Laws.{IsTied}
@@ -99,7 +99,7 @@ module _ (cut : Cut) (order : List ℕ) (entries : List ℤ) (ties : List Tie) (
   schedule : IsSchedule cut entries
   schedule = record {
     count = placed.entries_count;
-    window = λ i l. placed.window i (is_there cut sound order is i l);
+    from = λ i l. placed.window i (is_there cut sound order is i l);
     order = λ i j p li lj pr.
         placed.order i j p (is_there cut sound order is i li) (is_there cut sound order is j lj) pr;
   }
@@ -118,7 +118,7 @@ module _ (cut : Cut) (order : List ℕ) (entries : List ℤ) (ties : List Tie) (
 
   pub least : remaining cut ≡ [] → IsLeast cut entries
   least none =
-      tied_is_least cut entries none schedule (λ j l. tied_by j (slice_index_or ties j Start) (own_tie j l))
+      tied_is_least cut (window_floor cut) entries none schedule (λ j l. tied_by j (slice_index_or ties j Start) (own_tie j l))
 
   -- ---- the ties
 

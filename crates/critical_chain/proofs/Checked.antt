@@ -16,7 +16,7 @@ use Rattle.plan_model.specs.declared.answer.Plan.{Plan}
 use Rattle.plan_model.specs.Members.{member_count, members}
 use Rattle.plan_model.specs.Cut.{IsSoundCut}
 use Rattle.plan_model.specs.Disorder.{remaining}
-use Rattle.plan_model.specs.Schedule.{window_start, entry_at, IsLeast}
+use Rattle.plan_model.specs.Schedule.{window_start, window_floor, entry_at, IsLeast}
 use Rattle.plan_model.specs.Tie.{tie_of, touch}
 use Rattle.plan_model.specs.Laws.{IsTied}
 use Rattle.plan_model.specs.Answer.{placed_at, plan_of, IsCompressed}
@@ -63,7 +63,7 @@ compressed : (cut : Cut) (plan : Plan) → remaining cut ≡ [] → IsChecked cu
 compressed cut plan none checked =
     let entries = entries_of plan in (
       entries,
-      tied_is_least cut entries none checked.schedule
+      tied_is_least cut (window_floor cut) entries none checked.schedule
           (λ j l. tied_by cut entries j (tie_of cut entries j) refl (checked.starts j l)),
       checked.plan_of,
     )
@@ -75,7 +75,7 @@ checked cut plan sound (entries, least, same) =
     record {
       plan_of = subst (λ es. plan ≡ plan_of cut es) is same;
       schedule = by.schedule;
-      starts = λ j l. starts_by cut (entries_of plan) j sound (least_is_tied cut (entries_of plan) sound by j l);
+      starts = λ j l. starts_by cut (entries_of plan) j sound (least_is_tied cut (window_floor cut) (entries_of plan) sound by j l);
     }
 
 pub checked_is_compressed : CheckedIsCompressed

@@ -116,7 +116,7 @@ module _ (cut : Cut) (plan : Plan) (sound : IsSoundCut cut) where
           all.occupied.busiest all.occupied.critical;
       schedule = record {
         count = length-map plan.placed (λ (p : Placed). p.entry) ∙ trains.count;
-        window = λ i l. subst (λ x. window_start cut ≤ℤ x) (sym (its_entry i l)) (trains.each i l).after;
+        from = λ i l. subst (λ x. window_start cut ≤ℤ x) (sym (its_entry i l)) (trains.each i l).after;
         order = λ i j p li lj h.
             (all.keep p (place_there cut sound i p li (users_there cut i j p h).0) i j li lj h).clear;
       };
@@ -154,7 +154,7 @@ module _ (cut : Cut) (plan : Plan) (sound : IsSoundCut cut) where
       each = λ i l. record {
         train = ap (λ (p : Placed). p.train) (at i l);
         planned = ap (λ (p : Placed). p.planned) (at i l);
-        after = subst (λ x. window_start cut ≤ℤ x) (sym (entry_there i l)) (checked.schedule.window i l);
+        after = subst (λ x. window_start cut ≤ℤ x) (sym (entry_there i l)) (checked.schedule.from i l);
         before =
             subst (λ x. x ≤ℤ pos 1125899906842624) (sym (entry_there i l))
             (bounded cut entries sound

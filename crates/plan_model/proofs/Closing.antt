@@ -8,14 +8,15 @@ use Rattle.std.proofs.lemmas.List.Folds.{list_any_at}
 use Rattle.rail_model.specs.declared.stair.Use.{Use}
 use Rattle.plan_model.specs.declared.cut.Cut.{Cut}
 use Rattle.plan_model.specs.Places.{block_count, blocks}
-use Rattle.plan_model.specs.Members.{member, member_count, members, no_member, uses_place, use_at, no_use}
+use Rattle.plan_model.specs.Members.{member, members, no_member, uses_place, use_at, no_use}
 use Rattle.plan_model.specs.Cut.{IsSoundCut, is_block}
 use Rattle.plan_model.specs.Schedule.{entry_at, start_at, start_by, end_by, IsSchedule}
 use Rattle.plan_model.specs.Occupancy.{users, used_blocks, first_start, last_end, time_kept, occupancy}
 use Rattle.plan_model.specs.Closing.{PrecedesOnAllBlocks, IsAfterAll, IsClosingEntry}
 use Rattle.plan_model.specs.Laws.{OccupancyIsToClosing}
-use Rattle.plan_model.proofs.MemberTests.{has, has-range, in_range, has_any, has-filter, filter-has, some_member}
+use Rattle.plan_model.proofs.MemberTests.{has, in_range, filter-has, some_member}
 use Rattle.plan_model.proofs.Uses.{takes_time}
+use Rattle.plan_model.proofs.Users.{is_user, user, is_used}
 use Rattle.plan_model.proofs.Greatest.{above_each, greatest_within, below_each, least_within, longest_above, longest_within}
 
 -- ---- whole numbers
@@ -71,20 +72,6 @@ module _ (cut : Cut) (entries : List ℤ) (c : ℕ) (entry : ℤ) (sound : IsSou
   abbrev opening : ℤ
   opening = entry_at entries c
 
-  is_user : (j b : ℕ) → j < member_count cut → Uses j b → has (users cut b) j ≡ true
-  is_user j b l u = has-filter (λ i. uses_place (member cut i) b) (members cut) j (has-range (member_count cut) j l) u
-
-  user : (j b : ℕ) → has (users cut b) j ≡ true → (j < member_count cut) × Uses j b
-  user j b h =
-      let at = filter-has (λ i. uses_place (member cut i) b) (members cut) j h in
-      (omega (arith, in_range 0 (member_count cut) j at.0), at.1)
-
-  is_used : (j b : ℕ) → j < member_count cut → b < block_count cut → Uses j b → has (used_blocks cut) b ≡ true
-  is_used j b l lb u =
-      has-filter (λ b. list_any (λ i. uses_place (member cut i) b) (members cut)) (blocks cut) b
-      (has-range (block_count cut) b lb)
-      (has_any (λ i. uses_place (member cut i) b) (members cut) j (has-range (member_count cut) j l) u)
-
   -- the opening train uses each block that is used
   used : (b : ℕ) → has (used_blocks cut) b ≡ true → (b < block_count cut) × Uses c b
   used b h =
@@ -97,7 +84,7 @@ module _ (cut : Cut) (entries : List ℤ) (c : ℕ) (entry : ℤ) (sound : IsSou
     -- it is the first there
     starts_first : (j : ℕ) → has (users cut b) j ≡ true → start_by cut entries c b ≤ℤ start_by cut entries j b
     starts_first j h =
-        let at = user j b h in
+        let at = user cut j b h in
         elim (cases_eq j c) [
           | inl e ↦ subst (λ k. start_by cut entries c b ≤ℤ start_by cut entries k b) (sym e) (omega (arith, ints))
           | inr ne ↦
@@ -109,23 +96,23 @@ module _ (cut : Cut) (entries : List ℤ) (c : ℕ) (entry : ℤ) (sound : IsSou
 
     first_is : first_start cut entries b ≡ start_by cut entries c b
     first_is =
-        both_ways _ _ (below_each (λ i. start_by cut entries i b) (users cut b) c (is_user c b opens.is_there u))
+        both_ways _ _ (below_each (λ i. start_by cut entries i b) (users cut b) c (is_user cut c b opens.is_there u))
         (least_within (λ i. start_by cut entries i b) (start_by cut entries c b) (users cut b) c
-        (is_user c b opens.is_there u) starts_first)
+        (is_user cut c b opens.is_there u) starts_first)
 
     last_after : start_by cut entries c b ≤ℤ last_end cut entries b
     last_after =
         starts_before (use_at (member cut c) b).start (use_at (member cut c) b).«end» (member cut c).entry opening _
         (takes_time cut sound c b opens.is_there u)
-        (above_each (λ i. end_by cut entries i b) (users cut b) c (is_user c b opens.is_there u))
+        (above_each (λ i. end_by cut entries i b) (users cut b) c (is_user cut c b opens.is_there u))
 
     time_is : pos (time_kept cut entries b) ≡ last_end cut entries b -ℤ start_by cut entries c b
     time_is = rw first_is (abs_is _ (not_negative _ _ last_after))
 
     last_before : last_end cut entries b ≤ℤ start_at (member cut c) entry b
     last_before =
-        greatest_within (λ i. end_by cut entries i b) _ (users cut b) c (is_user c b opens.is_there u)
-        (λ j h. let at = user j b h in closing.after_all j b at.0 lb at.1)
+        greatest_within (λ i. end_by cut entries i b) _ (users cut b) c (is_user cut c b opens.is_there u)
+        (λ j h. let at = user cut j b h in closing.after_all j b at.0 lb at.1 u)
 
     -- the block is kept no longer than from the opening to the closing entry
     within : pos (time_kept cut entries b) ≤ℤ (entry -ℤ opening)
@@ -155,14 +142,13 @@ module _ (cut : Cut) (entries : List ℤ) (c : ℕ) (entry : ℤ) (sound : IsSou
       (λ b h. let at = used b h in below_pos (time_kept cut entries b) _ (within b at.0 at.1)))
 
   after_all : IsAfterAll cut entries c (opening +ℤ pos (occupancy cut entries))
-  after_all j b lj lb u =
-      let of_c = opens.uses j b lj lb u in
-      let last = above_each (λ i. end_by cut entries i b) (users cut b) j (is_user j b lj u) in
+  after_all j b lj lb u of_c =
+      let last = above_each (λ i. end_by cut entries i b) (users cut b) j (is_user cut j b lj u) in
       let meets =
       reached (use_at (member cut c) b).start (member cut c).entry opening (last_end cut entries b)
       (time_kept cut entries b)
       (occupancy cut entries) (time_is b lb of_c)
-      (longest_above (time_kept cut entries) (used_blocks cut) b (is_used j b lj lb u)) in
+      (longest_above (time_kept cut entries) (used_blocks cut) b (is_used cut j b lj lb u)) in
       omega (arith, ints, last, meets)
 
   pub is_to_closing : pos (occupancy cut entries) ≡ entry -ℤ opening

@@ -12,7 +12,7 @@ use Rattle.plan_model.specs.Places.{places, place_count}
 use Rattle.plan_model.specs.Members.{member, member_count, members, use_at}
 use Rattle.plan_model.specs.Precedence.{precedes}
 use Rattle.plan_model.specs.Cut.{IsSoundCut}
-use Rattle.plan_model.specs.Schedule.{window_start, entry_at, start_by, end_by, IsSchedule, IsLeast}
+use Rattle.plan_model.specs.Schedule.{entry_at, start_by, end_by, IsScheduleFrom, IsLeastFrom}
 use Rattle.plan_model.specs.Tie.{touches}
 use Rattle.plan_model.specs.Laws.{LeastIsTied}
 use Rattle.plan_model.proofs.MemberTests.{has-range, has_any, some_member}
@@ -57,8 +57,9 @@ a_second_less a b e = omega (arith, ints)
 not_less_itself : (a : ℤ) → a ≤ℤ (a -ℤ pos 1) → ⊥
 not_less_itself a h = omega (arith, ints)
 
-module _ (cut : Cut) (entries : List ℤ) (sound : IsSoundCut cut) (schedule : IsSchedule cut entries) (j : ℕ)
-    (lj : j < member_count cut) (late : window_start cut <ℤ entry_at entries j)
+module _ (cut : Cut) (floor : ℕ → ℤ) (entries : List ℤ) (sound : IsSoundCut cut)
+    (schedule : IsScheduleFrom cut floor entries) (j : ℕ)
+    (lj : j < member_count cut) (late : floor j <ℤ entry_at entries j)
     (free : list_any (λ i. list_any (touches cut entries i j) (places cut)) (members cut) ≡ false) where
   -- the schedule with member j a second earlier
   abbrev earlier : List ℤ
@@ -120,35 +121,34 @@ module _ (cut : Cut) (entries : List ℤ) (sound : IsSoundCut cut) (schedule : I
             (at_other i apart) at_j)
       ]
 
-  still : IsSchedule cut earlier
+  still : IsScheduleFrom cut floor earlier
   still = record {
     count = length-set entries j _ ∙ schedule.count;
-    window =
+    from =
         λ i l. elim (cases_eq i j) [
           | inl e ↦
-              subst (λ m. window_start cut ≤ℤ entry_at earlier m) (sym e)
-              (subst (λ x. window_start cut ≤ℤ x) (sym at_j)
-              (a_second_earlier (window_start cut) (entry_at entries j) late))
-          | inr ne ↦ subst (λ x. window_start cut ≤ℤ x) (sym (at_other i ne)) (schedule.window i l)
+              subst (λ m. floor m ≤ℤ entry_at earlier m) (sym e)
+              (subst (λ x. floor j ≤ℤ x) (sym at_j) (a_second_earlier (floor j) (entry_at entries j) late))
+          | inr ne ↦ subst (λ x. floor i ≤ℤ x) (sym (at_other i ne)) (schedule.from i l)
         ];
     order = in_order;
   }
 
-  pub not_least : IsLeast cut entries → ⊥
+  pub not_least : IsLeastFrom cut floor entries → ⊥
   not_least least =
       not_less_itself (entry_at entries j)
       (subst (λ x. entry_at entries j ≤ℤ x) at_j (least.least earlier still j lj))
 
 pub least_is_tied : LeastIsTied
-least_is_tied cut entries sound least j lj =
-    elim (cases_Bool (int_eq (entry_at entries j) (window_start cut))) [
-      | inl e ↦ inl ((Decides-int_eq (entry_at entries j) (window_start cut)).0 e)
+least_is_tied cut floor entries sound least j lj =
+    elim (cases_Bool (int_eq (entry_at entries j) (floor j))) [
+      | inl e ↦ inl ((Decides-int_eq (entry_at entries j) (floor j)).0 e)
       | inr ne ↦ elim (cases_Bool (list_any (λ i. list_any (touches cut entries i j) (places cut)) (members cut))) [
         | inl t ↦ inr (some_member cut (λ i. list_any (touches cut entries i j) (places cut)) t)
         | inr free ↦
-            let at_least = least.schedule.window j lj in
-            let late : window_start cut <ℤ entry_at entries j = less_if_other (window_start cut)
-            (entry_at entries j) at_least (not_equal (entry_at entries j) (window_start cut) ne) in
-            absurd (not_least cut entries sound least.schedule j lj late free least)
+            let at_least = least.schedule.from j lj in
+            let late : floor j <ℤ entry_at entries j = less_if_other (floor j) (entry_at entries j) at_least
+            (not_equal (entry_at entries j) (floor j) ne) in
+            absurd (not_least cut floor entries sound least.schedule j lj late free least)
       ]
     ]

@@ -12,6 +12,8 @@ pub mod Uses
 pub mod Planned
 pub mod LeastTied
 pub mod Greatest
+pub mod Users
+pub mod Reaching
 pub mod Closing
 pub mod Reduced
 pub mod Sound

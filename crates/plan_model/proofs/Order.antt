@@ -14,7 +14,7 @@ use Rattle.plan_model.specs.declared.cut.Cut.{Cut}
 use Rattle.plan_model.specs.Members.{member, member_count, uses_place, use_at, no_member}
 use Rattle.plan_model.specs.Precedence.{precedes, comes_before}
 use Rattle.plan_model.specs.Cut.{IsSoundCut}
-use Rattle.plan_model.specs.Schedule.{IsSchedule}
+use Rattle.plan_model.specs.Schedule.{IsScheduleFrom}
 use Rattle.plan_model.specs.Laws.{UsesAreApart, IsClearOf, ComesBeforeIsTested}
 
 same_moment : (s t : ℤ) → int_lt s t ≡ false → int_lt t s ≡ false → s ≡ t
@@ -34,7 +34,8 @@ ordered s t a b h =
       ]
     ]
 
-module _ (cut : Cut) (entries : List ℤ) (sound : IsSoundCut cut) (schedule : IsSchedule cut entries) where
+module _ (cut : Cut) (floor : ℕ → ℤ) (entries : List ℤ) (sound : IsSoundCut cut)
+    (schedule : IsScheduleFrom cut floor entries) where
   clear : (i j place : ℕ) → i < member_count cut → j < member_count cut
       → IsTrue (precedes (member cut i) (member cut j) place) → IsClearOf cut entries i j place
   clear i j place li lj p = record { precedes = p; apart = schedule.order i j place li lj p }
@@ -55,12 +56,12 @@ swap_cases (inl a) = inr a
 swap_cases (inr b) = inl b
 
 pub uses_are_apart : UsesAreApart
-uses_are_apart cut entries sound schedule i j place li lj ne p q =
+uses_are_apart cut floor entries sound schedule i j place li lj ne p q =
     elim (cases_order i j) [
       | inl e ↦ absurd (ne e)
       | inr d ↦ elim d [
-        | inl l ↦ apart_if_less cut entries sound schedule i j place l lj p q
-        | inr g ↦ swap_cases (apart_if_less cut entries sound schedule j i place g li q p)
+        | inl l ↦ apart_if_less cut floor entries sound schedule i j place l lj p q
+        | inr g ↦ swap_cases (apart_if_less cut floor entries sound schedule j i place g li q p)
       ]
     ]
 

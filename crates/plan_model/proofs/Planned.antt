@@ -94,7 +94,7 @@ module _ (cut : Cut) (sound : IsSoundCut cut) (free : IsFreeOfConflict cut) (kee
   pub planned_schedule : IsSchedule cut (planned_entries cut)
   planned_schedule = record {
     count = length-map cut.rows (λ (r : CutRow). r.entry);
-    window = λ i l. rw (planned i l) (sound.each i no_member l).from_window;
+    from = λ i l. rw (planned i l) (sound.each i no_member l).from_window;
     order =
         λ i j place li lj p.
         unmoved (use_at (member cut i) place).«end» (member cut i).entry _

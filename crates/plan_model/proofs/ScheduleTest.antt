@@ -10,7 +10,7 @@ use Rattle.plan_model.specs.Members.{member, member_count, members}
 use Rattle.plan_model.specs.Precedence.{precedes}
 use Rattle.plan_model.proofs.MemberTests.{at_member, some_member, at_use}
 use Rattle.plan_model.specs.Disorder.{remaining}
-use Rattle.plan_model.specs.Schedule.{window_start, entry_at, start_by, end_by, IsSchedule, IsLeast}
+use Rattle.plan_model.specs.Schedule.{window_start, window_floor, entry_at, start_by, end_by, IsSchedule, IsLeast}
 use Rattle.plan_model.specs.Tie.{touches}
 use Rattle.plan_model.specs.Places.{places}
 use Rattle.plan_model.specs.Laws.{IsTied}
@@ -57,7 +57,7 @@ module _ (cut : Cut) (entries : List ℤ) where
       let rest = and_parts _ _ parts.1 in
       record {
         count = eqb-true (length entries) (member_count cut) parts.0;
-        window =
+        from =
             λ i l. le_from_test (window_start cut) (entry_at entries i)
             (at_member cut (λ i. int_le (window_start cut) (entry_at entries i)) i rest.0 l);
         order = in_order rest.1;
@@ -77,4 +77,4 @@ module _ (cut : Cut) (entries : List ℤ) where
       ]
 
   pub least : remaining cut ≡ [] → is_schedule ≡ true → list_all is_tied (members cut) ≡ true → IsLeast cut entries
-  least none h t = tied_is_least cut entries none (schedule h) (tied t)
+  least none h t = tied_is_least cut (window_floor cut) entries none (schedule h) (tied t)

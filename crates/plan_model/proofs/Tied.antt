@@ -12,9 +12,9 @@ use Rattle.plan_model.specs.Places.{places}
 use Rattle.plan_model.specs.Members.{member, member_count, members, use_at}
 use Rattle.plan_model.specs.Precedence.{precedes, precedes_somewhere}
 use Rattle.plan_model.specs.Disorder.{preceded, after_rounds, remaining}
-use Rattle.plan_model.specs.Schedule.{entry_at, start_by, end_by, IsSchedule}
+use Rattle.plan_model.specs.Schedule.{entry_at, start_by, end_by, IsScheduleFrom}
 use Rattle.plan_model.specs.Tie.{touches}
-use Rattle.plan_model.specs.Laws.{IsTied, TiedIsLeast}
+use Rattle.plan_model.specs.Laws.{IsTiedFrom, TiedIsLeast}
 use Rattle.plan_model.proofs.MemberTests.{has, has-range, has_any, has-filter}
 
 -- a train that touches another enters no later than it must, if the other does
@@ -22,8 +22,8 @@ no_later : (end e x y start f u v : ℤ) → (end -ℤ e +ℤ x) ≡ (start -ℤ
     → x ≤ℤ y → u ≤ℤ v
 no_later end e x y start f u v t o h = omega (arith, ints)
 
-module _ (cut : Cut) (entries other : List ℤ) (schedule : IsSchedule cut other)
-    (tied : (j : ℕ) → j < member_count cut → IsTied cut entries j) where
+module _ (cut : Cut) (floor : ℕ → ℤ) (entries other : List ℤ) (schedule : IsScheduleFrom cut floor other)
+    (tied : (j : ℕ) → j < member_count cut → IsTiedFrom cut floor entries j) where
   -- a member enters no later than by the other schedule
   abbrev Early : ℕ → Type 0
   Early j = entry_at entries j ≤ℤ entry_at other j
@@ -54,7 +54,7 @@ module _ (cut : Cut) (entries other : List ℤ) (schedule : IsSchedule cut other
       → list_any (λ i. precedes_somewhere cut i j) some ≡ false → Early j
   first_early some early j lj first =
       elim (tied j lj) [
-        | inl e ↦ rw e (schedule.window j lj)
+        | inl e ↦ rw e (schedule.from j lj)
         | inr (i, li, t) ↦
             let at = Any-from_list_any (touches cut entries i j) (places cut) t in
             elim (cases_Bool (has some i)) [
@@ -87,5 +87,7 @@ module _ (cut : Cut) (entries other : List ℤ) (schedule : IsSchedule cut other
       (ap (λ some. has some j) none)
 
 pub tied_is_least : TiedIsLeast
-tied_is_least cut entries none schedule tied =
-    record { schedule = schedule; least = λ other of_other j lj. all_early cut entries other of_other tied none j lj }
+tied_is_least cut floor entries none schedule tied = record {
+  schedule = schedule;
+  least = λ other of_other j lj. all_early cut floor entries other of_other tied none j lj;
+}

@@ -9,7 +9,7 @@ use Rattle.plan_model.specs.declared.answer.Answer.{Answer}
 use Rattle.plan_model.specs.declared.answer.Answer.TheVariants as answer
 use Rattle.plan_model.specs.Members.{member_count}
 use Rattle.plan_model.specs.Disorder.{Opposite}
-use Rattle.plan_model.specs.Schedule.{entry_at}
+use Rattle.plan_model.specs.Schedule.{entry_at, window_floor}
 use Rattle.plan_model.specs.Answer.{plan_of, IsCompressed}
 use Rattle.plan_model.specs.Laws.{LeastIsUnique, AnswerIsUnique}
 
@@ -17,7 +17,7 @@ both_ways : (a b : ℤ) → a ≤ℤ b → b ≤ℤ a → a ≡ b
 both_ways a b p q = omega (arith, ints)
 
 pub least_is_unique : LeastIsUnique
-least_is_unique cut entries other p q =
+least_is_unique cut floor entries other p q =
     ext_get_or (pos 0) entries other (p.schedule.count ∙ sym q.schedule.count)
     (λ i l.
     let here : i < member_count cut = omega (arith, l, p.schedule.count) in
@@ -26,7 +26,7 @@ least_is_unique cut entries other p q =
 
 plan_is_unique : (cut : Cut) (plan other : Plan) → IsCompressed cut plan → IsCompressed cut other → plan ≡ other
 plan_is_unique cut plan other p q =
-    p.2 ∙ ap (plan_of cut) (least_is_unique cut p.0 q.0 p.1 q.1) ∙ sym q.2
+    p.2 ∙ ap (plan_of cut) (least_is_unique cut (window_floor cut) p.0 q.0 p.1 q.1) ∙ sym q.2
 
 -- the answer that speaks of opposite trains
 abbrev told : Option Opposite → Answer → Answer

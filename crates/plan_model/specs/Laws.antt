@@ -10,7 +10,7 @@ use Rattle.plan_model.specs.Members.{member, member_count, uses_place, use_at}
 use Rattle.plan_model.specs.Precedence.{comes_before, precedes}
 use Rattle.plan_model.specs.Cut.{IsSoundCut}
 use Rattle.plan_model.specs.Disorder.{preceded, remaining}
-use Rattle.plan_model.specs.Schedule.{window_start, entry_at, start_by, end_by, IsSchedule, IsLeast}
+use Rattle.plan_model.specs.Schedule.{window_floor, entry_at, start_by, end_by, IsScheduleFrom, IsLeastFrom, IsSchedule, IsLeast}
 use Rattle.plan_model.specs.Tie.{touches}
 use Rattle.plan_model.specs.Answer.{IsAnswer}
 use Rattle.plan_model.specs.Occupancy.{occupancy}
@@ -18,9 +18,11 @@ use Rattle.plan_model.specs.Planned.{conflicts, IsFreeOfConflict, KeepsConnectio
 use Rattle.plan_model.specs.Closing.{PrecedesOnAllBlocks, IsClosingEntry}
 use Rattle.plan_model.specs.Rates.{Fraction, reduced, IsReduced}
 
--- a cut has at most one least schedule
+-- from its floors a cut has at most one least schedule
 abbrev pub LeastIsUnique : Type 0
-LeastIsUnique = (cut : Cut) (entries other : List ℤ) → IsLeast cut entries → IsLeast cut other → entries ≡ other
+LeastIsUnique =
+    (cut : Cut) (floor : ℕ → ℤ) (entries other : List ℤ) → IsLeastFrom cut floor entries
+    → IsLeastFrom cut floor other → entries ≡ other
 
 -- a cut has at most one answer
 abbrev pub AnswerIsUnique : Type 0
@@ -31,10 +33,11 @@ pub record IsClearOf (cut : Cut) (entries : List ℤ) (i j place : ℕ) : Type 0
   pub precedes : IsTrue (precedes (member cut i) (member cut j) place)
   pub apart : end_by cut entries i place ≤ℤ start_by cut entries j place
 
--- by a schedule of a sound cut, two trains at one place keep it one after the other, in the order of precedence
+-- by a schedule of a sound cut from any floors, two trains at one place keep it one after the other, in the order of
+-- precedence
 abbrev pub UsesAreApart : Type 0
 UsesAreApart =
-    (cut : Cut) (entries : List ℤ) → IsSoundCut cut → IsSchedule cut entries
+    (cut : Cut) (floor : ℕ → ℤ) (entries : List ℤ) → IsSoundCut cut → IsScheduleFrom cut floor entries
     → (i j place : ℕ) → i < member_count cut → j < member_count cut → i ≢ j
     → IsTrue (uses_place (member cut i) place) → IsTrue (uses_place (member cut j) place)
     → IsClearOf cut entries i j place ⊎ IsClearOf cut entries j i place
@@ -43,23 +46,27 @@ UsesAreApart =
 abbrev pub RemainingIsLeft : Type 0
 RemainingIsLeft = (cut : Cut) → preceded cut (remaining cut) ≡ remaining cut
 
--- member j enters at the window's start, or touches a member that precedes it
-abbrev pub IsTied : Cut → List ℤ → ℕ → Type 0
-IsTied cut entries j =
-    (entry_at entries j ≡ window_start cut)
+-- member j enters at its floor, or touches a member that precedes it
+abbrev pub IsTiedFrom : Cut → (ℕ → ℤ) → List ℤ → ℕ → Type 0
+IsTiedFrom cut floor entries j =
+    (entry_at entries j ≡ floor j)
     ⊎ ((i : ℕ) × (i < member_count cut) × IsTrue (list_any (touches cut entries i j) (places cut)))
 
--- by the least schedule of a sound cut each train is tied
+-- member j enters at the window's start, or touches a member that precedes it
+abbrev pub IsTied : Cut → List ℤ → ℕ → Type 0
+IsTied cut entries j = IsTiedFrom cut (window_floor cut) entries j
+
+-- by the least schedule of a sound cut from floors each train is tied
 abbrev pub LeastIsTied : Type 0
 LeastIsTied =
-    (cut : Cut) (entries : List ℤ) → IsSoundCut cut → IsLeast cut entries
-    → (j : ℕ) → j < member_count cut → IsTied cut entries j
+    (cut : Cut) (floor : ℕ → ℤ) (entries : List ℤ) → IsSoundCut cut → IsLeastFrom cut floor entries
+    → (j : ℕ) → j < member_count cut → IsTiedFrom cut floor entries j
 
--- where no member remains, a schedule in which each train is tied is the least
+-- where no member remains, a schedule from floors in which each train is tied is the least
 abbrev pub TiedIsLeast : Type 0
 TiedIsLeast =
-    (cut : Cut) (entries : List ℤ) → remaining cut ≡ [] → IsSchedule cut entries
-    → ((j : ℕ) → j < member_count cut → IsTied cut entries j) → IsLeast cut entries
+    (cut : Cut) (floor : ℕ → ℤ) (entries : List ℤ) → remaining cut ≡ [] → IsScheduleFrom cut floor entries
+    → ((j : ℕ) → j < member_count cut → IsTiedFrom cut floor entries j) → IsLeastFrom cut floor entries
 
 -- where the planned timetable is free of conflict and keeps its connections, the least schedule has no train later
 abbrev pub NoneIsLater : Type 0
@@ -74,6 +81,13 @@ OccupancyIsToClosing =
     (cut : Cut) (entries : List ℤ) (c : ℕ) (entry : ℤ) → IsSoundCut cut → IsSchedule cut entries
     → PrecedesOnAllBlocks cut c
     → IsClosingEntry cut entries c entry → pos (occupancy cut entries) ≡ entry -ℤ entry_at entries c
+
+-- whichever train is copied, and by any entries, the occupancy time is no less than what lies between the train's entry
+-- and that of its closing copy
+abbrev pub OccupancyReachesClosing : Type 0
+OccupancyReachesClosing =
+    (cut : Cut) (entries : List ℤ) (c : ℕ) (entry : ℤ) → IsClosingEntry cut entries c entry
+    → (entry -ℤ entry_at entries c) ≤ℤ pos (occupancy cut entries)
 
 -- the fraction a over b is reduced
 abbrev pub FractionIsReduced : Type 0

@@ -27,17 +27,29 @@ start_by cut entries i place = start_at (member cut i) (entry_at entries i) plac
 abbrev pub end_by : Cut → List ℤ → ℕ → ℕ → ℤ
 end_by cut entries i place = end_at (member cut i) (entry_at entries i) place
 
--- a schedule has an entry for each member, none before the window; where one member precedes another, it ends its
--- use of the place before the other starts there, or as it starts
-pub record IsSchedule (cut : Cut) (entries : List ℤ) : Type 0 where
+-- a schedule from floors, one for each member, has an entry for each member, none before its floor; where one member
+-- precedes another, it ends its use of the place before the other starts there, or as it starts
+pub record IsScheduleFrom (cut : Cut) (floor : ℕ → ℤ) (entries : List ℤ) : Type 0 where
   pub count : length entries ≡ member_count cut
-  pub window : (i : ℕ) → i < member_count cut → window_start cut ≤ℤ entry_at entries i
+  pub from : (i : ℕ) → i < member_count cut → floor i ≤ℤ entry_at entries i
   pub order : (i j place : ℕ) → i < member_count cut → j < member_count cut
       → IsTrue (precedes (member cut i) (member cut j) place)
       → end_by cut entries i place ≤ℤ start_by cut entries j place
 
--- the least schedule: in no schedule does any train enter earlier
-pub record IsLeast (cut : Cut) (entries : List ℤ) : Type 0 where
-  pub schedule : IsSchedule cut entries
-  pub least : (other : List ℤ) → IsSchedule cut other → (i : ℕ) → i < member_count cut
+-- the least schedule from floors: in no schedule from them does any train enter earlier
+pub record IsLeastFrom (cut : Cut) (floor : ℕ → ℤ) (entries : List ℤ) : Type 0 where
+  pub schedule : IsScheduleFrom cut floor entries
+  pub least : (other : List ℤ) → IsScheduleFrom cut floor other → (i : ℕ) → i < member_count cut
       → entry_at entries i ≤ℤ entry_at other i
+
+-- the floor of each member in compression: the window's start
+abbrev pub window_floor : Cut → ℕ → ℤ
+window_floor cut i = window_start cut
+
+-- a schedule, in which no train enters before the window
+abbrev pub IsSchedule : Cut → List ℤ → Type 0
+IsSchedule cut entries = IsScheduleFrom cut (window_floor cut) entries
+
+-- the least schedule: in no schedule does any train enter earlier
+abbrev pub IsLeast : Cut → List ℤ → Type 0
+IsLeast cut entries = IsLeastFrom cut (window_floor cut) entries

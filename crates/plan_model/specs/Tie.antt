@@ -8,7 +8,7 @@ use Rattle.plan_model.specs.declared.answer.Tie.TheVariants.{Start, After}
 use Rattle.plan_model.specs.Places.{places, first_by_name}
 use Rattle.plan_model.specs.Members.{member, members}
 use Rattle.plan_model.specs.Precedence.{precedes}
-use Rattle.plan_model.specs.Schedule.{window_start, entry_at, start_by, end_by}
+use Rattle.plan_model.specs.Schedule.{window_floor, entry_at, start_by, end_by}
 
 -- member i, which precedes member j at a place, touches it there: j starts as i ends
 abbrev pub touches : Cut → List ℤ → ℕ → ℕ → ℕ → Bool
@@ -28,8 +28,13 @@ abbrev pub touch : Cut → List ℤ → ℕ → Option Tie
 touch cut entries j =
     option_and_then (λ i. option_map (After i) (touching_place cut entries i j)) (touching_member cut entries j)
 
--- the tie of member j: the window's start where it enters then, else this pair, which there is in the least schedule of
--- a sound cut
+-- the tie of member j from floors: its floor where it enters then, else this pair. It means something for the least
+-- schedule of a sound cut from these floors, where there is such a pair; elsewhere there may be none
+abbrev pub tie_from : Cut → (ℕ → ℤ) → List ℤ → ℕ → Tie
+tie_from cut floor entries j =
+    if int_eq (entry_at entries j) (floor j) then Start else unwrap_or (touch cut entries j) Start
+
+-- the tie of member j: the window's start where it enters then, else this pair. It means something for the least
+-- schedule of a sound cut alone
 abbrev pub tie_of : Cut → List ℤ → ℕ → Tie
-tie_of cut entries j =
-    if int_eq (entry_at entries j) (window_start cut) then Start else unwrap_or (touch cut entries j) Start
+tie_of cut entries j = tie_from cut (window_floor cut) entries j

@@ -1,7 +1,8 @@
 //! Laws of the definitions: each function does nothing, and its contract is the law.
-ghost use Rattle.plan_model.specs.Laws.{LeastIsUnique, AnswerIsUnique, UsesAreApart, RemainingIsLeft, TiedIsLeast, LeastIsTied, NoneIsLater, OccupancyIsToClosing, FractionIsReduced, ReducedIsUnique, ComesBeforeIsTested, ConflictIsOverlap};
+ghost use Rattle.plan_model.specs.Laws.{LeastIsUnique, AnswerIsUnique, UsesAreApart, RemainingIsLeft, TiedIsLeast, LeastIsTied, NoneIsLater, OccupancyIsToClosing, OccupancyReachesClosing, FractionIsReduced, ReducedIsUnique, ComesBeforeIsTested, ConflictIsOverlap};
 
-/// A cut has at most one least schedule.
+/// A cut has at most one least schedule from floors, one for each member: from the window's start
+/// as from later moments.
 pub fn least_is_unique()
     ensures { LeastIsUnique }
 {}
@@ -11,8 +12,8 @@ pub fn answer_is_unique()
     ensures { AnswerIsUnique }
 {}
 
-/// By a schedule of a sound cut, two trains at one place keep it one after the other, in the
-/// order of precedence.
+/// By a schedule of a sound cut from any floors, two trains at one place keep it one after the
+/// other, in the order of precedence.
 pub fn uses_are_apart()
     ensures { UsesAreApart }
 {}
@@ -22,14 +23,14 @@ pub fn remaining_is_left()
     ensures { RemainingIsLeft }
 {}
 
-/// Where no member remains, a schedule in which each train enters at the window's start or
-/// touches a train that precedes it is the least.
+/// Where no member remains, a schedule in which each train enters at its floor (the window's start,
+/// in compression) or touches a train that precedes it is the least.
 pub fn tied_is_least()
     ensures { TiedIsLeast }
 {}
 
-/// By the least schedule of a sound cut each train enters at the window's start or touches a train
-/// that precedes it.
+/// By the least schedule of a sound cut each train enters at its floor (the window's start, in
+/// compression) or touches a train that precedes it.
 pub fn least_is_tied()
     ensures { LeastIsTied }
 {}
@@ -44,6 +45,12 @@ pub fn none_is_later()
 /// is what lies between its entry and that of a closing copy of it, which comes after all others.
 pub fn occupancy_is_to_closing()
     ensures { OccupancyIsToClosing }
+{}
+
+/// Whichever train is copied, the occupancy time is no less than what lies between its entry and
+/// that of its closing copy, which comes after all others on the blocks that the train uses.
+pub fn occupancy_reaches_closing()
+    ensures { OccupancyReachesClosing }
 {}
 
 /// A rate is a reduced fraction.

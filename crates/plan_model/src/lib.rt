@@ -19,8 +19,8 @@ pub use cut::{Cut, CutRow};
 pub use fit_cut::{FitCut, SoundCut, shift};
 pub use laws::{
     answer_is_unique, comes_before_is_tested, conflict_is_overlap, fraction_is_reduced,
-    least_is_tied, least_is_unique, none_is_later, occupancy_is_to_closing, reduced_is_unique,
-    remaining_is_left, tied_is_least, uses_are_apart,
+    least_is_tied, least_is_unique, none_is_later, occupancy_is_to_closing,
+    occupancy_reaches_closing, reduced_is_unique, remaining_is_left, tied_is_least, uses_are_apart,
 };
 pub use limits::MEMBERS;
 pub use reading::Reading;
