@@ -4,8 +4,8 @@ use Rattle.std.proofs.lemmas.Result.{IfOk-at_ok}
 use Rattle.turn_desk.specs.Entering.{EntersAll}
 use Rattle.turn_desk.specs.Known.{Known, IsReady}
 use Rattle.turn_desk.proofs.Drawing.{new_passes-all}
-use Rattle.acceptance.specs.declared.tests.desk.Note.{Note}
-use Rattle.acceptance.proofs.tests.desk.started.Goals as goal
+use Rattle.acceptance_desk.specs.declared.tests.desk.Note.{Note}
+use Rattle.acceptance_desk.proofs.tests.desk.started.Goals as goal
 
 pub returns-clause-others : goal.returns-clause-others
 returns-clause-others g c =
