@@ -32,11 +32,11 @@ use Rattle.plan_model.proofs.ScheduleTest.{is_schedule, is_tied, least}
 -- ---- items
 
 -- a block of 1000 m
-abbrev block : List ℕ → Block
+abbrev pub block : List ℕ → Block
 block name = record { name = name; length_m = 1000 }
 
 -- a signal before a block, with this approach
-abbrev signal : List ℕ → List ℕ → ℕ → Signal
+abbrev pub signal : List ℕ → List ℕ → ℕ → Signal
 signal name beyond approach = record {
   name = name;
   block = beyond;
@@ -48,7 +48,7 @@ signal name beyond approach = record {
 }
 
 -- a train of 100 m that starts at a moment, and runs over its blocks in these times without a stop
-abbrev train : List ℕ → List ℕ → ℕ → List ℕ → Run
+abbrev pub train : List ℕ → List ℕ → ℕ → List ℕ → Run
 train name route start running = record {
   name = name;
   route = route;
@@ -59,18 +59,18 @@ train name route start running = record {
 }
 
 -- the section of an hour over these blocks
-abbrev section : List (List ℕ) → Section
+abbrev pub section : List (List ℕ) → Section
 section blocks = record { name = codes "S"; from_s = 0; to_s = 3600; add_percent = 33; blocks = blocks }
 
-abbrev kept : ℕ → ℕ → ℕ → Use
+abbrev pub kept : ℕ → ℕ → ℕ → Use
 kept place from to = record { block = place; start = pos from; «end» = pos to }
 
-abbrev row : List ℕ → ℤ → List Use → CutRow
+abbrev pub row : List ℕ → ℤ → List Use → CutRow
 row name entry uses = record { name = name; stamp = 0; entry = entry; uses = uses }
 
 -- a compressed timetable over these places, with its trains, its occupancy time, its busiest block and its critical
 -- train
-abbrev plan : List (List ℕ) → List Placed → ℕ → Option ℕ → Option ℕ → Answer
+abbrev pub plan : List (List ℕ) → List Placed → ℕ → Option ℕ → Option ℕ → Answer
 plan places trains time busiest critical = answer.Ordered (record {
   from_s = 0;
   to_s = 3600;
@@ -83,7 +83,7 @@ plan places trains time busiest critical = answer.Ordered (record {
 })
 
 -- a train of it, with its planned entry and its entry
-abbrev placed : List ℕ → ℕ → ℕ → Tie → Placed
+abbrev pub placed : List ℕ → ℕ → ℕ → Tie → Placed
 placed name planned entry tie = record { train = name; planned = pos planned; entry = pos entry; tie = tie }
 
 -- the least schedule gives the answer of a cut without disorder
@@ -95,7 +95,7 @@ compressed cut entries few none left schedule tied =
 
 -- ---- a line of two blocks, with a train at 100 and a train at 400
 
-abbrev line : List Run → List Connection → Tables
+abbrev pub line : List Run → List Connection → Tables
 line runs connections = record {
   blocks = block (codes "A") ∷ block (codes "B") ∷ [];
   signals = signal (codes "SA") (codes "A") 1000 ∷ signal (codes "SB") (codes "B") 1000 ∷ [];
@@ -105,13 +105,13 @@ line runs connections = record {
   connections = connections;
 }
 
-abbrev t1 : Run
+abbrev pub t1 : Run
 t1 = train (codes "T1") (codes "R") 100 (60 ∷ 60 ∷ [])
 
-abbrev t2 : Run
+abbrev pub t2 : Run
 t2 = train (codes "T2") (codes "R") 400 (60 ∷ 60 ∷ [])
 
-abbrev two_trains : Cut
+abbrev pub two_trains : Cut
 two_trains = record {
   section = section (codes "A" ∷ codes "B" ∷ []);
   connections = [];
@@ -137,10 +137,10 @@ second_follows : precedes (member two_trains 1) (member two_trains 0) 0 ≡ fals
 second_follows = refl
 
 -- compressed, the second enters 150 s after the first
-abbrev pressed : List ℤ
+abbrev pub pressed : List ℤ
 pressed = pos 0 ∷ pos 150 ∷ []
 
-two_trains_answer : IsAnswer two_trains (plan (codes "A" ∷ codes "B" ∷ []) (placed (codes "T1") 85 0 Start
+pub two_trains_answer : IsAnswer two_trains (plan (codes "A" ∷ codes "B" ∷ []) (placed (codes "T1") 85 0 Start
     ∷ placed (codes "T2") 385 150 (After 0 1) ∷ []) 300 (Some 1) (Some 1))
 two_trains_answer = compressed two_trains pressed (lit≤ tt) refl refl refl refl
 

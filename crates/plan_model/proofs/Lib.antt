@@ -1,4 +1,8 @@
 mod Examples
+mod JournalExamples
+mod TouchExamples
+mod RefusedEntries
+pub mod Touching
 pub mod MemberTests
 pub mod SoundTest
 pub mod ScheduleTest

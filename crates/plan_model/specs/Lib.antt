@@ -14,3 +14,10 @@ pub mod Reading
 pub mod Planned
 pub mod Closing
 pub mod Laws
+pub mod Scripts
+pub mod Journal
+pub mod Changes
+pub mod Touch
+pub mod Legal
+pub mod Session
+pub mod Call

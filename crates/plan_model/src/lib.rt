@@ -1,27 +1,35 @@
-//! What a planner asks of a section and gets: the cut of a section, its readings, and the answer.
+//! What a planner asks of a section and gets: the cut of a section, its readings, and the answer;
+//! and the journal of what planners did and were answered.
 //!
 //! The definitions stand in `specs/`, for all crates above: what a section's cut is, what
 //! precedes what, what a schedule is and which is the least, what disorder is, what the occupancy
-//! time is, and which answer a cut has.
+//! time is, and which answer a cut has; which edits touch a section, when it is current, and which
+//! journals are legal.
 #![tactic(auto)]
 
 mod answer;
 mod copies;
 mod cut;
 mod fit_cut;
+mod journal;
 mod laws;
 mod limits;
+mod outcome;
 mod reading;
 mod rows;
+mod scripts;
 
 pub use answer::{Answer, Done, Link, Placed, Plan, Tie};
 pub use cut::{Cut, CutRow};
 pub use fit_cut::{FitCut, SoundCut, shift};
+pub use journal::{Act, Entry, Reply};
 pub use laws::{
     answer_is_unique, comes_before_is_tested, conflict_is_overlap, fraction_is_reduced,
     least_is_tied, least_is_unique, none_is_later, occupancy_is_to_closing,
     occupancy_reaches_closing, reduced_is_unique, remaining_is_left, tied_is_least, uses_are_apart,
 };
 pub use limits::MEMBERS;
+pub use outcome::{Asked, Next, NotTaken, Stepped};
 pub use reading::Reading;
 pub use rows::Rows;
+pub use scripts::{Scripts, Task};

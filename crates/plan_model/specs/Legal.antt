@@ -1,0 +1,88 @@
+-- Legal journals: which entry may come next.
+use Rattle.std.specs.Prelude.{◌≡◌, ◌≢◌, ℕ, ◌+◌, ◌<◌, ◌≤◌, List, [], ◌∷◌, ◌++◌, None, Some, All}
+use Rattle.rail_model.specs.Rules.{rule_of}
+use Rattle.rail_model.specs.Sound.{IsSound}
+use Rattle.plan_model.specs.declared.cut.Cut.{Cut}
+use Rattle.plan_model.specs.declared.answer.Answer.{Answer}
+use Rattle.plan_model.specs.declared.scripts.Task.{Task}
+use Rattle.plan_model.specs.declared.journal.Reply.{Reply}
+use Rattle.plan_model.specs.declared.journal.Reply.TheVariants as reply
+use Rattle.plan_model.specs.declared.journal.Act.{Act}
+use Rattle.plan_model.specs.declared.journal.Act.TheVariants as act
+use Rattle.plan_model.specs.declared.journal.Entry.{Entry}
+use Rattle.plan_model.specs.Answer.{IsAnswer}
+use Rattle.plan_model.specs.Journal.{opening, last_number, tables_of, issued, last_publication, done_by, script_of, planners}
+use Rattle.plan_model.specs.Touch.{cut_at, cut_now, IsUntouchedSince, IsLastTouching, IsCurrent}
+
+module _ (journal : List Entry) where
+  -- the section was there after the edit of a number, which the journal knows, and this is the answer of its cut there
+  pub record IsAnswerAt (section : List ℕ) (at : ℕ) (answer : Answer) : Type 0 where
+    pub from_opening : (opening journal).at ≤ at
+    pub to_last : at ≤ last_number journal
+    pub cut : Cut
+    pub there : cut_at journal section at ≡ Some cut
+    pub is_answer : IsAnswer cut answer
+
+  -- an answer may be published: no edit since touches the section, and it is not current already
+  pub record MayBePublished (section : List ℕ) (at : ℕ) (answer : Answer) : Type 0 where
+    pub done : IsAnswerAt section at answer
+    pub untouched : IsUntouchedSince journal section at
+    pub wanted : IsCurrent journal section → ⊥
+
+  -- the answer of the section was published last at the edit of this number
+  abbrev pub WasPublishedAt : List ℕ → ℕ → Type 0
+  WasPublishedAt section at =
+      (answer : Answer) × (last_publication journal section ≡ Some (record { at = at; answer = answer }))
+
+  -- what is replied to one who asks for a section: `Unknown` where it isn't there; else `NotYet` where it was never
+  -- published; else `Stale` where a later edit touches it, the last one by this number; else `Ready`
+  abbrev pub IsReply : List ℕ → Reply → Type 0
+  IsReply section reply.Unknown = cut_now journal section ≡ None
+  IsReply section reply.NotYet = (cut_now journal section ≢ None) × (last_publication journal section ≡ None)
+  IsReply section (reply.Stale at by) =
+      (cut_now journal section ≢ None) × WasPublishedAt section at × IsLastTouching journal section by × (at < by)
+  IsReply section (reply.Ready at) =
+      (cut_now journal section ≢ None) × WasPublishedAt section at × IsUntouchedSince journal section at
+
+  -- what may be done next: a pass of the next number is issued; an edit that no rule refuses gets the next number; an
+  -- edit is refused by the first rule that refuses it; an answer is published where it may be; a reply is right
+  abbrev pub MayFollow : Act → Type 0
+  MayFollow (act.Opened tables at scripts) = ⊥
+  MayFollow (act.Entered number) = number ≡ issued journal
+  MayFollow (act.Edited planner at edit) = (at ≡ last_number journal + 1) × (rule_of (tables_of journal) edit ≡ None)
+  MayFollow (act.Refused planner rule edit) = rule_of (tables_of journal) edit ≡ Some rule
+  MayFollow (act.Asked planner section reply) = IsReply section reply
+  MayFollow (act.Published section at answer) = MayBePublished section at answer
+
+  -- a legal next entry: it carries an issued pass, and what it says may be done next
+  pub record IsNext (e : Entry) : Type 0 where
+    pub pass : e.pass < issued journal
+    pub follows : MayFollow e.act
+
+-- each of these entries is a legal next one after those before it
+abbrev pub AllFollow : List Entry → List Entry → Type 0
+AllFollow before [] = Unit {0}
+AllFollow before (e ∷ later) = IsNext before e × AllFollow (before ++ e ∷ []) later
+
+-- a journal opens with sound tables
+abbrev pub Opens : Act → Type 0
+Opens (act.Opened tables at scripts) = IsSound tables
+Opens (act.Entered number) = ⊥
+Opens (act.Edited planner at edit) = ⊥
+Opens (act.Refused planner rule edit) = ⊥
+Opens (act.Asked planner section reply) = ⊥
+Opens (act.Published section at answer) = ⊥
+
+-- a legal journal: it opens by pass 0, and each next entry is legal after those before it
+abbrev pub IsLegal : List Entry → Type 0
+IsLegal [] = ⊥
+IsLegal (e ∷ later) = (e.pass ≡ 0) × Opens e.act × AllFollow (e ∷ []) later
+
+-- the tasks that a planner has done are the first of its script, in order
+abbrev pub KeepsToScript : List Entry → ℕ → Type 0
+KeepsToScript journal planner = (left : List Task) × (script_of journal planner ≡ done_by journal planner ++ left)
+
+-- a journal of planners at work: it is legal, and each planner keeps to its script
+pub record IsJournal (journal : List Entry) : Type 0 where
+  pub legal : IsLegal journal
+  pub scripts : All (KeepsToScript journal) (planners journal)
