@@ -7,7 +7,7 @@ use Rattle.std.proofs.lemmas.List.Edits.{between_more}
 use Rattle.std.proofs.lemmas.List.Elements.{All-more, All-nil, All-push}
 use Rattle.csv.specs.Records.{Rising, last_end}
 use Rattle.csv.proofs.RecordFacts.{last-append, rising-end, rising-last, rising-more}
-use Rattle.row_text.specs.declared.plain_rows.Cut.{Cut}
+use Rattle.row_text.specs.declared.plain_rows.CutFields.{CutFields}
 use Rattle.row_text.specs.Cuts.{fields_at, LiesIn, span}
 use Rattle.row_text.specs.Pieces.{pieces}
 use Rattle.row_text.specs.PlainRows.{cut_rows, ends_line, EndsField, fields_cut, Fits, HasCut, HasCutAll, is_blank, LineEnded, line_fields, rows_cut, with_line}
@@ -22,17 +22,17 @@ none-there text i j e =
     rw none refl
 
 -- the line at hand starts within the fields
-first-within : (text : List ℕ) (cut : Cut) → Fits text cut → cut.first ≤ length cut.spans.items
+first-within : (text : List ℕ) (cut : CutFields) → Fits text cut → cut.first ≤ length cut.spans.items
 first-within text cut fits = omega (arith, rising-last 0 cut.ends.items (length cut.spans.items) fits.rise, fits.first)
 
-fields-long : (text : List ℕ) (cut : Cut) → Fits text cut → length (line_fields text cut) + cut.first ≡ length cut.spans.items
+fields-long : (text : List ℕ) (cut : CutFields) → Fits text cut → length (line_fields text cut) + cut.first ≡ length cut.spans.items
 fields-long text cut fits = omega (arith, length-drop cut.first (fields_cut text cut), length-fields_at text cut.spans.items, first-within text cut fits)
 
 field-long : (text : List ℕ) (start i : ℕ) → start ≤ i → i ≤ length text → length (slice_range text start i) + start ≡ i
 field-long text start i order within = omega (arith, length-take-le (i - start) (drop start text) (omega (arith, length-drop start text)))
 
 -- a field was cut
-field-step : (text : List ℕ) (old new : Cut) (i : ℕ) → EndsField old new i → Fits text old → old.start ≤ i → i ≤ length text
+field-step : (text : List ℕ) (old new : CutFields) (i : ℕ) → EndsField old new i → Fits text old → old.start ≤ i → i ≤ length text
     → (rows_cut text new ≡ rows_cut text old) × (line_fields text new ≡ line_fields text old ++ slice_range text old.start i ∷ []) × Fits text new
 field-step text old new i ended fits order within =
     let fields = fields_cut text old in
@@ -52,7 +52,7 @@ field-step text old new i ended fits order within =
     )
 
 -- nothing is cut yet
-pub HasCut-none : (text : List ℕ) (cut : Cut) → cut.spans.items ≡ [] → cut.ends.items ≡ [] → cut.start ≡ 0 → cut.first ≡ 0 → HasCut text cut 0
+pub HasCut-none : (text : List ℕ) (cut : CutFields) → cut.spans.items ≡ [] → cut.ends.items ≡ [] → cut.start ≡ 0 → cut.first ≡ 0 → HasCut text cut 0
 unfolding pieces fields_at Rising last_end
 HasCut-none text cut spans ends start first =
     record {
@@ -63,7 +63,7 @@ HasCut-none text cut spans ends start first =
     }
 
 -- a comma
-pub HasCut-comma : (text : List ℕ) (old new : Cut) (i : ℕ) → i < length text → get_or text i 0 ≡ 44 → EndsField old new i → HasCut text old i → HasCut text new (i + 1)
+pub HasCut-comma : (text : List ℕ) (old new : CutFields) (i : ℕ) → i < length text → get_or text i 0 ≡ 44 → EndsField old new i → HasCut text old i → HasCut text new (i + 1)
 HasCut-comma text old new i there is ended has =
     let step = field-step text old new i ended has.fits has.start (omega arith) in
     let field = slice_range text old.start i in
@@ -78,7 +78,7 @@ HasCut-comma text old new i there is ended has =
     }
 
 -- the end of a line
-pub HasCut-line : (text : List ℕ) (old new : Cut) (i : ℕ) → i < length text → ends_line (get_or text i 0) ≡ true → LineEnded text old new i → HasCut text old i → HasCut text new (i + 1)
+pub HasCut-line : (text : List ℕ) (old new : CutFields) (i : ℕ) → i < length text → ends_line (get_or text i 0) ≡ true → LineEnded text old new i → HasCut text old i → HasCut text new (i + 1)
 HasCut-line text old new i there is ended has =
     let field = slice_range text old.start i in
     let rest = drop (i + 1) text in
@@ -93,7 +93,7 @@ HasCut-line text old new i there is ended has =
     }
 
 -- a byte of a field
-pub HasCut-byte : (text : List ℕ) (cut : Cut) (i : ℕ) → i < length text → get_or text i 0 ≢ 34 → get_or text i 0 ≢ 44 → ends_line (get_or text i 0) ≡ false → HasCut text cut i → HasCut text cut (i + 1)
+pub HasCut-byte : (text : List ℕ) (cut : CutFields) (i : ℕ) → i < length text → get_or text i 0 ≢ 34 → get_or text i 0 ≢ 44 → ends_line (get_or text i 0) ≡ false → HasCut text cut i → HasCut text cut (i + 1)
 HasCut-byte text cut i there plain comma line has =
     let byte = get_or text i 0 in
     let field = slice_range text cut.start i in
@@ -111,11 +111,11 @@ HasCut-byte text cut i there plain comma line has =
 past-comma : (byte : ℕ) → 44 < byte → ends_line byte ≡ false
 past-comma byte past = grind (arith, nat_tests)
 
-pub HasCut-past : (text : List ℕ) (cut : Cut) (i : ℕ) → i < length text → 44 < get_or text i 0 → HasCut text cut i → HasCut text cut (i + 1)
+pub HasCut-past : (text : List ℕ) (cut : CutFields) (i : ℕ) → i < length text → 44 < get_or text i 0 → HasCut text cut i → HasCut text cut (i + 1)
 HasCut-past text cut i there past has = HasCut-byte text cut i there (λ quote. omega arith) (λ comma. omega arith) (past-comma (get_or text i 0) past) has
 
 -- the end of the text ends its last line
-pub HasCut-end : (text : List ℕ) (old new : Cut) (i : ℕ) → length text ≤ i → LineEnded text old new i → HasCut text old i → HasCutAll text new
+pub HasCut-end : (text : List ℕ) (old new : CutFields) (i : ℕ) → length text ≤ i → LineEnded text old new i → HasCut text old i → HasCutAll text new
 HasCut-end text old new i end ended has =
     let field = slice_range text old.start i in
     let next : cut_rows (line_fields text old) field (drop i text) ≡ with_line (line_fields text old) field [] =
@@ -130,13 +130,13 @@ HasCut-end text old new i end ended has =
 blank-test : (fields first all field start i : ℕ) → fields + first ≡ all → field + start ≡ i → ((fields == 0) && (field == 0)) ≡ ((start == i) && (first == all))
 blank-test fields first all field start i e f = grind (arith, nat_tests)
 
-blank-is : (text : List ℕ) (cut : Cut) (i : ℕ) → Fits text cut → cut.start ≤ i → i ≤ length text
+blank-is : (text : List ℕ) (cut : CutFields) (i : ℕ) → Fits text cut → cut.start ≤ i → i ≤ length text
     → is_blank (line_fields text cut) (slice_range text cut.start i) ≡ ((cut.start == i) && (cut.first == length cut.spans.items))
 blank-is text cut i fits order within =
     blank-test (length (line_fields text cut)) cut.first (length cut.spans.items) (length (slice_range text cut.start i)) cut.start i (fields-long text cut fits) (field-long text cut.start i order within)
 
 -- a line in which nothing stands
-pub LineEnded-blank : (text : List ℕ) (old new : Cut) (i : ℕ) → i ≤ length text → old.start ≤ i → Fits text old → ((old.start == i) && (old.first == length old.spans.items)) ≡ true
+pub LineEnded-blank : (text : List ℕ) (old new : CutFields) (i : ℕ) → i ≤ length text → old.start ≤ i → Fits text old → ((old.start == i) && (old.first == length old.spans.items)) ≡ true
     → new.spans.items ≡ old.spans.items → new.ends.items ≡ old.ends.items → new.first ≡ old.first → new.start ≡ i + 1 → LineEnded text old new i
 LineEnded-blank text old new i within order fits blank spans ends first start =
     let is : is_blank (line_fields text old) (slice_range text old.start i) ≡ true = blank-is text old i fits order within ∙ blank in
@@ -149,7 +149,7 @@ LineEnded-blank text old new i within order fits blank spans ends first start =
     }
 
 -- a line that is a row
-pub LineEnded-row : (text : List ℕ) (old mid new : Cut) (i : ℕ) → i ≤ length text → old.start ≤ i → Fits text old → ((old.start == i) && (old.first == length old.spans.items)) ≡ false → EndsField old mid i
+pub LineEnded-row : (text : List ℕ) (old mid new : CutFields) (i : ℕ) → i ≤ length text → old.start ≤ i → Fits text old → ((old.start == i) && (old.first == length old.spans.items)) ≡ false → EndsField old mid i
     → new.spans.items ≡ mid.spans.items → new.ends.items ≡ mid.ends.items ++ length mid.spans.items ∷ [] → new.first ≡ length mid.spans.items → new.start ≡ mid.start → LineEnded text old new i
 LineEnded-row text old mid new i within order fits row ended spans ends first start =
     let is : is_blank (line_fields text old) (slice_range text old.start i) ≡ false = blank-is text old i fits order within ∙ row in

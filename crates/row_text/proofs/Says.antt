@@ -13,8 +13,9 @@ use Rattle.std.proofs.lemmas.List.{length-drop}
 use Rattle.rail_model.specs.Name.{is_name, is_same}
 use Rattle.rail_model.specs.declared.form.Form.{Form}
 use Rattle.rail_model.specs.declared.form.Form.TheVariants as form
+use Rattle.std.specs.Option.{option_or}
 use Rattle.row_text.specs.Row.{Row, field}
-use Rattle.row_text.specs.Sorts.{Sort, Name, Number, Rate, Time, Read, or_fault, value_of, is_number, number_of, classes, class_rate, rate_of, else_some, has_clock_form, clock_after, clock_of, time_of, name_in, time_in, read}
+use Rattle.row_text.specs.Sorts.{Sort, Name, Number, Rate, Time, Read, or_fault, value_of, is_number, number_of, classes, class_rate, rate_of, has_clock_form, clock_after, clock_of, time_of, name_in, time_in, read}
 use Rattle.row_text.specs.Words.{More, Nothing, Names, Times, may_follow}
 use Rattle.row_text.specs.Lines.{◌>>=◌, read_each, read_from, Maker}
 
@@ -81,12 +82,12 @@ class_rate-small text n e =
     let found = option_map-some (λ (c : List ℕ × ℕ). c.1) (find (λ c. is_same text c.0) classes) n e in
     omega (arith, found.2, find-each small (λ c. is_same text c.0) classes found.0 all found.1)
 
-else_some-some : {A : Type 0} (first second : Option A) (x : A) → else_some first second ≡ Some x → (first ≡ Some x) ⊎ (second ≡ Some x)
-else_some-some None second x e = inr e
-else_some-some (Some y) second x e = inl e
+option_or-some : {A : Type 0} (first second : Option A) (x : A) → option_or first second ≡ Some x → (first ≡ Some x) ⊎ (second ≡ Some x)
+option_or-some None second x e = inr e
+option_or-some (Some y) second x e = inl e
 
 rate_of-small : (text : List ℕ) (n : ℕ) → rate_of text ≡ Some n → n < 1000000000
-rate_of-small text n e = elim (else_some-some (number_of text) (class_rate text) n e) [
+rate_of-small text n e = elim (option_or-some (number_of text) (class_rate text) n e) [
   | inl number ↦ number_of-small text n number
   | inr class ↦ class_rate-small text n class
 ]
@@ -119,7 +120,7 @@ clock_of-small text n e = elim (cases_Bool (has_clock_form text)) [
 
 time_of-small : (version : ℕ) (text : List ℕ) (n : ℕ) → time_of version text ≡ Some n → n < 1000000000
 time_of-small version text n e = elim (cases_Bool (version == 2)) [
-  | inl second ↦ elim (else_some-some (number_of text) (clock_of text) n (rw second at e)) [
+  | inl second ↦ elim (option_or-some (number_of text) (clock_of text) n (rw second at e)) [
     | inl number ↦ number_of-small text n number
     | inr clock ↦ clock_of-small text n clock
   ]

@@ -1,6 +1,7 @@
 -- Which word a field is, by what it begins with.
 use Rattle.std.proofs.Common.{◌≡◌, ℕ, Bool, true, false, List, [], ◌∷◌, ◌++◌, length, take, drop, map, Option, Some, None, option_map, codes, refl, sym, ap, ◌∙◌, inl, inr, nat_eq}
 use Rattle.std.specs.List.{find}
+use Rattle.std.proofs.lemmas.List.Folds.{find-append}
 use Rattle.std.proofs.lemmas.Bool.{cases_Bool, false≢true}
 use Rattle.std.proofs.lemmas.List.{take-append-drop}
 use Rattle.std.proofs.Math.Seq.{take-append_seam}
@@ -9,8 +10,9 @@ use Rattle.std.specs.Cmp.Lexicographic.{pointwise}
 use Rattle.rail_model.specs.Name.{is_same}
 use Rattle.row_text.specs.declared.word.Word.{Word}
 use Rattle.row_text.specs.declared.word.Word.TheVariants as word
-use Rattle.row_text.specs.Sorts.{else_some}
-use Rattle.row_text.specs.Words.{kind_text, kinds, word_text, word_of, kind_of}
+use Rattle.std.specs.Option.{option_or}
+use Rattle.rail_model.specs.declared.edit.Kind.{Kind}
+use Rattle.row_text.specs.Words.{kind_text, kinds, word_text, word_of}
 
 find-map : {X Y : Type 0} (f : X → Y) (test : Y → Bool) (xs : List X) → find test (map f xs) ≡ option_map f (find (λ x. test (f x)) xs)
 find-map f test [] = refl
@@ -19,16 +21,13 @@ find-map f test (x ∷ xs) = elim (cases_Bool (test (f x))) [
   | inr other ↦ rw other (find-map f test xs)
 ]
 
-find-append : {X : Type 0} (test : X → Bool) (xs ys : List X) → find test (xs ++ ys) ≡ else_some (find test xs) (find test ys)
-find-append test [] ys = refl
-find-append test (x ∷ xs) ys = elim (cases_Bool (test x)) [
-  | inl found ↦ rw found refl
-  | inr other ↦ rw other (find-append test xs ys)
-]
-
 find-none : {X : Type 0} (test : X → Bool) (xs : List X) → ((x : X) → test x ≡ false) → find test xs ≡ None
 find-none test [] none = refl
 find-none test (x ∷ xs) none = rw (none x) (find-none test xs none)
+
+-- the kind of which a field is the word
+abbrev pub kind_of : List ℕ → Option Kind
+kind_of field = find (λ k. is_same field (kind_text k)) kinds
 
 -- a field after a prefix that it begins with
 pub after_prefix : (field prefix rest : List ℕ) → pointwise nat_eq (take (length prefix) field) prefix ≡ true → rest ≡ drop (length prefix) field → field ≡ prefix ++ rest
@@ -68,11 +67,11 @@ word_of-kind field no_change no_drop no_ask no_planner =
     let rest : find test (word.Ask ∷ word.Planner ∷ []) ≡ None = rw (no_ask, no_planner) refl in
     let puts : find test (map word.Put kinds) ≡ option_map word.Put (kind_of field) = find-map word.Put test kinds in
     find-append test (map word.Put kinds ++ map word.Change kinds ++ map word.Drop kinds) (word.Ask ∷ word.Planner ∷ [])
-    ∙ ap (λ x. else_some x (find test (word.Ask ∷ word.Planner ∷ []))) (find-append test (map word.Put kinds ++ map word.Change kinds) (map word.Drop kinds))
-    ∙ ap (λ x. else_some (else_some x (find test (map word.Drop kinds))) (find test (word.Ask ∷ word.Planner ∷ []))) (find-append test (map word.Put kinds) (map word.Change kinds))
+    ∙ ap (λ x. option_or x (find test (word.Ask ∷ word.Planner ∷ []))) (find-append test (map word.Put kinds ++ map word.Change kinds) (map word.Drop kinds))
+    ∙ ap (λ x. option_or (option_or x (find test (map word.Drop kinds))) (find test (word.Ask ∷ word.Planner ∷ []))) (find-append test (map word.Put kinds) (map word.Change kinds))
     ∙ rw (changes, drops, rest, puts) (only (option_map word.Put (kind_of field)))
   where
-    only : {X : Type 0} (x : Option X) → else_some (else_some (else_some x None) None) None ≡ x
+    only : {X : Type 0} (x : Option X) → option_or (option_or (option_or x None) None) None ≡ x
     only None = refl
     only (Some y) = refl
 

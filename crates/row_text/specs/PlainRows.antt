@@ -2,7 +2,7 @@
 use Rattle.std.specs.Prelude.{◌≡◌, ◌≢◌, ℕ, ◌==◌, ◌&&◌, ◌||◌, ◌+◌, ◌≤◌, ◌<◌, Bool, List, [], ◌∷◌, ◌++◌, length, drop, take, get_or, slice_range, if◌then◌else◌}
 use Rattle.std.specs.List.{All}
 use Rattle.csv.specs.Records.{Rising, last_end}
-use Rattle.row_text.specs.declared.plain_rows.Cut.{Cut}
+use Rattle.row_text.specs.declared.plain_rows.CutFields.{CutFields}
 use Rattle.row_text.specs.Cuts.{fields_at, LiesIn, span}
 use Rattle.row_text.specs.Pieces.{pieces}
 use Rattle.row_text.specs.Row.{Row}
@@ -33,52 +33,52 @@ cut_rows fields field (byte ∷ text) =
     else cut_rows fields (field ++ byte ∷ []) text
 
 -- the fields that were cut from a text so far, and those of the line at hand
-abbrev pub fields_cut : List ℕ → Cut → Row
+abbrev pub fields_cut : List ℕ → CutFields → Row
 fields_cut text cut = fields_at text cut.spans.items
 
-abbrev pub line_fields : List ℕ → Cut → Row
+abbrev pub line_fields : List ℕ → CutFields → Row
 line_fields text cut = drop cut.first (fields_cut text cut)
 
 -- the rows that were cut so far
-abbrev pub rows_cut : List ℕ → Cut → List Row
+abbrev pub rows_cut : List ℕ → CutFields → List Row
 rows_cut text cut = pieces 0 cut.ends.items (fields_cut text cut)
 
 -- the spans that were cut from a text lie within it, and the rows' ends within them
-pub record Fits (text : List ℕ) (cut : Cut) : Type 0 where
+pub record Fits (text : List ℕ) (cut : CutFields) : Type 0 where
   pub spans : All (LiesIn (length text)) cut.spans.items
   pub rise : Rising 0 cut.ends.items (length cut.spans.items)
   pub first : last_end 0 cut.ends.items ≡ cut.first
 
 -- the first bytes of a text were cut, so many
-pub record HasCut (text : List ℕ) (cut : Cut) (i : ℕ) : Type 0 where
+pub record HasCut (text : List ℕ) (cut : CutFields) (i : ℕ) : Type 0 where
   pub rows : cut_rows [] [] text ≡ rows_cut text cut ++ cut_rows (line_fields text cut) (slice_range text cut.start i) (drop i text)
   pub no_quote : HasNoQuote (take i text)
   pub fits : Fits text cut
   pub start : cut.start ≤ i
 
 -- the whole text was cut
-pub record HasCutAll (text : List ℕ) (cut : Cut) : Type 0 where
+pub record HasCutAll (text : List ℕ) (cut : CutFields) : Type 0 where
   pub rows : cut_rows [] [] text ≡ rows_cut text cut
   pub no_quote : HasNoQuote text
   pub fits : Fits text cut
 
 -- a field ended at a place
-pub record EndsField (old new : Cut) (i : ℕ) : Type 0 where
+pub record EndsField (old new : CutFields) (i : ℕ) : Type 0 where
   pub spans : new.spans.items ≡ old.spans.items ++ span old.start i ∷ []
   pub ends : new.ends.items ≡ old.ends.items
   pub start : new.start ≡ i + 1
   pub first : new.first ≡ old.first
 
 -- a line ended at a place: its row is cut, and nothing stands in the next one
-pub record LineEnded (text : List ℕ) (old new : Cut) (i : ℕ) : Type 0 where
+pub record LineEnded (text : List ℕ) (old new : CutFields) (i : ℕ) : Type 0 where
   pub rows : (more : List Row) → rows_cut text new ++ more ≡ rows_cut text old ++ with_line (line_fields text old) (slice_range text old.start i) more
   pub none : line_fields text new ≡ []
   pub fits : Fits text new
   pub start : new.start ≡ i + 1
 
-abbrev pub EndsLine : Cut → Cut → ℕ → Type 0
+abbrev pub EndsLine : CutFields → CutFields → ℕ → Type 0
 EndsLine old new i = (text : List ℕ) → i ≤ length text → old.start ≤ i → Fits text old → LineEnded text old new i
 
 -- one byte more was taken
-abbrev pub TakesByte : Cut → Cut → ℕ → ℕ → Type 0
+abbrev pub TakesByte : CutFields → CutFields → ℕ → ℕ → Type 0
 TakesByte old new i byte = (text : List ℕ) → i < length text → get_or text i 0 ≡ byte → HasCut text old i → HasCut text new (i + 1)

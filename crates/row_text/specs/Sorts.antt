@@ -1,5 +1,6 @@
 -- The sorts of fields, and what a field of each sort says.
 use Rattle.std.specs.Prelude.{ℕ, ◌+◌, ◌-◌, ◌*◌, Bool, ◌&&◌, ◌==◌, nat_lt, nat_le, if◌then◌else◌, List, [], ◌∷◌, length, take, fold, codes, slice_range, slice_index, Option, Some, None, Result, Ok, Err, option_and_then, find, option_map}
+use Rattle.std.specs.Option.{option_or}
 use Rattle.std.specs.List.{list_all}
 use Rattle.std.specs.Char.{is_ascii_digit}
 use Rattle.rail_model.specs.Name.{is_same, name_of}
@@ -37,11 +38,6 @@ is_number field = nat_lt 0 (length field) && nat_le (length field) NUMBER_DIGITS
 abbrev pub number_of : List ℕ → Option ℕ
 number_of field = if is_number field then Some (value_of field) else None
 
--- the first where there is something, else the second
-abbrev pub else_some : {A : Type 0} → Option A → Option A → Option A
-else_some None other = other
-else_some (Some x) other = Some x
-
 -- the class names of rates, with their per cent
 abbrev pub classes : List (List ℕ × ℕ)
 classes =
@@ -58,18 +54,20 @@ class_rate field = option_map (λ c. c.1) (find (λ c. is_same field c.0) classe
 
 -- a rate is a number of per cent or a class name
 abbrev pub rate_of : List ℕ → Option ℕ
-rate_of field = else_some (number_of field) (class_rate field)
+rate_of field = option_or (number_of field) (class_rate field)
+
+-- what comes next where there is something
+infixl 10 ◌>>=◌
+abbrev ◌>>=◌ : {A B : Type 0} → Option A → (A → Option B) → Option B
+◌>>=◌ = λ o next. option_and_then next o
 
 -- HOURS:MM:SS in seconds, where the hours have this many digits: minutes and seconds have two, and are below 60
 abbrev pub clock_after : ℕ → List ℕ → Option ℕ
-clock_after digits field =
-    option_and_then (λ hours.
-    option_and_then (λ minutes.
-    option_and_then (λ seconds.
-    if nat_lt minutes 60 && nat_lt seconds 60 then Some (hours * 3600 + minutes * 60 + seconds) else None)
-    (number_of (slice_range field (digits + 4) (digits + 6))))
-    (number_of (slice_range field (digits + 1) (digits + 3))))
-    (number_of (take digits field))
+clock_after digits field = do
+  hours ← number_of (take digits field)
+  minutes ← number_of (slice_range field (digits + 1) (digits + 3))
+  seconds ← number_of (slice_range field (digits + 4) (digits + 6))
+  if nat_lt minutes 60 && nat_lt seconds 60 then Some (hours * 3600 + minutes * 60 + seconds) else None
 
 -- a time of day: one to five digits of hours, and colons before the minutes and the seconds
 abbrev pub has_clock_form : List ℕ → Bool
@@ -82,7 +80,7 @@ clock_of field = if has_clock_form field then clock_after (length field - 6) fie
 
 -- a time is a number of seconds, and in version 2 of the rows it may be a time of day
 abbrev pub time_of : ℕ → List ℕ → Option ℕ
-time_of version field = if version == 2 then else_some (number_of field) (clock_of field) else number_of field
+time_of version field = if version == 2 then option_or (number_of field) (clock_of field) else number_of field
 
 -- what a field says as a field of a sort, or its fault
 abbrev pub name_in : List ℕ → Result (List ℕ) Form

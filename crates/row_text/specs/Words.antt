@@ -35,10 +35,6 @@ words = map word.Put kinds ++ map word.Change kinds ++ map word.Drop kinds ++ wo
 unfoldable pub word_of : List ℕ → Option Word
 word_of field = find (λ w. is_same field (word_text w)) words
 
--- the kind of which a field is the word
-abbrev pub kind_of : List ℕ → Option Kind
-kind_of field = find (λ k. is_same field (kind_text k)) kinds
-
 -- what may follow the fields that each row of a word has: nothing; 1 to 256 names; or the times of 1 to 256 legs,
 -- which are a running and a dwell time each, but for the last, which has no dwell time
 pub data More : Type 0 where

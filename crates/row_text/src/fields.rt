@@ -54,6 +54,14 @@ impl Fields {
         }
     }
 
+    // The same with room for so many.
+    pub(crate) fn with_room(alloc: Global, fields: usize) -> Result<Fields, OutOfMemory>
+        ensures { IfOk result (λ none. none ≡ []) }
+    {
+        let spans = Vec::with_capacity(alloc, fields)?;
+        Ok(Fields::at_spans(Vec::new(alloc), spans))
+    }
+
     // The fields that stand at these spans of the bytes.
     pub(crate) fn at_spans(bytes: Vec<u8>, spans: Vec<FieldSpan>) -> Fields
         requires { All (LiesIn (length bytes.items)) spans.items }

@@ -11,7 +11,7 @@ use std::alloc::Global;
 
 // The fields and rows that were cut from a text so far.
 #[derive(Drop)]
-struct Cut {
+struct CutFields {
     // Where each field stands.
     spans: Vec<FieldSpan>,
     // How many fields there are up to the end of each row.
@@ -22,6 +22,32 @@ struct Cut {
     first: usize,
 }
 
+// How many fields and rows a text may have.
+#[derive(Clone, Copy)]
+pub(crate) struct Room {
+    pub(crate) fields: usize,
+    pub(crate) rows: usize,
+}
+
+// A field ends at each comma and each line feed, and at the end of the text. Where lines end with
+// carriage returns alone there are more.
+pub(crate) fn room_for(text: &[u8]) -> Room
+    ensures { (result.fields < 2 ^ 64) × (result.rows ≤ length text.now + 1) }
+{
+    let rows = count_of(text, b'\n') + 1;
+    Room {
+        fields: count_of(text, b',').saturating_add(rows),
+        rows,
+    }
+}
+
+// How often a byte stands in a text.
+fn count_of(text: &[u8], byte: u8) -> usize
+    ensures { result ≤ length text.now }
+{
+    text.iter().filter(|b| **b == byte).count()
+}
+
 // The rows of a text, as CSV reads them. None for a text that is left to a reader of CSV: one with
 // a double quote, one that may start with a byte order mark, or one that is too long.
 pub(crate) fn plain_rows(alloc: Global, text: &[u8]) -> Result<Option<RowList>, OutOfMemory>
@@ -30,9 +56,10 @@ pub(crate) fn plain_rows(alloc: Global, text: &[u8]) -> Result<Option<RowList>, 
     if text.len() >= MOST_BYTES || starts_with_mark(text) {
         return Ok(None);
     }
-    let mut cut = Cut {
-        spans: Vec::new(alloc),
-        ends: Vec::new(alloc),
+    let room = room_for(text);
+    let mut cut = CutFields {
+        spans: Vec::with_capacity(alloc, room.fields)?,
+        ends: Vec::with_capacity(alloc, room.rows)?,
         start: 0,
         first: 0,
     };
@@ -51,7 +78,7 @@ fn starts_with_mark(text: &[u8]) -> bool
 }
 
 // Cuts a whole text. False where it has a double quote.
-fn cut_text(cut: &mut Cut, text: &[u8]) -> Result<bool, OutOfMemory>
+fn cut_text(cut: &mut CutFields, text: &[u8]) -> Result<bool, OutOfMemory>
     requires small { length text.now < 2 ^ 32 }
     requires fresh { HasCut text.now cut.old 0 }
     ensures { IfOk result (λ whole. IsTrue whole → HasCutAll text.now cut.new) }
@@ -76,7 +103,7 @@ fn cut_text(cut: &mut Cut, text: &[u8]) -> Result<bool, OutOfMemory>
 
 // Takes a byte that is below the comma in ASCII. False for a double quote.
 #[inline(never)]
-fn take_below_comma(cut: &mut Cut, i: usize, byte: u8) -> Result<bool, OutOfMemory>
+fn take_below_comma(cut: &mut CutFields, i: usize, byte: u8) -> Result<bool, OutOfMemory>
     requires order { cut.old.start ≤ i }
     requires small { i < 2 ^ 32 }
     requires other { byte < 44 }
@@ -99,7 +126,7 @@ fn ends_line(byte: u8) -> bool
 
 // Ends the field at hand at a place.
 #[inline]
-fn end_field(cut: &mut Cut, i: usize) -> Result<(), OutOfMemory>
+fn end_field(cut: &mut CutFields, i: usize) -> Result<(), OutOfMemory>
     requires order { cut.old.start ≤ i }
     requires small { i < 2 ^ 32 }
     ensures { OnOk result (EndsField cut.old cut.new i) }
@@ -114,7 +141,7 @@ fn end_field(cut: &mut Cut, i: usize) -> Result<(), OutOfMemory>
 
 // Ends the line at hand at a place. One in which nothing stands is no row.
 #[inline]
-fn end_line(cut: &mut Cut, i: usize) -> Result<(), OutOfMemory>
+fn end_line(cut: &mut CutFields, i: usize) -> Result<(), OutOfMemory>
     requires order { cut.old.start ≤ i }
     requires small { i < 2 ^ 32 }
     ensures { OnOk result (EndsLine cut.old cut.new i) }
@@ -135,7 +162,7 @@ fn end_line(cut: &mut Cut, i: usize) -> Result<(), OutOfMemory>
 
 // Whether nothing stands in the line at hand up to a place.
 #[inline]
-fn is_blank(cut: &Cut, i: usize) -> bool
+fn is_blank(cut: &CutFields, i: usize) -> bool
     ensures { result ≡ (cut.now.start == i) && (cut.now.first == length cut.now.spans.items) }
 {
     cut.start == i && cut.first == cut.spans.len()

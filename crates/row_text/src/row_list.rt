@@ -9,7 +9,7 @@ ghost use Rattle.std.specs.Prelude.{List};
 
 use crate::fields::{Fields, MOST_BYTES, Row, span};
 use crate::line::{Line, read_line};
-use crate::plain_rows::plain_rows;
+use crate::plain_rows::{plain_rows, room_for};
 use crate::read_field::number_at;
 use csv::{ByteRecord, ReaderBuilder};
 use rail_model::{Form, OutOfMemory};
@@ -143,7 +143,7 @@ struct Taken {
     ends: Vec<u32>,
 }
 
-ghost use Rattle.row_text.specs.Rows.{rows_of, Takes};
+ghost use Rattle.row_text.specs.Rows.{rows_of, HasTaken, Takes};
 
 /// The rows of a text as CSV reads them: commas, double quotes, no header row, rows of any lengths.
 /// A byte order mark at the start is left out. Any error of the reader is that memory ran out.
@@ -160,15 +160,12 @@ pub fn rows(alloc: Global, text: &[u8]) -> Result<RowList, OutOfMemory>
 fn rows_read(alloc: Global, text: &[u8]) -> Result<RowList, OutOfMemory>
     ensures { IfOk result (λ rows. rows ≡ rows_of text.now) }
 {
+    let mut taken = nothing_taken(alloc, text)?;
     let mut reader = ReaderBuilder::new()
         .has_headers(false)
         .flexible(true)
         .from_reader(alloc, text);
     let mut row = ByteRecord::new(alloc);
-    let mut taken = Taken {
-        fields: Fields::new(alloc),
-        ends: Vec::new(alloc),
-    };
     // A text has no more rows than bytes.
     'rows: for _ in 0..text.len() + 1 {
         match reader.read_byte_record(&mut row) {
@@ -183,6 +180,17 @@ fn rows_read(alloc: Global, text: &[u8]) -> Result<RowList, OutOfMemory>
         }
     }
     Err(OutOfMemory)
+}
+
+// No row of a text, and room for all.
+fn nothing_taken(alloc: Global, text: &[u8]) -> Result<Taken, OutOfMemory>
+    ensures { IfOk result (λ taken. HasTaken taken []) }
+{
+    let room = room_for(text);
+    Ok(Taken {
+        fields: Fields::with_room(alloc, room.fields)?,
+        ends: Vec::with_capacity(alloc, room.rows)?,
+    })
 }
 
 // Takes one row more.

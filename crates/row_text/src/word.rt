@@ -1,5 +1,6 @@
 //! The words that rows begin with.
-ghost use Rattle.std.specs.Prelude.{◌≡◌};
+ghost use Rattle.std.specs.Prelude.{◌≡◌, find};
+ghost use Rattle.rail_model.specs.Name.{is_same};
 ghost use Rattle.row_text.specs.Words as words;
 ghost use Rattle.row_text.specs.declared.word.Word.TheVariants as word;
 
@@ -77,7 +78,7 @@ pub(crate) fn word_of(field: &[u8]) -> Option<Word>
 
 // The kind of items that a field is the word of, if it is one.
 fn kind_of(field: &[u8]) -> Option<Kind>
-    ensures { result ≡ words.kind_of field.now }
+    ensures { result ≡ find (λ k. is_same field.now (words.kind_text k)) words.kinds }
 {
     if field == b"block".as_slice() {
         return Some(Kind::Block);

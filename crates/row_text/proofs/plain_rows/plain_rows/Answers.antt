@@ -7,7 +7,7 @@ use Rattle.row_text.proofs.PlainRows.{HasCut-none}
 use Rattle.row_text.proofs.plain_rows.plain_rows.Goals as goal
 
 pub cut_text-requires-clause-fresh : goal.cut_text-requires-clause-fresh
-cut_text-requires-clause-fresh c = HasCut-none c.args.text.now _ c.new.ensures.items c.new-2.ensures.items refl refl
+cut_text-requires-clause-fresh c = HasCut-none c.args.text.now _ c.in_ok-with_capacity.ensures.items c.in_ok-with_capacity-2.ensures.items refl refl
 
 pub of_fields-requires : goal.of_fields-requires
 of_fields-requires c =

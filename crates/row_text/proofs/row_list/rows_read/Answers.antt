@@ -2,7 +2,6 @@ use Rattle.std.proofs.Common.{[], ◌∙◌, sym, inr, refl}
 use Rattle.csv.specs.Reading.{Reached, strip_bom}
 use Rattle.csv.specs.Records.{fields_of}
 use Rattle.row_text.proofs.Records.{HasRead-more, HasRead-end}
-use Rattle.row_text.proofs.Taken.{HasTaken-none}
 use Rattle.row_text.proofs.row_list.rows_read.Goals as goal
 
 pub rows-init : goal.rows-init
@@ -20,7 +19,7 @@ rows-init c =
         source = reader.source;
         reached = (sym reader.state, refl);
       },
-      HasTaken-none (record { fields = c.new-2.result; ends = c.new-3.result }) c.new-2.ensures c.new-3.ensures.items,
+      c.in_ok-taken.ensures,
     )
 
 pub take-requires : goal.take-requires

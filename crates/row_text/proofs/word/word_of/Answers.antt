@@ -1,8 +1,7 @@
 use Rattle.std.proofs.Common.{◌≡◌, ◌∙◌, sym, codes, ◌++◌, false, option_map, rules}
 use Rattle.rail_model.specs.Name.{is_same}
 use Rattle.row_text.specs.declared.word.Word.TheVariants as word
-use Rattle.row_text.specs.Words.{kind_of}
-use Rattle.row_text.proofs.Words.{after_prefix, word_of-change, word_of-drop, word_of-kind, word_of-ask, word_of-planner}
+use Rattle.row_text.proofs.Words.{kind_of, after_prefix, word_of-change, word_of-drop, word_of-kind, word_of-ask, word_of-planner}
 use Rattle.row_text.proofs.word.word_of.Goals as goal
 
 pub returns-in-Some : goal.returns-in-Some

@@ -1,0 +1,5 @@
+use Rattle.row_text.proofs.Taken.{HasTaken-none}
+use Rattle.row_text.proofs.row_list.nothing_taken.Goals as goal
+
+pub returns : goal.returns
+returns c = HasTaken-none _ c.in_ok-with_room.ensures c.in_ok-with_capacity.ensures.items
