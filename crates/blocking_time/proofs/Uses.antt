@@ -1,5 +1,5 @@
 -- The uses of a run: none is empty, all lie within the greatest moment, and no block is used twice.
-use Rattle.std.proofs.Common.{◌≡◌, ◌≢◌, ℕ, ◌+◌, ◌-◌, ◌<◌, ◌≤◌, ℤ, pos, ◌+ℤ◌, ◌-ℤ◌, ◌<ℤ◌, List, map, length, get_or, All, AllPairs, ap, sym, subst, ◌∙◌, arith}
+use Rattle.std.proofs.Common.{◌≡◌, ◌≢◌, ℕ, ◌+◌, ◌-◌, ◌<◌, ◌≤◌, ℤ, pos, ◌+ℤ◌, ◌-ℤ◌, ◌<ℤ◌, List, map, length, get_or, All, AllPairs, ap, sym, ◌∙◌, arith}
 use Rattle.std.specs.List.{range_with_len}
 use Rattle.std.proofs.lemmas.Int.{ints}
 use Rattle.std.proofs.lemmas.List.{length-map, get_or-map}
@@ -11,7 +11,8 @@ use Rattle.rail_model.specs.declared.stair.Use.{Use}
 use Rattle.rail_model.specs.Path.{hop, hop_count, no_hop, Fits}
 use Rattle.rail_model.specs.Motion.{departure}
 use Rattle.rail_model.specs.Blocking.{approach_moment, clearing_moment, blocking_start, blocking_end, use_of, stairway}
-use Rattle.blocking_time.specs.Moment.{IsMoment}
+use Rattle.rail_model.specs.Moment.{IsMoment}
+use Rattle.rail_model.proofs.Lists.{All-from_one}
 use Rattle.blocking_time.specs.Blocking.{IsUseBounded, blocking_of}
 use Rattle.blocking_time.specs.declared.moments.Moments.{Moments}
 use Rattle.blocking_time.specs.declared.walk.Blocking.{Blocking}
@@ -21,13 +22,6 @@ use Rattle.blocking_time.proofs.Bounds.{approach_before_entry, entry_before_exit
 
 abbrev pub blocking : Use → List ℤ → Blocking
 blocking used six = record { used = used; parts = six }
-
--- what holds of all numbers from 1 to n holds of all images
-pub All-from_one : {X : Type 0} (P : X → Type 0) (f : ℕ → X) (n : ℕ) → ((k : ℕ) → 1 ≤ k → k ≤ n → P (f k)) → All P (map f (range_with_len 1 n))
-All-from_one P f n each i d below =
-    let count = length-map-range_with_len f 1 n in
-    let within : i < n = omega (arith, count) in
-    subst P (sym (get_or-map-range_with_len f 1 n i (1 + i) d within (omega arith))) (each (1 + i) (omega arith) (omega arith))
 
 rises : (a w f c r e x : ℕ) → a ≤ e → e < x → x ≤ c → (pos a -ℤ pos w -ℤ pos f) <ℤ (pos c +ℤ pos r)
 rises a w f c r e x p q s = omega (arith, ints)
@@ -39,10 +33,10 @@ not_empty path fits k some on =
     (approach_before_entry path fits k on) (entry_before_exit path fits k some on) (clearing_between path fits k on).0
 
 near_before : (a w f : ℕ) → a ≤ 44928000 → w ≤ 86400 → f ≤ 86400 → IsMoment (pos a -ℤ pos w -ℤ pos f)
-near_before a w f p q s = record { low = omega (arith, ints); high = omega (arith, ints) }
+near_before a w f p q s = record { after = omega (arith, ints); before = omega (arith, ints) }
 
 near_after : (c r : ℕ) → c ≤ 44928000 → r ≤ 86400 → IsMoment (pos c +ℤ pos r)
-near_after c r p q = record { low = omega (arith, ints); high = omega (arith, ints) }
+near_after c r p q = record { after = omega (arith, ints); before = omega (arith, ints) }
 
 -- it starts and ends at moments
 pub bounded : (path : Path) → Fits path → (k : ℕ) → 1 ≤ k → k ≤ hop_count path → IsUseBounded (use_of path k)

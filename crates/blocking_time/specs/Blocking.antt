@@ -4,7 +4,7 @@ use Rattle.rail_model.specs.declared.path.Path.{Path}
 use Rattle.rail_model.specs.declared.stair.Use.{Use}
 use Rattle.rail_model.specs.Blocking.{use_of, parts}
 use Rattle.blocking_time.specs.declared.walk.Blocking.{Blocking}
-use Rattle.blocking_time.specs.Moment.{IsMoment}
+use Rattle.rail_model.specs.Moment.{IsMoment}
 
 -- the blocking of the k-th block
 abbrev pub blocking_of : Path → ℕ → Blocking

@@ -1,4 +1,3 @@
-pub mod Moment
 pub mod Mark
 pub mod Moments
 pub mod Blocking

@@ -3,7 +3,7 @@
 ghost use Rattle.std.specs.Prelude.{◌≡◌, ◌≤◌, ◌<◌, ◌-◌, ◌≤ℤ◌, pos, max, nat_lt, nat_le, if◌then◌else◌};
 ghost use Rattle.rail_model.specs.Path.{hop_count, Fits};
 ghost use Rattle.rail_model.specs.Blocking.{approach_moment as moment_of};
-ghost use Rattle.blocking_time.specs.Moment.{IsMoment};
+ghost use Rattle.rail_model.specs.Moment.{IsMoment};
 ghost use Rattle.blocking_time.specs.Mark.{stop_mark, no_stop, IsMarkWithin};
 
 use crate::motion::{self, GREATEST_REACH_S, Mark};

@@ -9,7 +9,7 @@ use Rattle.std.specs.List.{All, range_with_len}
 use Rattle.std.proofs.lemmas.Simd.{map-map}
 use Rattle.blocking_time.specs.declared.walk.Blocking.{Blocking}
 use Rattle.blocking_time.specs.Blocking.{blocking_of}
-use Rattle.blocking_time.proofs.Uses.{All-from_one}
+use Rattle.rail_model.proofs.Lists.{All-from_one}
 use Rattle.rail_model.specs.declared.path.Hop.{Hop}
 use Rattle.rail_model.specs.declared.path.Path.{Path}
 use Rattle.rail_model.specs.declared.tables.Tables.{Tables}

@@ -22,10 +22,11 @@ use Rattle.rail_model.specs.Tables.{no_block, run_at, path_in}
 use Rattle.rail_model.specs.Sound.{IsSound}
 use Rattle.rail_model.proofs.NameOrder.{same_name, is_same-from}
 use Rattle.rail_model.proofs.Paths.{path_at_fits}
-use Rattle.blocking_time.specs.Moment as limit
+use Rattle.rail_model.specs.Moment as limit
 use Rattle.blocking_time.proofs.Places.{departures_rise}
 use Rattle.blocking_time.proofs.Bounds.{approach_before_entry, entry_before_exit}
-use Rattle.blocking_time.proofs.Uses.{All-from_one, not_empty, bounded, blocks_differ}
+use Rattle.rail_model.proofs.Lists.{All-from_one}
+use Rattle.blocking_time.proofs.Uses.{not_empty, bounded, blocks_differ}
 use Rattle.plan_model.specs.Cut.{least, IsMoment}
 use Rattle.plan_model.specs.SectionCut.{last_arrival, position_in_section, use_in_section, section_uses, entry_of, is_member}
 use Rattle.section_cut.specs.Positions.{block_name}
@@ -47,7 +48,7 @@ pub record IsEntry (last : ℕ) (t : ℤ) : Type 0 where
   pub early : t <ℤ pos last
 
 near : (t : ℤ) → limit.IsMoment t → IsMoment t
-near t m = record { after = omega (arith, ints, m.low); before = m.high }
+near t m = record { after = m.after; before = m.before }
 
 early : (a w f d last : ℕ) → a ≤ d → d < last → (pos a -ℤ pos w -ℤ pos f) <ℤ pos last
 early a w f d last p q = omega (arith, ints)

@@ -13,7 +13,7 @@ use Rattle.rail_model.specs.Path.{hop_count}
 use Rattle.rail_model.specs.Blocking.{use_of, stairway, stair_of}
 use Rattle.rail_model.specs.Tables.{no_run, run_at, path_in}
 use Rattle.rail_model.specs.Sound.{IsSound}
-use Rattle.blocking_time.proofs.Uses.{All-from_one}
+use Rattle.rail_model.proofs.Lists.{All-from_one}
 use Rattle.line_tables.specs.Hops.{route_hops}
 use Rattle.plan_model.specs.SectionCut.{use_in_section, section_uses, is_member}
 use Rattle.section_cut.specs.Timetable.{timetable}

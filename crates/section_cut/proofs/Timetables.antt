@@ -10,7 +10,7 @@ use Rattle.rail_model.specs.Blocking.{use_of, stairway, stair_of}
 use Rattle.rail_model.specs.Tables.{no_run, run_at, path_in}
 use Rattle.rail_model.specs.Sound.{IsSound}
 use Rattle.rail_model.proofs.Paths.{path_at_numbered}
-use Rattle.blocking_time.proofs.Uses.{All-from_one}
+use Rattle.rail_model.proofs.Lists.{All-from_one}
 use Rattle.section_cut.specs.Timetable.{timetable}
 
 module _ (tables : Tables) where

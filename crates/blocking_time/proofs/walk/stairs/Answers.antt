@@ -3,8 +3,9 @@ use Rattle.std.proofs.lemmas.List.Elements.{All-same}
 use Rattle.rail_model.specs.declared.stair.Use.{Use}
 use Rattle.rail_model.specs.Path.{hop_count}
 use Rattle.rail_model.specs.Blocking.{use_of, stairway}
+use Rattle.rail_model.proofs.Lists.{All-from_one}
 use Rattle.blocking_time.specs.Blocking.{IsUseBounded}
-use Rattle.blocking_time.proofs.Uses.{All-from_one, not_empty, bounded, blocks_differ}
+use Rattle.blocking_time.proofs.Uses.{not_empty, bounded, blocks_differ}
 use Rattle.blocking_time.proofs.walk.stairs.Goals as goal
 
 pub returns-clause-not_empty : goal.returns-clause-not_empty
