@@ -13,7 +13,7 @@ use Rattle.rail_model.proofs.Timetables.{conflict_there}
 use Rattle.conflict_finder.specs.declared.found.Conflict.{Conflict}
 use Rattle.conflict_finder.specs.declared.found.Conflicts.{Conflicts}
 use Rattle.conflict_finder.specs.declared.found.TheConstants.{LISTED}
-use Rattle.conflict_finder.specs.Found.{listed, IsFound}
+use Rattle.conflict_finder.specs.Found.{as_listed, IsFound}
 use Rattle.row_text.specs.SheetRows.{SheetRows}
 use Rattle.capacity_report.specs.Added.{AddsPrefix}
 use Rattle.section_cut.specs.Timetable.{timetable}
@@ -23,19 +23,19 @@ use Rattle.capacity_report.proofs.Rows.{prefix_from}
 pub listed_there : (tables : Tables) → IsSound tables → (found : Conflicts) → IsFound (timetable tables) found → (i : ℕ) (d : Conflict) → i < length found.list → (get_or found.list i d).block < length tables.blocks
 listed_there tables sound found f i d l =
     let some : Conflict → whole.Conflict = λ c. record { block = c.block; first = c.first; first_start = pos 0; second = c.second; from = c.from; to = c.to } in
-    let count : length (map listed (take LISTED f.all)) ≡ length (take LISTED f.all) = length-map (take LISTED f.all) listed in
+    let count : length (map as_listed (take LISTED f.all)) ≡ length (take LISTED f.all) = length-map (take LISTED f.all) as_listed in
     let within : i < length (take LISTED f.all) = omega (arith, ap length f.list, count) in
-    let here : get_or found.list i d ≡ listed (get_or f.all i (some d)) =
-    ap (λ xs. get_or xs i d) f.list ∙ get_or-map listed (take LISTED f.all) i (some d) d within ∙ ap listed (get_or-take LISTED f.all i (some d) (omega (arith, length-take LISTED f.all))) in
+    let here : get_or found.list i d ≡ as_listed (get_or f.all i (some d)) =
+    ap (λ xs. get_or xs i d) f.list ∙ get_or-map as_listed (take LISTED f.all) i (some d) d within ∙ ap as_listed (get_or-take LISTED f.all i (some d) (omega (arith, length-take LISTED f.all))) in
     let there : Contains f.all (get_or f.all i (some d)) = Contains-get_or f.all i (some d) (omega (arith, length-take LISTED f.all)) in
     rw here (conflict_there tables sound (get_or f.all i (some d)) ((f.are.each (get_or f.all i (some d))).0 there))
 
 -- their rows, and the count
 pub rows_found : (tables : Tables) (found : Conflicts) → (f : IsFound (timetable tables) found) → map (found_row tables) found.list ++ count_row (length found.list) found.more ∷ [] ≡ check_rows tables f.all
 rows_found tables found f =
-    let count : length found.list ≡ length (take LISTED f.all) = ap length f.list ∙ length-map (take LISTED f.all) listed in
+    let count : length found.list ≡ length (take LISTED f.all) = ap length f.list ∙ length-map (take LISTED f.all) as_listed in
     let rows : map (found_row tables) found.list ≡ map (conflict_row tables) (take LISTED f.all) =
-    ap (map (found_row tables)) f.list ∙ map-map (found_row tables) listed (take LISTED f.all) in
+    ap (map (found_row tables)) f.list ∙ map-map (found_row tables) as_listed (take LISTED f.all) in
     rw (rows, count, f.more) refl
 
 -- those of the first of them are a prefix

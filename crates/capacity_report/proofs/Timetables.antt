@@ -15,8 +15,9 @@ use Rattle.rail_model.specs.Tables.{no_run, run_at, path_in}
 use Rattle.rail_model.specs.Sound.{IsSound}
 use Rattle.rail_model.proofs.NameOrder.{is_same-before, is_same-from}
 use Rattle.rail_model.proofs.Paths.{path_at_fits}
-use Rattle.blocking_time.proofs.Uses.{All-from_one, not_empty, blocks_differ}
-use Rattle.conflict_finder.specs.Timetable.{IsStairway, IsTimetable}
+use Rattle.rail_model.proofs.Lists.{All-from_one}
+use Rattle.blocking_time.proofs.Uses.{not_empty, blocks_differ}
+use Rattle.rail_model.specs.Timetable.{IsStairway, IsTimetable}
 use Rattle.section_cut.specs.Timetable.{timetable}
 use Rattle.section_cut.proofs.Timetables.{stair_at, stairs_count}
 use Rattle.section_cut.proofs.Timetables as Stairways

@@ -1,6 +1,6 @@
 //! The timetable of a line, whose conflicts are looked for.
 ghost use Rattle.std.specs.Prelude.{◌≡◌, IfOk};
-ghost use Rattle.conflict_finder.specs.Timetable.{IsTimetable};
+ghost use Rattle.rail_model.specs.Timetable.{IsTimetable};
 ghost use Rattle.section_cut.specs.Timetable.{timetable};
 
 use line_tables::LineTables;

@@ -5,5 +5,5 @@ pub mod Order
 pub mod Whole
 pub mod Room
 pub mod Joins
-pub mod Stretched
+pub mod BlockByBlock
 pub mod Moves

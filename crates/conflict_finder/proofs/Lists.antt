@@ -1,31 +1,23 @@
 -- Lists that are made piece by piece, and pairs of their elements.
-use Rattle.std.proofs.Common.{◌≡◌, ℕ, zero, suc, ◌+◌, ◌-◌, ◌<◌, ◌≤◌, ◌⊎◌, Bool, true, List, [], ◌∷◌, ◌++◌, length, map, get_or, refl, sym, ap, ◌∙◌, subst, inl, inr, arith, append-nil, append_assoc, length-append}
+use Rattle.std.proofs.Common.{◌≡◌, ℕ, zero, suc, ◌+◌, ◌<◌, ◌≤◌, ◌⊎◌, Bool, true, List, ◌++◌, length, map, get_or, refl, sym, ap, ◌∙◌, subst, inl, inr, arith, append-nil, append_assoc}
 use Rattle.std.specs.List.{AllPairs, Contains, flat_map, range_with_len, prefix_len, swap}
 use Rattle.std.specs.List.Sorted.{IsPermutation}
 use Rattle.std.proofs.lemmas.Bool.{cases_lt, cases_eq}
-use Rattle.std.proofs.lemmas.List.{get_or-map, length-map, get_or_append_left, get_or-append_right}
-use Rattle.std.proofs.lemmas.List.Concat.{flat_map-append}
+use Rattle.std.proofs.lemmas.List.{get_or-map, length-map}
 use Rattle.std.proofs.lemmas.List.Edits.{Swapped, swapped_from_swap, length-swap}
 use Rattle.std.proofs.lemmas.List.Elements.{Contains-append_cases, Contains-append_left, Contains-append_right, Contains-get_or}
-use Rattle.std.proofs.lemmas.List.FromFn.{map-range_with_len_more}
 use Rattle.std.proofs.lemmas.List.Sorted.{IsPermutation-keeps}
 use Rattle.std.proofs.lemmas.List.Sums.{prefix_len_stops}
+use Rattle.rail_model.proofs.Lists.{flat_map-range_more, AllPairs-append}
 
 -- ---- pieces for the numbers below n
 
-map_same : (xs : List ℕ) → map (λ k. k) xs ≡ xs
-map_same [] = refl
-map_same (x ∷ xs) = ap (λ ys. x ∷ ys) (map_same xs)
-
-pub range_more : (n : ℕ) → range_with_len 0 (n + 1) ≡ range_with_len 0 n ++ n ∷ []
-range_more n =
-    sym (map_same (range_with_len 0 (n + 1))) ∙ map-range_with_len_more (λ k. k) 0 n n (omega arith)
-    ∙ ap (λ xs. xs ++ n ∷ []) (map_same (range_with_len 0 n))
-
-pieces_more : {X : Type 0} (f : ℕ → List X) (n : ℕ) → flat_map f (range_with_len 0 (n + 1)) ≡ flat_map f (range_with_len 0 n) ++ f n
-pieces_more f n =
-    ap (flat_map f) (range_more n) ∙ flat_map-append f (range_with_len 0 n) (n ∷ [])
-    ∙ ap (λ ys. flat_map f (range_with_len 0 n) ++ ys) (append-nil (f n))
+-- pairs of two lists are pairs of one of them, or of both
+pub AllPairs-both : {X : Type 0} (R : X → X → Type 0) (xs ys : List X) → AllPairs R xs → AllPairs R ys
+    → ((x y : X) → Contains xs x → Contains ys y → R x y) → AllPairs R (xs ++ ys)
+AllPairs-both R xs ys first second across =
+    AllPairs-append R xs ys first second
+    (λ i d l j e m. across (get_or xs i d) (get_or ys j e) (Contains-get_or xs i d l) (Contains-get_or ys j e m))
 
 module _ {X : Type 0} (f : ℕ → List X) where
   pub upto : ℕ → List X
@@ -35,12 +27,9 @@ module _ {X : Type 0} (f : ℕ → List X) where
   unfolding upto
   upto_is n = refl
 
-  pub upto_more : (n : ℕ) → flat_map f (range_with_len 0 (n + 1)) ≡ flat_map f (range_with_len 0 n) ++ f n
-  upto_more n = pieces_more f n
-
   pub upto_suc : (n : ℕ) → upto (suc n) ≡ upto n ++ f n
   unfolding upto
-  upto_suc n = let e : n + 1 ≡ suc n = omega arith in subst (λ m. flat_map f (range_with_len 0 m) ≡ flat_map f (range_with_len 0 n) ++ f n) e (upto_more n)
+  upto_suc n = let e : n + 1 ≡ suc n = omega arith in subst (λ m. flat_map f (range_with_len 0 m) ≡ flat_map f (range_with_len 0 n) ++ f n) e (flat_map-range_more f n)
 
   -- the pieces of a + b numbers are those of a, and then those of b more
   pub upto_plus : (a b : ℕ) → upto (a + b) ≡ upto a ++ flat_map (λ k. f (a + k)) (range_with_len 0 b)
@@ -48,7 +37,7 @@ module _ {X : Type 0} (f : ℕ → List X) where
   upto_plus a (suc b) =
       let more : a + suc b ≡ suc (a + b) = omega arith in
       let last : b + 1 ≡ suc b = omega arith in
-      let next : flat_map (λ k. f (a + k)) (range_with_len 0 (b + 1)) ≡ flat_map (λ k. f (a + k)) (range_with_len 0 b) ++ f (a + b) = pieces_more (λ k. f (a + k)) b in
+      let next : flat_map (λ k. f (a + k)) (range_with_len 0 (b + 1)) ≡ flat_map (λ k. f (a + k)) (range_with_len 0 b) ++ f (a + b) = flat_map-range_more (λ k. f (a + k)) b in
       ap upto more ∙ upto_suc (a + b) ∙ ap (λ v. v ++ f (a + b)) (upto_plus a b)
       ∙ append_assoc (upto a) (flat_map (λ k. f (a + k)) (range_with_len 0 b)) (f (a + b))
       ∙ ap (λ v. upto a ++ v) (sym next) ∙ ap (λ m. upto a ++ flat_map (λ k. f (a + k)) (range_with_len 0 m)) last
@@ -59,8 +48,8 @@ module _ {X : Type 0} (f : ℕ → List X) where
   upto_same g (suc n) h =
       let e : n + 1 ≡ suc n = omega arith in
       subst (λ m. flat_map f (range_with_len 0 m) ≡ flat_map g (range_with_len 0 m)) e (
-      upto_more n ∙ ap (λ v. v ++ f n) (upto_same g n (λ k l. h k (omega arith)))
-      ∙ ap (λ v. flat_map g (range_with_len 0 n) ++ v) (h n (omega arith)) ∙ sym (pieces_more g n))
+      flat_map-range_more f n ∙ ap (λ v. v ++ f n) (upto_same g n (λ k l. h k (omega arith)))
+      ∙ ap (λ v. flat_map g (range_with_len 0 n) ++ v) (h n (omega arith)) ∙ sym (flat_map-range_more g n))
 
   -- what is in a piece is in the whole, and the other way round
   pub in_upto : (n k : ℕ) (x : X) → k < n → Contains (f k) x → Contains (upto n) x
@@ -81,26 +70,11 @@ module _ {X : Type 0} (f : ℕ → List X) where
       ]
 
   -- pairs of the whole are pairs of one piece, or of an earlier and a later one
-  pub AllPairs-append : (R : X → X → Type 0) (xs ys : List X) → AllPairs R xs → AllPairs R ys → ((x y : X) → Contains xs x → Contains ys y → R x y) → AllPairs R (xs ++ ys)
-  AllPairs-append R xs ys p q across i j d lt l =
-      let long = length-append xs ys in
-      elim (cases_lt j (length xs)) [
-        | inl below ↦ rw (get_or_append_left xs ys d i (omega arith), get_or_append_left xs ys d j below) (p i j d lt below)
-        | inr above ↦ elim (cases_lt i (length xs)) [
-          | inl left ↦
-              rw (get_or_append_left xs ys d i left, get_or-append_right xs ys (length xs) j d refl above)
-              (across (get_or xs i d) (get_or ys (j - length xs) d) (Contains-get_or xs i d left) (Contains-get_or ys (j - length xs) d (omega arith)))
-          | inr right ↦
-              rw (get_or-append_right xs ys (length xs) i d refl right, get_or-append_right xs ys (length xs) j d refl above)
-              (q (i - length xs) (j - length xs) d (omega arith) (omega arith))
-        ]
-      ]
-
   pub AllPairs-upto : (R : X → X → Type 0) (n : ℕ) → ((k : ℕ) → k < n → AllPairs R (f k)) → ((k m : ℕ) (x y : X) → k < m → m < n → Contains (f k) x → Contains (f m) y → R x y) → AllPairs R (upto n)
   unfolding upto
   AllPairs-upto R zero within across = λ i j d lt l. absurd (let none : j < 0 = l in omega arith)
   AllPairs-upto R (suc n) within across =
-      rw (upto_suc n) (AllPairs-append R (upto n) (f n)
+      rw (upto_suc n) (AllPairs-both R (upto n) (f n)
       (AllPairs-upto R n (λ k l. within k (omega arith)) (λ k m x y lt l. across k m x y lt (omega arith)))
       (within n (omega arith))
       (λ x y a b. let r = from_upto n x a in across r.0 n x y r.1 (omega arith) r.2 b))
@@ -117,11 +91,6 @@ from_map f xs y h =
     let long : length (map f xs) ≡ length xs = length-map xs f in
     let l : h.0 < length xs = omega (arith, h.1) in
     (h.0, l, λ d. sym h.2 ∙ get_or-map f xs h.0 d y l)
-
-pub AllPairs-map : {X Y : Type 0} (f : X → Y) (R : Y → Y → Type 0) (xs : List X) → (d : X) → AllPairs (λ a b. R (f a) (f b)) xs → AllPairs R (map f xs)
-AllPairs-map f R xs e h i j d lt l =
-    let long : length (map f xs) ≡ length xs = length-map xs f in
-    rw (get_or-map f xs i e d (omega arith), get_or-map f xs j e d (omega arith)) (h i j e lt (omega arith))
 
 -- ---- what passes a test at the start
 

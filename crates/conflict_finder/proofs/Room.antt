@@ -1,14 +1,15 @@
 -- Listing as long as there is room.
 use Rattle.std.proofs.Common.{◌≡◌, ℕ, zero, suc, ◌+◌, ◌-◌, ◌<◌, ◌≤◌, Bool, false, List, [], ◌∷◌, ◌++◌, length, get_or, map, take, drop, refl, sym, ap, ◌∙◌, arith, append_assoc, length-append}
 use Rattle.std.specs.List.{take_while}
-use Rattle.std.proofs.lemmas.List.{length-map, length-take, length-drop}
+use Rattle.std.proofs.lemmas.List.{length-map, length-take, length-drop, map-append, take-map}
+use Rattle.std.proofs.lemmas.Simd.{map-map}
 use Rattle.std.proofs.lemmas.List.Folds.{length-prefix_len}
 use Rattle.std.proofs.lemmas.List.Sums.{prefix_len-le-length, prefix_len_is}
 use Rattle.rail_model.specs.Conflict as whole
-use Rattle.conflict_finder.specs.declared.blocked.Blocked.{Blocked}
+use Rattle.conflict_finder.specs.declared.visits.Visit.{Visit}
 use Rattle.conflict_finder.specs.declared.found.Conflict.{Conflict}
 use Rattle.conflict_finder.specs.declared.found.TheConstants.{LISTED}
-use Rattle.conflict_finder.specs.Found.{listed}
+use Rattle.conflict_finder.specs.Found.{as_listed}
 
 take_both : {X : Type 0} (n : ℕ) (xs ys : List X) → take n (xs ++ ys) ≡ take n xs ++ take (n - length xs) ys
 take_both zero xs ys = let none : zero - length xs ≡ zero = omega arith in rw none refl
@@ -17,60 +18,47 @@ take_both (suc n) (x ∷ xs) ys =
     let less : suc n - suc (length xs) ≡ n - length xs = omega arith in
     rw less (ap (λ zs. x ∷ zs) (take_both n xs ys))
 
-take_mapped : {X Y : Type 0} (f : X → Y) (n : ℕ) (xs : List X) → take n (map f xs) ≡ map f (take n xs)
-take_mapped f zero xs = refl
-take_mapped f (suc n) [] = refl
-take_mapped f (suc n) (x ∷ xs) = ap (λ zs. f x ∷ zs) (take_mapped f n xs)
-
-map_both : {X Y : Type 0} (f : X → Y) (xs ys : List X) → map f (xs ++ ys) ≡ map f xs ++ map f ys
-map_both f [] ys = refl
-map_both f (x ∷ xs) ys = ap (λ zs. f x ∷ zs) (map_both f xs ys)
-
-map_twice : {X Y Z : Type 0} (g : Y → Z) (f : X → Y) (xs : List X) → map g (map f xs) ≡ map (λ x. g (f x)) xs
-map_twice g f [] = refl
-map_twice g f (x ∷ xs) = ap (λ zs. g (f x) ∷ zs) (map_twice g f xs)
-
-listed_count : (all : List whole.Conflict) → (length (map listed (take LISTED all)) ≤ LISTED) × (length (map listed (take LISTED all)) ≤ length all) × (LISTED - length (map listed (take LISTED all)) ≡ LISTED - length all)
+listed_count : (all : List whole.Conflict) → (length (map as_listed (take LISTED all)) ≤ LISTED) × (length (map as_listed (take LISTED all)) ≤ length all) × (LISTED - length (map as_listed (take LISTED all)) ≡ LISTED - length all)
 listed_count all =
-    let count = length-map (take LISTED all) listed ∙ length-take LISTED all in
+    let count = length-map (take LISTED all) as_listed ∙ length-take LISTED all in
     (omega (arith, count), omega (arith, count), omega (arith, count))
 
-pub listed_most : (all : List whole.Conflict) → length (map listed (take LISTED all)) ≤ LISTED
+pub listed_most : (all : List whole.Conflict) → length (map as_listed (take LISTED all)) ≤ LISTED
 listed_most all = (listed_count all).0
 
 -- more conflicts are listed as far as there is room for r
-pub listed_rest : (r : ℕ) (all more : List whole.Conflict) → map listed (take r all) ++ map listed (take (r - length all) more) ≡ map listed (take r (all ++ more))
-listed_rest r all more = rw (take_both r all more, map_both listed (take r all) (take (r - length all) more)) refl
+pub listed_rest : (r : ℕ) (all more : List whole.Conflict) → map as_listed (take r all) ++ map as_listed (take (r - length all) more) ≡ map as_listed (take r (all ++ more))
+listed_rest r all more = rw (take_both r all more, map-append as_listed (take r all) (take (r - length all) more)) refl
 
 -- more conflicts are listed as far as there is room
-pub listed_more : (all more : List whole.Conflict) → map listed (take LISTED all) ++ map listed (take (LISTED - length (map listed (take LISTED all))) more) ≡ map listed (take LISTED (all ++ more))
+pub listed_more : (all more : List whole.Conflict) → map as_listed (take LISTED all) ++ map as_listed (take (LISTED - length (map as_listed (take LISTED all))) more) ≡ map as_listed (take LISTED (all ++ more))
 listed_more all more = rw (listed_count all).2 (listed_rest LISTED all more)
 
 -- the same of those that one meets, beside what was listed before
-pub met_more : (old : List Conflict) (all : List whole.Conflict) (f : Blocked → whole.Conflict) (met : List Blocked) → (old ++ map listed (take (LISTED - length old) all)) ++ map (λ y. listed (f y)) (take (LISTED - length (old ++ map listed (take (LISTED - length old) all))) met) ≡ old ++ map listed (take (LISTED - length old) (all ++ map f met))
+pub met_more : (old : List Conflict) (all : List whole.Conflict) (f : Visit → whole.Conflict) (met : List Visit) → (old ++ map as_listed (take (LISTED - length old) all)) ++ map (λ y. as_listed (f y)) (take (LISTED - length (old ++ map as_listed (take (LISTED - length old) all))) met) ≡ old ++ map as_listed (take (LISTED - length old) (all ++ map f met))
 met_more old all f met =
     let r = LISTED - length old in
-    let some = map listed (take r all) in
-    let count = length-append old some ∙ ap (λ n. length old + n) (length-map (take r all) listed ∙ length-take r all) in
+    let some = map as_listed (take r all) in
+    let count = length-append old some ∙ ap (λ n. length old + n) (length-map (take r all) as_listed ∙ length-take r all) in
     let left : LISTED - length (old ++ some) ≡ r - length all = omega (arith, count) in
-    let next : map (λ y. listed (f y)) (take (r - length all) met) ≡ map listed (take (r - length all) (map f met)) = sym (ap (map listed) (take_mapped f (r - length all) met) ∙ map_twice listed f (take (r - length all) met)) in
-    append_assoc old some (map (λ y. listed (f y)) (take (LISTED - length (old ++ some)) met))
-    ∙ ap (λ n. old ++ (some ++ map (λ y. listed (f y)) (take n met))) left
+    let next : map (λ y. as_listed (f y)) (take (r - length all) met) ≡ map as_listed (take (r - length all) (map f met)) = sym (ap (map as_listed) (take-map f (r - length all) met) ∙ map-map as_listed f (take (r - length all) met)) in
+    append_assoc old some (map (λ y. as_listed (f y)) (take (LISTED - length (old ++ some)) met))
+    ∙ ap (λ n. old ++ (some ++ map (λ y. as_listed (f y)) (take n met))) left
     ∙ ap (λ v. old ++ (some ++ v)) next
     ∙ ap (λ v. old ++ v) (listed_rest r all (map f met))
 
 -- no more are listed than there is room for
-pub listed_within : (old : List Conflict) (all : List whole.Conflict) → length old ≤ LISTED → length (old ++ map listed (take (LISTED - length old) all)) ≤ LISTED
+pub listed_within : (old : List Conflict) (all : List whole.Conflict) → length old ≤ LISTED → length (old ++ map as_listed (take (LISTED - length old) all)) ≤ LISTED
 listed_within old all few =
     let r = LISTED - length old in
-    omega (arith, length-append old (map listed (take r all)), length-map (take r all) listed, length-take r all)
+    omega (arith, length-append old (map as_listed (take r all)), length-map (take r all) as_listed, length-take r all)
 
-pub listed_count_is : (all : List whole.Conflict) → length all - length (map listed (take LISTED all)) ≡ length all - LISTED
+pub listed_count_is : (all : List whole.Conflict) → length all - length (map as_listed (take LISTED all)) ≡ length all - LISTED
 listed_count_is all =
-    let count = length-map (take LISTED all) listed ∙ length-take LISTED all in
+    let count = length-map (take LISTED all) as_listed ∙ length-take LISTED all in
     omega (arith, count)
 
-pub listed_some : (all : List whole.Conflict) → length (map listed (take LISTED all)) ≤ length all
+pub listed_some : (all : List whole.Conflict) → length (map as_listed (take LISTED all)) ≤ length all
 listed_some all = (listed_count all).1
 
 -- where the first of them doesn't meet one, none does before it
@@ -78,7 +66,7 @@ pub none_met : {X : Type 0} (p : X → Bool) (xs : List X) (d : X) → (0 < leng
 none_met p xs d h = ap (λ n. take n xs) (prefix_len_is p xs 0 d (omega arith) (λ k lt. absurd (omega arith)) h)
 
 -- no more meet one than there are
-pub met_within : (p : Blocked → Bool) (blocked : List Blocked) (i : ℕ) → length (take_while p (drop (i + 1) blocked)) ≤ length blocked
-met_within p blocked i =
-    let rest = drop (i + 1) blocked in
-    omega (arith, length-prefix_len p rest, prefix_len-le-length p rest, length-drop (i + 1) blocked)
+pub met_within : (p : Visit → Bool) (visits : List Visit) (i : ℕ) → length (take_while p (drop (i + 1) visits)) ≤ length visits
+met_within p visits i =
+    let rest = drop (i + 1) visits in
+    omega (arith, length-prefix_len p rest, prefix_len-le-length p rest, length-drop (i + 1) visits)

@@ -1,5 +1,4 @@
-pub mod Timetable
 pub mod Found
 pub mod Runs
-pub mod Stretches
+pub mod ByBlock
 pub mod Sweep

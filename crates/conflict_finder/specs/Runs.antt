@@ -1,54 +1,52 @@
--- Runs in the order of their names, and what they block.
+-- Runs in the order of their names, and their visits to blocks.
 use Rattle.std.specs.Prelude.{ℕ, ℤ, Bool, List, [], map, length, slice_index_or}
 use Rattle.std.specs.List.{flat_map, range_with_len}
 use Rattle.std.specs.declared.cmp.Ordering.{Ordering}
 use Rattle.std.specs.Ordering.{nat_cmp, int_cmp, ordering_then, is_lt}
 use Rattle.rail_model.specs.declared.stair.Use.{Use}
 use Rattle.rail_model.specs.declared.stair.Stair.{Stair}
+use Rattle.rail_model.specs.Timetable.{stair_at}
 use Rattle.conflict_finder.specs.declared.ranked.Ranked.{Ranked}
-use Rattle.conflict_finder.specs.declared.blocked.Blocked.{Blocked}
-use Rattle.conflict_finder.specs.declared.entering.Entering.{Entering}
+use Rattle.conflict_finder.specs.declared.visits.Visit.{Visit}
+use Rattle.conflict_finder.specs.declared.run_starts.RunStart.{RunStart}
 
--- placeholders where there is none
-abbrev pub no_stair : Stair
-no_stair = record { run = []; uses = [] }
-
+-- a placeholder where there is none
 abbrev pub no_ranked : Ranked
 no_ranked = record { name = []; stair = 0 }
 
 -- the run at a place among the stairways
 abbrev pub ranked_at : List Stair → ℕ → Ranked
-ranked_at stairs i = record { name = (slice_index_or stairs i no_stair).run; stair = i }
+ranked_at stairs i = record { name = (stair_at stairs i).run; stair = i }
 
 abbrev pub runs_of : List Stair → List Ranked
 runs_of stairs = map (ranked_at stairs) (range_with_len 0 (length stairs))
 
--- what the run of a number blocks by a use
-abbrev pub blocked_of : ℕ → Use → Blocked
-blocked_of run u = record { start = u.start; «end» = u.«end»; block = u.block; run = run }
+-- the visit of the run of a number by a use
+abbrev pub visit_of : ℕ → Use → Visit
+visit_of run u = record { start = u.start; «end» = u.«end»; block = u.block; run = run }
 
 -- the uses of the run of a number
 abbrev pub uses_of : List Stair → List Ranked → ℕ → List Use
 uses_of stairs runs k =
-    (slice_index_or stairs (slice_index_or runs k no_ranked).stair no_stair).uses
+    (stair_at stairs (slice_index_or runs k no_ranked).stair).uses
 
--- what the runs block, in the order of their numbers
-abbrev pub all_blocked : List Stair → List Ranked → List Blocked
-all_blocked stairs runs =
-    flat_map (λ k. map (blocked_of k) (uses_of stairs runs k)) (range_with_len 0 (length runs))
+-- the visits of the runs, in the order of their numbers
+abbrev pub all_visits : List Stair → List Ranked → List Visit
+all_visits stairs runs =
+    flat_map (λ k. map (visit_of k) (uses_of stairs runs k)) (range_with_len 0 (length runs))
 
--- what the runs block one after another, in the order in which they enter the line
-abbrev pub blocked_in_turn : List Stair → List Ranked → List Entering → List Blocked
-blocked_in_turn stairs runs entering =
-    flat_map (λ e. map (blocked_of e.run) (uses_of stairs runs e.run)) entering
+-- the visits of one run after another, in the order in which they enter the line
+abbrev pub visits_in_turn : List Stair → List Ranked → List RunStart → List Visit
+visits_in_turn stairs runs starts =
+    flat_map (λ e. map (visit_of e.run) (uses_of stairs runs e.run)) starts
 
 -- the order of the sweep: by block, then by start, then by run
-abbrev pub key_of : Blocked → ℕ × ℤ × ℕ
+abbrev pub key_of : Visit → ℕ × ℤ × ℕ
 key_of b = (b.block, b.start, b.run)
 
 abbrev pub key_cmp : ℕ × ℤ × ℕ → ℕ × ℤ × ℕ → Ordering
 key_cmp x y = ordering_then (ordering_then (nat_cmp x.0 y.0) (int_cmp x.1 y.1)) (nat_cmp x.2 y.2)
 
--- whether one blocking comes before another in this order
-abbrev pub is_before : Blocked → Blocked → Bool
+-- whether one visit comes before another in this order
+abbrev pub is_before : Visit → Visit → Bool
 is_before a b = is_lt (key_cmp (key_of a) (key_of b))

@@ -1,4 +1,4 @@
--- The sweep over what is blocked.
+-- The sweep over the visits.
 use Rattle.std.specs.Prelude.{◌≡◌, ◌⊎◌, ℕ, ◌+◌, ◌<◌, ◌<ℤ◌, Bool, ◌&&◌, ◌==◌}
 use Rattle.std.specs.Prelude.{List, length, map, drop, slice_index_or, AllPairs}
 use Rattle.std.specs.Int.{int_min}
@@ -6,24 +6,24 @@ use Rattle.std.specs.Prelude.{pos, int_lt}
 use Rattle.std.specs.List.{flat_map, range_with_len, take_while}
 use Rattle.rail_model.specs.Conflict as whole
 use Rattle.conflict_finder.specs.declared.ranked.Ranked.{Ranked}
-use Rattle.conflict_finder.specs.declared.blocked.Blocked.{Blocked}
+use Rattle.conflict_finder.specs.declared.visits.Visit.{Visit}
 use Rattle.conflict_finder.specs.Runs.{no_ranked}
 
 -- the order of the sweep: by block, then by start, then by the run's number
-abbrev pub ComesBefore : Blocked → Blocked → Type 0
+abbrev pub ComesBefore : Visit → Visit → Type 0
 ComesBefore a b =
     (a.block < b.block)
     ⊎ ((a.block ≡ b.block) × ((a.start <ℤ b.start) ⊎ ((a.start ≡ b.start) × (a.run < b.run))))
 
-abbrev pub IsSwept : List Blocked → Type 0
-IsSwept blocked = AllPairs ComesBefore blocked
+abbrev pub IsSwept : List Visit → Type 0
+IsSwept visits = AllPairs ComesBefore visits
 
--- of two blockings in this order, the second is of the same block and starts before the first ends
-abbrev pub meets : Blocked → Blocked → Bool
+-- of two visits in this order, the second is to the same block and starts before the first ends
+abbrev pub meets : Visit → Visit → Bool
 meets one other = (one.block == other.block) && int_lt other.start one.«end»
 
--- the conflict that two blockings make
-abbrev pub conflict_of : List Ranked → Blocked → Blocked → whole.Conflict
+-- the conflict that two visits make
+abbrev pub conflict_of : List Ranked → Visit → Visit → whole.Conflict
 conflict_of runs one other = record {
   block = one.block;
   first = (slice_index_or runs one.run no_ranked).name;
@@ -34,19 +34,19 @@ conflict_of runs one other = record {
 }
 
 -- a placeholder where there is none
-abbrev pub no_blocked : Blocked
-no_blocked = record { start = pos 0; «end» = pos 0; block = 0; run = 0 }
+abbrev pub no_visit : Visit
+no_visit = record { start = pos 0; «end» = pos 0; block = 0; run = 0 }
 
 -- what is found by the one at i: its conflicts with those that follow it, up to the first that it
 -- doesn't meet
-abbrev pub found_at : List Ranked → List Blocked → ℕ → List whole.Conflict
-found_at runs blocked i =
-    map (conflict_of runs (slice_index_or blocked i no_blocked))
-    (take_while (meets (slice_index_or blocked i no_blocked)) (drop (i + 1) blocked))
+abbrev pub conflicts_at : List Ranked → List Visit → ℕ → List whole.Conflict
+conflicts_at runs visits i =
+    map (conflict_of runs (slice_index_or visits i no_visit))
+    (take_while (meets (slice_index_or visits i no_visit)) (drop (i + 1) visits))
 
 -- what is found by the first n
-abbrev pub found_upto : List Ranked → List Blocked → ℕ → List whole.Conflict
-found_upto runs blocked n = flat_map (found_at runs blocked) (range_with_len 0 n)
+abbrev pub conflicts_upto : List Ranked → List Visit → ℕ → List whole.Conflict
+conflicts_upto runs visits n = flat_map (conflicts_at runs visits) (range_with_len 0 n)
 
-abbrev pub found : List Ranked → List Blocked → List whole.Conflict
-found runs blocked = found_upto runs blocked (length blocked)
+abbrev pub found : List Ranked → List Visit → List whole.Conflict
+found runs visits = conflicts_upto runs visits (length visits)

@@ -1,13 +1,13 @@
 //! The conflicts of a timetable: which runs block one block at one time, and from when until when.
 #![tactic(auto)]
 
-mod blocked;
-mod entering;
+mod by_block;
 mod found;
 mod in_order;
 mod ranked;
-mod stretches;
+mod run_starts;
 mod sweep;
+mod visits;
 
 pub use found::{Conflict, Conflicts, LISTED};
 pub use sweep::conflicts;

@@ -7,38 +7,38 @@ use crate::ranked::Ranked;
 use rail_model::{OutOfMemory, Stair, Use};
 use std::alloc::Global;
 
-// A run's number, and the start of its blocking on the first block of its path.
+// A run's number, and the start of its visit to the first block of its path.
 #[derive(Clone, Copy)]
-pub(crate) struct Entering {
+pub(crate) struct RunStart {
     pub(crate) start: i64,
     pub(crate) run: u32,
 }
 
-// The runs by the starts of their blockings on the first block of each path. What they block is laid
-// in this order, which is nearly that of its starts where trains overtake few others.
+// The runs by the starts of their visits to the first block of each path. Their visits are laid in
+// this order, which is nearly that of the visits' starts where trains overtake few others.
 pub(crate) fn by_start(
     alloc: Global,
     stairs: &[Stair],
     runs: &[Ranked],
-) -> Result<Vec<Entering>, OutOfMemory>
+) -> Result<Vec<RunStart>, OutOfMemory>
     requires few { length runs.now < 4_294_967_296 }
     requires there { All (λ r. r.stair < length stairs.now) runs.now }
-    ensures same { IfOk result (λ entering.
-        IsPermutation (range_with_len 0 (length runs.now)) (map (λ e. e.run) entering.items)) }
-    ensures there { IfOk result (λ entering. All (λ e. e.run < length runs.now) entering.items) }
+    ensures same { IfOk result (λ starts.
+        IsPermutation (range_with_len 0 (length runs.now)) (map (λ e. e.run) starts.items)) }
+    ensures there { IfOk result (λ starts. All (λ e. e.run < length runs.now) starts.items) }
 {
-    let mut entering = Vec::with_capacity(alloc, runs.len())?;
+    let mut starts = Vec::with_capacity(alloc, runs.len())?;
     for (i, run) in runs.iter().enumerate() {
-        entering.push(Entering {
+        starts.push(RunStart {
             start: first_start(stairs[run.stair].uses.slice()),
             run: i as u32,
         })?;
     }
-    entering.sort_unstable_by_key(|one| (one.start, one.run));
-    Ok(entering)
+    starts.sort_unstable_by_key(|one| (one.start, one.run));
+    Ok(starts)
 }
 
-// When a run's blocking on the first block of its path starts.
+// When a run's visit to the first block of its path starts.
 fn first_start(uses: &[Use]) -> i64 {
     if uses.is_empty() {
         return 0;

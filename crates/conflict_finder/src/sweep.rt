@@ -1,17 +1,17 @@
-//! The conflicts, found by one sweep over what is blocked.
+//! The conflicts, found by one sweep over the visits.
 ghost use Rattle.std.specs.Prelude.{◌≡◌, ◌-◌, ◌*◌, ◌<◌, ◌≤◌, [], ◌++◌, false};
 ghost use Rattle.std.specs.Prelude.{All, map, take, length, IfOk, OnOk};
 ghost use Rattle.std.specs.List.{take_while, prefix_len};
 ghost use Rattle.std.specs.List.Sorted.{IsPartitionedBy};
-ghost use Rattle.conflict_finder.specs.Timetable.{IsTimetable};
-ghost use Rattle.conflict_finder.specs.Found.{IsFound, listed};
-ghost use Rattle.conflict_finder.specs.Stretches.{joined, AreByBlock};
+ghost use Rattle.rail_model.specs.Timetable.{IsTimetable};
+ghost use Rattle.conflict_finder.specs.Found.{IsFound, as_listed};
+ghost use Rattle.conflict_finder.specs.ByBlock.{one_after_another, AreByBlock};
 ghost use Rattle.conflict_finder.specs.Sweep as swept;
 ghost use Rattle.rail_model.specs.declared.limits.TheConstants.{RUNS, PATH_HOPS};
 
-use crate::blocked::{Blocked, blocked_in_order};
 use crate::found::{Conflict, Conflicts, LISTED};
 use crate::ranked::{Ranked, by_name};
+use crate::visits::{Visit, visits_in_order};
 use rail_model::{List, OutOfMemory, Stair};
 use std::alloc::Global;
 
@@ -21,55 +21,51 @@ pub fn conflicts(alloc: Global, stairs: &List<Stair>) -> Result<Conflicts, OutOf
     ensures { IfOk result (λ found. IsFound stairs.now found) }
 {
     let runs = by_name(alloc, stairs.slice())?;
-    let stretches = blocked_in_order(alloc, stairs.slice(), &runs)?;
-    sweep(alloc, &runs, &stretches)
+    let by_block = visits_in_order(alloc, stairs.slice(), &runs)?;
+    sweep(alloc, &runs, &by_block)
 }
 
-// Walks over the stretches, one after another. Blockings of two stretches are of two blocks, so
+// Walks over the lists of visits, one block after another. Visits of two lists are to two blocks, so
 // they don't meet.
-fn sweep(
-    alloc: Global,
-    runs: &[Ranked],
-    stretches: &[Vec<Blocked>],
-) -> Result<Conflicts, OutOfMemory>
-    requires most { length (joined stretches.now) ≤ RUNS * PATH_HOPS }
-    requires there { All (λ b. b.run < length runs.now) (joined stretches.now) }
-    requires order { swept.IsSwept (joined stretches.now) }
-    requires blocks { AreByBlock stretches.now }
+fn sweep(alloc: Global, runs: &[Ranked], by_block: &[Vec<Visit>]) -> Result<Conflicts, OutOfMemory>
+    requires most { length (one_after_another by_block.now) ≤ RUNS * PATH_HOPS }
+    requires there { All (λ b. b.run < length runs.now) (one_after_another by_block.now) }
+    requires order { swept.IsSwept (one_after_another by_block.now) }
+    requires blocks { AreByBlock by_block.now }
     ensures list { IfOk result (λ found. found.list ≡
-        map listed (take LISTED (swept.found runs.now (joined stretches.now)))) }
+        map as_listed (take LISTED (swept.found runs.now (one_after_another by_block.now)))) }
     ensures more { IfOk result (λ found. found.more ≡
-        length (swept.found runs.now (joined stretches.now)) - LISTED) }
+        length (swept.found runs.now (one_after_another by_block.now)) - LISTED) }
 {
     let mut list = List::new(alloc);
     let mut count: u64 = 0;
-    for stretch in stretches {
-        count += sweep_stretch(&mut list, runs, stretch)?;
+    for visits in by_block {
+        count += sweep_block(&mut list, runs, visits)?;
     }
     let more = count - list.len() as u64;
     Ok(Conflicts { list, more })
 }
 
-// Walks over one stretch, in order. Each blocking overlaps some of those next to it, and none past
+// Walks over the visits to one block, in order. Each overlaps some of those next to it, and none past
 // the first that it doesn't overlap. The conflicts are listed as long as there is room, and all of
 // them are counted.
-fn sweep_stretch(
+fn sweep_block(
     list: &mut List<Conflict>,
     runs: &[Ranked],
-    stretch: &[Blocked],
+    visits: &[Visit],
 ) -> Result<u64, OutOfMemory>
     requires room { length list.old ≤ LISTED }
-    requires most { length stretch.now ≤ RUNS * PATH_HOPS }
-    requires there { All (λ b. b.run < length runs.now) stretch.now }
-    requires order { swept.IsSwept stretch.now }
+    requires most { length visits.now ≤ RUNS * PATH_HOPS }
+    requires there { All (λ b. b.run < length runs.now) visits.now }
+    requires order { swept.IsSwept visits.now }
     ensures list { OnOk result (list.new ≡ list.old ++
-        map listed (take (LISTED - length list.old) (swept.found runs.now stretch.now))) }
-    ensures count { IfOk result (λ count. count ≡ length (swept.found runs.now stretch.now)) }
-    ensures most { IfOk result (λ count. count ≤ length stretch.now * (RUNS * PATH_HOPS)) }
+        map as_listed (take (LISTED - length list.old) (swept.found runs.now visits.now))) }
+    ensures count { IfOk result (λ count. count ≡ length (swept.found runs.now visits.now)) }
+    ensures most { IfOk result (λ count. count ≤ length visits.now * (RUNS * PATH_HOPS)) }
 {
     let mut count: u64 = 0;
-    for (i, one) in stretch.iter().enumerate() {
-        let met = met_by(one, &stretch[i + 1..]);
+    for (i, one) in visits.iter().enumerate() {
+        let met = met_by(one, &visits[i + 1..]);
         list_met(list, runs, one, met)?;
         count += met.len() as u64;
     }
@@ -78,7 +74,7 @@ fn sweep_stretch(
 
 // Those of the later ones that one meets: they come first among them.
 #[inline]
-fn met_by<'a>(one: &Blocked, later: &'a [Blocked]) -> &'a [Blocked]
+fn met_by<'a>(one: &Visit, later: &'a [Visit]) -> &'a [Visit]
     requires { IsPartitionedBy (swept.meets one.now) later.now }
     ensures { result.now ≡ take_while (swept.meets one.now) later.now }
 {
@@ -93,7 +89,7 @@ const FEW: usize = 7;
 
 // How many of the later ones it meets: they come first among them, and mostly they are few.
 #[inline(never)]
-fn count_met(one: &Blocked, later: &[Blocked]) -> usize
+fn count_met(one: &Visit, later: &[Visit]) -> usize
     requires { IsPartitionedBy (swept.meets one.now) later.now }
     ensures { result ≡ prefix_len (swept.meets one.now) later.now }
 {
@@ -107,14 +103,14 @@ fn count_met(one: &Blocked, later: &[Blocked]) -> usize
 
 // Whether one meets the first of the later ones.
 #[inline]
-fn meets_next(one: &Blocked, later: &[Blocked]) -> bool
+fn meets_next(one: &Visit, later: &[Visit]) -> bool
     ensures { result ≡ false → take_while (swept.meets one.now) later.now ≡ [] }
 {
     !later.is_empty() && meets(one, &later[0])
 }
 
 #[inline]
-fn meets(one: &Blocked, other: &Blocked) -> bool
+fn meets(one: &Visit, other: &Visit) -> bool
     ensures { result ≡ swept.meets one.now other.now }
 {
     one.block == other.block && other.start < one.end
@@ -124,14 +120,14 @@ fn meets(one: &Blocked, other: &Blocked) -> bool
 fn list_met(
     list: &mut List<Conflict>,
     runs: &[Ranked],
-    one: &Blocked,
-    met: &[Blocked],
+    one: &Visit,
+    met: &[Visit],
 ) -> Result<(), OutOfMemory>
     requires room { length list.old ≤ LISTED }
     requires one { one.now.run < length runs.now }
     requires there { All (λ b. b.run < length runs.now) met.now }
     ensures { OnOk result (list.new ≡ list.old
-        ++ map (λ other. listed (swept.conflict_of runs.now one.now other))
+        ++ map (λ other. as_listed (swept.conflict_of runs.now one.now other))
         (take (LISTED - length list.old) met.now)) }
 {
     // Mostly it meets none.
@@ -145,10 +141,10 @@ fn list_met(
     Ok(())
 }
 
-fn conflict_of(runs: &[Ranked], one: &Blocked, other: &Blocked) -> Conflict
+fn conflict_of(runs: &[Ranked], one: &Visit, other: &Visit) -> Conflict
     requires one { one.now.run < length runs.now }
     requires other { other.now.run < length runs.now }
-    ensures { result ≡ listed (swept.conflict_of runs.now one.now other.now) }
+    ensures { result ≡ as_listed (swept.conflict_of runs.now one.now other.now) }
 {
     Conflict {
         block: one.block,

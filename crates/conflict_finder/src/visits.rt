@@ -1,18 +1,18 @@
-//! What runs block, in the order in which it is swept.
+//! The visits of runs to blocks, in the order in which they are swept.
 ghost use Rattle.std.specs.Prelude.{◌<◌, All, length, IfOk};
 ghost use Rattle.std.specs.List.Sorted.{IsPermutation};
-ghost use Rattle.conflict_finder.specs.Runs.{all_blocked};
-ghost use Rattle.conflict_finder.specs.Stretches.{joined, AreByBlock, AreSorted};
+ghost use Rattle.conflict_finder.specs.Runs.{all_visits};
+ghost use Rattle.conflict_finder.specs.ByBlock.{one_after_another, AreByBlock, AreSorted};
 
+use crate::by_block::visits_by_block;
 use crate::in_order::put_in_order;
 use crate::ranked::Ranked;
-use crate::stretches::by_block;
 use rail_model::{OutOfMemory, Stair};
 use std::alloc::Global;
 
-// A run's blocking of a block.
+// A run's visit to a block: from when until when it blocks it.
 #[derive(Clone, Copy)]
-pub(crate) struct Blocked {
+pub(crate) struct Visit {
     pub(crate) start: i64,
     pub(crate) end: i64,
     // The block's number, and the run's number in the order of names.
@@ -20,22 +20,21 @@ pub(crate) struct Blocked {
     pub(crate) run: u32,
 }
 
-// All that the runs block, in a stretch for each block, and each stretch in the order of starts and
-// runs. Numbers that no block of a line's tables has share the last stretch, in the order of blocks
-// first.
-pub(crate) fn blocked_in_order(
+// All visits of the runs, in a list for each block, and each list in the order of starts and runs.
+// Numbers that no block of a line's tables has share the last list, in the order of blocks first.
+pub(crate) fn visits_in_order(
     alloc: Global,
     stairs: &[Stair],
     runs: &[Ranked],
-) -> Result<Vec<Vec<Blocked>>, OutOfMemory>
+) -> Result<Vec<Vec<Visit>>, OutOfMemory>
     requires few { length runs.now < 4_294_967_296 }
     requires there { All (λ r. r.stair < length stairs.now) runs.now }
-    ensures same { IfOk result (λ stretches.
-        IsPermutation (all_blocked stairs.now runs.now) (joined stretches.items)) }
-    ensures blocks { IfOk result (λ stretches. AreByBlock stretches.items) }
-    ensures order { IfOk result (λ stretches. AreSorted stretches.items) }
+    ensures same { IfOk result (λ by_block.
+        IsPermutation (all_visits stairs.now runs.now) (one_after_another by_block.items)) }
+    ensures blocks { IfOk result (λ by_block. AreByBlock by_block.items) }
+    ensures order { IfOk result (λ by_block. AreSorted by_block.items) }
 {
-    let mut stretches = by_block(alloc, stairs, runs)?;
-    put_in_order(&mut stretches);
-    Ok(stretches)
+    let mut by_block = visits_by_block(alloc, stairs, runs)?;
+    put_in_order(&mut by_block);
+    Ok(by_block)
 }

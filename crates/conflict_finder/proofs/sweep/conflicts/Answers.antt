@@ -10,58 +10,58 @@ use Rattle.rail_model.specs.declared.limits.TheConstants.{RUNS, PATH_HOPS}
 use Rattle.rail_model.specs.declared.memory.OutOfMemory.{OutOfMemory}
 use Rattle.conflict_finder.specs.declared.found.Conflicts.{Conflicts}
 use Rattle.conflict_finder.specs.declared.found.TheConstants.{LISTED}
-use Rattle.conflict_finder.specs.Found.{IsFound, listed}
+use Rattle.conflict_finder.specs.Found.{IsFound, as_listed}
 use Rattle.rail_model.specs.Conflict.{AreConflicts}
 use Rattle.conflict_finder.specs.declared.ranked.Ranked.{Ranked}
-use Rattle.conflict_finder.specs.declared.blocked.Blocked.{Blocked}
-use Rattle.conflict_finder.specs.Timetable.{IsTimetable}
-use Rattle.conflict_finder.specs.Runs.{runs_of, all_blocked}
-use Rattle.conflict_finder.specs.Stretches.{joined, AreByBlock, AreSorted}
+use Rattle.conflict_finder.specs.declared.visits.Visit.{Visit}
+use Rattle.rail_model.specs.Timetable.{IsTimetable}
+use Rattle.conflict_finder.specs.Runs.{runs_of, all_visits}
+use Rattle.conflict_finder.specs.ByBlock.{one_after_another, AreByBlock, AreSorted}
 use Rattle.conflict_finder.specs.Sweep.{IsSwept, found}
 use Rattle.conflict_finder.proofs.Ranks.{AreRanked, ranked_by}
 use Rattle.conflict_finder.proofs.Order.{swept, few, runs_there}
 use Rattle.conflict_finder.proofs.Whole.{all_found}
-use Rattle.conflict_finder.proofs.Stretched.{joined_in_order}
+use Rattle.conflict_finder.proofs.BlockByBlock.{all_in_order}
 use Rattle.conflict_finder.proofs.sweep.conflicts.Goals as goal
 
 ranked_in : (stairs seen : List Stair) (runs : List Ranked) → IsTimetable stairs → seen ≡ stairs → IsPermutation (runs_of seen) runs → IsSortedByKey (λ r. r.name) (slice_cmp nat_cmp) runs → AreRanked stairs runs
 ranked_in stairs seen runs t here same order =
     ranked_by stairs runs t (subst (λ s. IsPermutation (runs_of s) runs) here same) order
 
--- what is known of the blockings when they are in order
-record IsReady (stairs : List Stair) (runs : List Ranked) (blocked : List Blocked) : Type 0 where
-  few : length blocked ≤ RUNS * PATH_HOPS
-  there : All (λ b. b.run < length runs) blocked
-  order : IsSwept blocked
-  conflicts : AreConflicts stairs (found runs blocked)
+-- what is known of the visits when they are in order
+record IsReady (stairs : List Stair) (runs : List Ranked) (visits : List Visit) : Type 0 where
+  few : length visits ≤ RUNS * PATH_HOPS
+  there : All (λ b. b.run < length runs) visits
+  order : IsSwept visits
+  conflicts : AreConflicts stairs (found runs visits)
 
-ready : (stairs seen : List Stair) (runs read : List Ranked) (stretches : List (Vec Blocked Global)) → IsTimetable stairs → AreRanked stairs runs → seen ≡ stairs → read ≡ runs → IsPermutation (all_blocked seen read) (joined stretches) → AreByBlock stretches → AreSorted stretches → IsReady stairs runs (joined stretches)
-ready stairs seen runs read stretches t ranked here this permuted blocks sorted =
-    let blocked = joined stretches in
-    let same : IsPermutation (all_blocked stairs runs) blocked = subst (λ r. IsPermutation (all_blocked stairs r) blocked) this (subst (λ s. IsPermutation (all_blocked s read) blocked) here permuted) in
-    let order = joined_in_order stretches blocks sorted in
-    let in_order = swept stairs runs t ranked blocked same order in
+ready : (stairs seen : List Stair) (runs read : List Ranked) (by_block : List (Vec Visit Global)) → IsTimetable stairs → AreRanked stairs runs → seen ≡ stairs → read ≡ runs → IsPermutation (all_visits seen read) (one_after_another by_block) → AreByBlock by_block → AreSorted by_block → IsReady stairs runs (one_after_another by_block)
+ready stairs seen runs read by_block t ranked here this permuted blocks sorted =
+    let visits = one_after_another by_block in
+    let same : IsPermutation (all_visits stairs runs) visits = subst (λ r. IsPermutation (all_visits stairs r) visits) this (subst (λ s. IsPermutation (all_visits s read) visits) here permuted) in
+    let order = all_in_order by_block blocks sorted in
+    let in_order = swept stairs runs t ranked visits same order in
     record {
-      few = few stairs runs t ranked blocked same order;
-      there = runs_there stairs runs t ranked blocked same order;
+      few = few stairs runs t ranked visits same order;
+      there = runs_there stairs runs t ranked visits same order;
       order = in_order;
-      conflicts = all_found stairs runs t ranked blocked same order in_order;
+      conflicts = all_found stairs runs t ranked visits same order in_order;
     }
 
-pub blocked_in_order-requires-clause-few : goal.blocked_in_order-requires-clause-few
-blocked_in_order-requires-clause-few c =
+pub visits_in_order-requires-clause-few : goal.visits_in_order-requires-clause-few
+visits_in_order-requires-clause-few c =
     let ranked = ranked_in c.args.stairs.now c.slice.result.now c.in_ok-runs.runs.items c.requires c.slice.ensures c.in_ok-runs.ensures.same c.in_ok-runs.ensures.order in
     omega (arith, ranked.count, ap length c.deref.ensures.value, c.requires.most)
 
-pub blocked_in_order-requires-clause-there : goal.blocked_in_order-requires-clause-there
-blocked_in_order-requires-clause-there c =
+pub visits_in_order-requires-clause-there : goal.visits_in_order-requires-clause-there
+visits_in_order-requires-clause-there c =
     let ranked = ranked_in c.args.stairs.now c.slice.result.now c.in_ok-runs.runs.items c.requires c.slice.ensures c.in_ok-runs.ensures.same c.in_ok-runs.ensures.order in
     rw (c.slice-2.ensures, c.deref.ensures.value) ranked.there
 
-at_sweep : (c : goal.After-deref-3) → IsReady c.args.stairs.now c.in_ok-runs.runs.items (joined c.in_ok-stretches.stretches.items)
+at_sweep : (c : goal.After-deref-3) → IsReady c.args.stairs.now c.in_ok-runs.runs.items (one_after_another c.in_ok-by_block.by_block.items)
 at_sweep c =
     let ranked = ranked_in c.args.stairs.now c.slice.result.now c.in_ok-runs.runs.items c.requires c.slice.ensures c.in_ok-runs.ensures.same c.in_ok-runs.ensures.order in
-    ready c.args.stairs.now c.slice-2.result.now c.in_ok-runs.runs.items c.deref.result.now c.in_ok-stretches.stretches.items c.requires ranked c.slice-2.ensures c.deref.ensures.value c.in_ok-stretches.ensures.same c.in_ok-stretches.ensures.blocks c.in_ok-stretches.ensures.order
+    ready c.args.stairs.now c.slice-2.result.now c.in_ok-runs.runs.items c.deref.result.now c.in_ok-by_block.by_block.items c.requires ranked c.slice-2.ensures c.deref.ensures.value c.in_ok-by_block.ensures.same c.in_ok-by_block.ensures.blocks c.in_ok-by_block.ensures.order
 
 pub sweep-requires-clause-most : goal.sweep-requires-clause-most
 sweep-requires-clause-most c = rw c.deref-3.ensures.value (at_sweep c).few
@@ -73,18 +73,18 @@ pub sweep-requires-clause-order : goal.sweep-requires-clause-order
 sweep-requires-clause-order c = rw c.deref-3.ensures.value (at_sweep c).order
 
 -- what the sweep gives are the conflicts
-found_by : (stairs : List Stair) (runs read : List Ranked) (blocked seen : List Blocked) → IsReady stairs runs blocked → read ≡ runs → seen ≡ blocked → (r : Result Conflicts OutOfMemory) → IfOk r (λ f. f.list ≡ map listed (take LISTED (found read seen))) → IfOk r (λ f. f.more ≡ length (found read seen) - LISTED) → IfOk r (IsFound stairs)
-found_by stairs runs read blocked seen w same swept (Ok f) l m =
+found_by : (stairs : List Stair) (runs read : List Ranked) (visits seen : List Visit) → IsReady stairs runs visits → read ≡ runs → seen ≡ visits → (r : Result Conflicts OutOfMemory) → IfOk r (λ f. f.list ≡ map as_listed (take LISTED (found read seen))) → IfOk r (λ f. f.more ≡ length (found read seen) - LISTED) → IfOk r (IsFound stairs)
+found_by stairs runs read visits seen w same swept (Ok f) l m =
     record {
       all = found read seen;
       are = rw (same, swept) w.conflicts;
       list = l;
       more = m;
     }
-found_by stairs runs read blocked seen w same swept (Err e) l m = tt
+found_by stairs runs read visits seen w same swept (Err e) l m = tt
 
 pub returns : goal.returns
 returns c =
     let ranked = ranked_in c.args.stairs.now c.slice.result.now c.in_ok-runs.runs.items c.requires c.slice.ensures c.in_ok-runs.ensures.same c.in_ok-runs.ensures.order in
-    let all = ready c.args.stairs.now c.slice-2.result.now c.in_ok-runs.runs.items c.deref.result.now c.in_ok-stretches.stretches.items c.requires ranked c.slice-2.ensures c.deref.ensures.value c.in_ok-stretches.ensures.same c.in_ok-stretches.ensures.blocks c.in_ok-stretches.ensures.order in
-    found_by c.args.stairs.now c.in_ok-runs.runs.items c.deref-2.result.now (joined c.in_ok-stretches.stretches.items) (joined c.deref-3.result.now) all c.deref-2.ensures.value (ap joined c.deref-3.ensures.value) c.sweep.result c.sweep.ensures.list c.sweep.ensures.more
+    let all = ready c.args.stairs.now c.slice-2.result.now c.in_ok-runs.runs.items c.deref.result.now c.in_ok-by_block.by_block.items c.requires ranked c.slice-2.ensures c.deref.ensures.value c.in_ok-by_block.ensures.same c.in_ok-by_block.ensures.blocks c.in_ok-by_block.ensures.order in
+    found_by c.args.stairs.now c.in_ok-runs.runs.items c.deref-2.result.now (one_after_another c.in_ok-by_block.by_block.items) (one_after_another c.deref-3.result.now) all c.deref-2.ensures.value (ap one_after_another c.deref-3.ensures.value) c.sweep.result c.sweep.ensures.list c.sweep.ensures.more
