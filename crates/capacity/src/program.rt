@@ -2,6 +2,7 @@
 ghost use Rattle.std.specs.Prelude.{◌≡◌, ◌≢◌};
 ghost use Rattle.std.specs.IoError.{error_kind};
 ghost use Rattle.std.specs.declared.io.ErrorKind.TheVariants as kind;
+ghost use Rattle.rail_outside.specs.InCall.{source_call, sink_call};
 ghost use Rattle.capacity_cmd.specs.declared.status.Status.TheVariants as status;
 ghost use Rattle.capacity.specs.Call.{IsCall, EndsAsCall};
 
@@ -39,14 +40,8 @@ pub(crate) fn end_of_call<
 >(rt: &R, source: &mut S, sink: &mut K) -> Ended
     ensures { EndsAsCall
         result
-        (record { left = S.left; faults = S.faults; before = source.old; after = source.new })
-        (record {
-          written = K.written;
-          flushed = K.flushed;
-          faults = K.faults;
-          before = sink.old;
-          after = sink.new;
-        }) }
+        (source_call S.left S.faults S.at_fault source.old source.new)
+        (sink_call K.written K.flushed K.faults sink.old sink.new) }
 {
     let mut told = RowForm::NONE;
     let status = call(rt, source, sink, &mut told);
@@ -67,14 +62,8 @@ fn call<R: AllocGlobal + Env + Threads + Wait + Sync, S: Source, K: Sink>(
 ) -> Status
     ensures { IsCall
         result
-        (record { left = S.left; faults = S.faults; before = source.old; after = source.new })
-        (record {
-          written = K.written;
-          flushed = K.flushed;
-          faults = K.faults;
-          before = sink.old;
-          after = sink.new;
-        }) }
+        (source_call S.left S.faults S.at_fault source.old source.new)
+        (sink_call K.written K.flushed K.faults sink.old sink.new) }
 {
     match words(rt) {
         Ok(words) => run_telling(rt, &words, source, sink, &OpenGate, told),

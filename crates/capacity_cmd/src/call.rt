@@ -2,7 +2,7 @@
 ghost use Rattle.std.specs.Prelude.{◌≡◌, ◌≢◌, ◌⊎◌, ◌↔◌, map, IsTrue, IfOk, IfErr};
 ghost use Rattle.std.specs.String.{string_bytes};
 ghost use Rattle.std.specs.Io.KnownBytes.{IsAtEnd};
-ghost use Rattle.rail_outside.specs.Faults.{Rose};
+ghost use Rattle.rail_outside.specs.InCall.{source_call, sink_call, ReadFailed, NoReadFailed};
 ghost use Rattle.capacity_cmd.specs.declared.status.Status.TheVariants as status;
 ghost use Rattle.capacity_cmd.specs.Command.{IsAlone};
 ghost use Rattle.capacity_cmd.specs.Reply.{IsReply};
@@ -35,14 +35,8 @@ pub fn run<R: AllocGlobal + Threads + Wait + Sync, S: Source, K: Sink, G: Gate>(
     ensures { Answers
         (map string_bytes words.now)
         result
-        (record { left = S.left; faults = S.faults; before = source.old; after = source.new })
-        (record {
-          written = K.written;
-          flushed = K.flushed;
-          faults = K.faults;
-          before = sink.old;
-          after = sink.new;
-        }) }
+        (source_call S.left S.faults S.at_fault source.old source.new)
+        (sink_call K.written K.flushed K.faults sink.old sink.new) }
 {
     run_telling(rt, words, source, sink, gate, &mut RowForm::NONE)
 }
@@ -59,14 +53,8 @@ pub fn run_telling<R: AllocGlobal + Threads + Wait + Sync, S: Source, K: Sink, G
     ensures { Answers
         (map string_bytes words.now)
         result
-        (record { left = S.left; faults = S.faults; before = source.old; after = source.new })
-        (record {
-          written = K.written;
-          flushed = K.flushed;
-          faults = K.faults;
-          before = sink.old;
-          after = sink.new;
-        }) }
+        (source_call S.left S.faults S.at_fault source.old source.new)
+        (sink_call K.written K.flushed K.faults sink.old sink.new) }
 {
     run_here(rt, words, source, sink, told)
 }
@@ -83,14 +71,8 @@ pub fn run_alone<R: AllocGlobal + Threads + Sync, S: Source, K: Sink>(
     ensures { Answers
         (map string_bytes words.now)
         result
-        (record { left = S.left; faults = S.faults; before = source.old; after = source.new })
-        (record {
-          written = K.written;
-          flushed = K.flushed;
-          faults = K.faults;
-          before = sink.old;
-          after = sink.new;
-        }) }
+        (source_call S.left S.faults S.at_fault source.old source.new)
+        (sink_call K.written K.flushed K.faults sink.old sink.new) }
 {
     run_here(rt, words, source, sink, &mut RowForm::NONE)
 }
@@ -107,14 +89,8 @@ fn run_here<R: AllocGlobal + Threads + Sync, S: Source, K: Sink>(
     ensures { Answers
         (map string_bytes words.now)
         result
-        (record { left = S.left; faults = S.faults; before = source.old; after = source.new })
-        (record {
-          written = K.written;
-          flushed = K.flushed;
-          faults = K.faults;
-          before = sink.old;
-          after = sink.new;
-        }) }
+        (source_call S.left S.faults S.at_fault source.old source.new)
+        (sink_call K.written K.flushed K.faults sink.old sink.new) }
 {
     let Some(command) = command_of(words) else {
         return Status::BadWords;
@@ -139,8 +115,9 @@ fn reply_from<R: AllocGlobal + Threads + Sync, S: Source>(
         reply.status ≡ status.Done → IsAtEnd (S.left source.new)) }
     ensures why { IfErr result (λ why. (why ≡ status.ReadFault) ⊎ (why ≡ status.OutOfMemory)) }
     ensures fault { result ≡ Err status.ReadFault →
-        Rose (S.faults source.old) (S.faults source.new) }
-    ensures no_fault { result ≢ Err status.ReadFault → S.faults source.new ≡ S.faults source.old }
+        ReadFailed (source_call S.left S.faults S.at_fault source.old source.new) }
+    ensures no_fault { result ≢ Err status.ReadFault →
+        NoReadFailed (source_call S.left S.faults S.at_fault source.old source.new) }
 {
     let alloc = rt.alloc();
     match take_all(alloc, source, INPUT_BYTES)? {

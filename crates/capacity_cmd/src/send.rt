@@ -1,4 +1,5 @@
 //! Writing a reply.
+ghost use Rattle.rail_outside.specs.InCall.{sink_call};
 ghost use Rattle.capacity_cmd.specs.Reply.{IsSent};
 
 use crate::Status;
@@ -8,13 +9,7 @@ use rail_outside::{Sink, send_all};
 // Writes the whole text of a reply and flushes it, and says its status, unless a write fails.
 pub(crate) fn send<K: Sink>(sink: &mut K, reply: Reply) -> Status
     ensures { IsSent
-        (record {
-          written = K.written;
-          flushed = K.flushed;
-          faults = K.faults;
-          before = sink.old;
-          after = sink.new;
-        })
+        (sink_call K.written K.flushed K.faults sink.old sink.new)
         reply
         result }
 {

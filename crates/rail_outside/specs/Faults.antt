@@ -1,13 +1,13 @@
 -- Counts of faults.
-use Rattle.std.specs.Prelude.{◌≡◌, ◌⊎◌, ℕ, ◌+◌, ◌-◌, ◌^◌, ◌<◌, min, Result, is_ok, if◌then◌else◌}
-
--- the count rose, or stands at its type's end
-abbrev pub Rose : ℕ → ℕ → Type 0
-Rose before now = (before < now) ⊎ (now ≡ 2 ^ 64 - 1)
+use Rattle.std.specs.Prelude.{◌≡◌, ℕ, ◌+◌, ◌-◌, ◌^◌, min, Result, is_ok, if◌then◌else◌}
 
 -- the count after one more, which stands still at its type's end
 abbrev pub raised : ℕ → ℕ
 raised count = min (count + 1) (2 ^ 64 - 1)
+
+-- one call failed, and no other: the count rose by exactly one, or stands at its type's end
+abbrev pub RoseByOne : ℕ → ℕ → Type 0
+RoseByOne before now = now ≡ raised before
 
 -- a call that answers a fault raises the count by one, and any other leaves it
 abbrev pub CountsFaults : {T E : Type 0} → Result T E → ℕ → ℕ → Type 0

@@ -1,13 +1,14 @@
 -- A source and a sink in a call: what they tell of themselves, and their states before and after it.
 use Rattle.std.specs.Prelude.{◌≡◌, ℕ, ◌-◌, ◌^◌, ◌<◌, ◌≤◌, List, length, take, Option}
 use Rattle.std.specs.Io.KnownBytes.{Appends, IsAtEnd}
-use Rattle.rail_outside.specs.Faults.{Rose}
+use Rattle.rail_outside.specs.Faults.{RoseByOne}
 use Rattle.rail_outside.specs.Sink.{IsFlushed}
 
--- a source: the bytes that it has left, where it tells them, and its count of faults
-pub record SourceInCall (S : Type 0) : Type 0 where
+-- a source: the bytes that it has left, its count of faults, and whether its last read failed, where it tells them
+pub record SourceInCall (S : Type 0) : Type 1 where
   pub left : S → Option (List ℕ)
   pub faults : S → ℕ
+  pub at_fault : S → Type 0
   pub before : S
   pub after : S
 
@@ -19,6 +20,14 @@ pub record SinkInCall (K : Type 0) : Type 0 where
   pub before : K
   pub after : K
 
+abbrev pub source_call : {S : Type 0} → (S → Option (List ℕ)) → (S → ℕ) → (S → Type 0) → S → S → SourceInCall S
+source_call left faults at_fault before after =
+    record { left = left; faults = faults; at_fault = at_fault; before = before; after = after }
+
+abbrev pub sink_call : {K : Type 0} → (K → Option (List ℕ)) → (K → ℕ) → (K → ℕ) → K → K → SinkInCall K
+sink_call written flushed faults before after =
+    record { written = written; flushed = flushed; faults = faults; before = before; after = after }
+
 module _ {S : Type 0} (source : SourceInCall S) where
   -- nothing was read
   abbrev pub IsUnread : Type 0
@@ -28,9 +37,10 @@ module _ {S : Type 0} (source : SourceInCall S) where
   abbrev pub IsReadToEnd : Type 0
   IsReadToEnd = IsAtEnd (source.left source.after)
 
-  -- a read failed: the count of faults rose
-  abbrev pub ReadFailed : Type 0
-  ReadFailed = Rose (source.faults source.before) (source.faults source.after)
+  -- one read failed, and none came after it
+  pub record ReadFailed : Type 0 where
+    pub one : RoseByOne (source.faults source.before) (source.faults source.after)
+    pub last : source.at_fault source.after
 
   -- no read failed: the count of faults stands
   abbrev pub NoReadFailed : Type 0
@@ -55,9 +65,9 @@ module _ {K : Type 0} (sink : SinkInCall K) where
   IsBrokenOff text =
       (n : ℕ) × (n ≤ length text) × Appends (sink.written sink.before) (sink.written sink.after) (take n text)
 
-  -- a write or a flush failed: the count of faults rose
+  -- one write or flush failed, and no other: the count of faults rose by one
   abbrev pub WriteFailed : Type 0
-  WriteFailed = Rose (sink.faults sink.before) (sink.faults sink.after)
+  WriteFailed = RoseByOne (sink.faults sink.before) (sink.faults sink.after)
 
   -- no write and no flush failed: the count of faults stands
   abbrev pub NoWriteFailed : Type 0

@@ -4,3 +4,5 @@ pub mod MemorySource
 pub mod MemorySink
 pub mod StdStreams
 pub mod InCall
+pub mod Words
+pub mod MemoryWords

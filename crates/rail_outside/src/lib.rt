@@ -1,26 +1,33 @@
-//! The program's outside: where bytes come from, where they go, and a gate that threads pass.
+//! The program's outside: its words, where bytes come from, where they go, and a gate that threads
+//! pass.
 //!
-//! A source or a sink raises its count of faults where it answers a fault, and nowhere else. Those
-//! in memory fail at exactly the calls that they are told to; those of the standard streams tell
-//! nothing of their bytes.
+//! A source or a sink raises its count of faults by one where it answers a fault, and nowhere else.
+//! Those in memory fail at exactly the calls that they are told to, and words in memory tell
+//! themselves; those of the process tell nothing of their words and bytes.
 #![tactic(auto)]
 
 mod faults;
 mod gate;
 mod memory_sink;
 mod memory_source;
+mod memory_words;
 mod send;
 mod sink;
 mod source;
 mod std_streams;
+mod std_words;
 mod take;
+mod words;
 
 pub use faults::Failed;
 pub use gate::{Gate, OpenGate, Point};
 pub use memory_sink::MemorySink;
 pub use memory_source::MemorySource;
+pub use memory_words::MemoryWords;
 pub use send::send_all;
 pub use sink::Sink;
 pub use source::Source;
 pub use std_streams::{StdSink, StdSource};
+pub use std_words::StdWords;
 pub use take::{Taken, take_all};
+pub use words::{NotText, Words};

@@ -1,5 +1,5 @@
 //! A source of bytes in memory.
-ghost use Rattle.std.specs.Prelude.{◌≡◌, ◌≤◌, length, Some};
+ghost use Rattle.std.specs.Prelude.{◌≡◌, ◌≤◌, length, Some, Contains};
 
 use crate::faults::{is_listed, one_more};
 use crate::{Failed, Source};
@@ -44,11 +44,13 @@ impl MemorySource {
 }
 
 impl Source for MemorySource {
-    ghost use Rattle.rail_outside.specs.MemorySource.{source_left, source_faults, IsRead};
+    ghost use Rattle.rail_outside.specs.MemorySource.{source_left, source_fails, source_reads, source_faults, IsRead};
 
     ghost left = { λ s. Some (source_left s) };
 
     ghost faults = { λ s. source_faults s };
+
+    ghost at_fault = { λ s. Contains (source_fails s) (source_reads s) };
 
     fn read(&mut self, into: &mut [u8]) -> Result<usize, Failed>
         ensures { IsRead self.old self.new into.old into.new result }

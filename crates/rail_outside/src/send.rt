@@ -1,7 +1,7 @@
 //! Writing a whole text.
 ghost use Rattle.std.specs.Prelude.{◌≡◌, ◌≤◌, ℕ, length, take, OnOk, OnErr};
 ghost use Rattle.std.specs.Io.KnownBytes.{Appends};
-ghost use Rattle.rail_outside.specs.Faults.{Rose};
+ghost use Rattle.rail_outside.specs.Faults.{RoseByOne};
 ghost use Rattle.rail_outside.specs.Sink.{IsFlushed};
 
 use crate::{Failed, Sink};
@@ -14,7 +14,7 @@ pub fn send_all<K: Sink>(sink: &mut K, text: &[u8]) -> Result<(), Failed>
     ensures prefix { OnErr result ((n : ℕ) × (n ≤ length text.now)
         × Appends (K.written sink.old) (K.written sink.new) (take n text.now)) }
     ensures no_fault { OnOk result (K.faults sink.new ≡ K.faults sink.old) }
-    ensures failed { OnErr result (Rose (K.faults sink.old) (K.faults sink.new)) }
+    ensures failed { OnErr result (RoseByOne (K.faults sink.old) (K.faults sink.new)) }
     ensures later { K.faults sink.old ≤ K.faults sink.new }
 {
     let mut sent: usize = 0;

@@ -1,7 +1,7 @@
 //! Where bytes go.
 ghost use Rattle.std.specs.Prelude.{◌≡◌, ◌<◌, ◌≤◌, ℕ, List, Option, length, take, IfOk, OnOk, OnErr};
 ghost use Rattle.std.specs.Io.KnownBytes.{Appends};
-ghost use Rattle.rail_outside.specs.Faults.{Rose};
+ghost use Rattle.rail_outside.specs.Faults.{RoseByOne};
 ghost use Rattle.rail_outside.specs.Sink.{IsFlushed};
 
 use crate::Failed;
@@ -14,8 +14,8 @@ pub trait Sink {
     /// How many of the bytes written are flushed. A failed flush may leave any number.
     ghost flushed: { Self → ℕ };
 
-    /// How many calls have failed. The count never falls, and stands still at its type's end
-    /// (2^64 - 1).
+    /// How many calls have failed. A call that fails raises the count by one, and no other does; it
+    /// stands still at its type's end (2^64 - 1).
     ghost faults: { Self → ℕ };
 
     /// Writes the first bytes of a piece. `Ok(n)`: the first n bytes are written, at least one
@@ -29,7 +29,7 @@ pub trait Sink {
         ensures nothing { OnErr result (written self.new ≡ written self.old) }
         ensures no_fault { OnOk result (faults self.new ≡ faults self.old) }
         ensures later { faults self.old ≤ faults self.new }
-        ensures failed { OnErr result (Rose (faults self.old) (faults self.new)) };
+        ensures failed { OnErr result (RoseByOne (faults self.old) (faults self.new)) };
 
     /// Flushes all bytes written.
     fn flush(&mut self) -> Result<(), Failed>
@@ -37,5 +37,5 @@ pub trait Sink {
         ensures all { OnOk result (IsFlushed (written self.new) (flushed self.new)) }
         ensures no_fault { OnOk result (faults self.new ≡ faults self.old) }
         ensures later { faults self.old ≤ faults self.new }
-        ensures failed { OnErr result (Rose (faults self.old) (faults self.new)) };
+        ensures failed { OnErr result (RoseByOne (faults self.old) (faults self.new)) };
 }

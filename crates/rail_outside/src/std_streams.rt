@@ -1,6 +1,6 @@
 //! Standard input and standard output.
-ghost use Rattle.std.specs.Prelude.{◌≡◌, ◌≤◌, None, IsErr, OnOk, OnErr, MatchResult};
-ghost use Rattle.rail_outside.specs.Faults.{Rose};
+ghost use Rattle.std.specs.Prelude.{◌≡◌, ◌≤◌, ⊤, None, IsErr, OnOk, OnErr, MatchResult};
+ghost use Rattle.rail_outside.specs.Faults.{RoseByOne};
 
 use crate::faults::one_more;
 use crate::{Failed, Sink, Source};
@@ -31,6 +31,8 @@ impl Source for StdSource {
     ghost left = { λ s. None };
 
     ghost faults = { λ s. std_source_faults s };
+
+    ghost at_fault = { λ s. ⊤ };
 
     fn read(&mut self, into: &mut [u8]) -> Result<usize, Failed> {
         counted(self.stream.read(into), &mut self.faults)
@@ -84,7 +86,7 @@ fn counted<T>(answer: io::Result<T>, faults: &mut u64) -> Result<T, Failed>
     ensures same { MatchResult answer (λ value. result ≡ Ok value) (λ _. IsErr result) }
     ensures no_fault { OnOk result (faults.new ≡ faults.old) }
     ensures later { faults.old ≤ faults.new }
-    ensures failed { OnErr result (Rose faults.old faults.new) }
+    ensures failed { OnErr result (RoseByOne faults.old faults.new) }
 {
     match answer {
         Ok(value) => Ok(value),

@@ -1,7 +1,7 @@
 //! Reading a whole input.
 ghost use Rattle.std.specs.Prelude.{◌≡◌, ◌≢◌, ◌+◌, ◌-◌, ◌^◌, ◌<◌, ◌≤◌, ◌++◌, ℕ, List, length, IfOk, IsErrOf};
 ghost use Rattle.std.specs.Io.KnownBytes.{Consumes, IsAtEnd};
-ghost use Rattle.rail_outside.specs.Faults.{Rose};
+ghost use Rattle.rail_outside.specs.Faults.{RoseByOne};
 
 use crate::Source;
 use rail_model::{List, OutOfMemory};
@@ -10,9 +10,9 @@ use std::alloc::Global;
 /// Why `take_all` gave no bytes.
 #[derive(Clone, Copy, Debug, PartialEq, Eq)]
 pub enum Taken {
-    /// A read failed.
+    /// A read failed. None was made after it.
     Failed,
-    /// The source gave more bytes than the limit.
+    /// The source gave one byte more than the limit.
     TooLong,
 }
 
@@ -39,9 +39,10 @@ pub fn take_all<S: Source>(
         ((bytes : List ℕ) × (length bytes ≡ limit + 1)
         × Consumes (S.left source.old) (S.left source.new) bytes)) }
 
-    // Unless it says that a read failed, no read did.
+    // One read failed, and none came after it. Unless it says so, no read failed.
     ensures failed { IfOk result (λ taken. IsErrOf taken Taken.Failed →
-        Rose (S.faults source.old) (S.faults source.new)) }
+        RoseByOne (S.faults source.old) (S.faults source.new)) }
+    ensures last { IfOk result (λ taken. IsErrOf taken Taken.Failed → S.at_fault source.new) }
     ensures no_fault { result ≢ Ok (Err Taken.Failed) → S.faults source.new ≡ S.faults source.old }
     ensures later { S.faults source.old ≤ S.faults source.new }
 {

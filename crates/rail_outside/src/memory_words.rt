@@ -1,0 +1,53 @@
+//! Words in memory.
+ghost use Rattle.std.specs.Prelude.{◌≡◌, Some, IfOk, OnErr};
+ghost use Rattle.std.specs.String.{string_bytes};
+ghost use Rattle.std.specs.Str.{IsUtf8};
+
+use crate::{NotText, Words};
+use rail_model::{List, OutOfMemory};
+use std::alloc::Global;
+
+/// Words in memory, of any bytes.
+#[derive(Drop)]
+pub struct MemoryWords {
+    words: List<List<u8>>,
+}
+
+impl MemoryWords {
+    ghost use Rattle.rail_outside.specs.MemoryWords.{memory_words};
+
+    /// These words.
+    pub fn new(words: List<List<u8>>) -> Self
+        ensures { memory_words result ≡ words }
+    {
+        MemoryWords { words }
+    }
+}
+
+impl Words for MemoryWords {
+    ghost use Rattle.rail_outside.specs.MemoryWords.{memory_words};
+
+    ghost told = { λ w. Some (memory_words w) };
+
+    fn take(&self, alloc: Global) -> Result<Result<Vec<String>, NotText>, OutOfMemory> {
+        let mut words = Vec::new(alloc);
+        for word in self.words.slice() {
+            match text_of(alloc, word.slice())? {
+                Ok(word) => words.push(word)?,
+                Err(error) => return Ok(Err(error)),
+            }
+        }
+        Ok(Ok(words))
+    }
+}
+
+// The text that bytes are, if they are one.
+fn text_of(alloc: Global, bytes: &[u8]) -> Result<Result<String, NotText>, OutOfMemory>
+    ensures text { IfOk result (λ read. IfOk read (λ text. string_bytes text ≡ bytes.now)) }
+    ensures not_text { IfOk result (λ read. OnErr read (¬ (IsUtf8 bytes.now))) }
+{
+    match str::from_utf8(bytes) {
+        Ok(text) => Ok(Ok(String::from_str(alloc, text)?)),
+        Err(_) => Ok(Err(NotText)),
+    }
+}

@@ -1,0 +1,23 @@
+//! The words of a call.
+ghost use Rattle.std.specs.Prelude.{◌≡◌, ℕ, List, Option, map, IfOk, OnErr};
+ghost use Rattle.std.specs.String.{string_bytes};
+ghost use Rattle.rail_outside.specs.Words.{AreWords, AreNotText};
+
+use rail_model::OutOfMemory;
+use std::alloc::Global;
+
+/// A word isn't UTF-8.
+#[derive(Clone, Copy, Debug, PartialEq, Eq)]
+pub struct NotText;
+
+/// The words of a call, without the program's name.
+pub trait Words {
+    /// The bytes of each word, where the words are told.
+    ghost told: { Self → Option (List (List ℕ)) };
+
+    /// All words, in their order. `NotText`: one of them isn't UTF-8.
+    fn take(&self, alloc: Global) -> Result<Result<Vec<String>, NotText>, OutOfMemory>
+        ensures all { IfOk result (λ taken. IfOk taken (λ words.
+            AreWords (told self.now) (map string_bytes words.items))) }
+        ensures not_text { IfOk result (λ taken. OnErr taken (AreNotText (told self.now))) };
+}
