@@ -16,8 +16,9 @@ use Rattle.row_text.specs.Row.{Row, field}
 use Rattle.row_text.specs.Sorts.{Sort, Read, read, name_in, time_in, or_fault}
 use Rattle.row_text.specs.Words.{More, Nothing, Names, Times, Shape, kind_shape, shape_of, word_of, allows}
 
+-- what comes next where there is no fault
 infixl 10 ◌>>=◌
-abbrev pub ◌>>=◌ : {A B : Type 0} → Result A Form → (A → Result B Form) → Result B Form
+abbrev pub ◌>>=◌ : {A B E : Type 0} → Result A E → (A → Result B E) → Result B E
 Ok x >>= next = next x
 Err fault >>= next = Err fault
 
