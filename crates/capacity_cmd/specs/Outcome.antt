@@ -11,7 +11,7 @@ use Rattle.plan_model.specs.declared.cut.Cut.{Cut}
 use Rattle.plan_model.specs.declared.answer.Answer.{Answer}
 use Rattle.plan_model.specs.SectionCut.{cut_of}
 use Rattle.plan_model.specs.Answer.{IsAnswer}
-use Rattle.section_cut.specs.Timetable.{timetable}
+use Rattle.rail_model.specs.Timetable.{timetable}
 use Rattle.capacity_report.specs.declared.answers.Detail.TheVariants as detail
 use Rattle.capacity_report.specs.Stairs.{stairs_rows}
 use Rattle.capacity_report.specs.Check.{check_rows}

@@ -2,7 +2,8 @@
 ghost use Rattle.std.specs.Prelude.{◌≡◌, ◌<◌, ◌++◌, [], length, IfOk, IfSome, OnOk, MatchOption};
 ghost use Rattle.plan_model.specs.Cut.{IsSoundCut};
 ghost use Rattle.plan_model.specs.Answer.{IsAnswer};
-ghost use Rattle.section_cut.specs.Timetable.{timetable, section_at};
+ghost use Rattle.rail_model.specs.Timetable.{timetable};
+ghost use Rattle.rail_model.specs.Tables.{section_at};
 ghost use Rattle.capacity_report.specs.Total.{total_of};
 ghost use Rattle.capacity_report.specs.Headways as headways;
 ghost use Rattle.capacity_cmd.specs.declared.status.Cause.TheVariants as cause;
@@ -21,7 +22,7 @@ use line_tables::LineTables;
 use plan_model::{Answer, Cut, MEMBERS, Reading};
 use rail_model::{Name, OutOfMemory};
 use row_text::Sheet;
-use section_cut::{Timetable, cut_among, cut_of, stairways};
+use section_cut::{AllStairways, cut_among, cut_of, stairways};
 use std::alloc::Global;
 use std::thread::Threads;
 
@@ -123,7 +124,7 @@ fn cut_named(
 fn report_text(alloc: Global, tables: &LineTables) -> Result<Vec<u8>, OutOfMemory>
     ensures { IfOk result (λ text. outcome.IsReportText tables.now text.items) }
 {
-    let stairs = Timetable::of(alloc, stairways(alloc, tables)?)?;
+    let stairs = AllStairways::of(alloc, stairways(alloc, tables)?)?;
     let mut sheet = Sheet::new(alloc);
     let mut tally = Tally::new();
     add_heads(alloc, &mut sheet, &mut tally, tables, &stairs)?;
@@ -137,7 +138,7 @@ fn add_heads(
     sheet: &mut Sheet,
     tally: &mut Tally,
     tables: &LineTables,
-    stairs: &Timetable,
+    stairs: &AllStairways,
 ) -> Result<(), OutOfMemory>
     requires stairs { stairs.now ≡ timetable tables.now }
     requires rows { sheet.old.rows ≡ [] }
@@ -157,7 +158,7 @@ fn add_head(
     sheet: &mut Sheet,
     tally: &mut Tally,
     tables: &LineTables,
-    stairs: &Timetable,
+    stairs: &AllStairways,
     number: u32,
 ) -> Result<(), OutOfMemory>
     requires stairs { stairs.now ≡ timetable tables.now }

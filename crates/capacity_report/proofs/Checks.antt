@@ -16,7 +16,7 @@ use Rattle.conflict_finder.specs.declared.found.TheConstants.{LISTED}
 use Rattle.conflict_finder.specs.Found.{as_listed, IsFound}
 use Rattle.row_text.specs.SheetRows.{SheetRows}
 use Rattle.capacity_report.specs.Added.{AddsPrefix}
-use Rattle.section_cut.specs.Timetable.{timetable}
+use Rattle.rail_model.specs.Timetable.{timetable}
 use Rattle.capacity_report.specs.Check.{conflict_row, found_row, count_row, check_rows}
 use Rattle.capacity_report.proofs.Rows.{prefix_from}
 

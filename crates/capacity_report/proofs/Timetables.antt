@@ -18,9 +18,8 @@ use Rattle.rail_model.proofs.Paths.{path_at_fits}
 use Rattle.rail_model.proofs.Lists.{All-from_one}
 use Rattle.blocking_time.proofs.Uses.{not_empty, blocks_differ}
 use Rattle.rail_model.specs.Timetable.{IsStairway, IsTimetable}
-use Rattle.section_cut.specs.Timetable.{timetable}
-use Rattle.section_cut.proofs.Timetables.{stair_at, stairs_count}
-use Rattle.section_cut.proofs.Timetables as Stairways
+use Rattle.rail_model.specs.Timetable.{timetable}
+use Rattle.rail_model.proofs.Timetables.{stair_at, stairs_count}
 
 stairway_fits : (path : Path) → Fits path → IsStairway (stair_of path)
 stairway_fits path fits = record {
@@ -43,12 +42,3 @@ module _ (tables : Tables) (sound : IsSound tables) where
         (cc));
     each = λ k d l. rw (stair_at tables k d (omega (arith, stairs_count tables))) (stairway_fits (path_in tables (run_at tables k)) (path_at_fits tables sound k (omega (arith, stairs_count tables))));
   }
-
-  -- the blocks of its uses are those of the tables
-  pub used_there : (i : Stair) (u : Use) → Contains (timetable tables) i → Contains i.uses u → u.block < length tables.blocks
-  used_there i u h g =
-      let n = h.0 in
-      let here : n < length tables.runs = omega (arith, h.1, stairs_count tables) in
-      let is : stair_of (path_in tables (run_at tables n)) ≡ i = sym (stair_at tables n i here) ∙ h.2 in
-      All-contains (λ (v : Use). v.block < length tables.blocks) i.uses u
-      (subst (λ (s : Stair). All (λ (v : Use). v.block < length tables.blocks) s.uses) is (Stairways.used_there tables sound n here)) g

@@ -4,7 +4,7 @@ ghost use Rattle.rail_model.specs.Conflict.{Conflict as Whole, AreConflicts};
 ghost use Rattle.conflict_finder.specs.Found.{IsFound};
 ghost use Rattle.row_text.specs.SheetRows.{with_row};
 ghost use Rattle.capacity_report.specs.Added.{AddsPrefix};
-ghost use Rattle.section_cut.specs.Timetable.{timetable};
+ghost use Rattle.rail_model.specs.Timetable.{timetable};
 ghost use Rattle.capacity_report.specs.Check as rows;
 
 use conflict_finder::{Conflict, Conflicts};

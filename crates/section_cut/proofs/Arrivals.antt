@@ -14,7 +14,7 @@ use Rattle.rail_model.specs.Sound.{IsSound}
 use Rattle.rail_model.proofs.Paths.{run_stands, path_at_fits}
 use Rattle.blocking_time.proofs.Places.{departure_most}
 use Rattle.blocking_time.proofs.Clearing.{arrival_is}
-use Rattle.plan_model.specs.SectionCut.{last_arrival}
+use Rattle.rail_model.specs.Tables.{last_arrival}
 
 -- a leg's time
 abbrev pub leg_time : Leg → ℕ

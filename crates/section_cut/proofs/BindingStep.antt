@@ -15,12 +15,14 @@ use Rattle.rail_model.specs.Sound.{IsSound}
 use Rattle.rail_model.proofs.NameOrder.{is_same-from}
 use Rattle.plan_model.specs.declared.cut.CutRow.{CutRow}
 use Rattle.plan_model.specs.Members.{no_member}
-use Rattle.plan_model.specs.SectionCut.{run_named, connection_use}
+use Rattle.rail_model.specs.Tables.{run_named}
+use Rattle.plan_model.specs.SectionCut.{connection_use}
 use Rattle.section_cut.specs.declared.connections.Bound.{Bound}
 use Rattle.section_cut.specs.Members.{members_of}
 use Rattle.section_cut.specs.Bound.{with_use, first_use, second_use, use_added, both_added, with_connections, IsBound}
 use Rattle.section_cut.proofs.Lists.{enumerate_push}
-use Rattle.section_cut.proofs.Names.{names_apart, member_of_name, members_rise}
+use Rattle.rail_model.proofs.NameOrder.{names_apart}
+use Rattle.section_cut.proofs.Names.{member_of_name, members_rise}
 
 -- a row with some uses more
 abbrev with_uses : CutRow → List Use → CutRow

@@ -25,14 +25,17 @@ use Rattle.rail_model.proofs.Paths.{path_at_fits}
 use Rattle.rail_model.specs.Moment as limit
 use Rattle.blocking_time.proofs.Places.{departures_rise}
 use Rattle.blocking_time.proofs.Bounds.{approach_before_entry, entry_before_exit}
+use Rattle.rail_model.proofs.Numbers.{lt_from_test, le_from_test}
 use Rattle.rail_model.proofs.Lists.{All-from_one}
 use Rattle.blocking_time.proofs.Uses.{not_empty, bounded, blocks_differ}
 use Rattle.plan_model.specs.Cut.{least, IsMoment}
-use Rattle.plan_model.specs.SectionCut.{last_arrival, position_in_section, use_in_section, section_uses, entry_of, is_member}
-use Rattle.section_cut.specs.Positions.{block_name}
-use Rattle.section_cut.proofs.Lists.{pairs_mapped, few_pass}
-use Rattle.section_cut.proofs.Names.{names_apart}
-use Rattle.section_cut.proofs.Timetables.{used_there}
+use Rattle.rail_model.specs.Tables.{last_arrival}
+use Rattle.plan_model.specs.SectionCut.{position_in_section, use_in_section, section_uses, entry_of, is_member}
+use Rattle.rail_model.specs.Tables.{block_name}
+use Rattle.rail_model.proofs.Lists.{AllPairs-map}
+use Rattle.section_cut.proofs.Lists.{few_pass}
+use Rattle.rail_model.proofs.NameOrder.{names_apart}
+use Rattle.rail_model.proofs.Timetables.{used_there}
 use Rattle.section_cut.proofs.Arrivals.{last_departure}
 
 -- a use takes some time, its moments are within the limit, and it starts before the run's last arrival
@@ -69,12 +72,6 @@ pub record IsInWindow (tables : Tables) (section : Section) (n : ℕ) : Type 0 w
   pub some : 0 < length (section_uses tables section (run_at tables n))
   pub from : pos section.from_s ≤ℤ entry_of tables section (run_at tables n)
   pub to : entry_of tables section (run_at tables n) <ℤ pos section.to_s
-
-le_from_test : (a b : ℤ) → int_le a b ≡ true → a ≤ℤ b
-le_from_test a b h = grind (arith, ints)
-
-lt_from_test : (a b : ℤ) → int_lt a b ≡ true → a <ℤ b
-lt_from_test a b h = grind (arith, ints)
 
 pub in_window : (tables : Tables) (section : Section) (n : ℕ) → is_member tables section (run_at tables n) ≡ true
     → IsInWindow tables section n
@@ -166,7 +163,7 @@ module _ (tables : Tables) (sound : IsSound tables) (section : Section) (n : ℕ
       let uses = stairway path in
       let block = λ (u : Use). u.block in
       let there = used_there tables sound n l in
-      pairs_mapped (λ (u : Use) (v : Use). u.block < length section.blocks → u.block ≢ v.block) (use_in_section tables section) uses
+      AllPairs-map (use_in_section tables section) (λ (u : Use) (v : Use). u.block < length section.blocks → u.block ≢ v.block) uses
       (λ i j d before below.
       let first : i < length uses = omega (arith, before, below) in
       let differ = blocks_differ path (path_at_fits tables sound n l) i j d.block before (omega (arith, below, length-map uses block)) in

@@ -9,7 +9,8 @@ use Rattle.rail_model.specs.declared.items.Connection.{Connection}
 use Rattle.rail_model.specs.declared.tables.Tables.{Tables}
 use Rattle.rail_model.specs.Tables.{no_run, number_of}
 use Rattle.plan_model.specs.Precedence.{comes_before}
-use Rattle.plan_model.specs.SectionCut.{run_named, last_arrival, entry_of, is_member, binds}
+use Rattle.rail_model.specs.Tables.{run_named, last_arrival}
+use Rattle.plan_model.specs.SectionCut.{entry_of, is_member, binds}
 use Rattle.section_cut.specs.declared.members.Member.{Member}
 use Rattle.section_cut.specs.declared.connections.Bound.{Bound}
 use Rattle.section_cut.specs.Members.{members_of}

@@ -11,7 +11,8 @@ use Rattle.rail_model.specs.declared.items.Connection.{Connection}
 use Rattle.rail_model.specs.declared.tables.Tables.{Tables}
 use Rattle.rail_model.specs.declared.stair.Use.{Use}
 use Rattle.rail_model.specs.Name.{is_same}
-use Rattle.plan_model.specs.SectionCut.{last_arrival, entry_of, connection_use}
+use Rattle.rail_model.specs.Tables.{last_arrival}
+use Rattle.plan_model.specs.SectionCut.{entry_of, connection_use}
 
 -- a use of one of the places from a first one on, with what else holds of it
 abbrev pub IsAmong : (Use → Type 0) → ℕ → ℕ → Use → Type 0

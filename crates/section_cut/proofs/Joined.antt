@@ -17,11 +17,12 @@ use Rattle.rail_model.proofs.Places.{number_of-missing}
 use Rattle.plan_model.specs.declared.cut.CutRow.{CutRow}
 use Rattle.plan_model.specs.declared.cut.Cut.{Cut}
 use Rattle.plan_model.specs.Cut.{stamped_row, stamped}
-use Rattle.plan_model.specs.SectionCut.{run_named, section_uses, entry_of, connection_use, binding_connections, row_of, section_cut, cut_of}
-use Rattle.section_cut.specs.Timetable.{no_section, section_at}
+use Rattle.rail_model.specs.Tables.{run_named}
+use Rattle.plan_model.specs.SectionCut.{section_uses, entry_of, connection_use, binding_connections, row_of, section_cut, cut_of}
+use Rattle.rail_model.specs.Tables.{no_section, section_at}
 use Rattle.section_cut.specs.Members.{members_of, row_on_blocks}
 use Rattle.section_cut.specs.Bound.{with_connections}
-use Rattle.section_cut.proofs.Lists.{map_same}
+use Rattle.rail_model.proofs.Lists.{map_same}
 use Rattle.section_cut.proofs.Names.{member_of_name}
 
 abbrev cut_from : Section → List (List ℕ) → List CutRow → Cut

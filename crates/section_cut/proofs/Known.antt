@@ -20,7 +20,8 @@ use Rattle.rail_model.proofs.NameOrder.{same_name}
 use Rattle.rail_model.proofs.Paths.{run_stands}
 use Rattle.rail_model.proofs.Places.{number_of-found}
 use Rattle.plan_model.specs.declared.cut.CutRow.{CutRow}
-use Rattle.plan_model.specs.SectionCut.{run_named, binds}
+use Rattle.rail_model.specs.Tables.{run_named}
+use Rattle.plan_model.specs.SectionCut.{binds}
 use Rattle.section_cut.specs.Bound.{with_connections}
 use Rattle.section_cut.proofs.Lists.{few_pass}
 

@@ -16,12 +16,12 @@ use Rattle.rail_model.specs.Sound.{IsSound}
 use Rattle.rail_model.proofs.Lists.{All-from_one}
 use Rattle.line_tables.specs.Hops.{route_hops}
 use Rattle.plan_model.specs.SectionCut.{use_in_section, section_uses, is_member}
-use Rattle.section_cut.specs.Timetable.{timetable}
+use Rattle.rail_model.specs.Timetable.{timetable}
 use Rattle.section_cut.specs.Late.{IsLead, bare_stair, stair_to, IsStairFor, AreStairsFor}
 use Rattle.section_cut.specs.Positions.{IsPositions, uses_in}
 use Rattle.section_cut.specs.Members.{member_row}
-use Rattle.section_cut.proofs.Timetables.{stair_at, stairs_count, used_there}
-use Rattle.section_cut.proofs.Entering.{uses_by_table}
+use Rattle.rail_model.proofs.Timetables.{stair_at, stairs_count, used_there}
+use Rattle.section_cut.proofs.MemberRows.{uses_by_table}
 use Rattle.section_cut.proofs.BlockUses.{least_holds, in_window}
 use Rattle.section_cut.proofs.Leads.{blocking_from, path_lead}
 

@@ -1,9 +1,8 @@
 pub mod Lists
 pub mod Counts
 pub mod Names
-pub mod Timetables
 pub mod Placing
-pub mod Entering
+pub mod MemberRows
 pub mod Arrivals
 pub mod Binding
 pub mod BindingStep

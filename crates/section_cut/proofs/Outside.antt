@@ -8,8 +8,8 @@ use Rattle.std.proofs.lemmas.List.Elements.{All-map, All-filter}
 use Rattle.rail_model.specs.declared.items.Section.{Section}
 use Rattle.rail_model.specs.declared.stair.Use.{Use}
 use Rattle.plan_model.specs.Cut.{least}
-use Rattle.section_cut.specs.Timetable.{StartsOutside}
-use Rattle.section_cut.specs.Positions.{placed, uses_in}
+use Rattle.section_cut.specs.Starts.{StartsOutside}
+use Rattle.section_cut.specs.Positions.{with_position, uses_in}
 use Rattle.section_cut.specs.Members.{enters}
 use Rattle.section_cut.proofs.BlockUses.{least_holds}
 
@@ -23,7 +23,7 @@ module _ (section : Section) (positions : List ℕ) (blocks : ℕ) (uses : List 
       let From : Use → Type 0 = λ u. P u.start in
       least_holds P starts (omega (arith, some, length-map (uses_in positions blocks uses) (λ (u : Use). u.start)))
       (All-map P (λ (u : Use). u.start) (uses_in positions blocks uses)
-      (All-filter (λ (u : Use). ltb u.block blocks) From (map (placed positions) uses) (All-map From (placed positions) uses each)))
+      (All-filter (λ (u : Use). ltb u.block blocks) From (map (with_position positions) uses) (All-map From (with_position positions) uses each)))
 
   from_before : (entry : ℤ) → int_le (pos section.from_s) entry ≡ true → entry <ℤ pos section.from_s → ⊥
   from_before entry h before = grind (arith, ints)

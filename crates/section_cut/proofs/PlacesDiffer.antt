@@ -16,7 +16,7 @@ use Rattle.rail_model.proofs.NameOrder.{is_same-before, is_same-from}
 use Rattle.rail_model.proofs.Members.{none_passes}
 use Rattle.plan_model.specs.Places.{place_names}
 use Rattle.plan_model.specs.SectionCut.{binds, binding_connections, section_cut}
-use Rattle.section_cut.proofs.Lists.{pairs_mapped, pairs_joined}
+use Rattle.rail_model.proofs.Lists.{AllPairs-map, AllPairs-append}
 
 -- names without a repeat differ
 names_differ : (names : List (List ℕ)) → has_repeat names ≡ false → AllPairs (λ a b. a ≢ b) names
@@ -35,7 +35,7 @@ module _ (tables : Tables) (sound : IsSound tables) (section : Section) where
       let rising : AllPairs (λ (a : Connection) (b : Connection). IsBefore a.name b.name) some =
       AllPairs-filter (λ (a : Connection) (b : Connection). IsBefore a.name b.name) (binds tables section) tables.connections sound.connections.names in
       let connections : AllPairs (λ a b. a ≢ b) (map name some) =
-      pairs_mapped (λ a b. a ≢ b) name some
+      AllPairs-map name (λ a b. a ≢ b) some
       (λ i j d before below same.
       both_ways (is_same (get_or some i d).name (get_or some j d).name)
       (is_same-before (get_or some i d).name (get_or some j d).name (rising i j d before below))
@@ -44,7 +44,7 @@ module _ (tables : Tables) (sound : IsSound tables) (section : Section) where
       All-map (λ (n : List ℕ). has_block tables n ≡ false) name some
       (All-filter (binds tables section) (λ (c : Connection). has_block tables c.name ≡ false) tables.connections sound.apart) in
       let blocks = AllPass-from_list_all (has_block tables) section.blocks stands.known in
-      pairs_joined (λ a b. a ≢ b) section.blocks (map name some)
+      AllPairs-append (λ a b. a ≢ b) section.blocks (map name some)
       (names_differ section.blocks (not-true (has_repeat section.blocks) stands.no_repeat)) connections
       (λ k d below i e inside same.
       both_ways (has_block tables (get_or (map name some) i e)) (no_block i e inside)

@@ -15,8 +15,9 @@ use Rattle.rail_model.specs.Rules.{has_block}
 use Rattle.rail_model.specs.Sound.{IsSound}
 use Rattle.rail_model.proofs.NameOrder.{same_name, is_same-sym}
 use Rattle.rail_model.proofs.Members.{none_passes}
-use Rattle.section_cut.proofs.Names.{names_apart}
-use Rattle.section_cut.specs.Positions.{block_name, IsPositions, IsPlaced, placed, uses_in}
+use Rattle.rail_model.proofs.NameOrder.{names_apart}
+use Rattle.rail_model.specs.Tables.{block_name}
+use Rattle.section_cut.specs.Positions.{IsPositions, IsPlaced, with_position, uses_in}
 
 -- from some name of the section's list on, the table has what the rest of the list says
 pub record IsFilled (tables : Tables) (section : Section) (from : ℕ) (table : List ℕ) : Type 0 where
@@ -105,18 +106,18 @@ module _ (tables : Tables) where
 pub uses_in_more : (positions : List ℕ) (blocks : ℕ) (uses : List Use) (i : ℕ) (d : Use) → i < length uses
     → uses_in positions blocks (take (i + 1) uses)
     ≡ uses_in positions blocks (take i uses)
-    ++ cond (ltb (get_or positions (get_or uses i d).block 0) blocks) (placed positions (get_or uses i d) ∷ []) []
+    ++ cond (ltb (get_or positions (get_or uses i d).block 0) blocks) (with_position positions (get_or uses i d) ∷ []) []
 uses_in_more positions blocks uses i d l =
     let inside : Use → Bool = λ u. ltb u.block blocks in
-    ap (filter inside) (map_more (placed positions) uses i d l)
-    ∙ filter-append inside (map (placed positions) (take i uses)) (placed positions (get_or uses i d) ∷ [])
+    ap (filter inside) (map_more (with_position positions) uses i d l)
+    ∙ filter-append inside (map (with_position positions) (take i uses)) (with_position positions (get_or uses i d) ∷ [])
 
 pub uses_in_yes : (positions : List ℕ) (blocks : ℕ) (uses : List Use) (i : ℕ) (d : Use) → i < length uses
     → get_or positions (get_or uses i d).block 0 < blocks
-    → uses_in positions blocks (take (i + 1) uses) ≡ uses_in positions blocks (take i uses) ++ placed positions (get_or uses i d) ∷ []
+    → uses_in positions blocks (take (i + 1) uses) ≡ uses_in positions blocks (take i uses) ++ with_position positions (get_or uses i d) ∷ []
 uses_in_yes positions blocks uses i d l inside =
     uses_in_more positions blocks uses i d l
-    ∙ ap (λ b. uses_in positions blocks (take i uses) ++ cond b (placed positions (get_or uses i d) ∷ []) [])
+    ∙ ap (λ b. uses_in positions blocks (take i uses) ++ cond b (with_position positions (get_or uses i d) ∷ []) [])
     (lt-ltb (get_or positions (get_or uses i d).block 0) blocks inside)
 
 pub uses_in_no : (positions : List ℕ) (blocks : ℕ) (uses : List Use) (i : ℕ) (d : Use) → i < length uses
@@ -124,6 +125,6 @@ pub uses_in_no : (positions : List ℕ) (blocks : ℕ) (uses : List Use) (i : �
     → uses_in positions blocks (take (i + 1) uses) ≡ uses_in positions blocks (take i uses)
 uses_in_no positions blocks uses i d l outside =
     uses_in_more positions blocks uses i d l
-    ∙ ap (λ b. uses_in positions blocks (take i uses) ++ cond b (placed positions (get_or uses i d) ∷ []) [])
+    ∙ ap (λ b. uses_in positions blocks (take i uses) ++ cond b (with_position positions (get_or uses i d) ∷ []) [])
     (le-ltb (get_or positions (get_or uses i d).block 0) blocks outside)
     ∙ append-nil (uses_in positions blocks (take i uses))

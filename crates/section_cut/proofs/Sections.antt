@@ -7,7 +7,7 @@ use Rattle.rail_model.specs.declared.tables.Tables.{Tables}
 use Rattle.rail_model.specs.declared.limits.TheConstants.{PATH_HOPS, GREATEST_START_S}
 use Rattle.rail_model.specs.Within.{is_section_within}
 use Rattle.rail_model.specs.Sound.{Stands, IsSound}
-use Rattle.section_cut.specs.Timetable.{no_section, section_at}
+use Rattle.rail_model.specs.Tables.{no_section, section_at}
 
 pub record IsSectionWithin (s : Section) : Type 0 where
   pub some : 0 < length s.blocks

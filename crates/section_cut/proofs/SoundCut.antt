@@ -18,7 +18,8 @@ use Rattle.plan_model.specs.declared.cut.Cut.{Cut}
 use Rattle.plan_model.specs.Cut.{stamped_row, stamped, IsSoundRow, IsSoundCut}
 use Rattle.plan_model.specs.SectionCut.{is_member, binds, binding_connections, row_of, section_cut}
 use Rattle.section_cut.specs.Members.{members_of}
-use Rattle.section_cut.proofs.Lists.{pairs_mapped, few_pass}
+use Rattle.rail_model.proofs.Lists.{AllPairs-map}
+use Rattle.section_cut.proofs.Lists.{few_pass}
 use Rattle.section_cut.proofs.Names.{members_rise}
 use Rattle.section_cut.proofs.Sections.{section_facts}
 use Rattle.section_cut.proofs.SoundRow.{sound_row}
@@ -40,7 +41,7 @@ sound_cut tables section sound stands =
       most_connections = omega (arith, length-map some (λ (c : Connection). c.name), few_pass (binds tables section) tables.connections, sound.connections.most);
       most_rows = omega (arith, length-map members row, few_pass (is_member tables section) tables.runs, sound.runs.most);
       places_differ = places_differ tables sound section stands;
-      names_rise = pairs_mapped (λ (r : CutRow) (s : CutRow). IsBefore r.name s.name) row members (members_rise tables sound section);
+      names_rise = AllPairs-map row (λ (r : CutRow) (s : CutRow). IsBefore r.name s.name) members (members_rise tables sound section);
       each = All-map (IsSoundRow (section_cut tables section)) row members
           (each_member tables sound section (λ (run : Run). IsSoundRow (section_cut tables section) (row run)) (sound_row tables sound section));
       two_rows = two_rows tables sound section;
@@ -61,7 +62,7 @@ sound_stamped stamp cut sound =
       most_connections = sound.most_connections;
       most_rows = omega (arith, length-map cut.rows marked, sound.most_rows);
       places_differ = sound.places_differ;
-      names_rise = pairs_mapped (λ (r : CutRow) (s : CutRow). IsBefore r.name s.name) marked cut.rows sound.names_rise;
+      names_rise = AllPairs-map marked (λ (r : CutRow) (s : CutRow). IsBefore r.name s.name) cut.rows sound.names_rise;
       each = All-map (IsSoundRow (stamped stamp cut)) marked cut.rows
           (λ k d below.
           let row = sound.each k d below in

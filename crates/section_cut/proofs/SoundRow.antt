@@ -17,8 +17,9 @@ use Rattle.rail_model.proofs.Paths.{run_stands}
 use Rattle.rail_model.proofs.Places.{filter_all, filter_none}
 use Rattle.plan_model.specs.Places.{place_count}
 use Rattle.plan_model.specs.Cut.{least, block_uses, connection_uses, IsMoment, IsSoundUse, IsSoundRow}
-use Rattle.plan_model.specs.SectionCut.{last_arrival, section_uses, entry_of, is_member, binds, binding_connections, connection_use, uses_of_connections, row_of, section_cut}
-use Rattle.section_cut.proofs.Lists.{pairs_joined}
+use Rattle.rail_model.specs.Tables.{last_arrival}
+use Rattle.plan_model.specs.SectionCut.{section_uses, entry_of, is_member, binds, binding_connections, connection_use, uses_of_connections, row_of, section_cut}
+use Rattle.rail_model.proofs.Lists.{AllPairs-append}
 use Rattle.section_cut.proofs.Arrivals.{last_arrival_most}
 use Rattle.section_cut.proofs.Known.{IsKnown, connection_known}
 use Rattle.section_cut.proofs.BlockUses.{IsEntry, in_window, timely_uses, entry_is, uses_inside, uses_most, uses_apart}
@@ -114,7 +115,7 @@ module _ (tables : Tables) (sound : IsSound tables) (section : Section) where
           some_block = omega (arith, window.some, ap length blocks_are);
           most_blocks = omega (arith, uses_most tables sound section n l, ap length blocks_are);
           blocks_first = sym (ap (λ us. us ++ connection_uses cut (row_of tables section run)) blocks_are ∙ ap (λ us. blocks ++ us) others_are);
-          places_differ = pairs_joined (λ (u : Use) (v : Use). u.block ≢ v.block) blocks others (uses_apart tables sound section n l) connections_apart
+          places_differ = AllPairs-append (λ (u : Use) (v : Use). u.block ≢ v.block) blocks others (uses_apart tables sound section n l) connections_apart
               (λ k d below i e inside same.
               let block = ltb-true (get_or blocks k d).block (length section.blocks) (uses_inside tables sound section n l k d below) in
               let other = (connections_timed i e inside).0 in

@@ -9,8 +9,9 @@ use Rattle.std.proofs.lemmas.List.{get_or_default, get_or-take, length-append, l
 use Rattle.rail_model.specs.declared.items.Section.{Section}
 use Rattle.rail_model.specs.declared.stair.Use.{Use}
 use Rattle.rail_model.specs.declared.stair.Stair.{Stair}
-use Rattle.section_cut.specs.declared.timetable.Starts.{Starts}
-use Rattle.section_cut.specs.Timetable.{StartsBetween, AreStartsOf, StartsOutside, no_stair}
+use Rattle.section_cut.specs.declared.all_stairways.Starts.{Starts}
+use Rattle.rail_model.specs.Timetable.{no_stair}
+use Rattle.section_cut.specs.Starts.{StartsBetween, AreStartsOf, StartsOutside}
 use Rattle.section_cut.proofs.Leads.{all_more}
 
 -- one use more

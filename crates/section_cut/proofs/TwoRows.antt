@@ -19,7 +19,8 @@ use Rattle.rail_model.proofs.NameOrder.{is_same-from}
 use Rattle.plan_model.specs.declared.cut.CutRow.{CutRow}
 use Rattle.plan_model.specs.Places.{block_count, place_count}
 use Rattle.plan_model.specs.Members.{uses_place}
-use Rattle.plan_model.specs.SectionCut.{run_named, section_uses, is_member, binds, binding_connections, uses_of_connections, row_of, section_cut}
+use Rattle.rail_model.specs.Tables.{run_named}
+use Rattle.plan_model.specs.SectionCut.{section_uses, is_member, binds, binding_connections, uses_of_connections, row_of, section_cut}
 use Rattle.section_cut.specs.Members.{members_of}
 use Rattle.section_cut.proofs.Lists.{passing_at}
 use Rattle.section_cut.proofs.Counts.{count_agree, count_two}

@@ -1,4 +1,4 @@
-pub mod Timetable
+pub mod Starts
 pub mod Late
 pub mod Positions
 pub mod Members

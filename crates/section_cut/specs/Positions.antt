@@ -1,15 +1,11 @@
 -- Where the blocks of the tables stand in a section's list, by their numbers.
-use Rattle.std.specs.Prelude.{◌≡◌, ℕ, ◌<◌, nat_lt, if◌then◌else◌, List, length, map, filter, slice_index, slice_index_or}
+use Rattle.std.specs.Prelude.{◌≡◌, ℕ, ◌<◌, nat_lt, if◌then◌else◌, List, length, map, filter, slice_index}
 use Rattle.rail_model.specs.declared.items.Section.{Section}
 use Rattle.rail_model.specs.declared.tables.Tables.{Tables}
 use Rattle.rail_model.specs.declared.stair.Use.{Use}
 use Rattle.rail_model.specs.Name.{is_same}
-use Rattle.rail_model.specs.Tables.{no_block}
+use Rattle.rail_model.specs.Tables.{block_name}
 use Rattle.plan_model.specs.SectionCut.{position_in_section}
-
--- the name of the block with a number
-abbrev pub block_name : Tables → ℕ → List ℕ
-block_name tables block = (slice_index_or tables.blocks block no_block).name
 
 -- the table of positions has for each block of the tables its position in the section's list, or the list's length
 -- where it isn't there
@@ -26,9 +22,9 @@ pub record IsPlaced (tables : Tables) (name : List ℕ) (position : ℕ) (before
       ≡ (if is_same name (block_name tables block) then position else slice_index before block)
 
 -- a use with its block by a table of positions
-abbrev pub placed : List ℕ → Use → Use
-placed positions u = record u { block = slice_index positions u.block }
+abbrev pub with_position : List ℕ → Use → Use
+with_position positions u = record u { block = slice_index positions u.block }
 
 -- of some uses those in a section of this many blocks
 abbrev pub uses_in : List ℕ → ℕ → List Use → List Use
-uses_in positions blocks uses = filter (λ u. nat_lt u.block blocks) (map (placed positions) uses)
+uses_in positions blocks uses = filter (λ u. nat_lt u.block blocks) (map (with_position positions) uses)

@@ -2,14 +2,15 @@
 ghost use Rattle.std.specs.Prelude.{◌≡◌, ◌<◌, length, IfOk, IfSome, option_map};
 ghost use Rattle.plan_model.specs.Cut.{stamped, IsSoundCut};
 ghost use Rattle.plan_model.specs.SectionCut as cuts;
-ghost use Rattle.section_cut.specs.Timetable.{timetable, section_at};
+ghost use Rattle.rail_model.specs.Timetable.{timetable};
+ghost use Rattle.rail_model.specs.Tables.{section_at};
 ghost use Rattle.section_cut.specs.Late.{AreStairsFor};
 
+use crate::all_stairways::AllStairways;
 use crate::connections::connections;
 use crate::late::stairways_to;
-use crate::members::{Entered, members};
+use crate::members::{MemberRows, members};
 use crate::positions::positions;
-use crate::timetable::Timetable;
 use line_tables::LineTables;
 use plan_model::Cut;
 use rail_model::{Name, OutOfMemory};
@@ -31,7 +32,7 @@ pub fn cut_of(
     let Some(number) = tables.section_number(section) else {
         return Ok(None);
     };
-    let stairs = Timetable::of(alloc, stairways_to(alloc, tables, number)?)?;
+    let stairs = AllStairways::of(alloc, stairways_to(alloc, tables, number)?)?;
     Ok(Some(cut_by(alloc, tables, &stairs, number, stamp)?))
 }
 
@@ -41,7 +42,7 @@ pub fn cut_of(
 pub fn cut_among(
     alloc: Global,
     tables: &LineTables,
-    stairs: &Timetable,
+    stairs: &AllStairways,
     section: u32,
     stamp: u64,
 ) -> Result<Cut, OutOfMemory>
@@ -58,7 +59,7 @@ pub fn cut_among(
 fn cut_by(
     alloc: Global,
     tables: &LineTables,
-    stairs: &Timetable,
+    stairs: &AllStairways,
     section: u32,
     stamp: u64,
 ) -> Result<Cut, OutOfMemory>
@@ -71,7 +72,7 @@ fn cut_by(
     let _count = tables.sections();
     let section = tables.section(section);
     let table = positions(alloc, tables, section)?;
-    let Entered { mut rows, of_run } = members(alloc, tables, section, &table, stairs, stamp)?;
+    let MemberRows { mut rows, of_run } = members(alloc, tables, section, &table, stairs, stamp)?;
     let connections = connections(alloc, tables, section, &of_run, &mut rows)?;
     Ok(Cut {
         section: section.copy(alloc)?,

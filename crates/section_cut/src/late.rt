@@ -2,7 +2,7 @@
 ghost use Rattle.std.specs.Prelude.{◌≡◌, ◌+◌, ◌<◌, ◌≤◌, All, IfOk, length, map, nat_le};
 ghost use Rattle.line_tables.specs.Hops as hops;
 ghost use Rattle.rail_model.specs.Tables.{run_at};
-ghost use Rattle.section_cut.specs.Timetable.{section_at};
+ghost use Rattle.rail_model.specs.Tables.{section_at};
 ghost use Rattle.section_cut.specs.Late.{AreStairsFor, IsLead, stair_to};
 
 use blocking_time::stairs;

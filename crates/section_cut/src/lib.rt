@@ -2,15 +2,15 @@
 //! it, and which connections bind them.
 //!
 //! `cut_of` makes the cut of one section. For the cuts of many sections `stairways` makes the
-//! stairways of all runs once, and `cut_among` takes each cut from a `Timetable` of them.
+//! stairways of all runs once, and `cut_among` takes each cut from them.
 #![tactic(auto)]
 
+mod all_stairways;
 mod connections;
 mod cuts;
 mod late;
 mod members;
 mod positions;
-mod timetable;
 
+pub use all_stairways::{AllStairways, stairways};
 pub use cuts::{cut_among, cut_of};
-pub use timetable::{Timetable, stairways};

@@ -4,11 +4,11 @@ ghost use Rattle.std.specs.Option.{option_to_list};
 ghost use Rattle.plan_model.specs.Cut.{least};
 ghost use Rattle.section_cut.specs.Late.{AreStairsFor};
 ghost use Rattle.section_cut.specs.Positions.{IsPositions, uses_in};
-ghost use Rattle.section_cut.specs.Timetable.{stair_at};
+ghost use Rattle.rail_model.specs.Timetable.{stair_at};
 ghost use Rattle.section_cut.specs.Members as rows;
 
+use crate::all_stairways::AllStairways;
 use crate::positions::gather;
-use crate::timetable::Timetable;
 use line_tables::LineTables;
 use plan_model::CutRow;
 use rail_model::{List, Name, OutOfMemory, PATH_HOPS, Section, Stair, Use};
@@ -23,7 +23,7 @@ pub(crate) struct Member {
 
 // The members' rows, and for each run which of them is its, if it is a member.
 #[derive(Drop)]
-pub(crate) struct Entered {
+pub(crate) struct MemberRows {
     pub(crate) rows: List<CutRow>,
     pub(crate) of_run: Vec<Option<Member>>,
 }
@@ -34,9 +34,9 @@ pub(crate) fn members(
     tables: &LineTables,
     section: &Section,
     positions: &[u32],
-    stairs: &Timetable,
+    stairs: &AllStairways,
     stamp: u64,
-) -> Result<Entered, OutOfMemory>
+) -> Result<MemberRows, OutOfMemory>
     requires stairs { AreStairsFor tables.now section.now stairs.now }
     requires positions { IsPositions tables.now section.now positions.now }
     requires blocks { length section.now.blocks ≤ PATH_HOPS }
@@ -46,7 +46,7 @@ pub(crate) fn members(
         (λ all. all.of_run.items ≡ rows.members_by_run tables.now section.now) }
 {
     let _count = tables.runs();
-    let mut all = Entered {
+    let mut all = MemberRows {
         rows: List::new(alloc),
         of_run: Vec::with_capacity(alloc, stairs.len())?,
     };
@@ -64,7 +64,7 @@ fn row_at(
     alloc: Global,
     section: &Section,
     positions: &[u32],
-    stairs: &Timetable,
+    stairs: &AllStairways,
     n: usize,
     stamp: u64,
     found: &mut Vec<Use>,
@@ -132,7 +132,7 @@ fn least_start(uses: &[Use]) -> i64
 }
 
 // Adds the next run: its row, if it is a member.
-fn add_run(all: &mut Entered, row: Option<CutRow>) -> Result<(), OutOfMemory>
+fn add_run(all: &mut MemberRows, row: Option<CutRow>) -> Result<(), OutOfMemory>
     ensures rows { OnOk result (all.new.rows ≡ all.old.rows ++ option_to_list row) }
     ensures of_run { OnOk result (all.new.of_run.items
         ≡ all.old.of_run.items ++ option_map (rows.member_of (length all.old.rows)) row ∷ []) }

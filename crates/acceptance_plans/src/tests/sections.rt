@@ -3,7 +3,7 @@ use line_tables::LineTables;
 use plan_model::Cut;
 use rail_model::{Name, OutOfMemory};
 use row_text::Sheet;
-use section_cut::{Timetable, cut_among, cut_of, stairways};
+use section_cut::{AllStairways, cut_among, cut_of, stairways};
 use small_lines::{LINE, joined, tables_of};
 use std::alloc::Global;
 use std::test::Fail;
@@ -100,7 +100,7 @@ fn cut_told_among(alloc: Global, tables: &LineTables) -> Result<Option<Sheet>, O
     if tables.sections() != 1 {
         return Ok(None);
     }
-    let stairs = Timetable::of(alloc, stairways(alloc, tables)?)?;
+    let stairs = AllStairways::of(alloc, stairways(alloc, tables)?)?;
     let cut = cut_among(alloc, tables, &stairs, 0, 7)?;
     Ok(Some(told(alloc, &cut)?))
 }

@@ -3,7 +3,7 @@ use Rattle.std.proofs.lemmas.Option.{get_or_from_slice_get}
 use Rattle.rail_model.specs.declared.items.Section.{Section}
 use Rattle.plan_model.specs.declared.cut.Cut.{Cut}
 use Rattle.plan_model.specs.Answer.{IsAnswer}
-use Rattle.section_cut.specs.Timetable.{no_section, section_at}
+use Rattle.rail_model.specs.Tables.{no_section, section_at}
 use Rattle.capacity_report.specs.declared.answers.Detail.TheVariants as detail
 use Rattle.capacity_report.specs.Answers.{answer_rows}
 use Rattle.capacity_cmd.proofs.Cuts.{stamped_none}

@@ -6,7 +6,7 @@ use Rattle.rail_model.specs.declared.limits.TheConstants.{PATH_HOPS}
 use Rattle.plan_model.specs.declared.cut.CutRow.{CutRow}
 use Rattle.plan_model.specs.Cut.{stamped, IsSoundCut}
 use Rattle.plan_model.specs.SectionCut.{section_cut}
-use Rattle.section_cut.specs.Timetable.{no_section, section_at}
+use Rattle.rail_model.specs.Tables.{no_section, section_at}
 use Rattle.section_cut.specs.Members.{members_of, row_on_blocks}
 use Rattle.section_cut.proofs.Sections.{section_stands, section_within}
 use Rattle.section_cut.proofs.Joined.{cut_is}

@@ -2,7 +2,7 @@ use Rattle.std.proofs.Common.{◌≡◌, map, subst, sym, ap, ◌∙◌, arith}
 use Rattle.std.proofs.lemmas.List.{take_all}
 use Rattle.std.proofs.lemmas.Option.{get_or_from_slice_get}
 use Rattle.rail_model.specs.declared.items.Section.{Section}
-use Rattle.section_cut.specs.Timetable.{no_section, section_at}
+use Rattle.rail_model.specs.Tables.{no_section, section_at}
 use Rattle.section_cut.specs.Late.{IsLead, stair_to}
 use Rattle.section_cut.proofs.LateRuns.{late_stairs}
 use Rattle.section_cut.proofs.late.stairways_to.Goals as goal

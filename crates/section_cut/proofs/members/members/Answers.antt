@@ -4,11 +4,11 @@ use Rattle.std.specs.Prelude.{map, filter, take, option_map}
 use Rattle.std.specs.Option.{option_to_list}
 use Rattle.rail_model.specs.Tables.{run_at}
 use Rattle.plan_model.specs.SectionCut.{section_uses, is_member}
-use Rattle.section_cut.specs.Timetable.{no_stair, stair_at}
+use Rattle.rail_model.specs.Timetable.{no_stair, stair_at}
 use Rattle.section_cut.specs.Positions.{uses_in}
 use Rattle.section_cut.specs.Members.{member_row, member_of, row_on_blocks, member_at}
 use Rattle.section_cut.proofs.LateRuns.{stair_name, stair_there, stair_row}
-use Rattle.section_cut.proofs.Entering.{rows_more, members_more}
+use Rattle.section_cut.proofs.MemberRows.{rows_more, members_more}
 use Rattle.section_cut.proofs.members.members.Goals as goal
 
 pub row_at-requires-clause-there : goal.row_at-requires-clause-there

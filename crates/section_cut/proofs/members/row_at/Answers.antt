@@ -1,5 +1,5 @@
 use Rattle.std.proofs.Common.{length, refl}
-use Rattle.section_cut.specs.Timetable.{stair_at}
+use Rattle.rail_model.specs.Timetable.{stair_at}
 use Rattle.section_cut.proofs.Outside.{outside_not_entered}
 use Rattle.section_cut.proofs.members.row_at.Goals as goal
 

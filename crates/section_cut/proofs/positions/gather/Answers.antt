@@ -1,7 +1,7 @@
 use Rattle.std.proofs.Common.{get_or, ◌∷◌, [], ◌++◌, w64, sym, ap, ◌∙◌, rules, arith}
 use Rattle.std.proofs.lemmas.Int.{to_z-of_z}
 use Rattle.plan_model.specs.Members.{no_use}
-use Rattle.section_cut.specs.Positions.{placed}
+use Rattle.section_cut.specs.Positions.{with_position}
 use Rattle.section_cut.proofs.Placing.{uses_in_yes, uses_in_no}
 use Rattle.section_cut.proofs.positions.gather.Goals as goal
 use Rattle.section_cut.proofs.positions.gather.Goals.{then-block-blocks+in_ok-push, else-block-blocks}
@@ -16,7 +16,7 @@ loop-one-preserved c =
           let start = to_z-of_z w64 one.start (search rules) in
           let end = to_z-of_z w64 one.«end» (search rules) in
           let pushed = rw (start, end) at w.in_ok-push.ensures.items in
-          ap (λ v. v.items) w.found-is ∙ pushed ∙ ap (λ us. us ++ placed c.args.positions.now one ∷ []) c.loop-one.invariant
+          ap (λ v. v.items) w.found-is ∙ pushed ∙ ap (λ us. us ++ with_position c.args.positions.now one ∷ []) c.loop-one.invariant
           ∙ sym (uses_in_yes c.args.positions.now c.args.blocks uses i no_use c.loop-one-test.true (omega (arith, w.if-block-blocks.true)))
       | else-block-blocks w ↦
           ap (λ v. v.items) w.found-is ∙ c.loop-one.invariant

@@ -1,6 +1,6 @@
 use Rattle.std.proofs.Common.{take}
-use Rattle.section_cut.specs.Timetable.{StartsBetween}
-use Rattle.section_cut.proofs.timetable.starts_of.Given as goal
+use Rattle.section_cut.specs.Starts.{StartsBetween}
+use Rattle.section_cut.proofs.all_stairways.starts_of.Given as goal
 
 -- between which moments the uses so far start
 abbrev pub invariant-loop-one : goal.invariant-loop-one

@@ -1,7 +1,8 @@
 use Rattle.std.proofs.Common.{length, sym, subst, ap, ◌∙◌, arith}
-use Rattle.section_cut.specs.Timetable.{StartsBetween, StartsOutside, stair_at}
+use Rattle.rail_model.specs.Timetable.{stair_at}
+use Rattle.section_cut.specs.Starts.{StartsBetween, StartsOutside}
 use Rattle.section_cut.proofs.Starts.{starts_outside}
-use Rattle.section_cut.proofs.timetable.Timetable.passes_by.Goals as goal
+use Rattle.section_cut.proofs.all_stairways.AllStairways.passes_by.Goals as goal
 
 pub returns : goal.returns
 returns c outside =

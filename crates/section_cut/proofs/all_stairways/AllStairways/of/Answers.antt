@@ -1,7 +1,7 @@
 use Rattle.std.proofs.Common.{subst, arith}
-use Rattle.section_cut.specs.Timetable.{StartsBetween}
+use Rattle.section_cut.specs.Starts.{StartsBetween}
 use Rattle.section_cut.proofs.Starts.{starts_more}
-use Rattle.section_cut.proofs.timetable.Timetable.of.Goals as goal
+use Rattle.section_cut.proofs.all_stairways.AllStairways.of.Goals as goal
 
 pub loop-stair-preserved : goal.loop-stair-preserved
 loop-stair-preserved c =

@@ -1,8 +1,9 @@
 use Rattle.std.proofs.Common.{◌<◌, length, subst, arith}
 use Rattle.std.proofs.lemmas.List.{take_all}
-use Rattle.section_cut.specs.Timetable.{StartsBetween, no_use}
+use Rattle.rail_model.specs.Timetable.{no_use}
+use Rattle.section_cut.specs.Starts.{StartsBetween}
 use Rattle.section_cut.proofs.Starts.{between_more}
-use Rattle.section_cut.proofs.timetable.starts_of.Goals as goal
+use Rattle.section_cut.proofs.all_stairways.starts_of.Goals as goal
 
 pub loop-one-preserved : goal.loop-one-preserved
 loop-one-preserved c =

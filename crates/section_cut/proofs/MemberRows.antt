@@ -16,10 +16,10 @@ use Rattle.rail_model.specs.Sound.{IsSound}
 use Rattle.plan_model.specs.declared.cut.CutRow.{CutRow}
 use Rattle.plan_model.specs.SectionCut.{use_in_section, section_uses, is_member}
 use Rattle.section_cut.specs.declared.members.Member.{Member}
-use Rattle.section_cut.specs.Positions.{IsPositions, placed, uses_in}
+use Rattle.section_cut.specs.Positions.{IsPositions, with_position, uses_in}
 use Rattle.section_cut.specs.Members.{member_row, member_of, row_on_blocks, member_at}
-use Rattle.section_cut.proofs.Lists.{map_same}
-use Rattle.section_cut.proofs.Timetables.{used_there}
+use Rattle.rail_model.proofs.Lists.{map_same}
+use Rattle.rail_model.proofs.Timetables.{used_there}
 
 module _ (tables : Tables) (section : Section) where
   -- a run's uses of the section's blocks by the table of positions
@@ -30,7 +30,7 @@ module _ (tables : Tables) (section : Section) where
   uses_by_table sound positions table n l =
       let uses = stairway (path_in tables (run_at tables n)) in
       ap (filter (λ (u : Use). ltb u.block (length section.blocks)))
-      (map_same (placed positions) (use_in_section tables section) uses
+      (map_same (with_position positions) (use_in_section tables section) uses
       (λ k d below.
       let u = get_or uses k d in
       ap (λ (b : ℕ). record u { block = b }) (table.each u.block (used_there tables sound n l k d below))))

@@ -1,6 +1,6 @@
 use Rattle.std.proofs.Common.{take}
-use Rattle.section_cut.specs.Timetable.{AreStartsOf}
-use Rattle.section_cut.proofs.timetable.Timetable.of.Given as goal
+use Rattle.section_cut.specs.Starts.{AreStartsOf}
+use Rattle.section_cut.proofs.all_stairways.AllStairways.of.Given as goal
 
 -- the moments of the stairways so far
 abbrev pub invariant-loop-stair : goal.invariant-loop-stair

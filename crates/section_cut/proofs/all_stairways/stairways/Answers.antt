@@ -1,9 +1,9 @@
 use Rattle.std.proofs.Common.{◌++◌, ◌∷◌, [], take, sym, ap, ◌∙◌, arith}
 use Rattle.std.proofs.lemmas.List.{take_all}
 use Rattle.rail_model.specs.Blocking.{stair_of}
-use Rattle.section_cut.specs.Timetable.{timetable}
-use Rattle.section_cut.proofs.Timetables.{timetable_more, stairs_count}
-use Rattle.section_cut.proofs.timetable.stairways.Goals as goal
+use Rattle.rail_model.specs.Timetable.{timetable}
+use Rattle.rail_model.proofs.Timetables.{timetable_more, stairs_count}
+use Rattle.section_cut.proofs.all_stairways.stairways.Goals as goal
 
 pub loop-run-preserved : goal.loop-run-preserved
 loop-run-preserved c =

@@ -1,6 +1,7 @@
 //! The stairways of a line's runs, and between which moments each of them starts to keep blocks.
 ghost use Rattle.std.specs.Prelude.{◌≡◌, ◌<◌, ◌≤ℤ◌, ◌||◌, pos, int_lt, int_le, true, length, IfOk};
-ghost use Rattle.section_cut.specs.Timetable.{timetable, StartsBetween, StartsOutside, stair_at};
+ghost use Rattle.rail_model.specs.Timetable.{timetable, stair_at};
+ghost use Rattle.section_cut.specs.Starts.{StartsBetween, StartsOutside};
 
 use blocking_time::stairs;
 use line_tables::LineTables;
@@ -24,7 +25,7 @@ pub fn stairways(alloc: Global, tables: &LineTables) -> Result<List<Stair>, OutO
 /// The stairways of a line's runs, for the cuts of many sections. Contracts see the list of the
 /// stairways.
 #[derive(Drop)]
-pub struct Timetable {
+pub struct AllStairways {
     stairs: List<Stair>,
     starts: Vec<Starts>,
 }
@@ -36,10 +37,10 @@ pub(crate) struct Starts {
     pub(crate) last: i64,
 }
 
-impl Model for Timetable {
+impl Model for AllStairways {
     ghost use Rattle.std.specs.Prelude.{List};
     ghost use Rattle.rail_model.specs.declared.stair.Stair.{Stair};
-    ghost use Rattle.section_cut.specs.Timetable.{AreStartsOf};
+    ghost use Rattle.section_cut.specs.Starts.{AreStartsOf};
 
     ghost Value = { List Stair };
 
@@ -48,16 +49,16 @@ impl Model for Timetable {
     ghost invariant = { λ t. AreStartsOf t.stairs t.starts.items };
 }
 
-impl Timetable {
+impl AllStairways {
     /// These stairways.
-    pub fn of(alloc: Global, stairs: List<Stair>) -> Result<Timetable, OutOfMemory>
+    pub fn of(alloc: Global, stairs: List<Stair>) -> Result<AllStairways, OutOfMemory>
         ensures { IfOk result (λ all. all ≡ stairs) }
     {
         let mut starts = Vec::with_capacity(alloc, stairs.len())?;
         for stair in stairs.slice() {
             starts.push(starts_of(stair.uses.slice()))?;
         }
-        Ok(Timetable { stairs, starts })
+        Ok(AllStairways { stairs, starts })
     }
 
     /// How many stairways there are.

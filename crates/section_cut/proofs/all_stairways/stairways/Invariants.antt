@@ -1,6 +1,6 @@
 use Rattle.std.proofs.Common.{◌≡◌, take}
-use Rattle.section_cut.specs.Timetable.{timetable}
-use Rattle.section_cut.proofs.timetable.stairways.Given as goal
+use Rattle.rail_model.specs.Timetable.{timetable}
+use Rattle.section_cut.proofs.all_stairways.stairways.Given as goal
 
 -- the stairways so far
 abbrev pub invariant-loop-run : goal.invariant-loop-run

@@ -1,0 +1,22 @@
+-- Between which moments the uses of stairways start.
+use Rattle.std.specs.Prelude.{◌≡◌, ◌⊎◌, ◌<◌, ℕ, pos, ◌≤ℤ◌, ◌<ℤ◌, All, List, length, slice_index_or}
+use Rattle.rail_model.specs.declared.items.Section.{Section}
+use Rattle.rail_model.specs.declared.stair.Use.{Use}
+use Rattle.rail_model.specs.declared.stair.Stair.{Stair}
+use Rattle.rail_model.specs.Timetable.{stair_at}
+use Rattle.section_cut.specs.declared.all_stairways.Starts.{Starts}
+
+-- these uses start between these moments
+abbrev pub StartsBetween : Starts → List Use → Type 0
+StartsBetween starts uses = All (λ u. (starts.first ≤ℤ u.start) × (u.start ≤ℤ starts.last)) uses
+
+-- and those of each stairway between its own
+pub record AreStartsOf (stairs : List Stair) (starts : List Starts) : Type 0 where
+  pub count : length starts ≡ length stairs
+  pub each : (n : ℕ) (d : Starts) → n < length stairs
+      → StartsBetween (slice_index_or starts n d) (stair_at stairs n).uses
+
+-- these uses start before a section's window, or after it
+abbrev pub StartsOutside : Section → List Use → Type 0
+StartsOutside section uses =
+    All (λ u. u.start <ℤ pos section.from_s) uses ⊎ All (λ u. pos section.to_s ≤ℤ u.start) uses
