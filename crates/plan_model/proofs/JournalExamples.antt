@@ -26,7 +26,8 @@ use Rattle.plan_model.specs.Journal.{last_number, tables_at, tables_of, last_pub
 use Rattle.plan_model.specs.Touch.{cut_at, Touches, IsCurrent}
 use Rattle.plan_model.specs.Legal.{IsAnswerAt, IsNext, IsLegal}
 use Rattle.plan_model.specs.Session.{IsByPlanner, IsMade, IsPublicationAt, AllAreCurrent, tasks_in_turn, GoesInTurn, IsSessionAlone}
-use Rattle.plan_model.proofs.Touching.{stays_at, touched_since}
+use Rattle.plan_model.proofs.Changing.{stays_at}
+use Rattle.plan_model.proofs.Touching.{touched_since}
 use Rattle.plan_model.proofs.Examples.{compressed, block, signal, section, row, kept, plan, placed, line, t1, t2, two_trains, two_trains_answer}
 
 -- what holds of each item of a list that is written out

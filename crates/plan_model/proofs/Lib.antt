@@ -2,7 +2,12 @@ mod Examples
 mod JournalExamples
 mod TouchExamples
 mod RefusedEntries
+pub mod Growing
+pub mod Changing
+pub mod Legality
 pub mod Touching
+pub mod Stamps
+pub mod TasksLeft
 pub mod MemberTests
 pub mod SoundTest
 pub mod ScheduleTest

@@ -16,7 +16,7 @@ use Rattle.plan_model.specs.Journal.{last_number, tables_at, tables_of, last_pub
 use Rattle.plan_model.specs.Touch.{cut_at, row_at, Touches, IsUntouchedSince, IsLastTouching, IsCurrent, IsStamp, IsReading}
 use Rattle.plan_model.specs.Legal.{MayBePublished, IsLegal}
 use Rattle.plan_model.specs.Session.{IsMade, IsPublicationAt, tasks_in_turn, GoesInTurn, IsSessionAlone}
-use Rattle.plan_model.proofs.Touching.{stays_at, stays_more}
+use Rattle.plan_model.proofs.Changing.{stays_at, stays_more}
 use Rattle.plan_model.proofs.Examples.{train, row, kept, t2, two_trains}
 use Rattle.plan_model.proofs.JournalExamples.{s, two_runs, two_runs_sound, at_8, by_main, first_at_8, by_one, apart, apart_back, all_current, published_now, each_of}
 

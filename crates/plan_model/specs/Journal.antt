@@ -89,9 +89,13 @@ publication_of name (act.Asked planner section reply) = None
 publication_of name (act.Published section at answer) =
     if is_same section name then Some (record { at = at; answer = answer }) else None
 
--- the last publication of a section, by its name, if there was one
+-- the publications of a section, by its name, in order
+abbrev pub publications : List Entry → List ℕ → List Publication
+publications journal name = filter_map (λ e. publication_of name e.act) journal
+
+-- the last of them, if there is one
 unfoldable pub last_publication : List Entry → List ℕ → Option Publication
-last_publication journal name = last_or None (filter_map (λ e. publication_of name e.act) journal)
+last_publication journal name = last_or None (publications journal name)
 
 -- ---- passes
 

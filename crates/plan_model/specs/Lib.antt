@@ -21,3 +21,6 @@ pub mod Touch
 pub mod Legal
 pub mod Session
 pub mod Call
+pub mod Outcome
+pub mod Board
+pub mod JournalLaws

@@ -8,10 +8,12 @@
 #![tactic(auto)]
 
 mod answer;
+mod board;
 mod copies;
 mod cut;
 mod fit_cut;
 mod journal;
+mod journal_laws;
 mod laws;
 mod limits;
 mod outcome;
@@ -20,9 +22,15 @@ mod rows;
 mod scripts;
 
 pub use answer::{Answer, Done, Link, Placed, Plan, Tie};
+pub use board::Board;
 pub use cut::{Cut, CutRow};
 pub use fit_cut::{FitCut, SoundCut, shift};
 pub use journal::{Act, Entry, Reply};
+pub use journal_laws::{
+    beginning_is_journal, beginning_is_legal, current_is_answered, current_stays, each_is_next,
+    longer_agrees, longer_issues_no_fewer, next_is_legal, none_is_left, others_keep_tables,
+    stamp_tells_row, tables_are_sound,
+};
 pub use laws::{
     answer_is_unique, comes_before_is_tested, conflict_is_overlap, fraction_is_reduced,
     least_is_tied, least_is_unique, none_is_later, occupancy_is_to_closing,

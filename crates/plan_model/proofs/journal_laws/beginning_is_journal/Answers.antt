@@ -1,0 +1,5 @@
+use Rattle.plan_model.proofs.Legality as Legality
+use Rattle.plan_model.proofs.journal_laws.beginning_is_journal.Goals as goal
+
+pub returns : goal.returns
+returns c = Legality.beginning_is_journal

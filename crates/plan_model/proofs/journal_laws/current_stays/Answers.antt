@@ -1,0 +1,5 @@
+use Rattle.plan_model.proofs.Touching as Touching
+use Rattle.plan_model.proofs.journal_laws.current_stays.Goals as goal
+
+pub returns : goal.returns
+returns c = Touching.current_stays

@@ -1,0 +1,103 @@
+-- Laws of journals.
+use Rattle.std.specs.Prelude.{◌≡◌, ℕ, ◌<◌, ◌≤◌, List, [], ◌∷◌, ◌++◌, length, Some, Contains}
+use Rattle.rail_model.specs.Sound.{IsSound}
+use Rattle.plan_model.specs.declared.cut.CutRow.{CutRow}
+use Rattle.plan_model.specs.declared.cut.Cut.{Cut}
+use Rattle.plan_model.specs.declared.journal.Entry.{Entry}
+use Rattle.plan_model.specs.Answer.{IsAnswer}
+use Rattle.plan_model.specs.Journal.{edits, last_number, tables_at, tables_of, issued, done_by, script_of, tasks_left}
+use Rattle.plan_model.specs.Changes.{Stays}
+use Rattle.plan_model.specs.Touch.{cut_at, cut_now, IsCurrent, IsReading}
+use Rattle.plan_model.specs.Legal.{IsNext, IsLegal, IsJournal}
+use Rattle.plan_model.specs.Outcome.{IsPlanner}
+
+-- ---- beginnings of journals
+
+-- each beginning of a legal journal, with an entry at least, is legal; and of a journal of planners likewise
+abbrev pub BeginningIsLegal : Type 0
+BeginningIsLegal = (e : Entry) (xs ys : List Entry) → IsLegal (e ∷ xs ++ ys) → IsLegal (e ∷ xs)
+
+abbrev pub BeginningIsJournal : Type 0
+BeginningIsJournal = (e : Entry) (xs ys : List Entry) → IsJournal (e ∷ xs ++ ys) → IsJournal (e ∷ xs)
+
+-- each entry of a legal journal but the first is a legal next one after those before it
+abbrev pub EachIsNext : Type 0
+EachIsNext =
+    (journal : List Entry) (e : Entry) (later : List Entry) → 0 < length journal
+    → IsLegal (journal ++ e ∷ later) → IsNext journal e
+
+-- a legal journal with a legal next entry is legal
+abbrev pub NextIsLegal : Type 0
+NextIsLegal = (journal : List Entry) (e : Entry) → IsLegal journal → IsNext journal e → IsLegal (journal ++ e ∷ [])
+
+-- a longer journal has issued no fewer passes
+abbrev pub LongerIssuesNoFewer : Type 0
+LongerIssuesNoFewer = (journal more : List Entry) → issued journal ≤ issued (journal ++ more)
+
+-- ---- tables
+
+-- the tables of a legal journal are sound, after each edit
+pub record HasSoundTables (journal : List Entry) : Type 0 where
+  pub now : IsSound (tables_of journal)
+  pub each : (number : ℕ) → IsSound (tables_at journal number)
+
+abbrev pub TablesAreSound : Type 0
+TablesAreSound = (journal : List Entry) → IsLegal journal → HasSoundTables journal
+
+-- a longer journal has the same tables and cuts up to the last edit of the shorter
+pub record AgreesUpTo (last : ℕ) (journal longer : List Entry) : Type 0 where
+  pub tables : (number : ℕ) → number ≤ last → tables_at longer number ≡ tables_at journal number
+  pub cuts : (section : List ℕ) (number : ℕ) → number ≤ last
+      → cut_at longer section number ≡ cut_at journal section number
+
+abbrev pub LongerAgrees : Type 0
+LongerAgrees =
+    (journal more : List Entry) → 0 < length journal → AgreesUpTo (last_number journal) journal (journal ++ more)
+
+-- entries that make no edit leave the tables, the number of the last edit and all cuts
+pub record KeepsTables (journal longer : List Entry) : Type 0 where
+  pub number : last_number longer ≡ last_number journal
+  pub tables : tables_of longer ≡ tables_of journal
+  pub cuts : (section : List ℕ) (number : ℕ) → cut_at longer section number ≡ cut_at journal section number
+
+abbrev pub OthersKeepTables : Type 0
+OthersKeepTables =
+    (journal more : List Entry) → 0 < length journal → edits more ≡ [] → KeepsTables journal (journal ++ more)
+
+-- ---- sections
+
+-- a section that is current stays current by entries of which none makes an edit that touches it
+abbrev pub CurrentStays : Type 0
+CurrentStays =
+    (journal more : List Entry) (section : List ℕ) → 0 < length journal → IsLegal (journal ++ more)
+    → IsCurrent journal section
+    → Stays (cut_at (journal ++ more) section) (last_number journal) (last_number (journal ++ more))
+    → IsCurrent (journal ++ more) section
+
+-- the last published answer of a current section that is there is that of its cut as it is now
+pub record IsAnswerNow (journal : List Entry) (section : List ℕ) (current : IsCurrent journal section) : Type 0 where
+  pub cut : Cut
+  pub there : cut_now journal section ≡ Some cut
+  pub is_answer : IsAnswer cut current.publication.answer
+
+abbrev pub CurrentIsAnswered : Type 0
+CurrentIsAnswered =
+    (journal : List Entry) (section : List ℕ) → IsLegal journal → (current : IsCurrent journal section)
+    → IsAnswerNow journal section current
+
+-- in two readings of a section, of a journal and of a longer one, rows of equal name and stamp are equal
+abbrev pub StampTellsRow : Type 0
+StampTellsRow =
+    (journal more : List Entry) (section : List ℕ) (one other : Cut) (row later : CutRow)
+    → IsLegal journal → IsLegal (journal ++ more)
+    → IsReading journal section one → IsReading (journal ++ more) section other
+    → Contains one.rows row → Contains other.rows later
+    → row.name ≡ later.name → row.stamp ≡ later.stamp → row ≡ later
+
+-- ---- scripts
+
+-- where no task is left, each planner has done its script
+abbrev pub NoneIsLeft : Type 0
+NoneIsLeft =
+    (journal : List Entry) (planner : ℕ) → IsJournal journal → tasks_left journal ≡ 0 → IsPlanner journal planner
+    → done_by journal planner ≡ script_of journal planner

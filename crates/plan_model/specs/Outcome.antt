@@ -1,0 +1,126 @@
+-- What each call by a pass does to the journal that it finds, and what it answers.
+use Rattle.std.specs.Prelude.{◌≡◌, ℕ, ◌%◌, ◌<◌, ◌≤◌, List, [], ◌∷◌, ◌++◌, length, slice_get, Option, None, Some, Result, Ok, Err}
+use Rattle.rail_model.specs.declared.edit.Edit.{Edit}
+use Rattle.rail_model.specs.declared.edit.Rule.{Rule}
+use Rattle.rail_model.specs.Tables.{section_at}
+use Rattle.plan_model.specs.declared.answer.Done.{Done}
+use Rattle.plan_model.specs.declared.scripts.Task.{Task}
+use Rattle.plan_model.specs.declared.scripts.Task.TheVariants as task
+use Rattle.plan_model.specs.declared.journal.Reply.{Reply}
+use Rattle.plan_model.specs.declared.journal.Reply.TheVariants as reply
+use Rattle.plan_model.specs.declared.journal.Act.{Act}
+use Rattle.plan_model.specs.declared.journal.Act.TheVariants as act
+use Rattle.plan_model.specs.declared.journal.Entry.{Entry}
+use Rattle.plan_model.specs.declared.outcome.Asked.{Asked}
+use Rattle.plan_model.specs.declared.outcome.Asked.TheVariants as asked
+use Rattle.plan_model.specs.declared.outcome.Stepped.{Stepped}
+use Rattle.plan_model.specs.declared.outcome.Stepped.TheVariants as stepped
+use Rattle.plan_model.specs.declared.outcome.Next.{Next}
+use Rattle.plan_model.specs.declared.outcome.Next.TheVariants as next
+use Rattle.plan_model.specs.declared.outcome.NotTaken.{NotTaken}
+use Rattle.plan_model.specs.declared.outcome.NotTaken.TheVariants as not_taken
+use Rattle.plan_model.specs.Reading.{Shown}
+use Rattle.plan_model.specs.Journal.{opening, last_number, tables_of, last_publication, left_of, tasks_left}
+use Rattle.plan_model.specs.Touch.{IsUntouchedSince, IsLastTouching, IsCurrent, IsReading}
+use Rattle.plan_model.specs.Legal.{IsAnswerAt, WasPublishedAt, IsNext}
+
+-- a call adds this one entry, which is a legal next one
+pub record Adds (pass : ℕ) (a : Act) (found after : List Entry) : Type 0 where
+  pub next : IsNext found (record { pass = pass; act = a })
+  pub is : after ≡ found ++ record { pass = pass; act = a } ∷ []
+
+-- ---- edits and questions
+
+-- an edit is made and gets the next number, or is refused by the first rule that refuses it
+abbrev pub EditsTo : ℕ → ℕ → Edit → List Entry → Result ℕ Rule → List Entry → Type 0
+EditsTo pass planner edit found (Ok at) after = Adds pass (act.Edited planner at edit) found after
+EditsTo pass planner edit found (Err rule) after = Adds pass (act.Refused planner rule edit) found after
+
+-- what an entry says of an answer that was asked for
+abbrev pub reply_of : Asked → Reply
+reply_of (asked.Ready at answer) = reply.Ready at
+reply_of (asked.Stale at by) = reply.Stale at by
+reply_of asked.NotYet = reply.NotYet
+reply_of asked.Unknown = reply.Unknown
+
+-- an answer that is ready is the one that was published last
+abbrev pub GivesLast : List Entry → List ℕ → Asked → Type 0
+GivesLast found section (asked.Ready at answer) =
+    last_publication found section ≡ Some (record { at = at; answer = answer })
+GivesLast found section (asked.Stale at by) = Unit {0}
+GivesLast found section asked.NotYet = Unit {0}
+GivesLast found section asked.Unknown = Unit {0}
+
+-- a section is asked for, and gets its reply
+pub record AsksTo (pass planner : ℕ) (section : List ℕ) (found : List Entry) (a : Asked) (after : List Entry) : Type 0 where
+  pub adds : Adds pass (act.Asked planner section (reply_of a)) found after
+  pub gives : GivesLast found section a
+
+-- ---- steps
+
+-- a planner has a script
+pub record IsPlanner (journal : List Entry) (planner : ℕ) : Type 0 where
+  pub from_one : 1 ≤ planner
+  pub to_last : planner ≤ length (opening journal).scripts
+
+-- the next task of a planner, if one is left
+abbrev pub next_task : List Entry → ℕ → Option Task
+next_task journal planner = slice_get (left_of journal planner) 0
+
+-- a planner's next task is done, as an edit or a question of this planner; or none is left, and nothing is done
+abbrev pub StepsTo : ℕ → ℕ → List Entry → Stepped → List Entry → Type 0
+StepsTo pass planner found (stepped.Edited at) after =
+    (edit : Edit) × (next_task found planner ≡ Some (task.Edit edit)) × EditsTo pass planner edit found (Ok at) after
+StepsTo pass planner found (stepped.Refused rule) after =
+    (edit : Edit) × (next_task found planner ≡ Some (task.Edit edit)) × EditsTo pass planner edit found (Err rule) after
+StepsTo pass planner found (stepped.Asked a) after =
+    (section : List ℕ) × (next_task found planner ≡ Some (task.Ask section)) × AsksTo pass planner section found a after
+StepsTo pass planner found stepped.Ended after = (next_task found planner ≡ None) × (after ≡ found)
+
+-- ---- readings
+
+-- the name of the section with a number, from 0 in the order of names
+abbrev pub section_name : List Entry → ℕ → List ℕ
+section_name journal number = (section_at (tables_of journal) number).name
+
+-- a number is that of a section of a share: it leaves this rest on division
+pub record IsOfShare (share of : ℕ) (journal : List Entry) (number : ℕ) : Type 0 where
+  pub there : number < length (tables_of journal).sections
+  pub rest : number % of ≡ share
+
+-- every section of a share is current
+abbrev pub ShareIsCurrent : ℕ → ℕ → List Entry → Type 0
+ShareIsCurrent share of journal =
+    (number : ℕ) → IsOfShare share of journal number → IsCurrent journal (section_name journal number)
+
+-- a reading of the first section of a share, by name, that is not current
+pub record IsNextReading (share of : ℕ) (journal : List Entry) (shown : Shown) : Type 0 where
+  pub number : ℕ
+  pub of_share : IsOfShare share of journal number
+  pub wanted : IsCurrent journal (section_name journal number) → ⊥
+  pub first : (n : ℕ) → n < number → IsOfShare share of journal n → IsCurrent journal (section_name journal n)
+  pub reading : IsReading journal (section_name journal number) shown.cut
+  pub at : shown.at ≡ last_number journal
+  pub untaken : shown.taken ≡ 0
+
+-- the next section of a share is read, or all are current and so many tasks are left; nothing is added
+abbrev pub ReadsTo : {R : Type 0} → (R → Shown) → ℕ → ℕ → List Entry → Next R → List Entry → Type 0
+ReadsTo shown share of found (next.Reading r) after = (after ≡ found) × IsNextReading share of found (shown r)
+ReadsTo shown share of found (next.Idle left) after =
+    (after ≡ found) × ShareIsCurrent share of found × (left ≡ tasks_left found)
+
+-- ---- publications
+
+-- an answer was worked out from the section's cut after the edit that it names
+abbrev pub IsDone : List Entry → Done → Type 0
+IsDone journal done = IsAnswerAt journal done.section done.at done.answer
+
+-- an answer is published; or a later edit touches its section, the last one by this number; or none does, and the
+-- section is current since its last publication. Where it is not published, nothing is added
+abbrev pub PublishesTo : ℕ → Done → List Entry → Result (Unit {0}) NotTaken → List Entry → Type 0
+PublishesTo pass done found (Ok u) after = Adds pass (act.Published done.section done.at done.answer) found after
+PublishesTo pass done found (Err (not_taken.Stale by)) after =
+    (after ≡ found) × IsLastTouching found done.section by × (done.at < by)
+PublishesTo pass done found (Err (not_taken.Current at)) after =
+    (after ≡ found) × IsUntouchedSince found done.section done.at
+    × WasPublishedAt found done.section at × IsUntouchedSince found done.section at
