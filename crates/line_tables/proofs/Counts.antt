@@ -4,7 +4,7 @@ use Rattle.std.proofs.lemmas.Bool.{cases_lt, eq-eqb}
 use Rattle.std.proofs.lemmas.List.{get_or_past}
 use Rattle.std.proofs.lemmas.List.Sums.{count_by_more_yes, sum_by-take-le}
 use Rattle.std.specs.Prelude.{cond}
-use Rattle.line_tables.specs.Uses.{count_of, times, SameCounts, HasRoomFor}
+use Rattle.line_tables.specs.KeyCounts.{count_of, times, SameCounts, HasRoomFor}
 
 -- a key that stands at place i is counted there
 pub times_at : (keys : List ℕ) (i k : ℕ) → i < length keys → get_or keys i 0 ≡ k → times k (take i keys) + 1 ≤ times k keys

@@ -12,7 +12,7 @@ use Rattle.rail_model.specs.Name.{is_same}
 use Rattle.rail_model.specs.Rules.{is_named, lists, rule_of_put, rule_of_change, rule_of_drop}
 use Rattle.rail_model.specs.Edits.{with_item, without}
 use Rattle.rail_model.proofs.Sound.{accepted, changeable, free, IsSound-after_put, IsSound-after_change, IsSound-after_drop}
-use Rattle.line_tables.specs.declared.entry.Entry.{Entry}
+use Rattle.line_tables.specs.declared.linked.Linked.{Linked}
 use Rattle.line_tables.specs.declared.line_tables.LineTables.TheInside.{Inside}
 use Rattle.line_tables.specs.Table.{under, with_change, key_of, IsTable}
 use Rattle.line_tables.specs.Links.{references}
@@ -20,7 +20,7 @@ use Rattle.line_tables.specs.Inside.{items_of, tables_of, names_of_signal, names
 use Rattle.line_tables.proofs.Filed.{stored_at}
 use Rattle.line_tables.proofs.Entries.{is_some-key_of}
 use Rattle.line_tables.proofs.Found.{key_after_put, key_after_change, key_after_drop, list_any-map}
-use Rattle.line_tables.proofs.Linked.{linked_to_same, linked_to_rest, references_tell}
+use Rattle.line_tables.proofs.References.{linked_to_same, linked_to_rest, references_tell}
 use Rattle.line_tables.proofs.Views.{is_named-map, map-with_item, map-with_change, map-without}
 use Rattle.line_tables.proofs.Known.{list_any_alike}
 
@@ -83,11 +83,11 @@ block_unused t n k j table none key =
     let unused = or_parts (list_any (λ (s : Signal). is_same s.block n) (items_of t.signals)) (list_any (λ (s : Section). lists s.blocks n) (items_of t.sections)) (free (tables_of t) kind.Block n none).unused in
     let signals = references_tell names_of_signal (λ x. x.name) (λ b. b.name) t.signals t.blocks n k table j.signals key in
     let by_signal : list_any (λ (s : Signal). is_same s.block n) (items_of t.signals) ≡ list_any (λ u. list_any (λ m. is_same m n) (names_of_signal u.1.item)) t.signals =
-    list_any-map (λ (u : ℕ × Entry Signal). u.1.item) (λ (s : Signal). is_same s.block n) t.signals
+    list_any-map (λ (u : ℕ × Linked Signal). u.1.item) (λ (s : Signal). is_same s.block n) t.signals
     ∙ list_any_alike _ _ (λ u. elim (cases_Bool (is_same u.1.item.block n)) [ inl e ↦ rw e refl | inr e ↦ rw e refl ]) t.signals in
     let sections = references_tell names_of_section (λ x. x.name) (λ b. b.name) t.sections t.blocks n k table j.sections key in
     let by_section : list_any (λ (s : Section). lists s.blocks n) (items_of t.sections) ≡ list_any (λ u. list_any (λ m. is_same m n) (names_of_section u.1.item)) t.sections =
-    list_any-map (λ (u : ℕ × Entry Section). u.1.item) (λ (s : Section). lists s.blocks n) t.sections in
+    list_any-map (λ (u : ℕ × Linked Section). u.1.item) (λ (s : Section). lists s.blocks n) t.sections in
     let no_signal = ltb-false 0 (references t.signals k) (sym signals ∙ sym by_signal ∙ unused.0) in
     let no_section = ltb-false 0 (references t.sections k) (sym sections ∙ sym by_section ∙ unused.1) in
     (omega arith, omega arith)

@@ -14,12 +14,12 @@ use Rattle.rail_model.specs.declared.items.Item.TheVariants as item
 use Rattle.rail_model.specs.declared.edit.Rule.TheVariants as rule
 use Rattle.rail_model.specs.declared.tables.Tables.{Tables}
 use Rattle.rail_model.specs.Rules.{is_named, has_block, has_run, refers_to_known, repeats}
-use Rattle.line_tables.specs.declared.entry.Entry.{Entry}
+use Rattle.line_tables.specs.declared.linked.Linked.{Linked}
 use Rattle.line_tables.specs.declared.line_tables.LineTables.TheInside.{Inside}
 use Rattle.line_tables.specs.Table.{named, key_of, entry_of}
-use Rattle.line_tables.specs.Uses.{count_of, times}
+use Rattle.line_tables.specs.KeyCounts.{count_of, times}
 use Rattle.line_tables.specs.Links.{references}
-use Rattle.line_tables.specs.References.{refused_reference}
+use Rattle.line_tables.specs.References.{rule_of_references}
 use Rattle.line_tables.specs.Inside.{tables_of, names_of_signal, names_of_route, names_of_run, names_of_section, names_of_connection}
 use Rattle.line_tables.proofs.Filed.{stored_at, some_from_map}
 use Rattle.line_tables.proofs.Entries.{is_some-key_of}
@@ -51,7 +51,7 @@ section_knows t x h = list_all_same _ _ (λ n. sym (named_block t n)) x.blocks �
 
 pub route_knows : (t : Inside) (x : Route) → refers_to_known (tables_of t) (item.Route x) ≡ true → list_all (is_named (λ e. e.1.item.name) t.signals) (names_of_route x) ≡ true
 route_knows t x h =
-    list_all_same _ _ (λ n. sym (is_named-map (λ (e : ℕ × Entry Signal). e.1.item) (λ x. x.name) t.signals n)) x.signals ∙ h
+    list_all_same _ _ (λ n. sym (is_named-map (λ (e : ℕ × Linked Signal). e.1.item) (λ x. x.name) t.signals n)) x.signals ∙ h
 
 -- the same as one equation
 pub section_known_by : (t : Inside) (x : Section) → refers_to_known (tables_of t) (item.Section x) ≡ list_all (is_named (λ e. e.1.name) t.blocks) x.blocks
@@ -59,26 +59,26 @@ section_known_by t x = list_all_same _ _ (named_block t) x.blocks
 
 pub route_known_by : (t : Inside) (x : Route) → refers_to_known (tables_of t) (item.Route x) ≡ list_all (is_named (λ e. e.1.item.name) t.signals) x.signals
 route_known_by t x =
-    list_all_same _ _ (λ n. is_named-map (λ (e : ℕ × Entry Signal). e.1.item) (λ x. x.name) t.signals n) x.signals
+    list_all_same _ _ (λ n. is_named-map (λ (e : ℕ × Linked Signal). e.1.item) (λ x. x.name) t.signals n) x.signals
 
-pub refused_unknown : (t : Tables) (x : Item) → refers_to_known t x ≡ false → refused_reference t x ≡ Some rule.Unknown
+pub refused_unknown : (t : Tables) (x : Item) → refers_to_known t x ≡ false → rule_of_references t x ≡ Some rule.Unknown
 refused_unknown t x e = rw e refl
 
-pub refused_twice : (t : Tables) (x : Item) (twice : Bool) → refers_to_known t x ≡ true → repeats t x ≡ twice → refused_reference t x ≡ (if twice then Some rule.Twice else None)
+pub refused_twice : (t : Tables) (x : Item) (twice : Bool) → refers_to_known t x ≡ true → repeats t x ≡ twice → rule_of_references t x ≡ (if twice then Some rule.Twice else None)
 refused_twice t x twice e r = rw (e, r) refl
 
 pub run_knows : (t : Inside) (x : Run) → refers_to_known (tables_of t) (item.Run x) ≡ true → list_all (is_named (λ e. e.1.item.name) t.routes) (names_of_run x) ≡ true
 run_knows t x h =
-    and_from _ true (sym (is_named-map (λ (e : ℕ × Entry Route). e.1.item) (λ x. x.name) t.routes x.route) ∙ h) refl
+    and_from _ true (sym (is_named-map (λ (e : ℕ × Linked Route). e.1.item) (λ x. x.name) t.routes x.route) ∙ h) refl
 
 pub connection_knows : (t : Inside) (x : Connection) → refers_to_known (tables_of t) (item.Connection x) ≡ true → list_all (is_named (λ e. e.1.item.name) t.runs) (names_of_connection x) ≡ true
 connection_knows t x h =
-    let named : (n : List ℕ) → has_run (tables_of t) n ≡ is_named (λ e. e.1.item.name) t.runs n = is_named-map (λ (e : ℕ × Entry Run). e.1.item) (λ x. x.name) t.runs in
+    let named : (n : List ℕ) → has_run (tables_of t) n ≡ is_named (λ e. e.1.item.name) t.runs n = is_named-map (λ (e : ℕ × Linked Run). e.1.item) (λ x. x.name) t.runs in
     let parts = and_parts _ _ h in
     and_from _ _ (sym (named x.first) ∙ parts.0) (and_from _ true (sym (named x.second) ∙ parts.1) refl)
 
 -- a user's own references are among those of all users
-pub refs_of_found : {A : Type 0} (p : ℕ × Entry A → Bool) (users : List (ℕ × Entry A)) (e : Entry A) (k : ℕ) → option_map (λ u. u.1) (find p users) ≡ Some e → times k e.refs ≤ references users k
+pub refs_of_found : {A : Type 0} (p : ℕ × Linked A → Bool) (users : List (ℕ × Linked A)) (e : Linked A) (k : ℕ) → option_map (λ u. u.1) (find p users) ≡ Some e → times k e.refs ≤ references users k
 refs_of_found p users e k h =
-    let u = some_from_map (λ (u : ℕ × Entry _). u.1) (find p users) e h in
-    omega (arith, found_in_sum (λ (u : ℕ × Entry _). times k u.1.refs) p users u.0 u.1, ap (λ (e : Entry _). times k e.refs) u.2)
+    let u = some_from_map (λ (u : ℕ × Linked _). u.1) (find p users) e h in
+    omega (arith, found_in_sum (λ (u : ℕ × Linked _). times k u.1.refs) p users u.0 u.1, ap (λ (e : Linked _). times k e.refs) u.2)

@@ -3,7 +3,7 @@ pub mod Entries
 pub mod Kept
 pub mod Counts
 pub mod Found
-pub mod Linked
+pub mod References
 pub mod Views
 pub mod Legs
 pub mod Bits

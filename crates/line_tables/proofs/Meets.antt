@@ -18,7 +18,7 @@ use Rattle.rail_model.specs.Edits.{with_changed}
 use Rattle.rail_model.specs.Sound.{Stands}
 use Rattle.rail_model.proofs.NameOrder.{same_name, is_same-from, is_same-sym}
 use Rattle.rail_model.proofs.Members.{first-with_changed, kept_by_change}
-use Rattle.line_tables.specs.declared.entry.Entry.{Entry}
+use Rattle.line_tables.specs.declared.linked.Linked.{Linked}
 use Rattle.line_tables.specs.declared.line_tables.LineTables.TheInside.{Inside}
 use Rattle.line_tables.specs.Table.{under, key_of, IsTable}
 use Rattle.line_tables.specs.Links.{lists_key, repeats_key, block_of, meets, IsKey}
@@ -26,7 +26,7 @@ use Rattle.line_tables.specs.Inside.{items_of, tables_of, names_of_signal, IsJoi
 use Rattle.line_tables.proofs.Filed.{some_from_map}
 use Rattle.line_tables.proofs.Entries.{is_some-key_of}
 use Rattle.line_tables.proofs.Found.{find_some, found_by_key, name_of_key, list_any-map}
-use Rattle.line_tables.proofs.Linked.{named_listed, list_any_same}
+use Rattle.line_tables.proofs.References.{named_listed, list_any_same}
 use Rattle.line_tables.proofs.Views.{is_named-map, item_named, map_same}
 use Rattle.line_tables.proofs.Repeats.{moved, repeats_moved}
 
@@ -82,8 +82,8 @@ only_key o (k ∷ ks) e = cc
 All-unmap : {X Y : Type 0} (P : Y → Type 0) (f : X → Y) (xs : List X) → All P (map f xs) → All (λ x. P (f x)) xs
 All-unmap P f xs all i d l = subst P (get_or-map f xs i d (f d) l) (all i (f d) (omega (arith, length-map xs f)))
 
-module _ (t : Inside) (j : IsJoined t) (signals : IsTable (λ (e : Entry Signal). e.item.name) t.signals) (blocks : IsTable (λ (b : Block). b.name) t.blocks) where
-  abbrev signal_name : Entry Signal → List ℕ
+module _ (t : Inside) (j : IsJoined t) (signals : IsTable (λ (e : Linked Signal). e.item.name) t.signals) (blocks : IsTable (λ (b : Block). b.name) t.blocks) where
+  abbrev signal_name : Linked Signal → List ℕ
   signal_name e = e.item.name
 
   abbrev block_name : Block → List ℕ
@@ -94,9 +94,9 @@ module _ (t : Inside) (j : IsJoined t) (signals : IsTable (λ (e : Entry Signal)
   block_keyed n q key =
       let found = found_by_key signal_name t.signals n q signals key in
       let e = found.0 in
-      let named = item_named (λ (e : Entry Signal). e.item) (λ x. x.name) t.signals n q e no_signal signals key found.1.under in
+      let named = item_named (λ (e : Linked Signal). e.item) (λ x. x.name) t.signals n q e no_signal signals key found.1.under in
       let linked = under_passes (λ u. map (key_of block_name t.blocks) (names_of_signal u.1.item) ≡ map Some u.1.refs) t.signals q e found.1.under j.signals in
-      let here : key_of block_name t.blocks e.item.block ∷ [] ≡ map Some e.refs = subst (λ (e : Entry Signal). key_of block_name t.blocks e.item.block ∷ [] ≡ map Some e.refs) linked.1 linked.2 in
+      let here : key_of block_name t.blocks e.item.block ∷ [] ≡ map Some e.refs = subst (λ (e : Linked Signal). key_of block_name t.blocks e.item.block ∷ [] ≡ map Some e.refs) linked.1 linked.2 in
       rw (named, found.1.under) (only_key (key_of block_name t.blocks e.item.block) e.refs here)
 
   -- a route has two signals of one block where the keys of their blocks repeat
@@ -106,7 +106,7 @@ module _ (t : Inside) (j : IsJoined t) (signals : IsTable (λ (e : Entry Signal)
       (map_keyed (key_of signal_name t.signals) (key_of block_name t.blocks) (λ n. (signal_named (tables_of t) n).block) (block_of t.signals) r.signals refs block_keyed e)
 
   all_stand : All (λ u. Stands (tables_of t) (item.Route u.1.item)) t.routes
-  all_stand = All-unmap (λ r. Stands (tables_of t) (item.Route r)) (λ (u : ℕ × Entry Route). u.1.item) t.routes j.sound.routes.each
+  all_stand = All-unmap (λ r. Stands (tables_of t) (item.Route r)) (λ (u : ℕ × Linked Route). u.1.item) t.routes j.sound.routes.each
 
   -- no route has two signals of one block
   pub none_repeats : All (λ u. repeats_key (map (block_of t.signals) u.1.refs) ≡ false) t.routes
@@ -124,7 +124,7 @@ module _ (t : Inside) (j : IsJoined t) (signals : IsTable (λ (e : Entry Signal)
 
     is_there : (n : List ℕ) (q : ℕ) → key_of signal_name t.signals n ≡ Some q → is_named (λ x. x.name) (items_of t.signals) n ≡ true
     is_there n q e =
-        is_named-map (λ (e : ℕ × Entry Signal). e.1.item) (λ x. x.name) t.signals n
+        is_named-map (λ (e : ℕ × Linked Signal). e.1.item) (λ x. x.name) t.signals n
         ∙ sym (is_some-key_of signal_name t.signals n) ∙ ap is_some e
 
     moved_keyed : (n : List ℕ) (q : ℕ) → key_of signal_name t.signals n ≡ Some q → key_of block_name t.blocks (signal_named changed n).block ≡ Some (moved images key b q)
@@ -167,24 +167,24 @@ module _ (t : Inside) (j : IsJoined t) (signals : IsTable (λ (e : Entry Signal)
     and_false false = refl
 
     -- the test on one route
-    abbrev WouldRepeat : ℕ × Entry Route → Bool
+    abbrev WouldRepeat : ℕ × Linked Route → Bool
     WouldRepeat u = lists u.1.item.signals s.name && repeats_block changed u.1.item
 
-    one_moves : (u : ℕ × Entry Route) → map (key_of signal_name t.signals) u.1.item.signals ≡ map Some u.1.refs → Stands (tables_of t) (item.Route u.1.item) → (images key == b) ≡ false → WouldRepeat u ≡ meets t.signals key b u
+    one_moves : (u : ℕ × Linked Route) → map (key_of signal_name t.signals) u.1.item.signals ≡ map Some u.1.refs → Stands (tables_of t) (item.Route u.1.item) → (images key == b) ≡ false → WouldRepeat u ≡ meets t.signals key b u
     one_moves u linked stands moves =
         let r = u.1.item in
         let no_repeat = sym (repeats_by_key r u.1.refs linked) ∙ not-true (repeats_block (tables_of t) r) stands.no_repeat in
         rw (named_listed signal_name t.signals s.name key r.signals u.1.refs signals here linked, route_moved r u.1.refs linked, repeats_moved images key b u.1.refs moves no_repeat)
         (both_ands (lists_key u.1.refs key) (list_any (λ q. images q == b) u.1.refs))
 
-    one_stays : (u : ℕ × Entry Route) → map (key_of signal_name t.signals) u.1.item.signals ≡ map Some u.1.refs → Stands (tables_of t) (item.Route u.1.item) → images key ≡ b → WouldRepeat u ≡ false
+    one_stays : (u : ℕ × Linked Route) → map (key_of signal_name t.signals) u.1.item.signals ≡ map Some u.1.refs → Stands (tables_of t) (item.Route u.1.item) → images key ≡ b → WouldRepeat u ≡ false
     one_stays u linked stands stays =
         let r = u.1.item in
         let no_repeat = sym (repeats_by_key r u.1.refs linked) ∙ not-true (repeats_block (tables_of t) r) stands.no_repeat in
         rw (route_moved r u.1.refs linked, stays_put stays u.1.refs, no_repeat) (and_false (lists r.signals s.name))
 
     by_entries : makes_repeat (tables_of t) (item.Signal s) ≡ list_any WouldRepeat t.routes
-    by_entries = list_any-map (λ (u : ℕ × Entry Route). u.1.item) (λ r. lists r.signals s.name && repeats_block changed r) t.routes
+    by_entries = list_any-map (λ (u : ℕ × Linked Route). u.1.item) (λ r. lists r.signals s.name && repeats_block changed r) t.routes
 
     pub makes_repeat_where_moved : (images key == b) ≡ false → makes_repeat (tables_of t) (item.Signal s) ≡ list_any (meets t.signals key b) t.routes
     makes_repeat_where_moved moves =

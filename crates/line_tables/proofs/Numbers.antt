@@ -9,7 +9,7 @@ use Rattle.std.proofs.lemmas.List.Folds.{find_at}
 use Rattle.rail_model.specs.Name.{is_same}
 use Rattle.rail_model.specs.Tables.{number_of}
 use Rattle.line_tables.specs.Table.{named, key_of, entry_of, IsTable, AreNumbered}
-use Rattle.line_tables.specs.Uses.{SameCounts}
+use Rattle.line_tables.specs.KeyCounts.{SameCounts}
 use Rattle.line_tables.proofs.Filed.{some_from_map}
 use Rattle.line_tables.proofs.Found.{keys_differ}
 

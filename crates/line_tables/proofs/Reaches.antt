@@ -7,14 +7,14 @@ use Rattle.std.proofs.lemmas.Bool.{cases_Bool, both_ways, eqb-true, eq-eqb, or_p
 use Rattle.std.proofs.lemmas.List.Folds.{list_any_none}
 use Rattle.rail_model.specs.declared.items.Route.{Route}
 use Rattle.rail_model.specs.declared.items.Signal.{Signal}
-use Rattle.line_tables.specs.declared.entry.Entry.{Entry}
+use Rattle.line_tables.specs.declared.linked.Linked.{Linked}
 use Rattle.line_tables.specs.Table.{under, IsTable}
 use Rattle.line_tables.specs.KeySet.{Meets, KeepsApart}
 use Rattle.line_tables.specs.Links.{lists_key, repeats_key, block_of, meets}
 use Rattle.line_tables.specs.RouteSets.{has, SameSets, lead_to, IsPutAt, IsTakenAt, reaches, AreSetsOf}
 use Rattle.line_tables.proofs.Filed.{some_from_map}
 use Rattle.line_tables.proofs.Found.{list_any-map}
-use Rattle.line_tables.proofs.Linked.{list_any_same}
+use Rattle.line_tables.proofs.References.{list_any_same}
 use Rattle.line_tables.proofs.Meets.{under_passes}
 use Rattle.line_tables.proofs.Repeats.{moved, key_once}
 use Rattle.line_tables.proofs.Under.{IsSwapped}
@@ -29,10 +29,10 @@ or_none false = refl
 
 -- ---- another route, or none, under a key
 
-abbrev pub refs_of : Option (Entry Route) → List ℕ
+abbrev pub refs_of : Option (Linked Route) → List ℕ
 refs_of o = option_map_or (λ e. e.refs) o []
 
-led_by : (f : ℕ → ℕ) (o : Option (Entry Route)) (x : ℕ) → option_map_or (λ e. lead_to f e.refs x) o false ≡ lead_to f (refs_of o) x
+led_by : (f : ℕ → ℕ) (o : Option (Linked Route)) (x : ℕ) → option_map_or (λ e. lead_to f e.refs x) o false ≡ lead_to f (refs_of o) x
 led_by f None x = refl
 led_by f (Some e) x = refl
 
@@ -46,11 +46,11 @@ not_both false = refl
 
 module _ (f : ℕ → ℕ) where
   -- sets that say what they said
-  pub sets_same : (routes : List (ℕ × Entry Route)) (old new : List (List ℕ)) → SameSets old new → AreSetsOf f routes old → AreSetsOf f routes new
+  pub sets_same : (routes : List (ℕ × Linked Route)) (old new : List (List ℕ)) → SameSets old new → AreSetsOf f routes old → AreSetsOf f routes new
   sets_same routes old new same sets x r = same x r ∙ sets x r
 
   -- the route under a key is taken out of the sets of its signals, and the new one put into those of its own
-  pub sets_swapped : (routes later : List (ℕ × Entry Route)) (k : ℕ) (now : Option (Entry Route)) (old between new : List (List ℕ)) → AreSetsOf f routes old → IsSwapped routes later k now → IsTakenAt f (refs_of (under routes k)) k old between → IsPutAt f (refs_of now) k between new → AreSetsOf f later new
+  pub sets_swapped : (routes later : List (ℕ × Linked Route)) (k : ℕ) (now : Option (Linked Route)) (old between new : List (List ℕ)) → AreSetsOf f routes old → IsSwapped routes later k now → IsTakenAt f (refs_of (under routes k)) k old between → IsPutAt f (refs_of now) k between new → AreSetsOf f later new
   sets_swapped routes later k now old between new sets swapped taken put x r =
       elim (cases_Bool (r == k)) [
         | inl e ↦
@@ -67,27 +67,27 @@ module _ (f : ℕ → ℕ) where
             stays ∙ sets x r ∙ rw stands refl
       ]
 
-  pub sets_by_add : (routes later : List (ℕ × Entry Route)) (k : ℕ) (x : Entry Route) (old new : List (List ℕ)) → AreSetsOf f routes old → IsSwapped routes later k (Some x) → under routes k ≡ None → IsPutAt f x.refs k old new → AreSetsOf f later new
+  pub sets_by_add : (routes later : List (ℕ × Linked Route)) (k : ℕ) (x : Linked Route) (old new : List (List ℕ)) → AreSetsOf f routes old → IsSwapped routes later k (Some x) → under routes k ≡ None → IsPutAt f x.refs k old new → AreSetsOf f later new
   sets_by_add routes later k x old new sets swapped vacant put =
       sets_swapped routes later k (Some x) old old new sets swapped (λ y r. rw vacant refl) put
 
-  pub sets_by_swap : (routes later : List (ℕ × Entry Route)) (k : ℕ) (before x : Entry Route) (old between new : List (List ℕ)) → AreSetsOf f routes old → IsSwapped routes later k (Some x) → under routes k ≡ Some before → IsTakenAt f before.refs k old between → IsPutAt f x.refs k between new → AreSetsOf f later new
+  pub sets_by_swap : (routes later : List (ℕ × Linked Route)) (k : ℕ) (before x : Linked Route) (old between new : List (List ℕ)) → AreSetsOf f routes old → IsSwapped routes later k (Some x) → under routes k ≡ Some before → IsTakenAt f before.refs k old between → IsPutAt f x.refs k between new → AreSetsOf f later new
   sets_by_swap routes later k before x old between new sets swapped here taken put =
       sets_swapped routes later k (Some x) old between new sets swapped (λ y r. rw here (taken y r)) put
 
-  pub sets_by_remove : (routes later : List (ℕ × Entry Route)) (k : ℕ) (before : Entry Route) (old new : List (List ℕ)) → AreSetsOf f routes old → IsSwapped routes later k None → under routes k ≡ Some before → IsTakenAt f before.refs k old new → AreSetsOf f later new
+  pub sets_by_remove : (routes later : List (ℕ × Linked Route)) (k : ℕ) (before : Linked Route) (old new : List (List ℕ)) → AreSetsOf f routes old → IsSwapped routes later k None → under routes k ≡ Some before → IsTakenAt f before.refs k old new → AreSetsOf f later new
   sets_by_remove routes later k before old new sets swapped here taken =
       sets_swapped routes later k None old new new sets swapped (λ y r. rw here (taken y r)) (λ y r. refl)
 
   -- signals that stand for what they stood for
-  pub sets_same_images : (g : ℕ → ℕ) (routes : List (ℕ × Entry Route)) (sets : List (List ℕ)) → All (λ u. All (λ q. g q ≡ f q) u.1.refs) routes → AreSetsOf f routes sets → AreSetsOf g routes sets
+  pub sets_same_images : (g : ℕ → ℕ) (routes : List (ℕ × Linked Route)) (sets : List (List ℕ)) → All (λ u. All (λ q. g q ≡ f q) u.1.refs) routes → AreSetsOf f routes sets → AreSetsOf g routes sets
   sets_same_images g routes sets same are x r = are x r ∙ images (under routes r) refl
     where
-      images : (o : Option (Entry Route)) → under routes r ≡ o → reaches f routes x r ≡ reaches g routes x r
+      images : (o : Option (Linked Route)) → under routes r ≡ o → reaches f routes x r ≡ reaches g routes x r
       images None e = rw e refl
       images (Some route) e =
           let passes = under_passes (λ u. All (λ q. g q ≡ f q) u.1.refs) routes r route e same in
-          let all : All (λ q. g q ≡ f q) route.refs = subst (λ (e : Entry Route). All (λ q. g q ≡ f q) e.refs) passes.1 passes.2 in
+          let all : All (λ q. g q ≡ f q) route.refs = subst (λ (e : Linked Route). All (λ q. g q ≡ f q) e.refs) passes.1 passes.2 in
           rw e (list_any_same (λ q. f q == x) (λ q. g q == x) route.refs (λ i d l. ap (λ y. y == x) (sym (all i d l))))
 
 -- ---- one signal moves to another block
@@ -136,15 +136,15 @@ module _ (f : ℕ → ℕ) (s from to : ℕ) (is : f s ≡ from) where
             | inr t ↦ elim (cases_Bool (f q == y)) [ inl u ↦ rw u refl | inr u ↦ rw u (listed_image f s refs y (rw t at listed) e) ]
           ]
 
-  pub sets_moved : (routes : List (ℕ × Entry Route)) (by_signal old new : List (List ℕ)) → AreSetsOf (λ q. q) routes by_signal → AreSetsOf f routes old → All (λ u. repeats_key (map f u.1.refs) ≡ false) routes → ((x r : ℕ) → has new x r ≡ ((to == x && has by_signal s r) || (not (from == x && has by_signal s r) && has old x r))) → AreSetsOf (moved f s to) routes new
+  pub sets_moved : (routes : List (ℕ × Linked Route)) (by_signal old new : List (List ℕ)) → AreSetsOf (λ q. q) routes by_signal → AreSetsOf f routes old → All (λ u. repeats_key (map f u.1.refs) ≡ false) routes → ((x r : ℕ) → has new x r ≡ ((to == x && has by_signal s r) || (not (from == x && has by_signal s r) && has old x r))) → AreSetsOf (moved f s to) routes new
   sets_moved routes by_signal old new listed sets apart moves x r =
       moves x r ∙ rw (listed s r, sets x r) (images (under routes r) refl)
     where
-      images : (o : Option (Entry Route)) → under routes r ≡ o → ((to == x && reaches (λ q. q) routes s r) || (not (from == x && reaches (λ q. q) routes s r) && reaches f routes x r)) ≡ reaches (moved f s to) routes x r
+      images : (o : Option (Linked Route)) → under routes r ≡ o → ((to == x && reaches (λ q. q) routes s r) || (not (from == x && reaches (λ q. q) routes s r) && reaches f routes x r)) ≡ reaches (moved f s to) routes x r
       images None e = rw e (rw (and_none (to == x), and_none (not (from == x && false))) refl)
       images (Some route) e =
           let passes = under_passes (λ u. repeats_key (map f u.1.refs) ≡ false) routes r route e apart in
-          let once : repeats_key (map f route.refs) ≡ false = subst (λ (e : Entry Route). repeats_key (map f e.refs) ≡ false) passes.1 passes.2 in
+          let once : repeats_key (map f route.refs) ≡ false = subst (λ (e : Linked Route). repeats_key (map f e.refs) ≡ false) passes.1 passes.2 in
           rw e (sym (moved_leads route.refs x once))
 
 -- ---- what two sets say together
@@ -160,21 +160,21 @@ list_any_found p q (x ∷ xs) y e t =
       | inr u ↦ elim (cases_Bool (q x)) [ inl v ↦ rw v refl | inr v ↦ rw v (list_any_found p q xs y (rw u at e) t) ]
     ]
 
-module _ (signals : List (ℕ × Entry Signal)) (routes : List (ℕ × Entry Route)) (of_signals of_blocks : List (List ℕ)) (s b : ℕ) (listed : AreSetsOf (λ q. q) routes of_signals) (sets : AreSetsOf (block_of signals) routes of_blocks) where
+module _ (signals : List (ℕ × Linked Signal)) (routes : List (ℕ × Linked Route)) (of_signals of_blocks : List (List ℕ)) (s b : ℕ) (listed : AreSetsOf (λ q. q) routes of_signals) (sets : AreSetsOf (block_of signals) routes of_blocks) where
   pub some_meets : (r : ℕ) → (has of_signals s r && has of_blocks b r) ≡ true → list_any (meets signals s b) routes ≡ true
   some_meets r both =
       let parts = and_parts (has of_signals s r) (has of_blocks b r) both in
       found (under routes r) refl (sym (listed s r) ∙ parts.0) (sym (sets b r) ∙ parts.1)
     where
-      found : (o : Option (Entry Route)) → under routes r ≡ o → reaches (λ q. q) routes s r ≡ true → reaches (block_of signals) routes b r ≡ true → list_any (meets signals s b) routes ≡ true
+      found : (o : Option (Linked Route)) → under routes r ≡ o → reaches (λ q. q) routes s r ≡ true → reaches (block_of signals) routes b r ≡ true → list_any (meets signals s b) routes ≡ true
       found None e first second = absurd (let no : false ≡ true = rw e at first in cc)
       found (Some route) e first second =
-          let u = some_from_map (λ (u : ℕ × Entry Route). u.1) (find (λ u. u.0 == r) routes) route e in
+          let u = some_from_map (λ (u : ℕ × Linked Route). u.1) (find (λ u. u.0 == r) routes) route e in
           let a : lists_key route.refs s ≡ true = rw e at first in
           let c : lead_to (block_of signals) route.refs b ≡ true = rw e at second in
-          list_any_found (λ (u : ℕ × Entry Route). u.0 == r) (meets signals s b) routes u.0 u.1 (rw u.2 (rw (a, c) refl))
+          list_any_found (λ (u : ℕ × Linked Route). u.0 == r) (meets signals s b) routes u.0 u.1 (rw u.2 (rw (a, c) refl))
 
-  pub none_meets : IsTable (λ (e : Entry Route). e.item.name) routes → ((r : ℕ) → (has of_signals s r && has of_blocks b r) ≡ false) → list_any (meets signals s b) routes ≡ false
+  pub none_meets : IsTable (λ (e : Linked Route). e.item.name) routes → ((r : ℕ) → (has of_signals s r && has of_blocks b r) ≡ false) → list_any (meets signals s b) routes ≡ false
   none_meets table apart =
       list_any_none (meets signals s b) routes
       (λ i d l.
@@ -184,7 +184,7 @@ module _ (signals : List (ℕ × Entry Signal)) (routes : List (ℕ × Entry Rou
       let second : has of_blocks b u.0 ≡ lead_to (block_of signals) u.1.refs b = sets b u.0 ∙ rw here refl in
       rw (← first, ← second) (apart u.0))
 
-  pub meet_tells : (met : Bool) → IsTable (λ (e : Entry Route). e.item.name) routes → (met ≡ true → Meets (get_or of_signals s []) (get_or of_blocks b [])) → (met ≡ false → KeepsApart (get_or of_signals s []) (get_or of_blocks b [])) → met ≡ list_any (meets signals s b) routes
+  pub meet_tells : (met : Bool) → IsTable (λ (e : Linked Route). e.item.name) routes → (met ≡ true → Meets (get_or of_signals s []) (get_or of_blocks b [])) → (met ≡ false → KeepsApart (get_or of_signals s []) (get_or of_blocks b [])) → met ≡ list_any (meets signals s b) routes
   meet_tells true table some none =
       let both = some refl in
       sym (some_meets both.0 both.1)

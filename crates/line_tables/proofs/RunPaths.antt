@@ -13,7 +13,7 @@ use Rattle.rail_model.specs.declared.tables.Tables.{Tables}
 use Rattle.rail_model.specs.Path.{Fits}
 use Rattle.rail_model.specs.Tables.{no_signal, no_route, number_of, route_named, path_in, no_run, run_at}
 use Rattle.rail_model.specs.Sound.{IsSound, Stands}
-use Rattle.line_tables.specs.declared.entry.Entry.{Entry}
+use Rattle.line_tables.specs.declared.linked.Linked.{Linked}
 use Rattle.line_tables.specs.declared.line_tables.LineTables.TheInside.{Inside}
 use Rattle.line_tables.specs.Table.{under, key_of, IsTable}
 use Rattle.line_tables.specs.Inside.{items_of, tables_of, names_of_route, names_of_run, IsJoined}
@@ -22,7 +22,8 @@ use Rattle.line_tables.proofs.Filed.{some_from_map}
 use Rattle.line_tables.proofs.Found.{found_by_key}
 use Rattle.line_tables.proofs.Views.{item_named, number_of-map}
 use Rattle.line_tables.proofs.Meets.{under_passes, only_key}
-use Rattle.line_tables.proofs.Paths.{looked_up_first, path_fits, route_stands, hops_numbered}
+use Rattle.rail_model.proofs.Paths.{path_fits, route_stands, hops_numbered}
+use Rattle.line_tables.proofs.Paths.{looked_up_first}
 
 -- what names and their keys give alike
 same_images : {Y : Type 0} (find : List ℕ → Option ℕ) (g : List ℕ → Y) (f : ℕ → Y) (ns : List (List ℕ)) (ks : List ℕ) → ((n : List ℕ) (q : ℕ) → find n ≡ Some q → g n ≡ f q) → map find ns ≡ map Some ks → map g ns ≡ map f ks
@@ -81,70 +82,70 @@ module _ (tables : Tables) (sound : IsSound tables) (run : Run) (stands : Stands
 -- ---- by keys
 
 module _ (t : Inside) (j : IsJoined t) where
-  abbrev route_name : Entry Route → List ℕ
+  abbrev route_name : Linked Route → List ℕ
   route_name e = e.item.name
 
-  abbrev signal_name : Entry Signal → List ℕ
+  abbrev signal_name : Linked Signal → List ℕ
   signal_name e = e.item.name
 
-  pub run_is : (n : ℕ) (e : Entry Run) → option_map (λ e. e.1) (slice_get t.runs n) ≡ Some e → run_at (tables_of t) n ≡ e.item
+  pub run_is : (n : ℕ) (e : Linked Run) → option_map (λ e. e.1) (slice_get t.runs n) ≡ Some e → run_at (tables_of t) n ≡ e.item
   run_is n e h =
       let u = read_entry t.runs n e h in
-      get_or-map (λ (e : ℕ × Entry Run). e.1.item) t.runs n u.0 no_run u.3 ∙ ap (λ (u : ℕ × Entry Run). u.1.item) u.1 ∙ ap (λ (e : Entry Run). e.item) u.2
+      get_or-map (λ (e : ℕ × Linked Run). e.1.item) t.runs n u.0 no_run u.3 ∙ ap (λ (u : ℕ × Linked Run). u.1.item) u.1 ∙ ap (λ (e : Linked Run). e.item) u.2
 
-  pub run_stands : (n : ℕ) (e : Entry Run) → option_map (λ e. e.1) (slice_get t.runs n) ≡ Some e → Stands (tables_of t) (item.Run e.item)
+  pub run_stands : (n : ℕ) (e : Linked Run) → option_map (λ e. e.1) (slice_get t.runs n) ≡ Some e → Stands (tables_of t) (item.Run e.item)
   run_stands n e h =
       let u = read_entry t.runs n e h in
-      subst (λ (r : Run). Stands (tables_of t) (item.Run r)) (run_is n e h) (j.sound.runs.each n no_run (let l : n < length t.runs = u.3 in omega (arith, length-map t.runs (λ (e : ℕ × Entry Run). e.1.item))))
+      subst (λ (r : Run). Stands (tables_of t) (item.Run r)) (run_is n e h) (j.sound.runs.each n no_run (let l : n < length t.runs = u.3 in omega (arith, length-map t.runs (λ (e : ℕ × Linked Run). e.1.item))))
 
   -- a run refers to its route alone
-  pub route_key : (n : ℕ) (e : Entry Run) → option_map (λ e. e.1) (slice_get t.runs n) ≡ Some e → key_of route_name t.routes e.item.route ∷ [] ≡ map Some e.refs
+  pub route_key : (n : ℕ) (e : Linked Run) → option_map (λ e. e.1) (slice_get t.runs n) ≡ Some e → key_of route_name t.routes e.item.route ∷ [] ≡ map Some e.refs
   route_key n e h =
       let one = all_at (λ u. map (key_of route_name t.routes) (names_of_run u.1.item) ≡ map Some u.1.refs) t.runs n e h j.runs in
-      subst (λ (e : Entry Run). key_of route_name t.routes e.item.route ∷ [] ≡ map Some e.refs) one.1 one.2
+      subst (λ (e : Linked Run). key_of route_name t.routes e.item.route ∷ [] ≡ map Some e.refs) one.1 one.2
 
   -- the route under that key is the one that the run names
-  pub route_is : (n : ℕ) (e : Entry Run) (r : Entry Route) → IsTable route_name t.routes → option_map (λ e. e.1) (slice_get t.runs n) ≡ Some e → under t.routes (get_or e.refs 0 0) ≡ Some r → route_named (tables_of t) e.item.route ≡ r.item
+  pub route_is : (n : ℕ) (e : Linked Run) (r : Linked Route) → IsTable route_name t.routes → option_map (λ e. e.1) (slice_get t.runs n) ≡ Some e → under t.routes (get_or e.refs 0 0) ≡ Some r → route_named (tables_of t) e.item.route ≡ r.item
   route_is n e r table h here =
-      item_named (λ (e : Entry Route). e.item) (λ x. x.name) t.routes e.item.route (get_or e.refs 0 0) r no_route table (only_key (key_of route_name t.routes e.item.route) e.refs (route_key n e h)) here
+      item_named (λ (e : Linked Route). e.item) (λ x. x.name) t.routes e.item.route (get_or e.refs 0 0) r no_route table (only_key (key_of route_name t.routes e.item.route) e.refs (route_key n e h)) here
 
   -- the hops beyond the signals of a route
-  pub hops_are : (r : Entry Route) → IsTable signal_name t.signals → map (key_of signal_name t.signals) r.item.signals ≡ map Some r.refs → map (hop_of t.blocks t.signals) r.refs ≡ route_hops (tables_of t) r.item
+  pub hops_are : (r : Linked Route) → IsTable signal_name t.signals → map (key_of signal_name t.signals) r.item.signals ≡ map Some r.refs → map (hop_of t.blocks t.signals) r.refs ≡ route_hops (tables_of t) r.item
   hops_are r table linked =
       sym (same_images (key_of signal_name t.signals) (untimed_hop (tables_of t)) (hop_of t.blocks t.signals) r.item.signals r.refs
       (λ n q e.
       let found = found_by_key signal_name t.signals n q table e in
-      let named = item_named (λ (e : Entry Signal). e.item) (λ x. x.name) t.signals n q found.0 no_signal table e found.1.under in
+      let named = item_named (λ (e : Linked Signal). e.item) (λ x. x.name) t.signals n q found.0 no_signal table e found.1.under in
       rw (named, found.1.under) refl)
       linked)
 
-  pub linked_under : (k : ℕ) (r : Entry Route) → under t.routes k ≡ Some r → map (key_of signal_name t.signals) r.item.signals ≡ map Some r.refs
+  pub linked_under : (k : ℕ) (r : Linked Route) → under t.routes k ≡ Some r → map (key_of signal_name t.signals) r.item.signals ≡ map Some r.refs
   linked_under k r here =
       let one = under_passes (λ u. map (key_of signal_name t.signals) (names_of_route u.1.item) ≡ map Some u.1.refs) t.routes k r here j.routes in
-      subst (λ (r : Entry Route). map (key_of signal_name t.signals) r.item.signals ≡ map Some r.refs) one.1 one.2
+      subst (λ (r : Linked Route). map (key_of signal_name t.signals) r.item.signals ≡ map Some r.refs) one.1 one.2
 
-  pub linked_at : (n : ℕ) (r : Entry Route) → option_map (λ e. e.1) (slice_get t.routes n) ≡ Some r → map (key_of signal_name t.signals) r.item.signals ≡ map Some r.refs
+  pub linked_at : (n : ℕ) (r : Linked Route) → option_map (λ e. e.1) (slice_get t.routes n) ≡ Some r → map (key_of signal_name t.signals) r.item.signals ≡ map Some r.refs
   linked_at n r here =
       let one = all_at (λ u. map (key_of signal_name t.signals) (names_of_route u.1.item) ≡ map Some u.1.refs) t.routes n r here j.routes in
-      subst (λ (r : Entry Route). map (key_of signal_name t.signals) r.item.signals ≡ map Some r.refs) one.1 one.2
+      subst (λ (r : Linked Route). map (key_of signal_name t.signals) r.item.signals ≡ map Some r.refs) one.1 one.2
 
   -- the hops of a run's route in the list of the hops of all routes
   pub hops_at : (all : List (List Hop)) (number : ℕ) (name : List ℕ) (hops : List Hop) → all ≡ map (route_hops (tables_of t)) (items_of t.routes) → number ≡ number_of (λ u. u.1.item.name) t.routes name → number < length t.routes → hops ≡ get_or all number hops → hops ≡ route_hops (tables_of t) (route_named (tables_of t) name)
   hops_at all number name hops right counted within read =
       let routes = items_of t.routes in
-      let long = length-map t.routes (λ (e : ℕ × Entry Route). e.1.item) in
-      let place : number ≡ number_of (λ (r : Route). r.name) routes name = counted ∙ sym (number_of-map (λ (e : ℕ × Entry Route). e.1.item) (λ r. r.name) t.routes name) in
+      let long = length-map t.routes (λ (e : ℕ × Linked Route). e.1.item) in
+      let place : number ≡ number_of (λ (r : Route). r.name) routes name = counted ∙ sym (number_of-map (λ (e : ℕ × Linked Route). e.1.item) (λ r. r.name) t.routes name) in
       read ∙ ap (λ l. get_or l number hops) right
       ∙ get_or-map (route_hops (tables_of t)) routes number no_route hops (omega arith)
       ∙ ap (λ k. route_hops (tables_of t) (get_or routes k no_route)) place
 
   -- the hops of one route more
-  pub hops_more : (all : List (List Hop)) (number : ℕ) (r : Entry Route) (hops : List Hop) → option_map (λ e. e.1) (slice_get t.routes number) ≡ Some r → all ≡ map (route_hops (tables_of t)) (take number (items_of t.routes)) → hops ≡ route_hops (tables_of t) r.item → all ++ hops ∷ [] ≡ map (route_hops (tables_of t)) (take (number + 1) (items_of t.routes))
+  pub hops_more : (all : List (List Hop)) (number : ℕ) (r : Linked Route) (hops : List Hop) → option_map (λ e. e.1) (slice_get t.routes number) ≡ Some r → all ≡ map (route_hops (tables_of t)) (take number (items_of t.routes)) → hops ≡ route_hops (tables_of t) r.item → all ++ hops ∷ [] ≡ map (route_hops (tables_of t)) (take (number + 1) (items_of t.routes))
   hops_more all number r hops here so_far right =
       let f : Route → List Hop = route_hops (tables_of t) in
       let routes = items_of t.routes in
       let u = read_entry t.routes number r here in
-      let long = length-map t.routes (λ (e : ℕ × Entry Route). e.1.item) in
+      let long = length-map t.routes (λ (e : ℕ × Linked Route). e.1.item) in
       let l : number < length t.routes = u.3 in
-      let item = get_or-map (λ (e : ℕ × Entry Route). e.1.item) t.routes number u.0 no_route l ∙ ap (λ (u : ℕ × Entry Route). u.1.item) u.1 ∙ ap (λ (e : Entry Route). e.item) u.2 in
+      let item = get_or-map (λ (e : ℕ × Linked Route). e.1.item) t.routes number u.0 no_route l ∙ ap (λ (u : ℕ × Linked Route). u.1.item) u.1 ∙ ap (λ (e : Linked Route). e.item) u.2 in
       rw (so_far, right, map_more f routes number no_route (omega arith), item) refl

@@ -12,7 +12,7 @@ use Rattle.rail_model.specs.declared.tables.Tables.{Tables}
 use Rattle.std.specs.Option.{option_map_or}
 use Rattle.rail_model.specs.Tables.{no_signal, signal_named, hop_beyond}
 use Rattle.rail_model.specs.Edits.{no_tables}
-use Rattle.line_tables.specs.declared.entry.Entry.{Entry}
+use Rattle.line_tables.specs.declared.linked.Linked.{Linked}
 use Rattle.line_tables.specs.Table.{under}
 use Rattle.rail_model.specs.Within.{no_leg}
 
@@ -33,11 +33,11 @@ abbrev pub with_legs : List Hop → List Leg → List Hop
 with_legs hops legs = map (λ p. with_leg p.0 p.1) (zip hops legs)
 
 -- the signal under a key
-abbrev pub signal_under : List (ℕ × Entry Signal) → ℕ → Signal
+abbrev pub signal_under : List (ℕ × Linked Signal) → ℕ → Signal
 signal_under signals k = option_map_or (λ e. e.item) (under signals k) no_signal
 
 -- the hop beyond the signal under a key, before any run has timed it
-abbrev pub hop_of : List (ℕ × Block) → List (ℕ × Entry Signal) → ℕ → Hop
+abbrev pub hop_of : List (ℕ × Block) → List (ℕ × Linked Signal) → ℕ → Hop
 hop_of blocks signals k =
     hop_beyond (record no_tables { blocks = map (λ e. e.1) blocks }) (signal_under signals k) no_leg
 

@@ -9,15 +9,15 @@ use Rattle.rail_model.specs.declared.items.Section.{Section}
 use Rattle.rail_model.specs.declared.items.Connection.{Connection}
 use Rattle.rail_model.specs.declared.tables.Tables.{Tables}
 use Rattle.rail_model.specs.Sound.{IsSound}
-use Rattle.line_tables.specs.declared.entry.Entry.{Entry}
+use Rattle.line_tables.specs.declared.linked.Linked.{Linked}
 use Rattle.line_tables.specs.declared.line_tables.LineTables.TheInside.{Inside}
-use Rattle.line_tables.specs.Uses.{count_of}
+use Rattle.line_tables.specs.KeyCounts.{count_of}
 use Rattle.line_tables.specs.Links.{IsLinked, references, block_of}
 use Rattle.line_tables.specs.RouteSets.{AreSetsOf}
 use Rattle.line_tables.specs.declared.route_sets.RouteSets.{RouteSets}
 
 -- the items alone
-abbrev pub items_of : {A : Type 0} → List (ℕ × Entry A) → List A
+abbrev pub items_of : {A : Type 0} → List (ℕ × Linked A) → List A
 items_of entries = map (λ e. e.1.item) entries
 
 -- what contracts see of them
@@ -64,26 +64,26 @@ pub record IsJoined (t : Inside) : Type 0 where
   pub signal_routes : AreSetsOf (λ q. q) t.routes t.route_sets.of_signals
   pub block_routes : AreSetsOf (block_of t.signals) t.routes t.route_sets.of_blocks
 
--- the tables of a line and of its timetable, and how often each block, signal, route and run is referred to
-abbrev pub Line : Type 0
-Line = List (ℕ × Block) × List (ℕ × Entry Signal) × List (ℕ × Entry Route)
+-- the tables of a line's track and of its trains, and how often each block, signal, route and run is referred to
+abbrev pub TrackTables : Type 0
+TrackTables = List (ℕ × Block) × List (ℕ × Linked Signal) × List (ℕ × Linked Route)
 
-abbrev pub Timetable : Type 0
-Timetable = List (ℕ × Entry Run) × List (ℕ × Entry Section) × List (ℕ × Entry Connection)
+abbrev pub TrainTables : Type 0
+TrainTables = List (ℕ × Linked Run) × List (ℕ × Linked Section) × List (ℕ × Linked Connection)
 
 abbrev pub Counts : Type 0
 Counts = List ℕ × List ℕ × List ℕ × List ℕ
 
 -- the inside of these tables and counts
-abbrev pub parts : Global → Line → Timetable → Counts → RouteSets → Inside
-parts alloc line timetable counts sets = record {
+abbrev pub parts : Global → TrackTables → TrainTables → Counts → RouteSets → Inside
+parts alloc track trains counts sets = record {
   alloc = alloc;
-  blocks = line.0;
-  signals = line.1;
-  routes = line.2;
-  runs = timetable.0;
-  sections = timetable.1;
-  connections = timetable.2;
+  blocks = track.0;
+  signals = track.1;
+  routes = track.2;
+  runs = trains.0;
+  sections = trains.1;
+  connections = trains.2;
   block_uses = counts.0;
   signal_uses = counts.1;
   route_uses = counts.2;

@@ -1,5 +1,5 @@
 pub mod Table
-pub mod Uses
+pub mod KeyCounts
 pub mod KeySet
 pub mod Links
 pub mod RouteSets

@@ -4,16 +4,16 @@ use Rattle.std.specs.List.{list_any}
 use Rattle.std.specs.Option.{option_map_or}
 use Rattle.rail_model.specs.declared.items.Signal.{Signal}
 use Rattle.rail_model.specs.declared.items.Route.{Route}
-use Rattle.line_tables.specs.declared.entry.Entry.{Entry}
+use Rattle.line_tables.specs.declared.linked.Linked.{Linked}
 use Rattle.line_tables.specs.Table.{under, key_of}
-use Rattle.line_tables.specs.Uses.{times}
+use Rattle.line_tables.specs.KeyCounts.{times}
 
 -- each user refers to the items that it names, by their keys
-abbrev pub IsLinked : {A B : Type 0} → (A → List (List ℕ)) → (B → List ℕ) → List (ℕ × Entry A) → List (ℕ × B) → Type 0
+abbrev pub IsLinked : {A B : Type 0} → (A → List (List ℕ)) → (B → List ℕ) → List (ℕ × Linked A) → List (ℕ × B) → Type 0
 IsLinked names name users used = All (λ u. map (key_of name used) (names u.1.item) ≡ map Some u.1.refs) users
 
 -- how often the users refer to a key
-abbrev pub references : {A : Type 0} → List (ℕ × Entry A) → ℕ → ℕ
+abbrev pub references : {A : Type 0} → List (ℕ × Linked A) → ℕ → ℕ
 references users k = sum_by (λ u. times k u.1.refs) users
 
 -- a key stands among keys
@@ -26,11 +26,11 @@ repeats_key [] = false
 repeats_key (k ∷ keys) = lists_key keys k || repeats_key keys
 
 -- the key of the block beyond the signal under a key
-abbrev pub block_of : List (ℕ × Entry Signal) → ℕ → ℕ
+abbrev pub block_of : List (ℕ × Linked Signal) → ℕ → ℕ
 block_of signals k = option_map_or (λ e. slice_index e.refs 0) (under signals k) 0
 
 -- a route lists the signal under a key, and has a signal of the block under another
-abbrev pub meets : List (ℕ × Entry Signal) → ℕ → ℕ → ℕ × Entry Route → Bool
+abbrev pub meets : List (ℕ × Linked Signal) → ℕ → ℕ → ℕ × Linked Route → Bool
 meets signals signal block r = lists_key r.1.refs signal && list_any (λ q. block_of signals q == block) r.1.refs
 
 -- a key under which an item stands

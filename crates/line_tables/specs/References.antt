@@ -11,16 +11,16 @@ use Rattle.rail_model.specs.Rules.{is_taken, is_full, refers_to_known, repeats, 
 use Rattle.rail_model.specs.Within.{is_within}
 
 -- the item may not be put for its own numbers, for its name, or because its kind has its greatest number of items
-abbrev pub refused_itself : Tables → Item → Option Rule
-refused_itself tables x =
+abbrev pub rule_of_item : Tables → Item → Option Rule
+rule_of_item tables x =
     if not (is_within x) then Some Range
     else if is_taken tables x then Some Twice
     else if is_full tables x then Some Limit
     else None
 
 -- something that the item refers to isn't there, or stands in it twice
-abbrev pub refused_reference : Tables → Item → Option Rule
-refused_reference tables x =
+abbrev pub rule_of_references : Tables → Item → Option Rule
+rule_of_references tables x =
     if not (refers_to_known tables x) then Some Unknown
     else if repeats tables x then Some Twice
     else None
@@ -30,7 +30,7 @@ refused_reference tables x =
 abbrev pub rule_before_put : Tables → Item → Option Rule
 rule_before_put tables (item.Block b) = rule_of_put tables (item.Block b)
 rule_before_put tables (item.Signal s) = rule_of_put tables (item.Signal s)
-rule_before_put tables (item.Route r) = refused_itself tables (item.Route r)
+rule_before_put tables (item.Route r) = rule_of_item tables (item.Route r)
 rule_before_put tables (item.Run r) = rule_of_put tables (item.Run r)
 rule_before_put tables (item.Section s) = rule_of_put tables (item.Section s)
 rule_before_put tables (item.Connection c) = rule_of_put tables (item.Connection c)

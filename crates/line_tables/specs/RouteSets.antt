@@ -4,7 +4,7 @@ use Rattle.std.specs.Prelude.{◌≡◌, ℕ, ◌/◌, ◌==◌, ◌<◌, ◌≤
 use Rattle.std.specs.List.{list_any}
 use Rattle.std.specs.Option.{option_map_or}
 use Rattle.rail_model.specs.declared.items.Route.{Route}
-use Rattle.line_tables.specs.declared.entry.Entry.{Entry}
+use Rattle.line_tables.specs.declared.linked.Linked.{Linked}
 use Rattle.line_tables.specs.Table.{under}
 use Rattle.line_tables.specs.KeySet.{holds}
 
@@ -50,9 +50,9 @@ IsMoved routes from to old new =
 -- ---- what the sets say
 
 -- the route under a key has a signal that stands for a key
-abbrev pub reaches : (ℕ → ℕ) → List (ℕ × Entry Route) → ℕ → ℕ → Bool
+abbrev pub reaches : (ℕ → ℕ) → List (ℕ × Linked Route) → ℕ → ℕ → Bool
 reaches f routes x r = option_map_or (λ e. lead_to f e.refs x) (under routes r) false
 
 -- the set at each key has the keys of the routes with a signal that stands for it
-abbrev pub AreSetsOf : (ℕ → ℕ) → List (ℕ × Entry Route) → List (List ℕ) → Type 0
+abbrev pub AreSetsOf : (ℕ → ℕ) → List (ℕ × Linked Route) → List (List ℕ) → Type 0
 AreSetsOf f routes sets = (x r : ℕ) → has sets x r ≡ reaches f routes x r

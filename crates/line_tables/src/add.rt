@@ -4,17 +4,17 @@ ghost use Rattle.std.specs.Prelude.{◌≡◌, ℕ, ◌+◌, false, Some, None, 
 ghost use Rattle.rail_model.specs.declared.items.Item.TheVariants as item;
 ghost use Rattle.rail_model.specs.Rules.{rule_of_put, is_named};
 ghost use Rattle.rail_model.specs.Edits.{after_put, with_item};
-ghost use Rattle.line_tables.specs.References.{refused_itself};
+ghost use Rattle.line_tables.specs.References.{rule_of_item};
 ghost use Rattle.line_tables.specs.Table.{under, IsTable};
-ghost use Rattle.line_tables.specs.Uses.{count_of, times, SameCounts};
+ghost use Rattle.line_tables.specs.KeyCounts.{count_of, times, SameCounts};
 ghost use Rattle.line_tables.specs.RouteSets.{SameSets, IsPutAt};
 
 use crate::LineTables;
-use crate::entry::{Entry, blocks_of, keys_of, known_keys, put_entry, take_entry};
+use crate::key_counts::KeyCounts;
 use crate::key_set::repeats;
+use crate::linked::{Linked, blocks_of, keys_of, known_keys, put_linked, take_linked};
 use crate::named_table::NamedTable;
 use crate::route_sets::RouteSets;
-use crate::uses::Uses;
 use rail_model::{Block, Connection, List, OutOfMemory, Route, Rule, Run, Section, Signal};
 
 impl LineTables {
@@ -33,14 +33,14 @@ impl LineTables {
         ensures kept { OnErr result (self.new ≡ self.old) }
     {
         let refs = keys_of(self.alloc, &self.blocks, &[signal.block])?;
-        put_entry(&mut self.signals, &mut self.block_uses, signal, refs)?;
+        put_linked(&mut self.signals, &mut self.block_uses, signal, refs)?;
         Ok(())
     }
 
     // Puts a route in, or tells the rule by which what it refers to refuses it. Its signals are
     // looked up once: for the rules, for its entry, for the counts and for the sets.
     pub(crate) fn put_route(&mut self, route: Route) -> Result<Result<(), Rule>, OutOfMemory>
-        requires { refused_itself self.old (item.Route route) ≡ None }
+        requires { rule_of_item self.old (item.Route route) ≡ None }
         ensures refused { IfOk result
             (λ answer. IfErr answer (λ rule. rule_of_put self.old (item.Route route) ≡ Some rule)) }
         ensures accepted { IfOk result
@@ -50,7 +50,7 @@ impl LineTables {
         ensures kept { IfOk result (λ answer. OnErr answer (self.new ≡ self.old)) }
         ensures kept_without_memory { OnErr result (self.new ≡ self.old) }
     {
-        let _count = self.blocks.len();
+        self.blocks.learn_order();
         let Some(signals) = known_keys(self.alloc, &self.signals, &route.signals)? else {
             return Ok(Err(Rule::Unknown));
         };
@@ -75,7 +75,7 @@ impl LineTables {
         ensures kept { OnErr result (self.new ≡ self.old) }
     {
         let refs = keys_of(self.alloc, &self.routes, &[run.route])?;
-        put_entry(&mut self.runs, &mut self.route_uses, run, refs)?;
+        put_linked(&mut self.runs, &mut self.route_uses, run, refs)?;
         Ok(())
     }
 
@@ -85,7 +85,7 @@ impl LineTables {
         ensures kept { OnErr result (self.new ≡ self.old) }
     {
         let refs = keys_of(self.alloc, &self.blocks, section.blocks.slice())?;
-        put_entry(&mut self.sections, &mut self.block_uses, section, refs)?;
+        put_linked(&mut self.sections, &mut self.block_uses, section, refs)?;
         Ok(())
     }
 
@@ -99,7 +99,7 @@ impl LineTables {
             &self.runs,
             &[connection.first, connection.second],
         )?;
-        put_entry(&mut self.connections, &mut self.run_uses, connection, refs)?;
+        put_linked(&mut self.connections, &mut self.run_uses, connection, refs)?;
         Ok(())
     }
 }
@@ -107,8 +107,8 @@ impl LineTables {
 // Puts a route of a new name in, counts its signals, and puts its key into their sets and into
 // those of their blocks. Without memory all stays.
 fn enter_route(
-    routes: &mut NamedTable<Entry<Route>>,
-    uses: &mut Uses,
+    routes: &mut NamedTable<Linked<Route>>,
+    uses: &mut KeyCounts,
     sets: &mut RouteSets,
     route: Route,
     signals: List<usize>,
@@ -131,12 +131,12 @@ fn enter_route(
     ensures table { OnOk result (IsTable (λ e. e.item.name) routes.old) }
 {
     let name = route.name;
-    let key = put_entry(routes, uses, route, signals)?;
+    let key = put_linked(routes, uses, route, signals)?;
     if sets
         .make_room(routes.get(key).refs.slice(), blocks, key)
         .is_err()
     {
-        take_entry(routes, uses, &name);
+        take_linked(routes, uses, &name);
         return Err(OutOfMemory);
     }
     sets.put(routes.get(key).refs.slice(), blocks, key);

@@ -3,16 +3,16 @@
 
 mod add;
 mod edits;
-mod entry;
+mod key_counts;
 mod key_set;
 mod key_sets;
 mod line_tables;
+mod linked;
 mod named_table;
 mod path;
 mod remove;
 mod replace;
 mod route_sets;
 mod rules;
-mod uses;
 
 pub use line_tables::LineTables;

@@ -6,10 +6,10 @@ ghost use Rattle.rail_model.specs.Edits.{no_tables};
 ghost use Rattle.rail_model.specs.Sound.{IsSound};
 ghost use Rattle.line_tables.specs.Inside.{tables_of, parts, IsJoined};
 
-use crate::entry::Entry;
+use crate::key_counts::KeyCounts;
+use crate::linked::Linked;
 use crate::named_table::{NamedTable, Stored};
 use crate::route_sets::RouteSets;
-use crate::uses::Uses;
 use rail_model::{Block, Connection, List, Name, OutOfMemory, Route, Run, Section, Signal, Tables};
 use std::alloc::Global;
 use std::marker::Model;
@@ -19,17 +19,17 @@ use std::marker::Model;
 pub struct LineTables {
     pub(crate) alloc: Global,
     pub(crate) blocks: NamedTable<Block>,
-    pub(crate) signals: NamedTable<Entry<Signal>>,
-    pub(crate) routes: NamedTable<Entry<Route>>,
-    pub(crate) runs: NamedTable<Entry<Run>>,
-    pub(crate) sections: NamedTable<Entry<Section>>,
-    pub(crate) connections: NamedTable<Entry<Connection>>,
+    pub(crate) signals: NamedTable<Linked<Signal>>,
+    pub(crate) routes: NamedTable<Linked<Route>>,
+    pub(crate) runs: NamedTable<Linked<Run>>,
+    pub(crate) sections: NamedTable<Linked<Section>>,
+    pub(crate) connections: NamedTable<Linked<Connection>>,
     // How often signals and sections refer to each block, routes to each signal, runs to each route, and
     // connections to each run.
-    pub(crate) block_uses: Uses,
-    pub(crate) signal_uses: Uses,
-    pub(crate) route_uses: Uses,
-    pub(crate) run_uses: Uses,
+    pub(crate) block_uses: KeyCounts,
+    pub(crate) signal_uses: KeyCounts,
+    pub(crate) route_uses: KeyCounts,
+    pub(crate) run_uses: KeyCounts,
     // Which routes list each signal, and which have a signal of each block.
     pub(crate) route_sets: RouteSets,
 }
@@ -79,10 +79,10 @@ impl LineTables {
             runs: NamedTable::new(alloc),
             sections: NamedTable::new(alloc),
             connections: NamedTable::new(alloc),
-            block_uses: Uses::new(alloc),
-            signal_uses: Uses::new(alloc),
-            route_uses: Uses::new(alloc),
-            run_uses: Uses::new(alloc),
+            block_uses: KeyCounts::new(alloc),
+            signal_uses: KeyCounts::new(alloc),
+            route_uses: KeyCounts::new(alloc),
+            run_uses: KeyCounts::new(alloc),
             route_sets: RouteSets::new(alloc),
         }
     }
@@ -97,10 +97,10 @@ impl LineTables {
             &self.route_uses,
             &self.run_uses,
         )?;
-        let line = copy_line(&self.blocks, &self.signals, &self.routes)?;
-        let timetable = copy_timetable(&self.runs, &self.sections, &self.connections)?;
+        let track = copy_track(&self.blocks, &self.signals, &self.routes)?;
+        let trains = copy_trains(&self.runs, &self.sections, &self.connections)?;
         let sets = self.route_sets.copy()?;
-        Ok(joined(self.alloc, line, timetable, counts, sets))
+        Ok(from_parts(self.alloc, track, trains, counts, sets))
     }
 
     /// The items alone, as plain tables.
@@ -219,46 +219,46 @@ impl LineTables {
     }
 }
 
-// The tables of a line and of its timetable, and their counts.
-type Line = (
+// The tables of a line's track and of its trains, and their counts.
+type TrackTables = (
     NamedTable<Block>,
-    NamedTable<Entry<Signal>>,
-    NamedTable<Entry<Route>>,
+    NamedTable<Linked<Signal>>,
+    NamedTable<Linked<Route>>,
 );
 
-type Timetable = (
-    NamedTable<Entry<Run>>,
-    NamedTable<Entry<Section>>,
-    NamedTable<Entry<Connection>>,
+type TrainTables = (
+    NamedTable<Linked<Run>>,
+    NamedTable<Linked<Section>>,
+    NamedTable<Linked<Connection>>,
 );
 
-type Counts = (Uses, Uses, Uses, Uses);
+type Counts = (KeyCounts, KeyCounts, KeyCounts, KeyCounts);
 
-fn copy_line(
+fn copy_track(
     blocks: &NamedTable<Block>,
-    signals: &NamedTable<Entry<Signal>>,
-    routes: &NamedTable<Entry<Route>>,
-) -> Result<Line, OutOfMemory>
+    signals: &NamedTable<Linked<Signal>>,
+    routes: &NamedTable<Linked<Route>>,
+) -> Result<TrackTables, OutOfMemory>
     ensures { IfOk result (λ copies. copies ≡ (blocks.now, signals.now, routes.now)) }
 {
     Ok((blocks.copy()?, signals.copy()?, routes.copy()?))
 }
 
-fn copy_timetable(
-    runs: &NamedTable<Entry<Run>>,
-    sections: &NamedTable<Entry<Section>>,
-    connections: &NamedTable<Entry<Connection>>,
-) -> Result<Timetable, OutOfMemory>
+fn copy_trains(
+    runs: &NamedTable<Linked<Run>>,
+    sections: &NamedTable<Linked<Section>>,
+    connections: &NamedTable<Linked<Connection>>,
+) -> Result<TrainTables, OutOfMemory>
     ensures { IfOk result (λ copies. copies ≡ (runs.now, sections.now, connections.now)) }
 {
     Ok((runs.copy()?, sections.copy()?, connections.copy()?))
 }
 
 fn copy_counts(
-    blocks: &Uses,
-    signals: &Uses,
-    routes: &Uses,
-    runs: &Uses,
+    blocks: &KeyCounts,
+    signals: &KeyCounts,
+    routes: &KeyCounts,
+    runs: &KeyCounts,
 ) -> Result<Counts, OutOfMemory>
     ensures { IfOk result (λ copies. copies ≡ (blocks.now, signals.now, routes.now, runs.now)) }
 {
@@ -271,24 +271,24 @@ fn copy_counts(
 }
 
 // The tables of these parts.
-fn joined(
+fn from_parts(
     alloc: Global,
-    line: Line,
-    timetable: Timetable,
+    track: TrackTables,
+    trains: TrainTables,
     counts: Counts,
     sets: RouteSets,
 ) -> LineTables
-    requires { IsJoined (parts alloc line timetable counts sets) }
-    ensures { result ≡ tables_of (parts alloc line timetable counts sets) }
+    requires { IsJoined (parts alloc track trains counts sets) }
+    ensures { result ≡ tables_of (parts alloc track trains counts sets) }
 {
     LineTables {
         alloc,
-        blocks: line.0,
-        signals: line.1,
-        routes: line.2,
-        runs: timetable.0,
-        sections: timetable.1,
-        connections: timetable.2,
+        blocks: track.0,
+        signals: track.1,
+        routes: track.2,
+        runs: trains.0,
+        sections: trains.1,
+        connections: trains.2,
         block_uses: counts.0,
         signal_uses: counts.1,
         route_uses: counts.2,
@@ -310,7 +310,7 @@ fn plain_blocks(alloc: Global, table: &NamedTable<Block>) -> Result<List<Block>,
 // The items of a table's entries, in their order.
 fn plain_items<T: Stored>(
     alloc: Global,
-    table: &NamedTable<Entry<T>>,
+    table: &NamedTable<Linked<T>>,
 ) -> Result<List<T>, OutOfMemory>
     ensures { IfOk result (λ items. items ≡ map (λ e. e.1.item) table.now) }
 {

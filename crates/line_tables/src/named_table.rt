@@ -73,10 +73,16 @@ impl<T: Stored> NamedTable<T> {
         }
     }
 
+    /// Learns that names rise, and that one item stands under each key.
+    pub(crate) fn learn_order(&self)
+        ensures { tables.IsTable T.label self.now }
+    {
+        let _order = &self.order;
+    }
+
     /// How many items there are.
     pub(crate) fn len(&self) -> usize
-        ensures count { result ≡ length self.now }
-        ensures table { tables.IsTable T.label self.now }
+        ensures { result ≡ length self.now }
     {
         self.order.len()
     }

@@ -11,9 +11,9 @@ ghost use Rattle.line_tables.specs.Inside.{names_of_signal};
 ghost use Rattle.line_tables.specs.Hops as hops_in;
 
 use crate::LineTables;
-use crate::entry::Entry;
+use crate::key_counts::grow;
+use crate::linked::Linked;
 use crate::named_table::NamedTable;
-use crate::uses::grow;
 use rail_model::{BLOCKS, Block, Hop, Leg, List, OutOfMemory, Path, Run, Signal};
 use std::alloc::Global;
 
@@ -34,7 +34,7 @@ fn numbers_by_key(alloc: Global, blocks: &NamedTable<Block>) -> Result<Vec<usize
 fn untimed_hop(
     blocks: &NamedTable<Block>,
     numbers: &[usize],
-    signals: &NamedTable<Entry<Signal>>,
+    signals: &NamedTable<Linked<Signal>>,
     key: usize,
 ) -> Hop
     requires there { IsKey signals.now key }
@@ -43,7 +43,7 @@ fn untimed_hop(
     requires numbered { AreNumbered (length blocks.now) blocks.now numbers.now }
     ensures { result ≡ hops_in.hop_of blocks.now signals.now key }
 {
-    let _count = blocks.len();
+    blocks.learn_order();
     let entry = signals.get(key);
     let signal = &entry.item;
     let block_key = entry.refs.slice()[0];
@@ -67,7 +67,7 @@ fn untimed_hops(
     alloc: Global,
     blocks: &NamedTable<Block>,
     numbers: &[usize],
-    signals: &NamedTable<Entry<Signal>>,
+    signals: &NamedTable<Linked<Signal>>,
     keys: &[usize],
 ) -> Result<List<Hop>, OutOfMemory>
     requires there { All (IsKey signals.now) keys.now }
@@ -122,7 +122,8 @@ impl LineTables {
         ensures numbered { IfOk result
             (λ path. All (λ h. h.block < length self.now.blocks) path.hops) }
     {
-        let _count = (self.signals.len(), self.routes.len());
+        self.signals.learn_order();
+        self.routes.learn_order();
         let entry = self.runs.nth(run as usize);
         let route = self.routes.get(entry.refs.slice()[0]);
         let numbers = numbers_by_key(self.alloc, &self.blocks)?;
@@ -135,7 +136,7 @@ impl LineTables {
     pub fn route_hops(&self) -> Result<List<List<Hop>>, OutOfMemory>
         ensures { IfOk result (λ all. all ≡ map (hops_in.route_hops self.now) self.now.routes) }
     {
-        let _count = self.signals.len();
+        self.signals.learn_order();
         let numbers = numbers_by_key(self.alloc, &self.blocks)?;
         let mut all = List::from_vec(Vec::with_capacity(self.alloc, self.routes.len())?);
         for number in 0..self.routes.len() {

@@ -7,7 +7,7 @@ ghost use Rattle.rail_model.specs.Within.{is_within};
 ghost use Rattle.rail_model.specs.Edits.{after_change};
 
 use crate::LineTables;
-use crate::entry::{block_of, blocks_of, change_entry, keys_of, one_key, swap_entry};
+use crate::linked::{block_of, blocks_of, change_linked, keys_of, one_key, swap_linked};
 use rail_model::{Block, Connection, OutOfMemory, Route, Rule, Run, Section, Signal};
 
 impl LineTables {
@@ -33,7 +33,7 @@ impl LineTables {
         ensures kept { IfOk result (λ answer. OnErr answer (self.new ≡ self.old)) }
         ensures kept_without_memory { OnErr result (self.new ≡ self.old) }
     {
-        let _count = self.routes.len();
+        self.routes.learn_order();
         let Some(key) = self.signals.key_of(&signal.name) else {
             return Ok(Err(Rule::Unknown));
         };
@@ -46,7 +46,7 @@ impl LineTables {
         }
         let refs = one_key(self.alloc, to)?;
         self.route_sets.make_room_to_move(key, from, to)?;
-        change_entry(&mut self.signals, &mut self.block_uses, key, signal, refs)?;
+        change_linked(&mut self.signals, &mut self.block_uses, key, signal, refs)?;
         self.route_sets.move_routes(key, from, to);
         Ok(Ok(()))
     }
@@ -65,7 +65,7 @@ impl LineTables {
         let old = self.routes.get(key).refs.slice();
         self.route_sets.take(&self.signals, old, key);
         self.route_sets.put(refs.slice(), blocks.slice(), key);
-        swap_entry(&mut self.routes, &mut self.signal_uses, key, route, refs);
+        swap_linked(&mut self.routes, &mut self.signal_uses, key, route, refs);
         Ok(())
     }
 
@@ -76,7 +76,7 @@ impl LineTables {
     {
         let refs = keys_of(self.alloc, &self.routes, &[run.route])?;
         let key = self.runs.key_of(&run.name).unwrap();
-        change_entry(&mut self.runs, &mut self.route_uses, key, run, refs)?;
+        change_linked(&mut self.runs, &mut self.route_uses, key, run, refs)?;
         Ok(())
     }
 
@@ -87,7 +87,7 @@ impl LineTables {
     {
         let refs = keys_of(self.alloc, &self.blocks, section.blocks.slice())?;
         let key = self.sections.key_of(&section.name).unwrap();
-        change_entry(&mut self.sections, &mut self.block_uses, key, section, refs)?;
+        change_linked(&mut self.sections, &mut self.block_uses, key, section, refs)?;
         Ok(())
     }
 
@@ -102,7 +102,7 @@ impl LineTables {
             &[connection.first, connection.second],
         )?;
         let key = self.connections.key_of(&connection.name).unwrap();
-        change_entry(
+        change_linked(
             &mut self.connections,
             &mut self.run_uses,
             key,

@@ -4,9 +4,9 @@ ghost use Rattle.line_tables.specs.KeySet.{Meets, KeepsApart};
 ghost use Rattle.line_tables.specs.Links.{block_of, IsKey};
 ghost use Rattle.line_tables.specs.RouteSets.{words_of, SameSets, NoneShorter, HasRoomAt, IsPutAt, IsTakenAt, IsMoved};
 
-use crate::entry::{Entry, block_of};
 use crate::key_set::meet;
 use crate::key_sets::KeySets;
+use crate::linked::{Linked, block_of};
 use crate::named_table::NamedTable;
 use rail_model::{OutOfMemory, Signal};
 use std::alloc::Global;
@@ -64,7 +64,12 @@ impl RouteSets {
     }
 
     /// Takes the route under a key out of the sets of these signals and of their blocks.
-    pub(crate) fn take(&mut self, signals: &NamedTable<Entry<Signal>>, refs: &[usize], route: usize)
+    pub(crate) fn take(
+        &mut self,
+        signals: &NamedTable<Linked<Signal>>,
+        refs: &[usize],
+        route: usize,
+    )
         requires there { All (IsKey signals.now) refs.now }
         requires one { All (λ e. length e.1.refs ≡ 1) signals.now }
         ensures signals { IsTakenAt (λ q. q) refs.now route self.old.of_signals self.new.of_signals }

@@ -5,13 +5,13 @@ ghost use Rattle.rail_model.specs.declared.edit.Kind.TheVariants as kind;
 ghost use Rattle.rail_model.specs.Tables.{route_named};
 ghost use Rattle.rail_model.specs.declared.edit.Rule.TheVariants as rule;
 ghost use Rattle.rail_model.specs.Rules as rules;
-ghost use Rattle.line_tables.specs.References.{refused_itself, refused_reference};
+ghost use Rattle.line_tables.specs.References.{rule_of_item, rule_of_references};
 ghost use Rattle.line_tables.specs.References.{rule_before_put, rule_before_change, rule_before};
 ghost use Rattle.rail_model.specs.Sound.{IsSound};
 
 use crate::LineTables;
-use crate::entry::{blocks_of, known_keys};
 use crate::key_set::repeats;
+use crate::linked::{blocks_of, known_keys};
 use rail_model::{
     BLOCKS, CONNECTIONS, Connection, Edit, Item, Kind, Name, OutOfMemory, ROUTES, RUNS, Route,
     Rule, SECTIONS, SIGNALS, Section, is_within,
@@ -34,7 +34,7 @@ impl LineTables {
         ensures { IfOk result (λ rule. rule ≡ rule_before_put self.now item.now) }
     {
         match item {
-            Item::Route(_) => Ok(self.refused_itself(item)),
+            Item::Route(_) => Ok(self.rule_of_item(item)),
             Item::Block(_)
             | Item::Signal(_)
             | Item::Run(_)
@@ -59,10 +59,10 @@ impl LineTables {
     fn rule_of_put(&self, item: &Item) -> Result<Option<Rule>, OutOfMemory>
         ensures { IfOk result (λ rule. rule ≡ rules.rule_of_put self.now item.now) }
     {
-        if let Some(rule) = self.refused_itself(item) {
+        if let Some(rule) = self.rule_of_item(item) {
             return Ok(Some(rule));
         }
-        if let Some(rule) = self.refused_reference(item)? {
+        if let Some(rule) = self.rule_of_references(item)? {
             return Ok(Some(rule));
         }
         if self.miscounts_legs(item) {
@@ -72,8 +72,8 @@ impl LineTables {
     }
 
     // The rule that refuses to put an item whatever it refers to.
-    fn refused_itself(&self, item: &Item) -> Option<Rule>
-        ensures { result ≡ refused_itself self.now item.now }
+    fn rule_of_item(&self, item: &Item) -> Option<Rule>
+        ensures { result ≡ rule_of_item self.now item.now }
     {
         if !is_within(item) {
             return Some(Rule::Range);
@@ -98,7 +98,7 @@ impl LineTables {
         if !self.is_there(item) {
             return Ok(Some(Rule::Unknown));
         }
-        if let Some(rule) = self.refused_reference(item)? {
+        if let Some(rule) = self.rule_of_references(item)? {
             return Ok(Some(rule));
         }
         if self.miscounts_legs(item) || self.makes_miscount(item) {
@@ -211,24 +211,24 @@ impl LineTables {
     }
 
     // The rule that refuses an item for what it refers to: it isn't there, or it is named twice.
-    fn refused_reference(&self, item: &Item) -> Result<Option<Rule>, OutOfMemory>
-        ensures { IfOk result (λ rule. rule ≡ refused_reference self.now item.now) }
+    fn rule_of_references(&self, item: &Item) -> Result<Option<Rule>, OutOfMemory>
+        ensures { IfOk result (λ rule. rule ≡ rule_of_references self.now item.now) }
     {
         match item {
             Item::Block(_) => Ok(None),
             Item::Signal(signal) => Ok(unknown_unless(self.has_block(&signal.block))),
-            Item::Route(route) => self.refused_signal(route),
+            Item::Route(route) => self.rule_of_signals(route),
             Item::Run(run) => Ok(unknown_unless(self.has_route(&run.route))),
-            Item::Section(section) => self.refused_block(section),
-            Item::Connection(connection) => Ok(self.refused_run(connection)),
+            Item::Section(section) => self.rule_of_blocks(section),
+            Item::Connection(connection) => Ok(self.rule_of_runs(connection)),
         }
     }
 
     // Each signal's name is looked up once, and its block found by its key.
-    fn refused_signal(&self, route: &Route) -> Result<Option<Rule>, OutOfMemory>
-        ensures { IfOk result (λ rule. rule ≡ refused_reference self.now (item.Route route.now)) }
+    fn rule_of_signals(&self, route: &Route) -> Result<Option<Rule>, OutOfMemory>
+        ensures { IfOk result (λ rule. rule ≡ rule_of_references self.now (item.Route route.now)) }
     {
-        let _count = self.blocks.len();
+        self.blocks.learn_order();
         let Some(signals) = known_keys(self.alloc, &self.signals, &route.signals)? else {
             return Ok(Some(Rule::Unknown));
         };
@@ -236,8 +236,8 @@ impl LineTables {
         Ok(twice_if(repeats(self.alloc, blocks.slice())?))
     }
 
-    fn refused_block(&self, section: &Section) -> Result<Option<Rule>, OutOfMemory>
-        ensures { IfOk result (λ rule. rule ≡ refused_reference self.now (item.Section section.now)) }
+    fn rule_of_blocks(&self, section: &Section) -> Result<Option<Rule>, OutOfMemory>
+        ensures { IfOk result (λ rule. rule ≡ rule_of_references self.now (item.Section section.now)) }
     {
         let Some(blocks) = known_keys(self.alloc, &self.blocks, &section.blocks)? else {
             return Ok(Some(Rule::Unknown));
@@ -245,8 +245,8 @@ impl LineTables {
         Ok(twice_if(repeats(self.alloc, blocks.slice())?))
     }
 
-    fn refused_run(&self, connection: &Connection) -> Option<Rule>
-        ensures { result ≡ refused_reference self.now (item.Connection connection.now) }
+    fn rule_of_runs(&self, connection: &Connection) -> Option<Rule>
+        ensures { result ≡ rule_of_references self.now (item.Connection connection.now) }
     {
         if !self.has_run(&connection.first) || !self.has_run(&connection.second) {
             return Some(Rule::Unknown);

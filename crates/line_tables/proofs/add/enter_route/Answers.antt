@@ -3,20 +3,20 @@ use Rattle.std.specs.Prelude.{is_some}
 use Rattle.rail_model.specs.declared.items.Route.{Route}
 use Rattle.rail_model.specs.Rules.{is_named}
 use Rattle.rail_model.specs.Edits.{with_item, without}
-use Rattle.line_tables.specs.declared.entry.Entry.{Entry}
+use Rattle.line_tables.specs.declared.linked.Linked.{Linked}
 use Rattle.line_tables.specs.Table.{named, key_of, item_of, under, IsTable}
-use Rattle.line_tables.specs.Uses.{count_of, times}
+use Rattle.line_tables.specs.KeyCounts.{count_of, times}
 use Rattle.line_tables.proofs.Entries.{is_some-key_of, key_of-put, without-with_item}
 use Rattle.line_tables.proofs.Found.{found_by_key}
-use Rattle.line_tables.proofs.Linked.{entry}
+use Rattle.line_tables.proofs.References.{entry}
 use Rattle.line_tables.proofs.Known.{CountsMore}
 use Rattle.line_tables.proofs.add.enter_route.Goals as goal
 
-abbrev route_name : Entry Route → List ℕ
+abbrev route_name : Linked Route → List ℕ
 route_name e = e.item.name
 
 -- what is known once the route is in the table
-module _ (before later : List (ℕ × Entry Route)) (x : Route) (new : is_named (named route_name) before x.name ≡ false) (key : ℕ) (refs : List ℕ) (put : later ≡ with_item (named route_name) before (key, entry x refs)) (table : IsTable route_name before) where
+module _ (before later : List (ℕ × Linked Route)) (x : Route) (new : is_named (named route_name) before x.name ≡ false) (key : ℕ) (refs : List ℕ) (put : later ≡ with_item (named route_name) before (key, entry x refs)) (table : IsTable route_name before) where
   there_now : key_of route_name later x.name ≡ Some key
   there_now = rw put (key_of-put route_name before key (entry x refs) table.rise new)
 
@@ -25,34 +25,34 @@ module _ (before later : List (ℕ × Entry Route)) (x : Route) (new : is_named 
       let found = found_by_key route_name later x.name key table' there_now in
       found.1.item ∙ sym found.1.under ∙ there
 
-  taken_back : (back : List (ℕ × Entry Route)) → back ≡ without (named route_name) later x.name → back ≡ before
+  taken_back : (back : List (ℕ × Linked Route)) → back ≡ without (named route_name) later x.name → back ≡ before
   taken_back back rest =
       rest ∙ ap (λ l. without (named route_name) l x.name) put ∙ without-with_item route_name before key (entry x refs) table.rise new
 
-counted_now : (x : Route) (refs old uses : List ℕ) (e : Entry Route) (k : ℕ) → CountsMore old uses refs → Some (entry x refs) ≡ Some e → times k e.refs ≤ count_of uses k
+counted_now : (x : Route) (refs old uses : List ℕ) (e : Linked Route) (k : ℕ) → CountsMore old uses refs → Some (entry x refs) ≡ Some e → times k e.refs ≤ count_of uses k
 counted_now x refs old uses e k counted same =
     let one : entry x refs ≡ e = cc in
-    omega (arith, counted k, ap (λ (e : Entry Route). times k e.refs) one)
+    omega (arith, counted k, ap (λ (e : Linked Route). times k e.refs) one)
 
-pub take_entry-requires-clause-there : goal.take_entry-requires-clause-there
-take_entry-requires-clause-there c =
+pub take_linked-requires-clause-there : goal.take_linked-requires-clause-there
+take_linked-requires-clause-there c =
     let done = c.in_ok-key.ensures in
-    sym (is_some-key_of route_name c.put_entry.new.table c.args.route.name)
-    ∙ ap is_some (there_now c.args.routes.now c.put_entry.new.table c.args.route c.requires c.in_ok-key.key c.args.signals done.put done.table)
+    sym (is_some-key_of route_name c.put_linked.new.table c.args.route.name)
+    ∙ ap is_some (there_now c.args.routes.now c.put_linked.new.table c.args.route c.requires c.in_ok-key.key c.args.signals done.put done.table)
 
-pub take_entry-requires-clause-counted_before : goal.take_entry-requires-clause-counted_before
-take_entry-requires-clause-counted_before c e k h =
+pub take_linked-requires-clause-counted_before : goal.take_linked-requires-clause-counted_before
+take_linked-requires-clause-counted_before c e k h =
     let done = c.in_ok-key.ensures in
-    let item = item_now c.args.routes.now c.put_entry.new.table c.args.route c.requires c.in_ok-key.key c.args.signals done.put done.table c.get.ensures.table done.there in
-    counted_now c.args.route c.args.signals c.args.uses.now c.put_entry.new.uses e k done.counted (sym item ∙ h)
+    let item = item_now c.args.routes.now c.put_linked.new.table c.args.route c.requires c.in_ok-key.key c.args.signals done.put done.table c.get.ensures.table done.there in
+    counted_now c.args.route c.args.signals c.args.uses.now c.put_linked.new.uses e k done.counted (sym item ∙ h)
 
 pub returns-then-is_err-clause-kept : goal.returns-then-is_err-clause-kept
 returns-then-is_err-clause-kept c =
     let done = c.in_ok-key.ensures in
-    taken_back c.args.routes.now c.put_entry.new.table c.args.route c.requires c.in_ok-key.key c.args.signals done.put done.table c.take_entry.new.table c.take_entry.ensures.rest
+    taken_back c.args.routes.now c.put_linked.new.table c.args.route c.requires c.in_ok-key.key c.args.signals done.put done.table c.take_linked.new.table c.take_linked.ensures.rest
 
 pub returns-then-is_err-clause-kept_counts : goal.returns-then-is_err-clause-kept_counts
 returns-then-is_err-clause-kept_counts c k =
     let done = c.in_ok-key.ensures in
-    let item = item_now c.args.routes.now c.put_entry.new.table c.args.route c.requires c.in_ok-key.key c.args.signals done.put done.table c.get.ensures.table done.there in
-    omega (arith, c.take_entry.ensures.counted (entry c.args.route c.args.signals) k item, done.counted k)
+    let item = item_now c.args.routes.now c.put_linked.new.table c.args.route c.requires c.in_ok-key.key c.args.signals done.put done.table c.get.ensures.table done.there in
+    omega (arith, c.take_linked.ensures.counted (entry c.args.route c.args.signals) k item, done.counted k)

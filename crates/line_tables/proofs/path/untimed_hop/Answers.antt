@@ -5,7 +5,7 @@ use Rattle.rail_model.specs.declared.items.Signal.{Signal}
 use Rattle.rail_model.specs.Tables.{no_block, number_of, hop_beyond}
 use Rattle.rail_model.specs.Within.{no_leg}
 use Rattle.rail_model.specs.Edits.{no_tables}
-use Rattle.line_tables.specs.declared.entry.Entry.{Entry}
+use Rattle.line_tables.specs.declared.linked.Linked.{Linked}
 use Rattle.line_tables.specs.Table.{key_of, named, under, IsTable, AreNumbered}
 use Rattle.line_tables.specs.Links.{IsLinked}
 use Rattle.line_tables.specs.Hops.{hop_of}
@@ -20,10 +20,10 @@ abbrev block_name : Block → List ℕ
 block_name b = b.name
 
 -- the one reference of a signal
-reference : (blocks : List (ℕ × Block)) (signals : List (ℕ × Entry Signal)) (key : ℕ) (e : Entry Signal) → IsLinked names_of_signal block_name signals blocks → under signals key ≡ Some e → key_of block_name blocks e.item.block ∷ [] ≡ map Some e.refs
+reference : (blocks : List (ℕ × Block)) (signals : List (ℕ × Linked Signal)) (key : ℕ) (e : Linked Signal) → IsLinked names_of_signal block_name signals blocks → under signals key ≡ Some e → key_of block_name blocks e.item.block ∷ [] ≡ map Some e.refs
 reference blocks signals key e linked here =
     let one = under_passes (λ u. map (key_of block_name blocks) (names_of_signal u.1.item) ≡ map Some u.1.refs) signals key e here linked in
-    subst (λ (e : Entry Signal). key_of block_name blocks e.item.block ∷ [] ≡ map Some e.refs) one.1 one.2
+    subst (λ (e : Linked Signal). key_of block_name blocks e.item.block ∷ [] ≡ map Some e.refs) one.1 one.2
 
 pub bounds-slice-0 : goal.bounds-slice-0
 bounds-slice-0 c =
@@ -36,16 +36,16 @@ get-block-requires c =
     let e = c.get-entry.result.now in
     let blocks = c.args.blocks.now in
     let key = only_key (key_of block_name blocks e.item.block) e.refs (reference blocks c.args.signals.now c.args.key e c.requires.linked c.get-entry.ensures.item) in
-    let found = found_by_key block_name blocks e.item.block (get_or e.refs 0 0) c.len-count.ensures.table key in
+    let found = found_by_key block_name blocks e.item.block (get_or e.refs 0 0) c.learn_order.ensures key in
     rw (c.slice.ensures, found.1.under) refl
 
 -- the key of the block that the signal names
-its_key : (blocks : List (ℕ × Block)) (signals : List (ℕ × Entry Signal)) (key : ℕ) (e : Entry Signal) → IsLinked names_of_signal block_name signals blocks → under signals key ≡ Some e → key_of block_name blocks e.item.block ≡ Some (get_or e.refs 0 0)
+its_key : (blocks : List (ℕ × Block)) (signals : List (ℕ × Linked Signal)) (key : ℕ) (e : Linked Signal) → IsLinked names_of_signal block_name signals blocks → under signals key ≡ Some e → key_of block_name blocks e.item.block ≡ Some (get_or e.refs 0 0)
 its_key blocks signals key e linked here =
     only_key (key_of block_name blocks e.item.block) e.refs (reference blocks signals key e linked here)
 
 -- the number at that key is the block's
-its_number : (blocks : List (ℕ × Block)) (signals : List (ℕ × Entry Signal)) (key : ℕ) (e : Entry Signal) (numbers : List ℕ) → IsLinked names_of_signal block_name signals blocks → under signals key ≡ Some e → AreNumbered (length blocks) blocks numbers → (get_or e.refs 0 0 < length numbers) × (get_or numbers (get_or e.refs 0 0) 0 ≡ number_of (named block_name) blocks e.item.block) × (number_of (named block_name) blocks e.item.block < length blocks)
+its_number : (blocks : List (ℕ × Block)) (signals : List (ℕ × Linked Signal)) (key : ℕ) (e : Linked Signal) (numbers : List ℕ) → IsLinked names_of_signal block_name signals blocks → under signals key ≡ Some e → AreNumbered (length blocks) blocks numbers → (get_or e.refs 0 0 < length numbers) × (get_or numbers (get_or e.refs 0 0) 0 ≡ number_of (named block_name) blocks e.item.block) × (number_of (named block_name) blocks e.item.block < length blocks)
 its_number blocks signals key e numbers linked here numbered =
     let k = get_or e.refs 0 0 in
     let number = number_of (named block_name) blocks e.item.block in
@@ -70,7 +70,7 @@ overflow_cast-result c =
     let within = its.2 in
     rw (c.slice.ensures, its.1) (omega (arith, few, within))
 
-hop_is : (blocks : List (ℕ × Block)) (signals : List (ℕ × Entry Signal)) (key k number : ℕ) (e : Entry Signal) (b : Block) → IsTable block_name blocks → under signals key ≡ Some e → key_of block_name blocks e.item.block ≡ Some k → under blocks k ≡ Some b → number ≡ number_of (named block_name) blocks e.item.block → record (hop_beyond no_tables e.item no_leg) { block = number; block_m = b.length_m } ≡ hop_of blocks signals key
+hop_is : (blocks : List (ℕ × Block)) (signals : List (ℕ × Linked Signal)) (key k number : ℕ) (e : Linked Signal) (b : Block) → IsTable block_name blocks → under signals key ≡ Some e → key_of block_name blocks e.item.block ≡ Some k → under blocks k ≡ Some b → number ≡ number_of (named block_name) blocks e.item.block → record (hop_beyond no_tables e.item no_leg) { block = number; block_m = b.length_m } ≡ hop_of blocks signals key
 hop_is blocks signals key k number e b table here keyed under_it counted =
     let lines = map (λ (x : ℕ × Block). x.1) blocks in
     let place : number ≡ number_of block_name lines e.item.block = counted ∙ sym (number_of-map (λ (x : ℕ × Block). x.1) block_name blocks e.item.block) in
@@ -83,4 +83,4 @@ returns c =
     let signals = c.args.signals.now in
     let e = c.get-entry.result.now in
     let its = its_number blocks signals c.args.key e c.args.numbers.now c.requires.linked c.get-entry.ensures.item c.requires.numbered in
-    hop_is blocks signals c.args.key (get_or e.refs 0 0) _ e c.get-block.result.now c.len-count.ensures.table c.get-entry.ensures.item (its_key blocks signals c.args.key e c.requires.linked c.get-entry.ensures.item) (rw c.slice.ensures at c.get-block.ensures.item) (rw c.slice.ensures its.1)
+    hop_is blocks signals c.args.key (get_or e.refs 0 0) _ e c.get-block.result.now c.learn_order.ensures c.get-entry.ensures.item (its_key blocks signals c.args.key e c.requires.linked c.get-entry.ensures.item) (rw c.slice.ensures at c.get-block.ensures.item) (rw c.slice.ensures its.1)

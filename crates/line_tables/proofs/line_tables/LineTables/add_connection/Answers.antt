@@ -1,9 +1,9 @@
 use Rattle.std.proofs.Common.{ℕ, ap}
 use Rattle.rail_model.specs.declared.items.Item.TheVariants as item
 use Rattle.rail_model.proofs.Sound.{accepted}
-use Rattle.line_tables.specs.declared.entry.Entry.{Entry}
+use Rattle.line_tables.specs.declared.linked.Linked.{Linked}
 use Rattle.line_tables.specs.Inside.{tables_of}
-use Rattle.line_tables.proofs.Linked.{entry}
+use Rattle.line_tables.proofs.References.{entry}
 use Rattle.line_tables.proofs.Views.{map-with_item}
 use Rattle.line_tables.proofs.Known.{connection_knows}
 use Rattle.line_tables.proofs.JoinedTimetable.{connection_is_new, connection_put}
@@ -16,16 +16,16 @@ keys_of-requires c =
     let none = rw (← c.self.view_is) at c.requires in
     connection_knows t x (accepted (tables_of t) (item.Connection x) none).known
 
-pub put_entry-requires : goal.put_entry-requires
-put_entry-requires c = connection_is_new c.self.inside c.args.connection (rw (← c.self.view_is) at c.requires)
+pub put_linked-requires : goal.put_linked-requires
+put_linked-requires c = connection_is_new c.self.inside c.args.connection (rw (← c.self.view_is) at c.requires)
 
 pub invariant_of-self-2 : goal.invariant_of-self-2
 invariant_of-self-2 c =
-    let done = c.in_ok-put_entry.ensures in
-    rw done.put (connection_put c.self.inside c.in_ok-put_entry.field-0 c.args.connection c.in_ok-refs.refs c.put_entry.new.uses c.self.invariant done.table (rw (← c.self.view_is) at c.requires) c.in_ok-refs.ensures.keys done.counted)
+    let done = c.in_ok-put_linked.ensures in
+    rw done.put (connection_put c.self.inside c.in_ok-put_linked.field-0 c.args.connection c.in_ok-refs.refs c.put_linked.new.uses c.self.invariant done.table (rw (← c.self.view_is) at c.requires) c.in_ok-refs.ensures.keys done.counted)
 
 pub returns-clause-after : goal.returns-clause-after
 returns-clause-after c =
     let t = c.self.inside in
-    rw (← c.self.view_is, c.in_ok-put_entry.ensures.put)
-    (ap (λ l. record (tables_of t) { connections = l }) (map-with_item (λ (e : ℕ × Entry _). e.1.item) (λ x. x.name) t.connections (c.in_ok-put_entry.field-0, entry c.args.connection c.in_ok-refs.refs)))
+    rw (← c.self.view_is, c.in_ok-put_linked.ensures.put)
+    (ap (λ l. record (tables_of t) { connections = l }) (map-with_item (λ (e : ℕ × Linked _). e.1.item) (λ x. x.name) t.connections (c.in_ok-put_linked.field-0, entry c.args.connection c.in_ok-refs.refs)))

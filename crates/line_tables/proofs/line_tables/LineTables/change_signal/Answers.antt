@@ -9,7 +9,7 @@ use Rattle.rail_model.specs.declared.edit.Rule.{Rule}
 use Rattle.rail_model.specs.declared.edit.Rule.TheVariants.{Twice}
 use Rattle.rail_model.specs.Rules.{has_signal, has_block, makes_repeat, rule_of_change}
 use Rattle.rail_model.specs.Within.{is_within}
-use Rattle.line_tables.specs.declared.entry.Entry.{Entry}
+use Rattle.line_tables.specs.declared.linked.Linked.{Linked}
 use Rattle.line_tables.specs.declared.line_tables.LineTables.TheInside.{Inside}
 use Rattle.line_tables.specs.Table.{key_of, IsTable}
 use Rattle.line_tables.specs.KeySet.{Meets, KeepsApart}
@@ -17,7 +17,7 @@ use Rattle.line_tables.specs.Links.{block_of}
 use Rattle.line_tables.specs.Inside.{tables_of, names_of_signal, IsJoined}
 use Rattle.line_tables.proofs.Entries.{is_some-key_of}
 use Rattle.line_tables.proofs.Found.{name_under, found_by_key}
-use Rattle.line_tables.proofs.Linked.{entry}
+use Rattle.line_tables.proofs.References.{entry}
 use Rattle.line_tables.proofs.Views.{is_named-map, map-with_change}
 use Rattle.line_tables.proofs.Meets.{makes_repeat_where_moved, makes_none_where_same}
 use Rattle.line_tables.proofs.Reaches.{meet_tells}
@@ -27,7 +27,7 @@ use Rattle.line_tables.proofs.RulesOfChange.{refused_signal, refused_block, refu
 use Rattle.line_tables.proofs.JoinedSignals.{signal_change}
 use Rattle.line_tables.proofs.line_tables.LineTables.change_signal.Goals as goal
 
-abbrev signal_name : Entry Signal → List ℕ
+abbrev signal_name : Linked Signal → List ℕ
 signal_name e = e.item.name
 
 abbrev block_name : Block → List ℕ
@@ -38,13 +38,13 @@ answer twice = if twice then Some Twice else None
 
 has_signal_by : (t : Inside) (n : List ℕ) → has_signal (tables_of t) n ≡ is_some (key_of signal_name t.signals n)
 has_signal_by t n =
-    is_named-map (λ (e : ℕ × Entry Signal). e.1.item) (λ x. x.name) t.signals n ∙ sym (is_some-key_of signal_name t.signals n)
+    is_named-map (λ (e : ℕ × Linked Signal). e.1.item) (λ x. x.name) t.signals n ∙ sym (is_some-key_of signal_name t.signals n)
 
 has_block_by : (t : Inside) (n : List ℕ) → has_block (tables_of t) n ≡ is_some (key_of block_name t.blocks n)
 has_block_by t n = is_named-map (λ (e : ℕ × Block). e.1) (λ x. x.name) t.blocks n ∙ sym (is_some-key_of block_name t.blocks n)
 
 -- what refuses a signal that is there, and whose block is: a second signal of that block on one of its routes, or nothing
-module _ (t : Inside) (j : IsJoined t) (signals : IsTable signal_name t.signals) (blocks : IsTable block_name t.blocks) (routes : IsTable (λ (e : Entry Route). e.item.name) t.routes) (s : Signal) (key to : ℕ) (here : key_of signal_name t.signals s.name ≡ Some key) (known : key_of block_name t.blocks s.block ≡ Some to) where
+module _ (t : Inside) (j : IsJoined t) (signals : IsTable signal_name t.signals) (blocks : IsTable block_name t.blocks) (routes : IsTable (λ (e : Linked Route). e.item.name) t.routes) (s : Signal) (key to : ℕ) (here : key_of signal_name t.signals s.name ≡ Some key) (known : key_of block_name t.blocks s.block ≡ Some to) where
   met : (from : ℕ) → from ≡ block_of t.signals key → (twice : Bool) → (from ≡ to → twice ≡ false) → (from ≢ to → twice ≡ true → Meets (get_or t.route_sets.of_signals key []) (get_or t.route_sets.of_blocks to [])) → (from ≢ to → twice ≡ false → KeepsApart (get_or t.route_sets.of_signals key []) (get_or t.route_sets.of_blocks to [])) → makes_repeat (tables_of t) (item.Signal s) ≡ twice
   met from is twice stays some none =
       let image = block_of t.signals key in
@@ -87,16 +87,16 @@ returns-then-meet_where_moved-clause-refused c =
     let t = c.self.inside in
     let s = c.args.signal in
     let asked = c.meet_where_moved in
-    let is = met t c.self.invariant c.key_of.ensures.table c.key_of-2.ensures.table c.len-count.ensures.table s c.in-Some.key c.in-Some-key_of.to (sym c.in-Some.ensures.key) (sym c.in-Some-key_of.ensures.key) c.block_of-from.result c.block_of-from.ensures asked.result asked.ensures.stays asked.ensures.some asked.ensures.none in
-    let rule = told t c.self.invariant c.key_of.ensures.table c.key_of-2.ensures.table c.len-count.ensures.table s c.in-Some.key c.in-Some-key_of.to (sym c.in-Some.ensures.key) (sym c.in-Some-key_of.ensures.key) c.requires asked.result is in
+    let is = met t c.self.invariant c.key_of.ensures.table c.key_of-2.ensures.table c.learn_order.ensures s c.in-Some.key c.in-Some-key_of.to (sym c.in-Some.ensures.key) (sym c.in-Some-key_of.ensures.key) c.block_of-from.result c.block_of-from.ensures asked.result asked.ensures.stays asked.ensures.some asked.ensures.none in
+    let rule = told t c.self.invariant c.key_of.ensures.table c.key_of-2.ensures.table c.learn_order.ensures s c.in-Some.key c.in-Some-key_of.to (sym c.in-Some.ensures.key) (sym c.in-Some-key_of.ensures.key) c.requires asked.result is in
     rw (← c.self.view_is) (rule ∙ ap answer c.if-meet_where_moved.true)
 
-pub change_entry-requires-clause-same_name : goal.change_entry-requires-clause-same_name
-change_entry-requires-clause-same_name c =
+pub change_linked-requires-clause-same_name : goal.change_linked-requires-clause-same_name
+change_linked-requires-clause-same_name c =
     name_under signal_name c.self.inside.signals c.args.signal.name c.in-Some.key c.key_of.ensures.table (sym c.in-Some.ensures.key)
 
-pub change_entry-requires-clause-counted_before : goal.change_entry-requires-clause-counted_before
-change_entry-requires-clause-counted_before c e k h =
+pub change_linked-requires-clause-counted_before : goal.change_linked-requires-clause-counted_before
+change_linked-requires-clause-counted_before c e k h =
     let t = c.self.inside in
     let key = c.in-Some.key in
     omega (arith, c.self.invariant.block_uses k, refs_of_found (λ u. u.0 == key) t.signals e k h)
@@ -110,15 +110,15 @@ invariant_of-self-2 c =
     let from = c.block_of-from.result in
     let refs = c.in_ok-refs.refs in
     let asked = c.meet_where_moved in
-    let done = c.in_ok-change_entry.ensures in
+    let done = c.in_ok-change_linked.ensures in
     let room = c.make_room_to_move.ensures in
     let moves = c.move_routes.ensures in
-    let is = met t c.self.invariant c.key_of.ensures.table c.key_of-2.ensures.table c.len-count.ensures.table s key to (sym c.in-Some.ensures.key) (sym c.in-Some-key_of.ensures.key) from c.block_of-from.ensures asked.result asked.ensures.stays asked.ensures.some asked.ensures.none in
-    let rule = told t c.self.invariant c.key_of.ensures.table c.key_of-2.ensures.table c.len-count.ensures.table s key to (sym c.in-Some.ensures.key) (sym c.in-Some-key_of.ensures.key) c.requires asked.result is in
+    let is = met t c.self.invariant c.key_of.ensures.table c.key_of-2.ensures.table c.learn_order.ensures s key to (sym c.in-Some.ensures.key) (sym c.in-Some-key_of.ensures.key) from c.block_of-from.ensures asked.result asked.ensures.stays asked.ensures.some asked.ensures.none in
+    let rule = told t c.self.invariant c.key_of.ensures.table c.key_of-2.ensures.table c.learn_order.ensures s key to (sym c.in-Some.ensures.key) (sym c.in-Some-key_of.ensures.key) c.requires asked.result is in
     let same = name_under signal_name t.signals s.name key c.key_of.ensures.table (sym c.in-Some.ensures.key) in
     let found : map (key_of block_name t.blocks) (names_of_signal s) ≡ map Some refs = rw c.in_ok-refs.ensures (ap (λ o. o ∷ []) (sym c.in-Some-key_of.ensures.key)) in
     rw done.changed
-    (signal_change t key s refs c.change_entry.new.uses c.self.invariant c.key_of.ensures.table same (rule ∙ ap answer c.if-meet_where_moved.false) found done.counted from to c.move_routes.new.self c.key_of-2.ensures.table (sym c.block_of-from.ensures) (ap (λ l. get_or l 0 0) c.in_ok-refs.ensures) (moves.signals ∙ room.signals)
+    (signal_change t key s refs c.change_linked.new.uses c.self.invariant c.key_of.ensures.table same (rule ∙ ap answer c.if-meet_where_moved.false) found done.counted from to c.move_routes.new.self c.key_of-2.ensures.table (sym c.block_of-from.ensures) (ap (λ l. get_or l 0 0) c.in_ok-refs.ensures) (moves.signals ∙ room.signals)
     (follows_after t.route_sets.of_signals c.make_room_to_move.new.self.of_signals key from to t.route_sets.of_blocks c.make_room_to_move.new.self.of_blocks c.move_routes.new.self.of_blocks room.signals room.blocks moves.stayed moves.moved))
 
 pub returns-clause-accepted : goal.returns-clause-accepted
@@ -126,8 +126,8 @@ returns-clause-accepted c =
     let t = c.self.inside in
     let s = c.args.signal in
     let asked = c.meet_where_moved in
-    let is = met t c.self.invariant c.key_of.ensures.table c.key_of-2.ensures.table c.len-count.ensures.table s c.in-Some.key c.in-Some-key_of.to (sym c.in-Some.ensures.key) (sym c.in-Some-key_of.ensures.key) c.block_of-from.result c.block_of-from.ensures asked.result asked.ensures.stays asked.ensures.some asked.ensures.none in
-    let rule = told t c.self.invariant c.key_of.ensures.table c.key_of-2.ensures.table c.len-count.ensures.table s c.in-Some.key c.in-Some-key_of.to (sym c.in-Some.ensures.key) (sym c.in-Some-key_of.ensures.key) c.requires asked.result is in
+    let is = met t c.self.invariant c.key_of.ensures.table c.key_of-2.ensures.table c.learn_order.ensures s c.in-Some.key c.in-Some-key_of.to (sym c.in-Some.ensures.key) (sym c.in-Some-key_of.ensures.key) c.block_of-from.result c.block_of-from.ensures asked.result asked.ensures.stays asked.ensures.some asked.ensures.none in
+    let rule = told t c.self.invariant c.key_of.ensures.table c.key_of-2.ensures.table c.learn_order.ensures s c.in-Some.key c.in-Some-key_of.to (sym c.in-Some.ensures.key) (sym c.in-Some-key_of.ensures.key) c.requires asked.result is in
     rw (← c.self.view_is) (rule ∙ ap answer c.if-meet_where_moved.false)
 
 pub returns-clause-after : goal.returns-clause-after
@@ -135,5 +135,5 @@ returns-clause-after c =
     let t = c.self.inside in
     let key = c.in-Some.key in
     let same = name_under signal_name t.signals c.args.signal.name key c.key_of.ensures.table (sym c.in-Some.ensures.key) in
-    rw (← c.self.view_is, c.in_ok-change_entry.ensures.changed)
-    (ap (λ l. record (tables_of t) { signals = l }) (map-with_change (λ (e : Entry _). e.item) (λ x. x.name) t.signals key (entry c.args.signal c.in_ok-refs.refs) c.key_of.ensures.table same))
+    rw (← c.self.view_is, c.in_ok-change_linked.ensures.changed)
+    (ap (λ l. record (tables_of t) { signals = l }) (map-with_change (λ (e : Linked _). e.item) (λ x. x.name) t.signals key (entry c.args.signal c.in_ok-refs.refs) c.key_of.ensures.table same))

@@ -1,13 +1,13 @@
 use Rattle.std.proofs.Common.{ℕ, ◌∙◌, sym}
 use Rattle.rail_model.specs.declared.items.Signal.{Signal}
-use Rattle.line_tables.specs.declared.entry.Entry.{Entry}
+use Rattle.line_tables.specs.declared.linked.Linked.{Linked}
 use Rattle.line_tables.proofs.Views.{is_named-map}
 use Rattle.line_tables.proofs.InUse.{signal_used}
 use Rattle.line_tables.proofs.line_tables.LineTables.is_signal_used.Goals as goal
 
 pub unwrap-requires : goal.unwrap-requires
 unwrap-requires c =
-    c.key_of.ensures.there ∙ sym (is_named-map (λ (e : ℕ × Entry Signal). e.1.item) (λ x. x.name) c.self.inside.signals c.args.name.now) ∙ rw (← c.self.view_is) at c.requires
+    c.key_of.ensures.there ∙ sym (is_named-map (λ (e : ℕ × Linked Signal). e.1.item) (λ x. x.name) c.self.inside.signals c.args.name.now) ∙ rw (← c.self.view_is) at c.requires
 
 pub returns : goal.returns
 returns c =

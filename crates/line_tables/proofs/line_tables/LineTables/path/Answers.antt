@@ -2,7 +2,7 @@ use Rattle.std.proofs.Common.{◌≡◌, sym, ap, ◌∙◌, refl, get_or}
 use Rattle.rail_model.specs.declared.items.Route.{Route}
 use Rattle.rail_model.specs.declared.items.Signal.{Signal}
 use Rattle.rail_model.specs.Tables.{route_named}
-use Rattle.line_tables.specs.declared.entry.Entry.{Entry}
+use Rattle.line_tables.specs.declared.linked.Linked.{Linked}
 use Rattle.line_tables.specs.Inside.{tables_of}
 use Rattle.line_tables.specs.Hops.{route_hops}
 use Rattle.line_tables.proofs.Found.{found_by_key}
@@ -15,14 +15,14 @@ get-route-requires c =
     let t = c.self.inside in
     let e = c.nth-entry.result.now in
     let key = only_key _ e.refs (route_key t c.self.invariant c.args.run e c.nth-entry.ensures.item) in
-    let found = found_by_key (λ (e : Entry Route). e.item.name) t.routes e.item.route (get_or e.refs 0 0) c.len-2.ensures.table key in
+    let found = found_by_key (λ (e : Linked Route). e.item.name) t.routes e.item.route (get_or e.refs 0 0) c.learn_order-2.ensures key in
     rw (c.slice.ensures, found.1.under) refl
 
 pub untimed_hops-requires-clause-there : goal.untimed_hops-requires-clause-there
 untimed_hops-requires-clause-there c =
     let t = c.self.inside in
     rw c.slice-keys.ensures
-    (all_keys (λ (e : Entry Signal). e.item.name) t.signals c.len.ensures.table _ _ (linked_under t c.self.invariant _ c.get-route.result.now c.get-route.ensures.item))
+    (all_keys (λ (e : Linked Signal). e.item.name) t.signals c.learn_order.ensures _ _ (linked_under t c.self.invariant _ c.get-route.result.now c.get-route.ensures.item))
 
 -- the hops are those of the run's route
 right : (c : goal.After-drop-numbers-2) → c.in_ok-hops.hops ≡ route_hops (tables_of c.self.inside) (route_named (tables_of c.self.inside) c.nth-entry.result.now.item.route)
@@ -31,8 +31,8 @@ right c =
     let e = c.nth-entry.result.now in
     let r = c.get-route.result.now in
     let linked = linked_under t c.self.invariant _ r c.get-route.ensures.item in
-    let named = route_is t c.self.invariant c.args.run e r c.len-2.ensures.table c.nth-entry.ensures.item (rw c.slice.ensures at c.get-route.ensures.item) in
-    (rw c.slice-keys.ensures at c.in_ok-hops.ensures) ∙ hops_are t c.self.invariant r c.len.ensures.table linked ∙ ap (route_hops (tables_of t)) (sym named)
+    let named = route_is t c.self.invariant c.args.run e r c.learn_order-2.ensures c.nth-entry.ensures.item (rw c.slice.ensures at c.get-route.ensures.item) in
+    (rw c.slice-keys.ensures at c.in_ok-hops.ensures) ∙ hops_are t c.self.invariant r c.learn_order.ensures linked ∙ ap (route_hops (tables_of t)) (sym named)
 
 pub returns-clause-same : goal.returns-clause-same
 returns-clause-same c =

@@ -8,13 +8,13 @@ use Rattle.rail_model.specs.declared.items.Route.{Route}
 use Rattle.rail_model.specs.declared.edit.Rule.{Rule}
 use Rattle.rail_model.specs.declared.edit.Rule.TheVariants.{Twice}
 use Rattle.rail_model.specs.Rules.{is_named, refers_to_known, rule_of_put}
-use Rattle.line_tables.specs.declared.entry.Entry.{Entry}
+use Rattle.line_tables.specs.declared.linked.Linked.{Linked}
 use Rattle.line_tables.specs.declared.line_tables.LineTables.TheInside.{Inside}
 use Rattle.line_tables.specs.Links.{block_of, repeats_key}
 use Rattle.line_tables.specs.Table.{named, key_of, IsTable}
-use Rattle.line_tables.specs.References.{refused_itself}
+use Rattle.line_tables.specs.References.{rule_of_item}
 use Rattle.line_tables.specs.Inside.{tables_of, IsJoined}
-use Rattle.line_tables.proofs.Linked.{entry}
+use Rattle.line_tables.proofs.References.{entry}
 use Rattle.line_tables.proofs.Views.{map-with_item}
 use Rattle.line_tables.proofs.Meets.{all_keys, repeats_by_key}
 use Rattle.line_tables.proofs.Along.{put_at_images}
@@ -24,12 +24,12 @@ use Rattle.line_tables.proofs.RulesOfPut.{refused_then}
 use Rattle.line_tables.proofs.JoinedRoutes.{route_is_new, route_put}
 use Rattle.line_tables.proofs.line_tables.LineTables.put_route.Goals as goal
 
-abbrev signal_name : Entry Signal → List ℕ
+abbrev signal_name : Linked Signal → List ℕ
 signal_name e = e.item.name
 
 -- what refuses a route whose signals are there: one block twice, or nothing
 module _ (t : Inside) (j : IsJoined t) (signal_table : IsTable signal_name t.signals) (block_table : IsTable (λ (b : Block). b.name) t.blocks) (x : Route) where
-  told : refused_itself (tables_of t) (item.Route x) ≡ None → (found : Option (List ℕ)) (signals blocks : List ℕ) (twice : Bool) → is_some found ≡ list_all (is_named (named signal_name) t.signals) x.signals → IfSome found (λ keys. map (key_of signal_name t.signals) x.signals ≡ map Some keys) → found ≡ Some signals → blocks ≡ map (block_of t.signals) signals → twice ≡ repeats_key blocks → rule_of_put (tables_of t) (item.Route x) ≡ (if twice then Some Twice else None)
+  told : rule_of_item (tables_of t) (item.Route x) ≡ None → (found : Option (List ℕ)) (signals blocks : List ℕ) (twice : Bool) → is_some found ≡ list_all (is_named (named signal_name) t.signals) x.signals → IfSome found (λ keys. map (key_of signal_name t.signals) x.signals ≡ map Some keys) → found ≡ Some signals → blocks ≡ map (block_of t.signals) signals → twice ≡ repeats_key blocks → rule_of_put (tables_of t) (item.Route x) ≡ (if twice then Some Twice else None)
   told itself found signals blocks twice known keyed is are repeated =
       refused_then (tables_of t) x itself
       ∙ refused_twice (tables_of t) (item.Route x) twice (route_known_by t x ∙ sym known ∙ ap is_some is)
@@ -56,13 +56,13 @@ blocks_of-requires-clause-one c = one_block c.self.inside c.self.invariant
 pub returns-then-branch-clause-refused : goal.returns-then-branch-clause-refused
 returns-then-branch-clause-refused c =
     let found = c.in_ok-signals in
-    let rule = told c.self.inside c.self.invariant found.ensures.table c.len-count.ensures.table c.args.route (rw (← c.self.view_is) at c.requires) found.field-0 c.in-Some.signals c.in_ok-blocks.blocks c.in_ok-repeats.field-0 found.ensures.known found.ensures.keys c.in-Some.is c.in_ok-blocks.ensures (rw c.slice.ensures at c.in_ok-repeats.ensures) in
+    let rule = told c.self.inside c.self.invariant found.ensures.table c.learn_order.ensures c.args.route (rw (← c.self.view_is) at c.requires) found.field-0 c.in-Some.signals c.in_ok-blocks.blocks c.in_ok-repeats.field-0 found.ensures.known found.ensures.keys c.in-Some.is c.in_ok-blocks.ensures (rw c.slice.ensures at c.in_ok-repeats.ensures) in
     rw (← c.self.view_is) (rule ∙ ap answer c.if-branch.true)
 
 pub enter_route-requires : goal.enter_route-requires
 enter_route-requires c =
     let found = c.in_ok-signals in
-    let rule = told c.self.inside c.self.invariant found.ensures.table c.len-count.ensures.table c.args.route (rw (← c.self.view_is) at c.requires) found.field-0 c.in-Some.signals c.in_ok-blocks.blocks c.in_ok-repeats.field-0 found.ensures.known found.ensures.keys c.in-Some.is c.in_ok-blocks.ensures (rw c.slice.ensures at c.in_ok-repeats.ensures) in
+    let rule = told c.self.inside c.self.invariant found.ensures.table c.learn_order.ensures c.args.route (rw (← c.self.view_is) at c.requires) found.field-0 c.in-Some.signals c.in_ok-blocks.blocks c.in_ok-repeats.field-0 found.ensures.known found.ensures.keys c.in-Some.is c.in_ok-blocks.ensures (rw c.slice.ensures at c.in_ok-repeats.ensures) in
     route_is_new c.self.inside c.args.route (rule ∙ ap answer c.if-branch.false)
 
 pub invariant_of-self-2 : goal.invariant_of-self-2
@@ -73,7 +73,7 @@ invariant_of-self-2 c =
     let key = c.in_ok-enter_route.field-0 in
     let done = c.in_ok-enter_route.ensures in
     let found = c.in_ok-signals in
-    let rule = told t c.self.invariant found.ensures.table c.len-count.ensures.table x (rw (← c.self.view_is) at c.requires) found.field-0 signals c.in_ok-blocks.blocks c.in_ok-repeats.field-0 found.ensures.known found.ensures.keys c.in-Some.is c.in_ok-blocks.ensures (rw c.slice.ensures at c.in_ok-repeats.ensures) in
+    let rule = told t c.self.invariant found.ensures.table c.learn_order.ensures x (rw (← c.self.view_is) at c.requires) found.field-0 signals c.in_ok-blocks.blocks c.in_ok-repeats.field-0 found.ensures.known found.ensures.keys c.in-Some.is c.in_ok-blocks.ensures (rw c.slice.ensures at c.in_ok-repeats.ensures) in
     let blocks : c.slice-2.result.now ≡ map (block_of t.signals) signals = c.slice-2.ensures ∙ c.in_ok-blocks.ensures in
     rw done.put
     (route_put t key x signals c.enter_route.new.uses c.self.invariant done.table (rule ∙ ap answer c.if-branch.false) (rw c.in-Some.is at found.ensures.keys) done.counted c.enter_route.new.sets done.fresh done.signals
@@ -82,11 +82,11 @@ invariant_of-self-2 c =
 pub returns-clause-accepted : goal.returns-clause-accepted
 returns-clause-accepted c =
     let found = c.in_ok-signals in
-    let rule = told c.self.inside c.self.invariant found.ensures.table c.len-count.ensures.table c.args.route (rw (← c.self.view_is) at c.requires) found.field-0 c.in-Some.signals c.in_ok-blocks.blocks c.in_ok-repeats.field-0 found.ensures.known found.ensures.keys c.in-Some.is c.in_ok-blocks.ensures (rw c.slice.ensures at c.in_ok-repeats.ensures) in
+    let rule = told c.self.inside c.self.invariant found.ensures.table c.learn_order.ensures c.args.route (rw (← c.self.view_is) at c.requires) found.field-0 c.in-Some.signals c.in_ok-blocks.blocks c.in_ok-repeats.field-0 found.ensures.known found.ensures.keys c.in-Some.is c.in_ok-blocks.ensures (rw c.slice.ensures at c.in_ok-repeats.ensures) in
     rw (← c.self.view_is) (rule ∙ ap answer c.if-branch.false)
 
 pub returns-clause-after : goal.returns-clause-after
 returns-clause-after c =
     let t = c.self.inside in
     rw (← c.self.view_is, c.in_ok-enter_route.ensures.put)
-    (ap (λ l. record (tables_of t) { routes = l }) (map-with_item (λ (e : ℕ × Entry _). e.1.item) (λ x. x.name) t.routes (c.in_ok-enter_route.field-0, entry c.args.route c.in-Some.signals)))
+    (ap (λ l. record (tables_of t) { routes = l }) (map-with_item (λ (e : ℕ × Linked _). e.1.item) (λ x. x.name) t.routes (c.in_ok-enter_route.field-0, entry c.args.route c.in-Some.signals)))

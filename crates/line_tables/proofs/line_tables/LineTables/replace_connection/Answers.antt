@@ -1,10 +1,10 @@
 use Rattle.std.proofs.Common.{◌==◌, ap, sym, ◌∙◌, arith}
 use Rattle.rail_model.specs.declared.items.Item.TheVariants as item
 use Rattle.rail_model.proofs.Sound.{changeable}
-use Rattle.line_tables.specs.declared.entry.Entry.{Entry}
+use Rattle.line_tables.specs.declared.linked.Linked.{Linked}
 use Rattle.line_tables.specs.Inside.{tables_of}
 use Rattle.line_tables.proofs.Found.{name_under}
-use Rattle.line_tables.proofs.Linked.{entry}
+use Rattle.line_tables.proofs.References.{entry}
 use Rattle.line_tables.proofs.Views.{map-with_change}
 use Rattle.line_tables.proofs.Known.{refs_of_found, connection_knows}
 use Rattle.line_tables.proofs.JoinedTimetable.{connection_stays, connection_change}
@@ -20,26 +20,26 @@ keys_of-requires c =
 pub unwrap-key-requires : goal.unwrap-key-requires
 unwrap-key-requires c = c.key_of.ensures.there ∙ connection_stays c.self.inside c.args.connection (rw (← c.self.view_is) at c.requires)
 
-pub change_entry-requires-clause-same_name : goal.change_entry-requires-clause-same_name
-change_entry-requires-clause-same_name c =
-    name_under (λ (e : Entry _). e.item.name) c.self.inside.connections c.args.connection.name c.unwrap-key.result c.key_of.ensures.table (sym c.key_of.ensures.key ∙ c.unwrap-key.ensures)
+pub change_linked-requires-clause-same_name : goal.change_linked-requires-clause-same_name
+change_linked-requires-clause-same_name c =
+    name_under (λ (e : Linked _). e.item.name) c.self.inside.connections c.args.connection.name c.unwrap-key.result c.key_of.ensures.table (sym c.key_of.ensures.key ∙ c.unwrap-key.ensures)
 
-pub change_entry-requires-clause-counted_before : goal.change_entry-requires-clause-counted_before
-change_entry-requires-clause-counted_before c e k h =
+pub change_linked-requires-clause-counted_before : goal.change_linked-requires-clause-counted_before
+change_linked-requires-clause-counted_before c e k h =
     let t = c.self.inside in
     let key = c.unwrap-key.result in
     omega (arith, c.self.invariant.run_uses k, refs_of_found (λ u. u.0 == key) t.connections e k h)
 
 pub invariant_of-self-2 : goal.invariant_of-self-2
 invariant_of-self-2 c =
-    let done = c.in_ok-change_entry.ensures in
-    let same = name_under (λ (e : Entry _). e.item.name) c.self.inside.connections c.args.connection.name c.unwrap-key.result c.key_of.ensures.table (sym c.key_of.ensures.key ∙ c.unwrap-key.ensures) in
-    rw done.changed (connection_change c.self.inside c.unwrap-key.result c.args.connection c.in_ok-refs.refs c.change_entry.new.uses c.self.invariant c.key_of.ensures.table same (rw (← c.self.view_is) at c.requires) c.in_ok-refs.ensures.keys done.counted)
+    let done = c.in_ok-change_linked.ensures in
+    let same = name_under (λ (e : Linked _). e.item.name) c.self.inside.connections c.args.connection.name c.unwrap-key.result c.key_of.ensures.table (sym c.key_of.ensures.key ∙ c.unwrap-key.ensures) in
+    rw done.changed (connection_change c.self.inside c.unwrap-key.result c.args.connection c.in_ok-refs.refs c.change_linked.new.uses c.self.invariant c.key_of.ensures.table same (rw (← c.self.view_is) at c.requires) c.in_ok-refs.ensures.keys done.counted)
 
 pub returns-clause-after : goal.returns-clause-after
 returns-clause-after c =
     let t = c.self.inside in
     let key = c.unwrap-key.result in
-    let same = name_under (λ (e : Entry _). e.item.name) t.connections c.args.connection.name key c.key_of.ensures.table (sym c.key_of.ensures.key ∙ c.unwrap-key.ensures) in
-    rw (← c.self.view_is, c.in_ok-change_entry.ensures.changed)
-    (ap (λ l. record (tables_of t) { connections = l }) (map-with_change (λ (e : Entry _). e.item) (λ x. x.name) t.connections key (entry c.args.connection c.in_ok-refs.refs) c.key_of.ensures.table same))
+    let same = name_under (λ (e : Linked _). e.item.name) t.connections c.args.connection.name key c.key_of.ensures.table (sym c.key_of.ensures.key ∙ c.unwrap-key.ensures) in
+    rw (← c.self.view_is, c.in_ok-change_linked.ensures.changed)
+    (ap (λ l. record (tables_of t) { connections = l }) (map-with_change (λ (e : Linked _). e.item) (λ x. x.name) t.connections key (entry c.args.connection c.in_ok-refs.refs) c.key_of.ensures.table same))

@@ -2,7 +2,7 @@ use Rattle.std.proofs.Common.{◌≡◌, ◌∙◌, sym, ap}
 use Rattle.std.specs.Prelude.{is_some}
 use Rattle.rail_model.specs.declared.items.Route.{Route}
 use Rattle.rail_model.specs.Tables.{route_named}
-use Rattle.line_tables.specs.declared.entry.Entry.{Entry}
+use Rattle.line_tables.specs.declared.linked.Linked.{Linked}
 use Rattle.line_tables.specs.Inside.{tables_of}
 use Rattle.line_tables.specs.Hops.{route_hops}
 use Rattle.line_tables.proofs.Entries.{is_some-key_of}
@@ -15,7 +15,7 @@ unwrap-number-requires c =
     let t = c.self.inside in
     let e = c.nth-entry.result.now in
     let key = only_key _ e.refs (route_key t c.self.invariant c.args.run e c.nth-entry.ensures.item) in
-    c.number_of.ensures.there ∙ sym (is_some-key_of (λ (e : Entry Route). e.item.name) t.routes e.item.route) ∙ ap is_some key
+    c.number_of.ensures.there ∙ sym (is_some-key_of (λ (e : Linked Route). e.item.name) t.routes e.item.route) ∙ ap is_some key
 
 -- the hops are those of the run's route
 right : (c : goal.After-path_over) → c.index-routes-number.result ≡ route_hops (tables_of c.self.inside) (route_named (tables_of c.self.inside) c.nth-entry.result.now.item.route)

@@ -1,23 +1,23 @@
 use Rattle.std.proofs.Common.{length, ap, sym, ◌∙◌, refl}
 use Rattle.rail_model.specs.declared.items.Route.{Route}
 use Rattle.rail_model.specs.Tables.{no_route}
-use Rattle.line_tables.specs.declared.entry.Entry.{Entry}
+use Rattle.line_tables.specs.declared.linked.Linked.{Linked}
 use Rattle.line_tables.proofs.Found.{found_by_key}
 use Rattle.line_tables.proofs.Views.{item_named, item_missing}
 use Rattle.line_tables.proofs.line_tables.LineTables.signal_count.Goals as goal
 
 pub get-requires : goal.get-requires
 get-requires c =
-    let found = found_by_key (λ (e : Entry Route). e.item.name) c.self.inside.routes c.args.route.now c.in-Some.key c.in-Some.ensures.table (sym c.in-Some.ensures.key) in
+    let found = found_by_key (λ (e : Linked Route). e.item.name) c.self.inside.routes c.args.route.now c.in-Some.key c.in-Some.ensures.table (sym c.in-Some.ensures.key) in
     rw found.1.under refl
 
 pub returns-in-Some-clause-count : goal.returns-in-Some-clause-count
 returns-in-Some-clause-count c =
     let e = c.in-Some.ensures in
     rw (← c.self.view_is)
-    (c.len.ensures.count ∙ ap (λ (r : Route). length r.signals) (sym (item_named (λ (e : Entry Route). e.item) (λ x. x.name) c.self.inside.routes c.args.route.now c.in-Some.key c.get.result.now no_route e.table (sym e.key) c.get.ensures.item)))
+    (c.len.ensures.count ∙ ap (λ (r : Route). length r.signals) (sym (item_named (λ (e : Linked Route). e.item) (λ x. x.name) c.self.inside.routes c.args.route.now c.in-Some.key c.get.result.now no_route e.table (sym e.key) c.get.ensures.item)))
 
 pub returns-in-None-clause-count : goal.returns-in-None-clause-count
 returns-in-None-clause-count c =
     rw (← c.self.view_is)
-    (ap (λ (r : Route). length r.signals) (sym (item_missing (λ (e : Entry Route). e.item) (λ x. x.name) c.self.inside.routes c.args.route.now no_route (sym c.in-None.ensures.there))))
+    (ap (λ (r : Route). length r.signals) (sym (item_missing (λ (e : Linked Route). e.item) (λ x. x.name) c.self.inside.routes c.args.route.now no_route (sym c.in-None.ensures.there))))

@@ -1,6 +1,6 @@
 use Rattle.std.proofs.Common.{◌≡◌, take, map, length, vec_len, vec_capacity}
 use Rattle.line_tables.specs.Links.{block_of}
-use Rattle.line_tables.proofs.entry.blocks_of.Given as goal
+use Rattle.line_tables.proofs.linked.blocks_of.Given as goal
 
 abbrev pub invariant-loop-key : goal.invariant-loop-key
 invariant-loop-key l = record {

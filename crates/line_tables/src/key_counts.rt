@@ -1,6 +1,6 @@
 //! How often the items of a table are referred to.
 ghost use Rattle.std.specs.Prelude.{◌≡◌, ℕ, ◌+◌, ◌≤◌, ◌<◌, [], length, OnOk, IfOk};
-ghost use Rattle.line_tables.specs.Uses.{count_of, times, SameCounts, HasRoomFor, HasRoom};
+ghost use Rattle.line_tables.specs.KeyCounts.{count_of, times, SameCounts, HasRoomFor, HasRoom};
 
 use rail_model::OutOfMemory;
 use std::alloc::Global;
@@ -10,11 +10,11 @@ use std::marker::Model;
 ///
 /// A count that would pass the greatest number of its type finds no memory.
 #[derive(Drop)]
-pub(crate) struct Uses {
+pub(crate) struct KeyCounts {
     counts: Vec<usize>,
 }
 
-impl Model for Uses {
+impl Model for KeyCounts {
     ghost use Rattle.std.specs.Prelude.{ℕ, List};
 
     ghost Value = { List ℕ };
@@ -22,12 +22,12 @@ impl Model for Uses {
     ghost view = { λ u. u.counts.items };
 }
 
-impl Uses {
+impl KeyCounts {
     /// No key is referred to.
     pub(crate) fn new(alloc: Global) -> Self
         ensures { result ≡ [] }
     {
-        Uses {
+        KeyCounts {
             counts: Vec::new(alloc),
         }
     }
@@ -74,7 +74,7 @@ impl Uses {
     pub(crate) fn copy(&self) -> Result<Self, OutOfMemory>
         ensures { IfOk result (λ other. other ≡ self.now) }
     {
-        Ok(Uses {
+        Ok(KeyCounts {
             counts: self.counts.clone()?,
         })
     }

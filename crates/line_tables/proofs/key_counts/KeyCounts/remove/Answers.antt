@@ -1,8 +1,8 @@
 use Rattle.std.proofs.Common.{◌≤◌, refl, arith, get_or}
 use Rattle.std.proofs.lemmas.List.{get_or_read}
-use Rattle.line_tables.specs.Uses.{count_of}
+use Rattle.line_tables.specs.KeyCounts.{count_of}
 use Rattle.line_tables.proofs.Counts.{times_at, counted_within}
-use Rattle.line_tables.proofs.uses.Uses.remove.Goals as goal
+use Rattle.line_tables.proofs.key_counts.KeyCounts.remove.Goals as goal
 
 pub index_mut-requires : goal.index_mut-requires
 index_mut-requires c =

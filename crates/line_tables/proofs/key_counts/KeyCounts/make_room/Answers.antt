@@ -2,9 +2,9 @@ use Rattle.std.proofs.Common.{◌∙◌, length, take, subst}
 use Rattle.std.proofs.lemmas.List.{take_all}
 use Rattle.std.proofs.lemmas.List.Elements.{All-more, All-weaker}
 use Rattle.std.specs.Prelude.{All}
-use Rattle.line_tables.specs.Uses.{HasRoomFor}
+use Rattle.line_tables.specs.KeyCounts.{HasRoomFor}
 use Rattle.line_tables.proofs.Counts.{HasRoomFor-longer}
-use Rattle.line_tables.proofs.uses.Uses.make_room.Goals as goal
+use Rattle.line_tables.proofs.key_counts.KeyCounts.make_room.Goals as goal
 
 pub loop-key-preserved : goal.loop-key-preserved
 loop-key-preserved c =

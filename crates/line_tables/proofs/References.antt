@@ -10,14 +10,14 @@ use Rattle.rail_model.specs.Name.{is_same}
 use Rattle.rail_model.specs.Edits.{with_item, without}
 use Rattle.rail_model.proofs.NameOrder.{same_name, is_same-from}
 use Rattle.rail_model.proofs.Members.{All-with_item}
-use Rattle.line_tables.specs.declared.entry.Entry.{Entry}
+use Rattle.line_tables.specs.declared.linked.Linked.{Linked}
 use Rattle.line_tables.specs.Table.{with_change, named, key_of, IsTable}
-use Rattle.line_tables.specs.Uses.{times}
+use Rattle.line_tables.specs.KeyCounts.{times}
 use Rattle.line_tables.specs.Links.{IsLinked, references, lists_key}
 use Rattle.line_tables.proofs.Found.{name_of_key}
 
 -- an item with the keys that it refers to
-abbrev pub entry : {A : Type 0} → A → List ℕ → Entry A
+abbrev pub entry : {A : Type 0} → A → List ℕ → Linked A
 entry x refs = record { item = x; refs = refs }
 
 -- ---- lists of names and of their keys
@@ -108,46 +108,46 @@ named_counted name used n k ns ks table key e =
 
 module _ {A B : Type 0} (names : A → List (List ℕ)) (label : A → List ℕ) (name : B → List ℕ) where
   -- this user's keys are those of the items that it names
-  abbrev IsLinkedOne : List (ℕ × B) → ℕ × Entry A → Type 0
+  abbrev IsLinkedOne : List (ℕ × B) → ℕ × Linked A → Type 0
   IsLinkedOne used u = map (key_of name used) (names u.1.item) ≡ map Some u.1.refs
 
-  abbrev user_name : Entry A → List ℕ
+  abbrev user_name : Linked A → List ℕ
   user_name e = label e.item
 
   -- ---- an edit of the users
 
-  pub linked_by_put : (users : List (ℕ × Entry A)) (used : List (ℕ × B)) (k : ℕ) (x : A) (refs : List ℕ) → IsLinked names name users used → map (key_of name used) (names x) ≡ map Some refs → IsLinked names name (with_item (named user_name) users (k, entry x refs)) used
+  pub linked_by_put : (users : List (ℕ × Linked A)) (used : List (ℕ × B)) (k : ℕ) (x : A) (refs : List ℕ) → IsLinked names name users used → map (key_of name used) (names x) ≡ map Some refs → IsLinked names name (with_item (named user_name) users (k, entry x refs)) used
   linked_by_put users used k x refs linked found =
       All-with_item (named user_name) users (k, entry x refs) (IsLinkedOne used) found linked
 
-  pub linked_by_change : (users : List (ℕ × Entry A)) (used : List (ℕ × B)) (k : ℕ) (x : A) (refs : List ℕ) → IsLinked names name users used → map (key_of name used) (names x) ≡ map Some refs → IsLinked names name (with_change users k (entry x refs)) used
+  pub linked_by_change : (users : List (ℕ × Linked A)) (used : List (ℕ × B)) (k : ℕ) (x : A) (refs : List ℕ) → IsLinked names name users used → map (key_of name used) (names x) ≡ map Some refs → IsLinked names name (with_change users k (entry x refs)) used
   linked_by_change users used k x refs linked found =
-      let change : ℕ × Entry A → ℕ × Entry A = λ u. if u.0 == k then (k, entry x refs) else u in
+      let change : ℕ × Linked A → ℕ × Linked A = λ u. if u.0 == k then (k, entry x refs) else u in
       All-map (IsLinkedOne used) change users
       (All-weaker (IsLinkedOne used) (λ u. IsLinkedOne used (change u)) (λ u h. elim (cases_Bool (u.0 == k)) [ inl t ↦ rw t found | inr t ↦ rw t h ]) users linked)
 
-  pub linked_by_drop : (users : List (ℕ × Entry A)) (used : List (ℕ × B)) (n : List ℕ) → IsLinked names name users used → IsLinked names name (without (named user_name) users n) used
+  pub linked_by_drop : (users : List (ℕ × Linked A)) (used : List (ℕ × B)) (n : List ℕ) → IsLinked names name users used → IsLinked names name (without (named user_name) users n) used
   linked_by_drop users used n linked = All-filter (λ u. not (is_same (label u.1.item) n)) (IsLinkedOne used) users linked
 
   -- ---- an edit of what they use
 
-  pub linked_to_same : (users : List (ℕ × Entry A)) (used used' : List (ℕ × B)) → IsLinked names name users used → ((n : List ℕ) (j : ℕ) → key_of name used n ≡ Some j → key_of name used' n ≡ Some j) → IsLinked names name users used'
+  pub linked_to_same : (users : List (ℕ × Linked A)) (used used' : List (ℕ × B)) → IsLinked names name users used → ((n : List ℕ) (j : ℕ) → key_of name used n ≡ Some j → key_of name used' n ≡ Some j) → IsLinked names name users used'
   linked_to_same users used used' linked keeps =
       All-weaker (IsLinkedOne used) (IsLinkedOne used') (λ u h. keys_same (key_of name used) (key_of name used') (names u.1.item) u.1.refs keeps h) users linked
 
   -- nobody refers to the key that goes
-  pub linked_to_rest : (users : List (ℕ × Entry A)) (used used' : List (ℕ × B)) (k : ℕ) → IsLinked names name users used → references users k ≡ 0 → ((n : List ℕ) (j : ℕ) → j ≢ k → key_of name used n ≡ Some j → key_of name used' n ≡ Some j) → IsLinked names name users used'
+  pub linked_to_rest : (users : List (ℕ × Linked A)) (used used' : List (ℕ × B)) (k : ℕ) → IsLinked names name users used → references users k ≡ 0 → ((n : List ℕ) (j : ℕ) → j ≢ k → key_of name used n ≡ Some j → key_of name used' n ≡ Some j) → IsLinked names name users used'
   linked_to_rest [] used used' k linked none keeps = All-nil (IsLinkedOne used')
   linked_to_rest (u ∷ users) used used' k linked none keeps =
-      let count = sum_by-cons (λ (u : ℕ × Entry A). times k u.1.refs) u users in
+      let count = sum_by-cons (λ (u : ℕ × Linked A). times k u.1.refs) u users in
       All-cons (IsLinkedOne used') u users
       (keys_kept (key_of name used) (key_of name used') k (names u.1.item) u.1.refs keeps (omega arith) (All-head (IsLinkedOne used) u users linked))
       (linked_to_rest users used used' k (All-tail (IsLinkedOne used) u users linked) (omega arith) keeps)
 
   -- ---- who refers to a key
 
-  pub references_tell : (users : List (ℕ × Entry A)) (used : List (ℕ × B)) (n : List ℕ) (k : ℕ) → IsTable name used → IsLinked names name users used → key_of name used n ≡ Some k → list_any (λ u. list_any (λ m. is_same m n) (names u.1.item)) users ≡ nat_lt 0 (references users k)
+  pub references_tell : (users : List (ℕ × Linked A)) (used : List (ℕ × B)) (n : List ℕ) (k : ℕ) → IsTable name used → IsLinked names name users used → key_of name used n ≡ Some k → list_any (λ u. list_any (λ m. is_same m n) (names u.1.item)) users ≡ nat_lt 0 (references users k)
   references_tell users used n k table linked key =
       list_any_same (λ u. list_any (λ m. is_same m n) (names u.1.item)) (λ u. nat_lt 0 (times k u.1.refs)) users
       (All-weaker (IsLinkedOne used) (λ u. list_any (λ m. is_same m n) (names u.1.item) ≡ nat_lt 0 (times k u.1.refs)) (λ u h. named_counted name used n k (names u.1.item) u.1.refs table key h) users linked)
-      ∙ sym (positive_sum (λ (u : ℕ × Entry A). times k u.1.refs) users)
+      ∙ sym (positive_sum (λ (u : ℕ × Linked A). times k u.1.refs) users)

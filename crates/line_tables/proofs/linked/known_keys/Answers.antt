@@ -4,7 +4,7 @@ use Rattle.std.proofs.lemmas.List.{map-append, map_more}
 use Rattle.std.proofs.lemmas.List.Folds.{list_all_at, list_all_more}
 use Rattle.rail_model.specs.Rules.{is_named}
 use Rattle.line_tables.specs.Table.{key_of, named}
-use Rattle.line_tables.proofs.entry.known_keys.Goals as goal
+use Rattle.line_tables.proofs.linked.known_keys.Goals as goal
 
 pub returns-in_default-clause-known : goal.returns-in_default-clause-known
 returns-in_default-clause-known g c =

@@ -7,22 +7,22 @@ ghost use Rattle.rail_model.specs.Rules.{is_named};
 ghost use Rattle.rail_model.specs.Edits.{with_item, without};
 ghost use Rattle.line_tables.specs.Table as tables;
 ghost use Rattle.line_tables.specs.Links.{IsKey, block_of};
-ghost use Rattle.line_tables.specs.Uses.{count_of, times, SameCounts, HasRoom};
-ghost use Rattle.line_tables.specs.declared.entry.Entry.{Entry};
+ghost use Rattle.line_tables.specs.KeyCounts.{count_of, times, SameCounts, HasRoom};
+ghost use Rattle.line_tables.specs.declared.linked.Linked.{Linked};
 
+use crate::key_counts::KeyCounts;
 use crate::named_table::{NamedTable, Stored};
-use crate::uses::Uses;
 use rail_model::{Block, Connection, List, Name, Named, OutOfMemory, Route, Run, Section, Signal};
 use std::alloc::Global;
 
 /// An item, and the keys of the items that it names, in its order.
 #[derive(Clone, Drop)]
-pub(crate) struct Entry<T> {
+pub(crate) struct Linked<T> {
     pub(crate) item: T,
     pub(crate) refs: List<usize>,
 }
 
-impl<T: Named> Named for Entry<T> {
+impl<T: Named> Named for Linked<T> {
     ghost label = { λ e. T.label e.item };
 
     fn name(&self) -> &Name {
@@ -67,7 +67,7 @@ impl Stored for Connection {
     ghost copies = { λ a b h. h };
 }
 
-impl<T: Stored> Stored for Entry<T> {
+impl<T: Stored> Stored for Linked<T> {
     ghost copies = { λ a b h. λ j. record { item = T.copies a.item b.item h.0 j; refs = h.1 j } };
 }
 
@@ -82,7 +82,7 @@ pub(crate) fn keys_of<T: Stored>(
         (λ keys. map (tables.key_of T.label table.now) names.now ≡ map Some keys) }
     ensures table { tables.IsTable T.label table.now }
 {
-    let _count = table.len();
+    table.learn_order();
     let mut keys = List::from_vec(Vec::with_capacity(alloc, names.len())?);
     let mut near = 0;
     for name in names {
@@ -103,7 +103,7 @@ pub(crate) fn known_keys<T: Stored>(
         (λ found. IfSome found (λ keys. map (tables.key_of T.label table.now) names.now ≡ map Some keys)) }
     ensures table { tables.IsTable T.label table.now }
 {
-    let _count = table.len();
+    table.learn_order();
     let mut keys = Vec::with_capacity(alloc, names.len())?;
     let mut near = 0;
     for name in names.slice() {
@@ -123,7 +123,7 @@ pub(crate) fn one_key(alloc: Global, key: usize) -> Result<List<usize>, OutOfMem
 }
 
 /// The key of the block beyond the signal under a key.
-pub(crate) fn block_of(signals: &NamedTable<Entry<Signal>>, key: usize) -> usize
+pub(crate) fn block_of(signals: &NamedTable<Linked<Signal>>, key: usize) -> usize
     requires there { IsKey signals.now key }
     requires one { All (λ e. length e.1.refs ≡ 1) signals.now }
     ensures { result ≡ block_of signals.now key }
@@ -134,7 +134,7 @@ pub(crate) fn block_of(signals: &NamedTable<Entry<Signal>>, key: usize) -> usize
 /// The keys of the blocks beyond the signals under keys, in their order.
 pub(crate) fn blocks_of(
     alloc: Global,
-    signals: &NamedTable<Entry<Signal>>,
+    signals: &NamedTable<Linked<Signal>>,
     keys: &List<usize>,
 ) -> Result<List<usize>, OutOfMemory>
     requires there { All (IsKey signals.now) keys.now }
@@ -149,9 +149,9 @@ pub(crate) fn blocks_of(
 }
 
 /// Puts an item of a new name in, and counts the keys that it refers to. Without memory all stays.
-pub(crate) fn put_entry<T: Stored>(
-    table: &mut NamedTable<Entry<T>>,
-    uses: &mut Uses,
+pub(crate) fn put_linked<T: Stored>(
+    table: &mut NamedTable<Linked<T>>,
+    uses: &mut KeyCounts,
     item: T,
     refs: List<usize>,
 ) -> Result<usize, OutOfMemory>
@@ -168,68 +168,72 @@ pub(crate) fn put_entry<T: Stored>(
     ensures table { OnOk result (tables.IsTable (λ e. T.label e.item) table.old) }
 {
     uses.make_room(refs.slice())?;
-    let key = table.put(Entry { item, refs })?;
+    let key = table.put(Linked { item, refs })?;
     uses.add(table.get(key).refs.slice());
     Ok(key)
 }
 
 /// Puts an item in the place of the one under a key, and counts what it refers to in place of what that
 /// one does. Without memory all stays.
-pub(crate) fn change_entry<T: Stored>(
-    table: &mut NamedTable<Entry<T>>,
-    uses: &mut Uses,
+pub(crate) fn change_linked<T: Stored>(
+    table: &mut NamedTable<Linked<T>>,
+    uses: &mut KeyCounts,
     key: usize,
     item: T,
     refs: List<usize>,
 ) -> Result<(), OutOfMemory>
     requires same_name { option_map (λ e. T.label e.item) (tables.under table.old key)
         ≡ Some (T.label item) }
-    requires counted_before { (e : Entry T) (k : ℕ) → tables.under table.old key ≡ Some e
+    requires counted_before { (e : Linked T) (k : ℕ) → tables.under table.old key ≡ Some e
         → times k e.refs ≤ count_of uses.old k }
     ensures changed { OnOk result
         (table.new ≡ tables.with_change table.old key (record { item = item; refs = refs })) }
-    ensures counted { OnOk result ((e : Entry T) (k : ℕ) → tables.under table.old key ≡ Some e
+    ensures counted { OnOk result ((e : Linked T) (k : ℕ) → tables.under table.old key ≡ Some e
         → count_of uses.new k + times k e.refs ≡ count_of uses.old k + times k refs) }
     ensures kept { OnErr result (table.new ≡ table.old) }
     ensures kept_counts { OnErr result (SameCounts uses.old uses.new) }
     ensures table { OnOk result (tables.IsTable (λ e. T.label e.item) table.old) }
 {
     uses.make_room(refs.slice())?;
-    swap_entry(table, uses, key, item, refs);
+    swap_linked(table, uses, key, item, refs);
     Ok(())
 }
 
 /// The same where there is room for the counts.
-pub(crate) fn swap_entry<T: Stored>(
-    table: &mut NamedTable<Entry<T>>,
-    uses: &mut Uses,
+pub(crate) fn swap_linked<T: Stored>(
+    table: &mut NamedTable<Linked<T>>,
+    uses: &mut KeyCounts,
     key: usize,
     item: T,
     refs: List<usize>,
 )
     requires same_name { option_map (λ e. T.label e.item) (tables.under table.old key)
         ≡ Some (T.label item) }
-    requires counted_before { (e : Entry T) (k : ℕ) → tables.under table.old key ≡ Some e
+    requires counted_before { (e : Linked T) (k : ℕ) → tables.under table.old key ≡ Some e
         → times k e.refs ≤ count_of uses.old k }
     requires room { HasRoom uses.old refs }
     ensures changed { table.new ≡ tables.with_change table.old key (record { item = item; refs = refs }) }
-    ensures counted { (e : Entry T) (k : ℕ) → tables.under table.old key ≡ Some e
+    ensures counted { (e : Linked T) (k : ℕ) → tables.under table.old key ≡ Some e
         → count_of uses.new k + times k e.refs ≡ count_of uses.old k + times k refs }
     ensures table { tables.IsTable (λ e. T.label e.item) table.old }
 {
     uses.add(refs.slice());
-    let old = table.change(key, Entry { item, refs });
+    let old = table.change(key, Linked { item, refs });
     uses.remove(old.refs.slice());
 }
 
 /// Takes the item of a name out, and what it refers to out of the counts.
-pub(crate) fn take_entry<T: Stored>(table: &mut NamedTable<Entry<T>>, uses: &mut Uses, name: &Name)
+pub(crate) fn take_linked<T: Stored>(
+    table: &mut NamedTable<Linked<T>>,
+    uses: &mut KeyCounts,
+    name: &Name,
+)
     requires there { is_named (λ e. T.label e.1.item) table.old name.now ≡ true }
-    requires counted_before { (e : Entry T) (k : ℕ)
+    requires counted_before { (e : Linked T) (k : ℕ)
         → tables.item_of (λ e. T.label e.item) table.old name.now ≡ Some e
         → times k e.refs ≤ count_of uses.old k }
     ensures rest { table.new ≡ without (λ e. T.label e.1.item) table.old name.now }
-    ensures counted { (e : Entry T) (k : ℕ)
+    ensures counted { (e : Linked T) (k : ℕ)
         → tables.item_of (λ e. T.label e.item) table.old name.now ≡ Some e
         → count_of uses.new k + times k e.refs ≡ count_of uses.old k }
     ensures table { tables.IsTable (λ e. T.label e.item) table.old }

@@ -1,6 +1,6 @@
 use Rattle.std.proofs.Common.{◌+◌, ◌-◌, ◌≤◌, length, vec_len}
-use Rattle.line_tables.specs.Uses.{SameCounts}
-use Rattle.line_tables.proofs.uses.grow.Given as goal
+use Rattle.line_tables.specs.KeyCounts.{SameCounts}
+use Rattle.line_tables.proofs.key_counts.grow.Given as goal
 
 abbrev pub invariant-loop-counts : goal.invariant-loop-counts
 invariant-loop-counts l = record {

@@ -1,6 +1,6 @@
 use Rattle.std.proofs.Common.{◌≡◌, ℕ, ◌+◌, length, take}
-use Rattle.line_tables.specs.Uses.{count_of, times}
-use Rattle.line_tables.proofs.uses.Uses.add.Given as goal
+use Rattle.line_tables.specs.KeyCounts.{count_of, times}
+use Rattle.line_tables.proofs.key_counts.KeyCounts.add.Given as goal
 
 abbrev pub invariant-loop-key : goal.invariant-loop-key
 invariant-loop-key l = record {

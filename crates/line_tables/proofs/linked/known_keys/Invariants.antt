@@ -2,7 +2,7 @@ use Rattle.std.proofs.Common.{◌≡◌, take, map, true, Some, length, vec_len,
 use Rattle.std.specs.List.{list_all}
 use Rattle.rail_model.specs.Rules.{is_named}
 use Rattle.line_tables.specs.Table.{key_of, named}
-use Rattle.line_tables.proofs.entry.known_keys.Given as goal
+use Rattle.line_tables.proofs.linked.known_keys.Given as goal
 
 abbrev pub invariant-loop-name : goal.invariant-loop-name
 invariant-loop-name g l = record {

@@ -1,7 +1,7 @@
 use Rattle.std.proofs.Common.{length, take}
 use Rattle.std.specs.Prelude.{All}
-use Rattle.line_tables.specs.Uses.{SameCounts, HasRoomFor}
-use Rattle.line_tables.proofs.uses.Uses.make_room.Given as goal
+use Rattle.line_tables.specs.KeyCounts.{SameCounts, HasRoomFor}
+use Rattle.line_tables.proofs.key_counts.KeyCounts.make_room.Given as goal
 
 abbrev pub invariant-loop-key : goal.invariant-loop-key
 invariant-loop-key l = record {

@@ -6,7 +6,7 @@ use Rattle.rail_model.specs.Rules.{refers_to_known}
 use Rattle.line_tables.specs.Inside.{tables_of}
 use Rattle.line_tables.proofs.Known.{section_known_by, refused_unknown, refused_twice}
 use Rattle.line_tables.proofs.Meets.{has_repeat_keyed}
-use Rattle.line_tables.proofs.line_tables.LineTables.refused_block.Goals as goal
+use Rattle.line_tables.proofs.line_tables.LineTables.rule_of_blocks.Goals as goal
 
 pub returns-in_default : goal.returns-in_default
 returns-in_default c =
