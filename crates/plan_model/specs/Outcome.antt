@@ -25,7 +25,7 @@ use Rattle.plan_model.specs.Touch.{IsUntouchedSince, IsLastTouching, IsCurrent, 
 use Rattle.plan_model.specs.Legal.{IsAnswerAt, WasPublishedAt, IsNext}
 
 -- a call adds this one entry, which is a legal next one
-pub record Adds (pass : ℕ) (a : Act) (found after : List Entry) : Type 0 where
+pub record AddsEntry (pass : ℕ) (a : Act) (found after : List Entry) : Type 0 where
   pub next : IsNext found (record { pass = pass; act = a })
   pub is : after ≡ found ++ record { pass = pass; act = a } ∷ []
 
@@ -33,8 +33,8 @@ pub record Adds (pass : ℕ) (a : Act) (found after : List Entry) : Type 0 where
 
 -- an edit is made and gets the next number, or is refused by the first rule that refuses it
 abbrev pub EditsTo : ℕ → ℕ → Edit → List Entry → Result ℕ Rule → List Entry → Type 0
-EditsTo pass planner edit found (Ok at) after = Adds pass (act.Edited planner at edit) found after
-EditsTo pass planner edit found (Err rule) after = Adds pass (act.Refused planner rule edit) found after
+EditsTo pass planner edit found (Ok at) after = AddsEntry pass (act.Edited planner at edit) found after
+EditsTo pass planner edit found (Err rule) after = AddsEntry pass (act.Refused planner rule edit) found after
 
 -- what an entry says of an answer that was asked for
 abbrev pub reply_of : Asked → Reply
@@ -53,7 +53,7 @@ GivesLast found section asked.Unknown = Unit {0}
 
 -- a section is asked for, and gets its reply
 pub record AsksTo (pass planner : ℕ) (section : List ℕ) (found : List Entry) (a : Asked) (after : List Entry) : Type 0 where
-  pub adds : Adds pass (act.Asked planner section (reply_of a)) found after
+  pub adds : AddsEntry pass (act.Asked planner section (reply_of a)) found after
   pub gives : GivesLast found section a
 
 -- ---- steps
@@ -118,7 +118,7 @@ IsDone journal done = IsAnswerAt journal done.section done.at done.answer
 -- an answer is published; or a later edit touches its section, the last one by this number; or none does, and the
 -- section is current since its last publication. Where it is not published, nothing is added
 abbrev pub PublishesTo : ℕ → Done → List Entry → Result (Unit {0}) NotTaken → List Entry → Type 0
-PublishesTo pass done found (Ok u) after = Adds pass (act.Published done.section done.at done.answer) found after
+PublishesTo pass done found (Ok u) after = AddsEntry pass (act.Published done.section done.at done.answer) found after
 PublishesTo pass done found (Err (not_taken.Stale by)) after =
     (after ≡ found) × IsLastTouching found done.section by × (done.at < by)
 PublishesTo pass done found (Err (not_taken.Current at)) after =
