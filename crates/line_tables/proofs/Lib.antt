@@ -16,9 +16,10 @@ pub mod Moves
 pub mod Known
 pub mod RulesOfPut
 pub mod RulesOfChange
+pub mod Joined
 pub mod JoinedSignals
 pub mod JoinedRoutes
-pub mod JoinedTimetable
+pub mod JoinedTrains
 pub mod JoinedBlocks
 pub mod InUse
 pub mod Paths

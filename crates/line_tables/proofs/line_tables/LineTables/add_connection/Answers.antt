@@ -6,7 +6,7 @@ use Rattle.line_tables.specs.Inside.{tables_of}
 use Rattle.line_tables.proofs.References.{entry}
 use Rattle.line_tables.proofs.Views.{map-with_item}
 use Rattle.line_tables.proofs.Known.{connection_knows}
-use Rattle.line_tables.proofs.JoinedTimetable.{connection_is_new, connection_put}
+use Rattle.line_tables.proofs.JoinedTrains.{connection_is_new, connection_put}
 use Rattle.line_tables.proofs.line_tables.LineTables.add_connection.Goals as goal
 
 pub keys_of-requires : goal.keys_of-requires

@@ -6,7 +6,7 @@ use Rattle.line_tables.specs.Inside.{tables_of}
 use Rattle.line_tables.proofs.References.{entry}
 use Rattle.line_tables.proofs.Views.{map-with_item}
 use Rattle.line_tables.proofs.Known.{run_knows}
-use Rattle.line_tables.proofs.JoinedTimetable.{run_is_new, run_put}
+use Rattle.line_tables.proofs.JoinedTrains.{run_is_new, run_put}
 use Rattle.line_tables.proofs.line_tables.LineTables.add_run.Goals as goal
 
 pub keys_of-requires : goal.keys_of-requires

@@ -4,7 +4,7 @@ use Rattle.line_tables.specs.declared.linked.Linked.{Linked}
 use Rattle.line_tables.specs.Inside.{tables_of}
 use Rattle.line_tables.proofs.Views.{map-without}
 use Rattle.line_tables.proofs.Known.{refs_of_found}
-use Rattle.line_tables.proofs.JoinedTimetable.{connection_is_there, connection_drop}
+use Rattle.line_tables.proofs.JoinedTrains.{connection_is_there, connection_drop}
 use Rattle.line_tables.proofs.line_tables.LineTables.remove_connection.Goals as goal
 
 pub take_linked-requires-clause-there : goal.take_linked-requires-clause-there

@@ -4,7 +4,7 @@ use Rattle.line_tables.specs.declared.linked.Linked.{Linked}
 use Rattle.line_tables.specs.Inside.{tables_of}
 use Rattle.line_tables.proofs.Views.{map-without}
 use Rattle.line_tables.proofs.Known.{refs_of_found}
-use Rattle.line_tables.proofs.JoinedTimetable.{run_is_there, run_drop}
+use Rattle.line_tables.proofs.JoinedTrains.{run_is_there, run_drop}
 use Rattle.line_tables.proofs.line_tables.LineTables.remove_run.Goals as goal
 
 pub take_linked-requires-clause-there : goal.take_linked-requires-clause-there

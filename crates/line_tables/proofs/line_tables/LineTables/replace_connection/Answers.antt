@@ -7,7 +7,7 @@ use Rattle.line_tables.proofs.Found.{name_under}
 use Rattle.line_tables.proofs.References.{entry}
 use Rattle.line_tables.proofs.Views.{map-with_change}
 use Rattle.line_tables.proofs.Known.{refs_of_found, connection_knows}
-use Rattle.line_tables.proofs.JoinedTimetable.{connection_stays, connection_change}
+use Rattle.line_tables.proofs.JoinedTrains.{connection_stays, connection_change}
 use Rattle.line_tables.proofs.line_tables.LineTables.replace_connection.Goals as goal
 
 pub keys_of-requires : goal.keys_of-requires

@@ -7,7 +7,7 @@ use Rattle.line_tables.proofs.Found.{name_under}
 use Rattle.line_tables.proofs.References.{entry}
 use Rattle.line_tables.proofs.Views.{map-with_change}
 use Rattle.line_tables.proofs.Known.{refs_of_found, run_knows}
-use Rattle.line_tables.proofs.JoinedTimetable.{run_stays, run_change}
+use Rattle.line_tables.proofs.JoinedTrains.{run_stays, run_change}
 use Rattle.line_tables.proofs.line_tables.LineTables.replace_run.Goals as goal
 
 pub keys_of-requires : goal.keys_of-requires
