@@ -3,6 +3,7 @@ use Rattle.std.specs.Prelude.{◌≡◌, ◌≢◌, ℕ, ◌^◌, ◌<◌, ◌�
 use Rattle.std.specs.Int.{int_min}
 use Rattle.rail_model.specs.declared.stair.Use.{Use}
 use Rattle.rail_model.specs.declared.limits.TheConstants.{RUNS, CONNECTIONS, PATH_HOPS, GREATEST_MOMENT_S}
+pub use Rattle.rail_model.specs.Moment.{IsMoment}
 use Rattle.rail_model.specs.Name.{NamesRise}
 use Rattle.plan_model.specs.declared.cut.CutRow.{CutRow}
 use Rattle.plan_model.specs.declared.cut.Cut.{Cut}
@@ -35,11 +36,6 @@ block_uses cut row = filter (λ u. is_block cut u.block) row.uses
 
 abbrev pub connection_uses : Cut → CutRow → List Use
 connection_uses cut row = filter (λ u. not (is_block cut u.block)) row.uses
-
--- a moment is at most 50,000,000 seconds from 0
-pub record IsMoment (t : ℤ) : Type 0 where
-  pub after : (pos 0 -ℤ GREATEST_MOMENT_S) ≤ℤ t
-  pub before : t ≤ℤ GREATEST_MOMENT_S
 
 -- a moment of trains that are moved: from -2^50 to 2^50 seconds
 pub record IsBounded (t : ℤ) : Type 0 where

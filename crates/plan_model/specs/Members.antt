@@ -2,6 +2,7 @@
 use Rattle.std.specs.Prelude.{ℕ, pos, Bool, ◌==◌, List, [], length, Option, unwrap_or, slice_index_or, find}
 use Rattle.std.specs.List.{list_any, range_with_len}
 use Rattle.rail_model.specs.declared.stair.Use.{Use}
+pub use Rattle.rail_model.specs.Timetable.{no_use}
 use Rattle.plan_model.specs.declared.cut.CutRow.{CutRow}
 use Rattle.plan_model.specs.declared.cut.Cut.{Cut}
 
@@ -19,10 +20,6 @@ member_count cut = length cut.rows
 -- the positions of the members
 abbrev pub members : Cut → List ℕ
 members cut = range_with_len 0 (member_count cut)
-
--- stands where a member doesn't use a place
-abbrev pub no_use : Use
-no_use = record { block = 0; start = pos 0; «end» = pos 0 }
 
 -- a member uses a place
 abbrev pub uses_place : CutRow → ℕ → Bool

@@ -1,6 +1,6 @@
 -- The cut of a section by tables: the members of its window, with their entries and uses, and the connections
 -- between them.
-use Rattle.std.specs.Prelude.{ℕ, ◌+◌, ℤ, pos, Bool, ◌&&◌, nat_lt, int_lt, int_le, if◌then◌else◌, List, [], ◌++◌, length, map, filter, find, Option, None, Some, option_map, slice_index_or}
+use Rattle.std.specs.Prelude.{ℕ, ◌+◌, ℤ, pos, Bool, ◌&&◌, nat_lt, int_lt, int_le, if◌then◌else◌, List, ◌++◌, length, map, filter, find, Option, None, Some, option_map}
 use Rattle.std.specs.List.{filter_map, enumerate_from}
 use Rattle.rail_model.specs.declared.items.Run.{Run}
 use Rattle.rail_model.specs.declared.items.Section.{Section}
@@ -8,31 +8,18 @@ use Rattle.rail_model.specs.declared.items.Connection.{Connection}
 use Rattle.rail_model.specs.declared.tables.Tables.{Tables}
 use Rattle.rail_model.specs.declared.stair.Use.{Use}
 use Rattle.rail_model.specs.Name.{is_same}
-use Rattle.rail_model.specs.Path.{hop_count}
-use Rattle.rail_model.specs.Motion.{arrival}
 use Rattle.rail_model.specs.Blocking.{stairway}
-use Rattle.rail_model.specs.Tables.{number_of, no_block, path_in}
+pub use Rattle.rail_model.specs.Tables.{no_run, run_named, last_arrival}
+use Rattle.rail_model.specs.Tables.{number_of, block_name, path_in}
 use Rattle.plan_model.specs.declared.cut.CutRow.{CutRow}
 use Rattle.plan_model.specs.declared.cut.Cut.{Cut}
 use Rattle.plan_model.specs.Cut.{least}
 use Rattle.plan_model.specs.Precedence.{comes_before}
 
--- stands where a run isn't there
-abbrev pub no_run : Run
-no_run = record { name = []; route = []; length_m = 0; tail_s = 0; start_s = 0; legs = [] }
-
--- the run of a name
-abbrev pub run_named : Tables → List ℕ → Run
-run_named tables name = slice_index_or tables.runs (number_of (λ r. r.name) tables.runs name) no_run
-
--- when a run comes to the end of its path
-abbrev pub last_arrival : Tables → Run → ℕ
-last_arrival tables run = let path = path_in tables run in arrival path (hop_count path)
-
 module _ (tables : Tables) (section : Section) where
   -- the position of a block in the section's list, or the list's length where it isn't there
   abbrev pub position_in_section : ℕ → ℕ
-  position_in_section block = number_of (λ n. n) section.blocks (slice_index_or tables.blocks block no_block).name
+  position_in_section block = number_of (λ n. n) section.blocks (block_name tables block)
 
   -- a use of a stairway, with its block by this position
   abbrev pub use_in_section : Use → Use

@@ -22,13 +22,13 @@ use Rattle.rail_model.specs.Tables.{no_block, run_at, path_in}
 use Rattle.rail_model.specs.Sound.{IsSound}
 use Rattle.rail_model.proofs.NameOrder.{same_name, is_same-from}
 use Rattle.rail_model.proofs.Paths.{path_at_fits}
-use Rattle.rail_model.specs.Moment as limit
+use Rattle.rail_model.specs.Moment.{IsMoment}
 use Rattle.blocking_time.proofs.Places.{departures_rise}
 use Rattle.blocking_time.proofs.Bounds.{approach_before_entry, entry_before_exit}
 use Rattle.rail_model.proofs.Numbers.{lt_from_test, le_from_test}
 use Rattle.rail_model.proofs.Lists.{All-from_one}
 use Rattle.blocking_time.proofs.Uses.{not_empty, bounded, blocks_differ}
-use Rattle.plan_model.specs.Cut.{least, IsMoment}
+use Rattle.plan_model.specs.Cut.{least}
 use Rattle.rail_model.specs.Tables.{last_arrival}
 use Rattle.plan_model.specs.SectionCut.{position_in_section, use_in_section, section_uses, entry_of, is_member}
 use Rattle.rail_model.specs.Tables.{block_name}
@@ -49,9 +49,6 @@ pub record IsTimely (last : ℕ) (u : Use) : Type 0 where
 pub record IsEntry (last : ℕ) (t : ℤ) : Type 0 where
   pub moment : IsMoment t
   pub early : t <ℤ pos last
-
-near : (t : ℤ) → limit.IsMoment t → IsMoment t
-near t m = record { after = m.after; before = m.before }
 
 early : (a w f d last : ℕ) → a ≤ d → d < last → (pos a -ℤ pos w -ℤ pos f) <ℤ pos last
 early a w f d last p q = omega (arith, ints)
@@ -97,8 +94,8 @@ module _ (tables : Tables) (sound : IsSound tables) (section : Section) (n : ℕ
       let inside = bounded path fits k low high in
       record {
         some_time = not_empty path fits k low high;
-        starts = near (use_of path k).start inside.start;
-        ends = near (use_of path k).«end» inside.«end»;
+        starts = inside.start;
+        ends = inside.«end»;
         early = early (approach_moment path k) (hop path k).watch_s (hop path k).form_s (departure path (k - 1)) last
             (approach_before_entry path fits k high)
             (omega (arith, entry_before_exit path fits k low high, departures_rise path k (hop_count path) high (omega arith), last_departure tables sound n l));
