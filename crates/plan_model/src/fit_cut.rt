@@ -129,7 +129,7 @@ impl<'a> SoundCut<'a> {
         ensures is { result ≡ members.use_of (members.member self.now i) place }
         ensures sound { IfSome result (IsSoundUse self.now) }
     {
-        use_in(self.row(i).uses.slice(), self.block_count(), place)
+        use_in(self.row(i), self.block_count(), place)
     }
 
     /// When a member that enters at a moment starts its use of a place.
@@ -268,23 +268,28 @@ fn joined(alloc: Global, first: &List<Name>, then: &[Name]) -> Result<List<Name>
     Ok(names)
 }
 
-// The use of a place, if there is one.
-fn use_in(uses: &[Use], blocks: u32, place: u32) -> Option<Use>
-    requires differ { AreOfOtherPlaces uses.now }
-    requires first { AreBlocksFirst blocks uses.now }
-    ensures { result ≡ find (λ u. u.block == place) uses.now }
+/// A row's use of a place, if it uses it: looked for from the front.
+pub fn use_of(row: &CutRow, place: u32) -> Option<Use>
+    ensures { result ≡ members.use_of row.now place }
 {
-    if place < blocks {
-        use_of_block(uses, place)
-    } else {
-        use_of_connection(uses, blocks, place)
-    }
+    row.uses
+        .slice()
+        .iter()
+        .copied()
+        .find(|one| one.block == place)
 }
 
-fn use_of_block(uses: &[Use], place: u32) -> Option<Use>
-    ensures { result ≡ find (λ u. u.block == place) uses.now }
+// The same where the uses of blocks stand first.
+fn use_in(row: &CutRow, blocks: u32, place: u32) -> Option<Use>
+    requires differ { AreOfOtherPlaces row.now.uses }
+    requires first { AreBlocksFirst blocks row.now.uses }
+    ensures { result ≡ members.use_of row.now place }
 {
-    uses.iter().copied().find(|one| one.block == place)
+    if place < blocks {
+        use_of(row, place)
+    } else {
+        use_of_connection(row.uses.slice(), blocks, place)
+    }
 }
 
 // Looks from the back, where the uses of connections stand.

@@ -24,7 +24,7 @@ mod scripts;
 pub use answer::{Answer, Done, Link, Placed, Plan, Tie};
 pub use board::Board;
 pub use cut::{Cut, CutRow};
-pub use fit_cut::{FitCut, SoundCut, shift};
+pub use fit_cut::{FitCut, SoundCut, shift, use_of};
 pub use journal::{Act, Entry, Reply};
 pub use journal_laws::{
     beginning_is_journal, beginning_is_legal, current_is_answered, current_stays, each_is_next,

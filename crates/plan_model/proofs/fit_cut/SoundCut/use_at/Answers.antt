@@ -7,11 +7,11 @@ use Rattle.plan_model.proofs.fit_cut.SoundCut.use_at.Goals as goal
 
 pub use_in-requires-clause-differ : goal.use_in-requires-clause-differ
 use_in-requires-clause-differ c =
-    rw (c.slice.ensures, c.row.ensures.row) (differ c.args.self.now c.row.ensures.sound c.args.i c.requires)
+    rw (c.row.ensures.row) (differ c.args.self.now c.row.ensures.sound c.args.i c.requires)
 
 pub use_in-requires-clause-first : goal.use_in-requires-clause-first
 use_in-requires-clause-first c =
-    rw (c.block_count.ensures.count, c.slice.ensures, c.row.ensures.row)
+    rw (c.block_count.ensures.count, c.row.ensures.row)
     (blocks_first c.args.self.now c.row.ensures.sound c.args.i c.requires)
 
 pub returns-clause-sound : goal.returns-clause-sound
