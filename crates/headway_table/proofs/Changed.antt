@@ -3,12 +3,12 @@ use Rattle.std.proofs.Common.{◌≡◌, ◌≢◌, ℕ, ◌<◌, List, [], leng
 use Rattle.std.specs.Prelude.{◌==◌, ℤ, pos, if◌then◌else◌, slice_index_or, slice_set}
 use Rattle.std.proofs.lemmas.Bool.{cases_eq, eq-eqb, ne_eqb}
 use Rattle.std.proofs.lemmas.List.{get_or-set_same, get_or-set_other}
-use Rattle.headway_table.specs.Cells.{cell, Changes}
+use Rattle.headway_table.specs.Starts.{start_in_table, Changes}
 
 abbrev pub row : List (List ℤ) → ℕ → List ℤ
 row table p = slice_index_or table p []
 
--- one cell is set
+-- one start_in_table is set
 module _ (table : List (List ℤ)) (place j : ℕ) (x : ℤ) (there : place < length table)
     (within : j < length (row table place)) where
   abbrev set : List (List ℤ)
@@ -30,7 +30,7 @@ module _ (table : List (List ℤ)) (place j : ℕ) (x : ℤ) (there : place < le
         | inr ne ↦ ap length (elsewhere p ne)
       ]
 
-  own : (p : ℕ) → cell set p j ≡ (if place == p then x else cell table p j)
+  own : (p : ℕ) → start_in_table set p j ≡ (if place == p then x else start_in_table table p j)
   own p =
       elim (cases_eq place p) [
         | inl e ↦
@@ -39,7 +39,7 @@ module _ (table : List (List ℤ)) (place j : ℕ) (x : ℤ) (there : place < le
         | inr ne ↦ rw (ne_eqb place p ne) (ap (λ r. slice_index_or r j (pos 0)) (elsewhere p ne))
       ]
 
-  others : (p k : ℕ) → k ≢ j → cell set p k ≡ cell table p k
+  others : (p k : ℕ) → k ≢ j → start_in_table set p k ≡ start_in_table table p k
   others p k not =
       elim (cases_eq place p) [
         | inl e ↦
@@ -70,6 +70,6 @@ one_more j f g h a b c whole first second = record {
   count = second.count ∙ first.count;
   widths = λ p l. second.widths p (omega (arith, l, first.count)) ∙ first.widths p l;
   own = λ p l.
-      second.own p (omega (arith, l, first.count)) ∙ ap (g p) (first.own p l) ∙ sym (whole p (cell a p j));
+      second.own p (omega (arith, l, first.count)) ∙ ap (g p) (first.own p l) ∙ sym (whole p (start_in_table a p j));
   others = λ p k l not. second.others p k (omega (arith, l, first.count)) not ∙ first.others p k l not;
 }

@@ -9,8 +9,8 @@ use Rattle.std.proofs.lemmas.List.{get_or_default, get_or-replicate, length-repl
 use Rattle.plan_model.specs.declared.cut.CutRow.{CutRow}
 use Rattle.plan_model.specs.Members.{no_member}
 use Rattle.headway_table.specs.declared.starts.TheConstants.{FREE}
-use Rattle.headway_table.specs.Walk.{IsNear}
-use Rattle.headway_table.specs.Cells.{with_use_start, start_in, start_of, cell, Changes, IsStart, AreStartsOf, AreStarts}
+use Rattle.plan_model.specs.Cut.{IsUsable}
+use Rattle.headway_table.specs.Starts.{with_use_start, start_in, start_of, start_in_table, Changes, IsStart, AreStartsOf, AreStarts}
 use Rattle.headway_table.proofs.Changed.{row}
 use Rattle.headway_table.proofs.StartOf.{start_bounded}
 
@@ -53,7 +53,7 @@ module _ (rows : List CutRow) where
           let within : p < length table = omega (arith, l, starts.wide.count) in
           elim (cases_eq j n) [
             | inl e ↦
-                ap (λ k. cell more p k) e
+                ap (λ k. start_in_table more p k) e
                 ∙ change.own p within
                 ∙ ap (λ s. fold (with_use_start (train n).entry p) s (train n).uses)
                 (starts.each p n l there ∙ left_out n p n (omega arith))
@@ -81,17 +81,17 @@ module _ (rows : List CutRow) where
 
     -- where all are put in
     pub start_at : (table : List (List ℤ)) → AreStarts places rows table → (p j : ℕ) → p < places → j < length rows
-        → cell table p j ≡ start_in (train j) p
+        → start_in_table table p j ≡ start_in (train j) p
     start_at table starts p j l m = starts.each p j l m ∙ put_in (length rows) p j m
 
-    pub all_bounded : (table : List (List ℤ)) → AreStarts places rows table → All IsNear rows
+    pub all_bounded : (table : List (List ℤ)) → AreStarts places rows table → All (IsUsable places) rows
         → All (λ r. All IsStart r) table
     all_bounded table starts near p d l =
         let there : p < places = omega (arith, l, starts.wide.count) in
         subst (λ r. All IsStart r) (sym (get_or_default table p d [] l)) (λ j e m.
         let train_there : j < length rows = omega (arith, m, starts.wide.widths p there) in
         subst IsStart (sym (get_or_default (row table p) j e (pos 0) m ∙ start_at table starts p j there train_there))
-        (start_bounded (train j) p (near j no_member train_there)))
+        (start_bounded places (train j) p (near j no_member train_there)))
 
 -- no train yet in a table that is made
 pub none_made : (rows : List CutRow) (table items : List (List ℤ)) (places n : ℕ) → table ≡ items

@@ -1,20 +1,21 @@
 -- The greatest of a train's uses tells the headway.
 use Rattle.std.proofs.Common.{◌≡◌, ℕ, suc, ◌<◌, true, List, [], ◌∷◌, length, map, get_or, inl, inr, refl, ap, ◌∙◌, arith}
-use Rattle.std.specs.Prelude.{◌==◌, int_lt, ℤ, ◌-ℤ◌, ◌<ℤ◌, ◌≤ℤ◌, Option, None, Some, filter, fold}
+use Rattle.std.specs.Prelude.{int_lt, ℤ, ◌-ℤ◌, ◌<ℤ◌, ◌≤ℤ◌, Option, None, Some, filter, fold}
 use Rattle.std.specs.Int.{int_max}
-use Rattle.std.specs.List.{All, list_any}
+use Rattle.std.specs.List.{All}
 use Rattle.std.proofs.lemmas.Bool.{cases_Bool}
 use Rattle.std.proofs.lemmas.Int.{ints, int_max_is}
 use Rattle.rail_model.specs.declared.stair.Use.{Use}
 use Rattle.plan_model.specs.declared.cut.CutRow.{CutRow}
-use Rattle.plan_model.specs.Cut.{IsMoment}
+use Rattle.plan_model.specs.Cut.{IsMoment, IsUsable, AreOfOtherPlaces}
 use Rattle.plan_model.specs.Members.{uses_place, use_at}
 use Rattle.plan_model.specs.Headway.{headway, headway_at, shared_places}
 use Rattle.headway_table.specs.declared.starts.TheConstants.{FREE}
 use Rattle.headway_table.specs.declared.row.TheConstants.{NEVER, LEAST_HEADWAY}
-use Rattle.headway_table.specs.Walk.{IsNear}
-use Rattle.headway_table.specs.Cells.{start_in, raised_by, greatest_by, headway_of}
-use Rattle.headway_table.proofs.Found.{Differ, at, at_own}
+use Rattle.headway_table.specs.Starts.{start_in}
+use Rattle.headway_table.specs.Numbers.{raised_by, greatest_by, headway_of}
+use Rattle.headway_table.proofs.Found.{at_own}
+use Rattle.plan_model.proofs.Sound.{of_all}
 use Rattle.headway_table.proofs.Walked.{step, steps_is}
 use Rattle.headway_table.proofs.StartOf.{start_is}
 
@@ -23,17 +24,7 @@ abbrev Tells : ℤ → Option ℤ → Type 0
 Tells z None = z <ℤ LEAST_HEADWAY
 Tells z (Some v) = (z ≡ v) × (LEAST_HEADWAY ≤ℤ v)
 
--- the use of a place that is used is one of the uses
-of_used : (uses : List Use) (p : ℕ) → All (λ u. IsMoment u.start) uses → list_any (λ u. u.block == p) uses ≡ true
-    → IsMoment (at uses p).start
-of_used [] p each used = absurd (cc)
-of_used (u ∷ uses) p each used =
-    elim (cases_Bool (u.block == p)) [
-      | inl e ↦ rw e (each 0 u (omega arith))
-      | inr e ↦ rw e (of_used uses p (λ i d l. each (suc i) d (omega (arith, l))) (rw e at used))
-    ]
-
-module _ (a b : CutRow) (na : IsNear a) (nb : IsNear b) (db : Differ b.uses) where
+module _ (places : ℕ) (a b : CutRow) (na : IsUsable places a) (nb : IsUsable places b) (db : AreOfOtherPlaces b.uses) where
   -- with a place that both use
   with_shared : (z v : ℤ) (so_far : Option ℤ) → Tells z so_far → LEAST_HEADWAY ≤ℤ v
       → Tells (int_max z v) (step so_far v)
@@ -55,7 +46,7 @@ module _ (a b : CutRow) (na : IsNear a) (nb : IsNear b) (db : Differ b.uses) whe
   never u ends = omega (arith, ints, ends.before, na.entry.after)
 
   found_start : (p : ℕ) → uses_place b p ≡ true → IsMoment (use_at b p).start
-  found_start p used = of_used b.uses p nb.starts used
+  found_start p used = of_all (λ u. IsMoment u.start) b.uses p nb.starts used
 
   -- all uses
   all_tell : (z : ℤ) (so_far : Option ℤ) (uses : List Use)
@@ -98,8 +89,8 @@ told_is z (Some v) tells =
       | inr e ↦ rw e (ap Some tells.0)
     ]
 
-pub greatest_is : (a b : CutRow) → IsNear a → IsNear b → Differ a.uses → Differ b.uses
+pub greatest_is : (places : ℕ) (a b : CutRow) → IsUsable places a → IsUsable places b → AreOfOtherPlaces a.uses → AreOfOtherPlaces b.uses
     → headway_of (greatest_by a b) ≡ headway a b
-greatest_is a b na nb da db =
-    told_is (greatest_by a b) _ (all_tell a b na nb db NEVER None a.uses (at_own a.uses da) na.ends (omega (arith, ints)))
+greatest_is places a b na nb da db =
+    told_is (greatest_by a b) _ (all_tell places a b na nb db NEVER None a.uses (at_own a.uses da) na.ends (omega (arith, ints)))
     ∙ steps_is (map (headway_at a b) (shared_places a b))

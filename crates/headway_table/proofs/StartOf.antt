@@ -1,5 +1,5 @@
 -- The starts of a train's uses, by place.
-use Rattle.std.proofs.Common.{◌≡◌, ℕ, suc, false, List, [], ◌∷◌, get_or, inl, inr, refl, ap, sym, ◌∙◌, arith}
+use Rattle.std.proofs.Common.{◌≡◌, ℕ, suc, false, List, [], ◌∷◌, inl, inr, refl, ap, sym, ◌∙◌, arith}
 use Rattle.std.specs.Prelude.{◌==◌, ℤ, ◌-ℤ◌, fold, if◌then◌else◌}
 use Rattle.std.specs.List.{All, list_any}
 use Rattle.std.proofs.lemmas.Bool.{cases_Bool, eqb-true, or_parts, false_from_ne_true}
@@ -7,14 +7,11 @@ use Rattle.std.proofs.lemmas.Int.{ints}
 use Rattle.std.proofs.lemmas.List.Folds.{Any-from_list_any}
 use Rattle.rail_model.specs.declared.stair.Use.{Use}
 use Rattle.plan_model.specs.declared.cut.CutRow.{CutRow}
-use Rattle.plan_model.specs.declared.cut.Cut.{Cut}
-use Rattle.plan_model.specs.Cut.{IsSoundCut, IsMoment}
-use Rattle.plan_model.specs.Places.{place_count}
+use Rattle.plan_model.specs.Cut.{IsMoment, IsUsable, AreOfOtherPlaces}
 use Rattle.plan_model.specs.Members.{uses_place, use_at}
 use Rattle.headway_table.specs.declared.starts.TheConstants.{FREE}
-use Rattle.headway_table.specs.Walk.{IsNear, HasPlaces}
-use Rattle.headway_table.specs.Cells.{with_use_start, start_in, IsStart}
-use Rattle.headway_table.proofs.Found.{Differ, at, near_sound}
+use Rattle.headway_table.specs.Starts.{with_use_start, start_in, IsStart}
+use Rattle.headway_table.proofs.Found.{at}
 
 -- a place that is not used
 untouched : (entry : ℤ) (p : ℕ) (start : ℤ) (uses : List Use) → list_any (λ u. u.block == p) uses ≡ false
@@ -24,7 +21,7 @@ untouched entry p start (u ∷ uses) h =
     let parts = or_parts (u.block == p) (list_any (λ (v : Use). v.block == p) uses) h in
     rw parts.0 (untouched entry p start uses parts.1)
 
-others : (u : Use) (uses : List Use) (p : ℕ) → Differ (u ∷ uses) → u.block ≡ p
+others : (u : Use) (uses : List Use) (p : ℕ) → AreOfOtherPlaces (u ∷ uses) → u.block ≡ p
     → list_any (λ v. v.block == p) uses ≡ false
 others u uses p differ e =
     false_from_ne_true (list_any (λ (v : Use). v.block == p) uses) (λ h.
@@ -33,7 +30,7 @@ others u uses p differ e =
     differ 0 (suc some.0) some.1 (omega arith) (omega (arith, some.2))
     (e ∙ sym is ∙ ap (λ (v : Use). v.block) (sym some.3)))
 
-starts_are : (entry : ℤ) (p : ℕ) (uses : List Use) → Differ uses
+starts_are : (entry : ℤ) (p : ℕ) (uses : List Use) → AreOfOtherPlaces uses
     → fold (with_use_start entry p) FREE uses
     ≡ (if list_any (λ u. u.block == p) uses then (at uses p).start -ℤ entry else FREE)
 starts_are entry p [] differ = refl
@@ -44,7 +41,7 @@ starts_are entry p (u ∷ uses) differ =
           rw e (starts_are entry p uses (λ i j d lt l. differ (suc i) (suc j) d (omega (arith, lt)) (omega (arith, l))))
     ]
 
-pub start_is : (row : CutRow) (p : ℕ) → Differ row.uses
+pub start_is : (row : CutRow) (p : ℕ) → AreOfOtherPlaces row.uses
     → start_in row p ≡ (if uses_place row p then (use_at row p).start -ℤ row.entry else FREE)
 start_is row p differ = starts_are row.entry p row.uses differ
 
@@ -64,16 +61,9 @@ bounded entry p start (u ∷ uses) near is each =
       | inr e ↦ rw e (bounded entry p start uses near is rest)
     ]
 
-pub start_bounded : (row : CutRow) (p : ℕ) → IsNear row → IsStart (start_in row p)
-start_bounded row p near =
+pub start_bounded : (places : ℕ) (row : CutRow) (p : ℕ) → IsUsable places row → IsStart (start_in row p)
+start_bounded places row p near =
     bounded row.entry p FREE row.uses near.entry (record {
       after = omega (arith, ints);
       before = omega (arith, ints);
     }) near.starts
-
--- what is known of a cut's rows
-pub near_members : (cut : Cut) → IsSoundCut cut → All IsNear cut.rows
-near_members cut sound i d l = near_sound cut (get_or cut.rows i d) (sound.each i d l)
-
-pub places_there : (cut : Cut) → IsSoundCut cut → All (HasPlaces (place_count cut)) cut.rows
-places_there cut sound i d l = λ k u m. ((sound.each i d l).each k u m).place

@@ -9,20 +9,21 @@ use Rattle.plan_model.specs.declared.cut.CutRow.{CutRow}
 use Rattle.plan_model.specs.declared.cut.Cut.{Cut}
 use Rattle.plan_model.specs.Cut.{IsSoundCut}
 use Rattle.plan_model.specs.Places.{place_count}
-use Rattle.plan_model.specs.Members.{member, member_count, no_member}
+use Rattle.plan_model.specs.Members.{member, member_count}
 use Rattle.headway_table.specs.declared.row.TheConstants.{NEVER}
 use Rattle.headway_table.specs.Table.{between, row_of}
-use Rattle.headway_table.specs.Cells.{cell, start_in, raised, raised_by, raised_from, greatest_by, headway_of, told, told_to, AreStarts}
+use Rattle.headway_table.specs.Starts.{start_in_table, start_in, AreStarts}
+use Rattle.headway_table.specs.Numbers.{raised, raised_by, raised_from, greatest_by, headway_of, headways_of, headway_by}
 use Rattle.headway_table.proofs.Filled.{start_at}
-use Rattle.headway_table.proofs.Found.{near_sound}
+use Rattle.plan_model.proofs.Sound.{usable, differ}
 use Rattle.headway_table.proofs.Raised.{greatest_is}
 
 same_fold : (a b : CutRow) (table : List (List ℤ)) (j : ℕ) (z : ℤ) (uses : List Use)
-    → All (λ u. cell table u.block j ≡ start_in b u.block) uses
+    → All (λ u. start_in_table table u.block j ≡ start_in b u.block) uses
     → fold (raised_from table a.entry j) z uses ≡ fold (raised_by a b) z uses
 same_fold a b table j z [] each = refl
 same_fold a b table j z (u ∷ uses) each =
-    let here : cell table u.block j ≡ start_in b u.block = each 0 u (omega arith) in
+    let here : start_in_table table u.block j ≡ start_in b u.block = each 0 u (omega arith) in
     ap (λ s. fold (raised_from table a.entry j) (raised z (u.«end» -ℤ a.entry) s) uses) here
     ∙ same_fold a b table j (raised_by a b z u) uses (λ i d l. each (suc i) d (omega (arith, l)))
 
@@ -39,25 +40,24 @@ module _ (cut : Cut) (sound : IsSoundCut cut) (table : List (List ℤ)) (starts 
       ≡ greatest_by (member cut i) (member cut j)
   number_is j l =
       same_fold (member cut i) (member cut j) table j NEVER (member cut i).uses
-      (λ k d m. start_at cut.rows (place_count cut) table starts _ j ((sound.each i no_member there).each k d m).place l)
+      (λ k d m. start_at cut.rows (place_count cut) table starts _ j ((usable cut sound i there).there k d m) l)
 
   told_is : (numbers : List ℤ) (j : ℕ) → j < member_count cut
       → slice_index_or numbers j (pos 0) ≡ fold (raised_from table (member cut i).entry j) NEVER (member cut i).uses
-      → told_to numbers i j ≡ between cut i j
+      → headway_by numbers i j ≡ between cut i j
   told_is numbers j l is =
       elim (cases_Bool (i == j)) [
         | inl e ↦ rw e refl
         | inr e ↦
             rw e (ap headway_of (is ∙ number_is j l)
-            ∙ greatest_is (member cut i) (member cut j) (near_sound cut (member cut i) (sound.each i no_member there))
-            (near_sound cut (member cut j) (sound.each j no_member l))
-            (sound.each i no_member there).places_differ (sound.each j no_member l).places_differ)
+            ∙ greatest_is (place_count cut) (member cut i) (member cut j) (usable cut sound i there) (usable cut sound j l)
+            (differ cut sound i there) (differ cut sound j l))
       ]
 
   pub row_told : (numbers : List ℤ) (n : ℕ) → n ≡ member_count cut
       → ((j : ℕ) → j < member_count cut → slice_index_or numbers j (pos 0)
       ≡ fold (raised_from table (member cut i).entry j) NEVER (member cut i).uses)
-      → told numbers i n ≡ row_of cut i
+      → headways_of numbers i n ≡ row_of cut i
   row_told numbers n count is =
-      ap (told numbers i) count
-      ∙ same_map (told_to numbers i) (between cut i) (member_count cut) (λ j l. told_is numbers j l (is j l))
+      ap (headways_of numbers i) count
+      ∙ same_map (headway_by numbers i) (between cut i) (member_count cut) (λ j l. told_is numbers j l (is j l))

@@ -7,13 +7,14 @@ use Rattle.std.proofs.lemmas.Bool.{cases_Bool, eq-eqb, or_left}
 use Rattle.std.proofs.lemmas.Int.{ints}
 use Rattle.rail_model.specs.declared.stair.Use.{Use}
 use Rattle.plan_model.specs.declared.cut.CutRow.{CutRow}
+use Rattle.plan_model.specs.Cut.{AreOfOtherPlaces}
 use Rattle.plan_model.specs.Members.{uses_place, use_at}
 use Rattle.plan_model.specs.Headway.{headway, headway_at, greatest_of, shared_places}
 use Rattle.plan_model.specs.Occupancy.{greatest}
 use Rattle.plan_model.proofs.MemberTests.{has, has-filter, filter-has}
 use Rattle.plan_model.proofs.Greatest.{above_each, greatest_within}
 use Rattle.headway_table.specs.Walk.{end_in, greater, with_use, walked}
-use Rattle.headway_table.proofs.Found.{Differ, at_own, end_is}
+use Rattle.headway_table.proofs.Found.{at_own, end_is}
 
 -- ---- the greatest of what some places give depends on which they are alone
 
@@ -82,7 +83,7 @@ walk_is a b so_far (u ∷ uses) own =
     ]
 
 -- the walk gives the headway
-pub walked_is : (a b : CutRow) → Differ b.uses → walked (end_in a) b ≡ headway a b
+pub walked_is : (a b : CutRow) → AreOfOtherPlaces b.uses → walked (end_in a) b ≡ headway a b
 walked_is a b differ =
     walk_is a b None b.uses (at_own b.uses differ)
     ∙ steps_is (map (headway_at a b) (shared_places b a))

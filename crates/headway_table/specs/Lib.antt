@@ -1,4 +1,5 @@
 pub mod Rows
 pub mod Walk
 pub mod Table
-pub mod Cells
+pub mod Starts
+pub mod Numbers

@@ -1,16 +1,8 @@
 -- The headway, use after use of the train that follows.
-use Rattle.std.specs.Prelude.{ℕ, ◌<◌, ◌==◌, ℤ, pos, ◌-ℤ◌, ◌≤ℤ◌, fold, find, Option, None, Some, option_map}
+use Rattle.std.specs.Prelude.{ℕ, ◌==◌, ℤ, pos, ◌-ℤ◌, ◌≤ℤ◌, fold, find, Option, None, Some, option_map}
 use Rattle.std.specs.Int.{int_max}
-use Rattle.std.specs.List.{All}
 use Rattle.rail_model.specs.declared.stair.Use.{Use}
 use Rattle.plan_model.specs.declared.cut.CutRow.{CutRow}
-use Rattle.plan_model.specs.Cut.{IsMoment}
-
--- a row whose moments are within the limit
-pub record IsNear (row : CutRow) : Type 0 where
-  pub entry : IsMoment row.entry
-  pub starts : All (λ u. IsMoment u.start) row.uses
-  pub ends : All (λ u. IsMoment u.«end») row.uses
 
 -- how long a moment lies after another: at most 100,000,000 seconds
 pub record IsLength (t : ℤ) : Type 0 where
@@ -42,7 +34,3 @@ with_use ends entry greatest u = by_end (ends u.block) entry greatest u
 -- the greatest of all its uses
 abbrev pub walked : (ℕ → Option ℤ) → CutRow → Option ℤ
 walked ends row = fold (with_use ends row.entry) None row.uses
-
--- a row whose places are there
-abbrev pub HasPlaces : ℕ → CutRow → Type 0
-HasPlaces places row = All (λ u. u.block < places) row.uses

@@ -1,6 +1,7 @@
 //! Headways: how long after one train of a section another may enter, of a pair and of all pairs.
 #![tactic(auto)]
 
+mod ending;
 mod pair;
 mod row;
 mod starts;

@@ -3,10 +3,10 @@ ghost use Rattle.std.specs.Prelude.{◌≡◌, ◌-ℤ◌, ◌==◌, find, IfSom
 ghost use Rattle.std.specs.List.{All};
 ghost use Rattle.plan_model.specs.Cut.{IsMoment};
 ghost use Rattle.plan_model.specs.Headway as given;
-ghost use Rattle.headway_table.specs.Rows.{AreRows};
+ghost use Rattle.headway_table.specs.Rows.{AreRows, IsRow};
 ghost use Rattle.headway_table.specs.Walk as walks;
 
-use plan_model::CutRow;
+use plan_model::{CutRow, use_of};
 use rail_model::Use;
 
 /// How long after train `a` train `b` must enter the section, at the least, in seconds: the
@@ -18,46 +18,35 @@ pub fn headway(a: &CutRow, b: &CutRow) -> Option<i64>
 {
     let mut greatest = None;
     for one in b.uses.slice() {
-        greatest = with_use(greatest, a, one, b.entry);
+        greatest = with_use(greatest, a, b, one);
     }
     greatest
 }
 
-// The greatest so far with a use of a train that enters at a moment.
-fn with_use(greatest: Option<i64>, first: &CutRow, one: &Use, entry: i64) -> Option<i64>
-    requires first { walks.IsNear first.now }
+// The greatest so far with a use of the train that follows.
+fn with_use(greatest: Option<i64>, first: &CutRow, next: &CutRow, one: &Use) -> Option<i64>
+    requires first { IsRow first.now }
+    requires next { IsMoment next.now.entry }
     requires start { IsMoment one.now.start }
-    requires entry { IsMoment entry }
-    ensures { result ≡ walks.with_use (walks.end_in first.now) entry greatest one.now }
+    ensures { result ≡ walks.with_use (walks.end_in first.now) next.now.entry greatest one.now }
 {
     with_start(
         greatest,
         end_in(first, one.block),
-        after_entry(one.start, entry),
+        after_entry(one.start, next.entry),
     )
 }
 
 // How long after its entry a train ends its use of a place, if it uses it.
-pub(crate) fn end_in(row: &CutRow, place: u32) -> Option<i64>
-    requires near { walks.IsNear row.now }
+fn end_in(row: &CutRow, place: u32) -> Option<i64>
+    requires row { IsRow row.now }
     ensures end { result ≡ walks.end_in row.now place }
     ensures near { IfSome result walks.IsLength }
 {
-    match use_at(row.uses.slice(), place) {
+    match use_of(row, place) {
         Some(one) => Some(after_entry(one.end, row.entry)),
         None => None,
     }
-}
-
-// The use of a place, if there is one.
-fn use_at(uses: &[Use], place: u32) -> Option<Use>
-    ensures { result ≡ find (λ u. u.block == place) uses.now }
-{
-    uses.iter().copied().find(
-        |one: &Use| -> bool
-            ensures { result ≡ one.now.block == place }
-        { one.block == place },
-    )
 }
 
 // How long after an entry a moment is: negative where it comes before.
@@ -72,7 +61,7 @@ pub(crate) fn after_entry(time: i64, entry: i64) -> i64
 
 // The greatest so far with a place that the first train ends, and the other starts, so long after
 // its entry.
-pub(crate) fn with_start(greatest: Option<i64>, end: Option<i64>, start: i64) -> Option<i64>
+fn with_start(greatest: Option<i64>, end: Option<i64>, start: i64) -> Option<i64>
     requires end { IfSome «end» walks.IsLength }
     requires start { walks.IsLength start }
     ensures { result ≡ walks.with_start greatest «end» start }

@@ -1,13 +1,12 @@
 //! How long after their entries the trains of a cut start their uses, by place and train.
 ghost use Rattle.std.specs.Prelude.{◌≡◌, ℕ, ◌<◌, ◌≤◌, ◌^◌, length, fold, slice_index_or, slice_set, replicate, [], All, IfOk};
-ghost use Rattle.plan_model.specs.Cut.{IsSoundCut, IsMoment};
-ghost use Rattle.plan_model.specs.Members.{member_count};
+ghost use Rattle.plan_model.specs.Cut.{IsMoment, IsUsable};
 ghost use Rattle.plan_model.specs.Places.{place_count};
 ghost use Rattle.headway_table.specs.Walk as walks;
-ghost use Rattle.headway_table.specs.Cells as cells;
+ghost use Rattle.headway_table.specs.Starts as by_place;
 
 use crate::pair::after_entry;
-use plan_model::{Cut, CutRow};
+use plan_model::{CutRow, SoundCut};
 use rail_model::{List, OutOfMemory, Use};
 use std::alloc::Global;
 
@@ -15,13 +14,12 @@ use std::alloc::Global;
 pub(crate) const FREE: i32 = 1_000_000_000;
 
 // The starts of all trains: for each place a list with one for each train, after its entry.
-pub(crate) fn starts(alloc: Global, cut: &Cut) -> Result<Vec<List<i32>>, OutOfMemory>
-    requires sound { IsSoundCut cut.now }
-    ensures { IfOk result (λ table. cells.AreStarts (place_count cut.now) cut.now.rows table.items) }
+pub(crate) fn starts(alloc: Global, cut: &SoundCut) -> Result<Vec<List<i32>>, OutOfMemory>
+    ensures { IfOk result (λ table. by_place.AreStarts (place_count cut.now) cut.now.rows table.items) }
 {
-    let places = cut.section.blocks.len() + cut.connections.len();
-    let mut table = free(alloc, places, cut.rows.len())?;
-    put_all(&mut table, cut.rows.slice());
+    let rows = cut.rows();
+    let mut table = free(alloc, cut.place_count() as usize, rows.len())?;
+    put_all(&mut table, rows);
     Ok(table)
 }
 
@@ -39,11 +37,10 @@ fn free(alloc: Global, places: usize, trains: usize) -> Result<Vec<List<i32>>, O
 
 // Puts in the starts of all trains.
 fn put_all(table: &mut [List<i32>], rows: &[CutRow])
-    requires free { cells.AreStartsOf (length table.old) rows.now 0 table.old }
-    requires near { All walks.IsNear rows.now }
-    requires places { All (walks.HasPlaces (length table.old)) rows.now }
+    requires free { by_place.AreStartsOf (length table.old) rows.now 0 table.old }
+    requires usable { All (IsUsable (length table.old)) rows.now }
     ensures count { length table.new ≡ length table.old }
-    ensures starts { cells.AreStarts (length table.old) rows.now table.new }
+    ensures starts { by_place.AreStarts (length table.old) rows.now table.new }
 {
     for (j, row) in rows.iter().enumerate() {
         put_train(table, j, row);
@@ -53,28 +50,28 @@ fn put_all(table: &mut [List<i32>], rows: &[CutRow])
 // Puts in those of one train.
 fn put_train(table: &mut [List<i32>], j: usize, row: &CutRow)
     requires wide { (p : ℕ) → p < length table.old → j < length (slice_index_or table.old p []) }
-    requires near { walks.IsNear row.now }
-    requires places { walks.HasPlaces (length table.old) row.now }
-    ensures { cells.Changes j
-        (λ p c. fold (cells.with_use_start row.now.entry p) c row.now.uses) table.old table.new }
+    requires usable { IsUsable (length table.old) row.now }
+    ensures { by_place.Changes j
+        (λ p c. fold (by_place.with_use_start row.now.entry p) c row.now.uses) table.old table.new }
 {
     for one in row.uses.slice() {
-        put(table, j, one, row.entry);
+        put(table, j, one, row);
     }
 }
 
 // Puts in that of one use.
-fn put(table: &mut [List<i32>], j: usize, one: &Use, entry: i64)
+fn put(table: &mut [List<i32>], j: usize, one: &Use, row: &CutRow)
     requires wide { (p : ℕ) → p < length table.old → j < length (slice_index_or table.old p []) }
-    requires entry { IsMoment entry }
+    requires entry { IsMoment row.now.entry }
     requires start { IsMoment one.now.start }
     requires place { one.now.block < length table.old }
-    ensures { cells.Changes j (λ p c. cells.with_use_start entry p c one.now) table.old table.new }
+    ensures { by_place.Changes j (λ p c. by_place.with_use_start row.now.entry p c one.now)
+        table.old table.new }
 {
     put_at(
         &mut table[one.block as usize],
         j,
-        short(after_entry(one.start, entry)),
+        short(after_entry(one.start, row.entry)),
     );
 }
 

@@ -5,11 +5,11 @@ ghost use Rattle.plan_model.specs.Cut.{IsSoundCut};
 ghost use Rattle.plan_model.specs.Members.{member_count};
 ghost use Rattle.plan_model.specs.Places.{place_count};
 ghost use Rattle.headway_table.specs.Table as tables;
-ghost use Rattle.headway_table.specs.Cells as cells;
+ghost use Rattle.headway_table.specs.Starts as by_place;
 
 use crate::row::headways_from;
 use crate::starts::starts;
-use plan_model::Cut;
+use plan_model::{Cut, SoundCut};
 use rail_model::{List, OutOfMemory};
 use rayon::prelude::*;
 use std::alloc::Global;
@@ -52,9 +52,10 @@ pub fn matrix(rt: &(impl Threads + Sync), alloc: Global, cut: &Cut) -> Result<He
     requires few { member_count cut.now ≤ MEMBERS }
     ensures { IfOk result (λ table. table ≡ tables.table_of cut.now) }
 {
-    let starts = starts(alloc, cut)?;
+    let cut = SoundCut::of(cut);
+    let starts = starts(alloc, &cut)?;
     Ok(Headways {
-        rows: rows_of(rt, alloc, cut, &starts)?,
+        rows: rows_of(rt, alloc, &cut, &starts)?,
     })
 }
 
@@ -62,22 +63,21 @@ pub fn matrix(rt: &(impl Threads + Sync), alloc: Global, cut: &Cut) -> Result<He
 fn rows_of(
     rt: &(impl Threads + Sync),
     alloc: Global,
-    cut: &Cut,
+    cut: &SoundCut,
     starts: &[List<i32>],
 ) -> Result<Vec<List<Option<i64>>>, OutOfMemory>
-    requires sound { IsSoundCut cut.now }
-    requires starts { cells.AreStarts (place_count cut.now) cut.now.rows starts.now }
+    requires starts { by_place.AreStarts (place_count cut.now) cut.now.rows starts.now }
     ensures { IfOk result (λ rows. rows.items ≡ tables.table_of cut.now) }
 {
-    (0..cut.rows.len())
+    (0..cut.member_count() as usize)
         .into_par_iter()
         .with_min_len(1)
         .map(
             |i: usize| -> Result<List<Option<i64>>, OutOfMemory>
-                requires { IsSoundCut cut.now × (i < member_count cut.now)
-                    × cells.AreStarts (place_count cut.now) cut.now.rows starts.now }
+                requires { (i < member_count cut.now) × (i < 4294967296)
+                    × by_place.AreStarts (place_count cut.now) cut.now.rows starts.now }
                 ensures { IfOk result (λ row. row ≡ tables.row_of cut.entry.now i) }
-            { headways_from(alloc, cut, starts, i) },
+            { headways_from(alloc, cut, starts, i as u32) },
         )
         .collect::<Result<Vec<List<Option<i64>>>, OutOfMemory>>(rt, alloc)?
 }

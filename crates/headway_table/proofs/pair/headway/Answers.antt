@@ -1,32 +1,25 @@
-use Rattle.std.proofs.Common.{◌≡◌, ◌<◌, ◌≤◌, length, get_or, rules, sym, ap, subst, ◌∙◌, arith, to_z, of_z, w64}
+use Rattle.std.proofs.Common.{◌<◌, ◌≤◌, length, get_or, sym, ap, ◌∙◌, arith}
 use Rattle.std.specs.Prelude.{None, fold}
 use Rattle.std.proofs.lemmas.List.Sums.{fold_more}
 use Rattle.std.proofs.lemmas.List.{take_all}
-use Rattle.plan_model.specs.Cut.{IsMoment}
 use Rattle.plan_model.specs.Members.{no_use}
+use Rattle.plan_model.proofs.Sound.{usable_row}
 use Rattle.headway_table.specs.Walk.{end_in, with_use}
-use Rattle.headway_table.proofs.Found.{near_row}
 use Rattle.headway_table.proofs.Walked.{walked_is}
 use Rattle.headway_table.proofs.pair.headway.Goals as goal
 
-pub with_use-greatest-requires-clause-first : goal.with_use-greatest-requires-clause-first
-with_use-greatest-requires-clause-first c = near_row _ c.requires.rows.first
-
-pub with_use-greatest-requires-clause-entry : goal.with_use-greatest-requires-clause-entry
-with_use-greatest-requires-clause-entry c =
-    let is : to_z w64 (of_z w64 c.args.b.now.entry) ≡ c.args.b.now.entry = search rules in
-    subst IsMoment (sym is) (near_row _ c.requires.rows.second).entry
+pub with_use-greatest-requires-clause-next : goal.with_use-greatest-requires-clause-next
+with_use-greatest-requires-clause-next c =
+    let second = c.requires.rows.second in
+    (usable_row second.cut c.args.b.now second.sound).entry
 
 pub loop-one-preserved : goal.loop-one-preserved
 loop-one-preserved c =
     let a = c.args.a.now in
     let b = c.args.b.now in
     let k = c.loop-one.one-index in
-    let u = get_or c.slice-one-items.result.now k no_use in
-    let entry : to_z w64 (of_z w64 b.entry) ≡ b.entry = search rules in
     let there : k < length b.uses = omega (arith, c.loop-one-test.true, ap length c.slice-one-items.ensures) in
     c.with_use-greatest.ensures
-    ∙ ap (λ e. with_use (end_in a) e c.loop-one.greatest u) entry
     ∙ ap (λ us. with_use (end_in a) b.entry c.loop-one.greatest (get_or us k no_use)) c.slice-one-items.ensures
     ∙ ap (λ o. with_use (end_in a) b.entry o (get_or b.uses k no_use)) c.loop-one.invariant
     ∙ sym (fold_more (with_use (end_in a) b.entry) None b.uses k no_use there)

@@ -1,6 +1,6 @@
 use Rattle.std.proofs.Common.{◌≡◌, ℕ, ◌<◌, ◌*◌, ◌/◌, length, take}
 use Rattle.std.specs.Prelude.{ℤ, pos, slice_index_or, fold}
-use Rattle.headway_table.specs.Cells.{raised_from}
+use Rattle.headway_table.specs.Numbers.{raised_from}
 use Rattle.headway_table.proofs.row.raise_by_all.Given as goal
 
 -- each is raised by the first uses, four by four

@@ -3,7 +3,7 @@ use Rattle.std.specs.Prelude.{fold}
 use Rattle.std.proofs.lemmas.List.{get_or_default}
 use Rattle.plan_model.specs.declared.cut.CutRow.{CutRow}
 use Rattle.plan_model.specs.Members.{no_member}
-use Rattle.headway_table.specs.Cells.{with_use_start, Changes}
+use Rattle.headway_table.specs.Starts.{with_use_start, Changes}
 use Rattle.headway_table.proofs.Filled.{one_train}
 use Rattle.headway_table.proofs.starts.put_all.Goals as goal
 

@@ -1,5 +1,5 @@
 use Rattle.std.proofs.Common.{length}
-use Rattle.headway_table.specs.Cells.{AreStartsOf}
+use Rattle.headway_table.specs.Starts.{AreStartsOf}
 use Rattle.headway_table.proofs.starts.put_all.Given as goal
 
 -- the starts of the first trains are put in

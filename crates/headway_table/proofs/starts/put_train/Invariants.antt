@@ -1,6 +1,6 @@
 use Rattle.std.proofs.Common.{take}
 use Rattle.std.specs.Prelude.{fold}
-use Rattle.headway_table.specs.Cells.{Changes, with_use_start}
+use Rattle.headway_table.specs.Starts.{Changes, with_use_start}
 use Rattle.headway_table.proofs.starts.put_train.Given as goal
 
 -- the starts of the first uses are put in
