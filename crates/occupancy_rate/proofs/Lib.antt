@@ -1,4 +1,4 @@
 pub mod Divided
-pub mod Spans
-pub mod Chosen
+pub mod Widened
 pub mod Longest
+pub mod Bounds

@@ -3,8 +3,9 @@
 #![tactic(auto)]
 
 mod fraction;
-mod kept;
 mod occupied;
+mod spans;
 
 pub use fraction::{Fraction, consumption};
-pub use occupied::occupancy;
+pub use occupied::{occupancy, occupancy_of};
+pub use spans::Span;

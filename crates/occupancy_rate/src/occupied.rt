@@ -1,15 +1,16 @@
 //! The occupancy time and the busiest block.
-ghost use Rattle.std.specs.Prelude.{◌≡◌, ◌<◌, length, slice_index_or, None, IfSome};
+ghost use Rattle.std.specs.Prelude.{◌≡◌, ◌<◌, List, ℤ, length, if◌then◌else◌, IfSome};
 ghost use Rattle.std.specs.List.{All};
 ghost use Rattle.plan_model.specs.Cut.{IsSoundCut};
+ghost use Rattle.plan_model.specs.Places.{block_count, place_count, first_with, AnswersFirst};
 ghost use Rattle.plan_model.specs.Members.{member_count};
 ghost use Rattle.plan_model.specs.Occupancy as occupied;
-ghost use Rattle.occupancy_rate.specs.Kept as spans;
-ghost use Rattle.occupancy_rate.specs.First.{IsFirst, is_first, better};
+ghost use Rattle.occupancy_rate.specs.Spans as spans;
+ghost use Rattle.occupancy_rate.specs.Spans.{AreSpans, lasting};
 
-use crate::kept::{Kept, greatest_time, keep_all, time_of};
-use plan_model::Cut;
-use rail_model::{Name, PATH_HOPS};
+use crate::spans::{Span, greatest_time, lasts, span_all};
+use plan_model::{Cut, SoundCut};
+use rail_model::PATH_HOPS;
 
 /// The occupancy time, in seconds, of a timetable of a cut in which each member enters at the
 /// moment given for it, and the position of the busiest block: the first by name that is kept so
@@ -21,55 +22,47 @@ pub fn occupancy(cut: &Cut, entries: &[i64]) -> (u64, Option<u32>)
     ensures time { result.0 ≡ occupied.occupancy cut.now entries.now }
     ensures busiest { result.1 ≡ occupied.busiest cut.now entries.now }
 {
-    let blocks = cut.section.blocks.slice();
+    let sound = SoundCut::of(cut);
     let mut room = [None; PATH_HOPS];
-    let kept = &mut room[..blocks.len()];
-    keep_all(kept, cut, entries);
-    let time = greatest_time(kept);
-    (time, busiest(blocks, kept, time))
+    let spans = &mut room[..sound.block_count() as usize];
+    span_all(spans, &sound, entries);
+    occupancy_of(cut, spans)
 }
 
-// The first by name of the blocks that are kept so long.
-fn busiest(names: &[Name], kept: &[Option<Kept>], time: u64) -> Option<u32>
-    requires same { length names.now ≡ length kept.now }
-    requires few { length names.now < 4_294_967_296 }
-    ensures { IsFirst names.now (λ k. spans.is_kept_for (slice_index_or kept.now k None) time)
-        (length kept.now) result }
+/// The same from the spans of the cut's blocks, where a caller knows them.
+pub fn occupancy_of(cut: &Cut, spans: &[Option<Span>]) -> (u64, Option<u32>)
+    requires sound { IsSoundCut cut.now }
+    requires count { length spans.now ≡ block_count cut.now }
+    ensures time { (entries : List ℤ) → AreSpans cut.now entries spans.now
+        → result.0 ≡ occupied.occupancy cut.now entries }
+    ensures busiest { (entries : List ℤ) → AreSpans cut.now entries spans.now
+        → result.1 ≡ occupied.busiest cut.now entries }
+{
+    let time = greatest_time(spans);
+    (time, busiest(&SoundCut::of(cut), spans, time))
+}
+
+// The first by name of the blocks whose spans are so long.
+fn busiest(cut: &SoundCut, spans: &[Option<Span>], time: u64) -> Option<u32>
+    requires count { length spans.now ≡ block_count cut.now }
+    ensures { AnswersFirst cut.now (lasting spans.now time) result }
 {
     let mut best = None;
-    for (i, one) in kept.iter().enumerate() {
-        best = better(names, best, i as u32, is_kept_for(*one, time));
+    for block in 0..cut.block_count() {
+        best = first_with(cut, best, block, lasts(time, spans[block as usize]));
     }
     best
 }
 
-// The best with one more block, if that may be chosen.
-fn better(names: &[Name], best: Option<u32>, block: u32, may: bool) -> Option<u32>
-    requires there { block < length names.now }
-    requires best { IfSome best (λ b. b < length names.now) }
-    ensures { result ≡ better names.now best block may }
+// The first by name of the best so far and of one block more, if that may be chosen.
+fn first_with(cut: &SoundCut, best: Option<u32>, block: u32, may: bool) -> Option<u32>
+    requires there { block < place_count cut.now }
+    requires best { IfSome best (λ b. b < place_count cut.now) }
+    ensures first { result ≡ (if may then first_with cut.now best block else best) }
+    ensures there { IfSome result (λ b. b < place_count cut.now) }
 {
-    if may && is_first(names, best, block) {
-        return Some(block);
+    if may {
+        return cut.first_with(best, block);
     }
     best
-}
-
-// Whether a block is used and kept so long.
-fn is_kept_for(kept: Option<Kept>, time: u64) -> bool
-    ensures { result ≡ spans.is_kept_for kept time }
-{
-    kept.is_some() && time_of(kept) == time
-}
-
-// Whether a block's name comes before that of the best so far.
-fn is_first(names: &[Name], best: Option<u32>, block: u32) -> bool
-    requires there { block < length names.now }
-    requires best { IfSome best (λ b. b < length names.now) }
-    ensures { result ≡ is_first names.now best block }
-{
-    match best {
-        Some(best) => names[block as usize] < names[best as usize],
-        None => true,
-    }
 }

@@ -9,7 +9,7 @@ use Rattle.plan_model.specs.Cut.{IsSoundCut}
 use Rattle.plan_model.specs.Members.{member_count}
 use Rattle.plan_model.specs.Schedule.{entry_at}
 use Rattle.occupancy_rate.specs.Kept.{IsBounded, IsBoundedRow}
-use Rattle.occupancy_rate.proofs.Spans.{bounded_row}
+use Rattle.occupancy_rate.proofs.Bounds.{bounded_row}
 use Rattle.train_order.specs.Visits.{AreOfOtherPlaces, AreBlocksFirst}
 use Rattle.critical_chain.specs.Parts.{visit_by}
 use Rattle.critical_chain.proofs.Walk.{read}

@@ -1,14 +1,20 @@
-use Rattle.std.proofs.Common.{ℕ, Bool, ◌+◌, sym, ap, subst, ◌∙◌}
-use Rattle.std.specs.Prelude.{None, slice_index_or}
-use Rattle.occupancy_rate.specs.Kept.{is_kept_for}
-use Rattle.occupancy_rate.specs.First.{IsFirst, better}
-use Rattle.occupancy_rate.proofs.Chosen.{next}
+use Rattle.std.proofs.Common.{◌≡◌, ℕ, Bool, rules, sym, subst, ◌+◌}
+use Rattle.std.specs.Prelude.{None, slice_index_or, filter, if◌then◌else◌}
+use Rattle.std.specs.List.{range_with_len}
+use Rattle.plan_model.specs.Places.{first_with, AnswersFirst}
+use Rattle.occupancy_rate.specs.Spans.{lasts}
+use Rattle.occupancy_rate.proofs.Longest.{block_more}
 use Rattle.occupancy_rate.proofs.occupied.busiest.Goals as goal
 
-pub loop-i-preserved : goal.loop-i-preserved
-loop-i-preserved c =
-    let names = c.args.names.now in
-    let i = c.loop-i.i in
-    let test : ℕ → Bool = λ k. is_kept_for (slice_index_or c.args.kept.now k None) c.args.time in
-    let chosen = c.better-best.ensures ∙ ap (better names c.loop-i.best i) c.is_kept_for.ensures in
-    subst (IsFirst names test (i + 1)) (sym chosen) (next names test i c.loop-i.best c.loop-i.invariant)
+pub loop-block-preserved : goal.loop-block-preserved
+loop-block-preserved c =
+    let cut = c.args.cut.now in
+    let block = c.loop-block.block in
+    let best = c.loop-block.best in
+    let test : ℕ → Bool = λ b. lasts c.args.time (slice_index_or c.args.spans.now b None) in
+    let chosen : c.first_with-best.result ≡ (if test block then first_with cut best block else best) = search rules in
+    record {
+      first = subst (AnswersFirst cut (filter test (range_with_len 0 (block + 1)))) (sym chosen)
+          (block_more cut test block best c.loop-block.invariant.first);
+      there = c.first_with-best.ensures.there;
+    }

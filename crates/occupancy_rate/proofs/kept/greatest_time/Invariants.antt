@@ -1,7 +1,0 @@
-use Rattle.std.proofs.Common.{◌≡◌, map, max, take}
-use Rattle.std.specs.Prelude.{fold}
-use Rattle.occupancy_rate.specs.Kept.{time_of}
-use Rattle.occupancy_rate.proofs.kept.greatest_time.Given as goal
-
-abbrev pub invariant-loop-one : goal.invariant-loop-one
-invariant-loop-one l = l.greatest ≡ fold max 0 (map time_of (take l.one-index l.kept))
