@@ -8,6 +8,8 @@ pub mod Legality
 pub mod Touching
 pub mod Stamps
 pub mod TasksLeft
+pub mod OneWay
+pub mod Adding
 pub mod MemberTests
 pub mod SoundTest
 pub mod ScheduleTest

@@ -17,7 +17,7 @@ use Rattle.plan_model.specs.JournalLaws.{CurrentStays, CurrentIsAnswered}
 use Rattle.plan_model.proofs.Growing.{opening-more, last_number-more, cut_at-more, last_publication-more}
 use Rattle.plan_model.proofs.Changing.{stays_on, stays_within, stays_too, same_from}
 
-same_one : {X : Type 0} (a b : X) → Some a ≡ Some b → a ≡ b
+pub same_one : {X : Type 0} (a b : X) → Some a ≡ Some b → a ≡ b
 same_one a b e = cc
 
 -- a section that an edit after its last publication touches is not current

@@ -1,15 +1,21 @@
 -- Laws of journals.
-use Rattle.std.specs.Prelude.{◌≡◌, ℕ, ◌<◌, ◌≤◌, List, [], ◌∷◌, ◌++◌, length, Some, Contains}
+use Rattle.std.specs.Prelude.{◌≡◌, ℕ, ◌<◌, ◌≤◌, List, [], ◌∷◌, ◌++◌, length, Some, Result, Contains}
+use Rattle.rail_model.specs.declared.edit.Edit.{Edit}
+use Rattle.rail_model.specs.declared.edit.Rule.{Rule}
 use Rattle.rail_model.specs.Sound.{IsSound}
 use Rattle.plan_model.specs.declared.cut.CutRow.{CutRow}
 use Rattle.plan_model.specs.declared.cut.Cut.{Cut}
+use Rattle.plan_model.specs.declared.answer.Done.{Done}
 use Rattle.plan_model.specs.declared.journal.Entry.{Entry}
+use Rattle.plan_model.specs.declared.outcome.Asked.{Asked}
+use Rattle.plan_model.specs.declared.outcome.Stepped.{Stepped}
+use Rattle.plan_model.specs.declared.outcome.NotTaken.{NotTaken}
 use Rattle.plan_model.specs.Answer.{IsAnswer}
 use Rattle.plan_model.specs.Journal.{edits, last_number, tables_at, tables_of, issued, done_by, script_of, tasks_left}
 use Rattle.plan_model.specs.Changes.{Stays}
 use Rattle.plan_model.specs.Touch.{cut_at, cut_now, IsCurrent, IsReading}
 use Rattle.plan_model.specs.Legal.{IsNext, IsLegal, IsJournal}
-use Rattle.plan_model.specs.Outcome.{IsPlanner}
+use Rattle.plan_model.specs.Outcome.{EditsTo, AsksTo, IsPlanner, StepsTo, IsDone, PublishesTo}
 
 -- ---- beginnings of journals
 
@@ -101,3 +107,21 @@ abbrev pub NoneIsLeft : Type 0
 NoneIsLeft =
     (journal : List Entry) (planner : ℕ) → IsJournal journal → tasks_left journal ≡ 0 → IsPlanner journal planner
     → done_by journal planner ≡ script_of journal planner
+
+-- ---- answers of calls
+
+-- an edit, a question of a section, a step and a publication each end in one way, by the journal that the call finds: a
+-- refusal comes where it may come, and nowhere else
+pub record EndsInOneWay (found : List Entry) : Type 0 where
+  pub edit : (pass planner : ℕ) (edit : Edit) (one other : Result ℕ Rule) (after later : List Entry)
+      → EditsTo pass planner edit found one after → EditsTo pass planner edit found other later → one ≡ other
+  pub ask : (pass planner : ℕ) (section : List ℕ) (one other : Asked) (after later : List Entry)
+      → AsksTo pass planner section found one after → AsksTo pass planner section found other later → one ≡ other
+  pub step : (pass planner : ℕ) (one other : Stepped) (after later : List Entry)
+      → StepsTo pass planner found one after → StepsTo pass planner found other later → one ≡ other
+  pub publish : (pass : ℕ) (done : Done) (one other : Result (Unit {0}) NotTaken) (after later : List Entry)
+      → IsDone found done → PublishesTo pass done found one after → PublishesTo pass done found other later
+      → one ≡ other
+
+abbrev pub CallsEndInOneWay : Type 0
+CallsEndInOneWay = (found : List Entry) → IsLegal found → EndsInOneWay found

@@ -3,6 +3,7 @@ ghost use Rattle.plan_model.specs.JournalLaws.{BeginningIsLegal, BeginningIsJour
 ghost use Rattle.plan_model.specs.JournalLaws.{NextIsLegal, LongerIssuesNoFewer, TablesAreSound};
 ghost use Rattle.plan_model.specs.JournalLaws.{LongerAgrees, OthersKeepTables, CurrentStays};
 ghost use Rattle.plan_model.specs.JournalLaws.{CurrentIsAnswered, StampTellsRow, NoneIsLeft};
+ghost use Rattle.plan_model.specs.JournalLaws.{CallsEndInOneWay};
 
 /// Each beginning of a legal journal, with an entry at least, is legal.
 pub fn beginning_is_legal()
@@ -63,4 +64,10 @@ pub fn stamp_tells_row()
 /// Where no task is left, each planner has done its script.
 pub fn none_is_left()
     ensures { NoneIsLeft }
+{}
+
+/// An edit, a question of a section, a step and a publication each end in one way, by the journal
+/// that the call finds: a refusal comes where it may come, and nowhere else.
+pub fn calls_end_in_one_way()
+    ensures { CallsEndInOneWay }
 {}
