@@ -9,8 +9,8 @@ use Rattle.rail_model.specs.Name.{is_before}
 use Rattle.rail_model.proofs.NameOrder.{is_before-from, is_before-back, IsBefore-trans}
 use Rattle.plan_model.specs.declared.cut.Cut.{Cut}
 use Rattle.plan_model.specs.Places.{place_name}
-use Rattle.plan_model.proofs.FirstByName.{same_if_neither}
-use Rattle.plan_model.proofs.Order.{less_from}
+use Rattle.rail_model.proofs.NameOrder.{same_if_neither}
+use Rattle.rail_model.proofs.NameOrder.{IsBefore-from as less_from}
 use Rattle.train_order.proofs.Visitors.{Differ, differ_tail}
 use Rattle.compression.specs.declared.last.Last.{Last}
 use Rattle.compression.specs.declared.tie.Touch.{Touch}

@@ -13,7 +13,7 @@ use Rattle.plan_model.specs.Members.{member_count, members}
 use Rattle.plan_model.specs.Cut.{IsSoundCut}
 use Rattle.plan_model.specs.Tie.{touches, touch, touching_place}
 use Rattle.plan_model.proofs.MemberTests.{has, has-range, has-filter, filter-has, in_range}
-use Rattle.plan_model.proofs.Order.{less_from}
+use Rattle.rail_model.proofs.NameOrder.{IsBefore-from as less_from}
 use Rattle.plan_model.proofs.FirstByName.{first_is}
 use Rattle.critical_chain.proofs.Ties.{found}
 

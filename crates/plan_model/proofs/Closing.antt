@@ -6,6 +6,7 @@ use Rattle.std.proofs.lemmas.Bool.{cases_Bool, cases_eq, ltb-true, eq-eqb}
 use Rattle.std.proofs.lemmas.Int.{ints}
 use Rattle.std.proofs.lemmas.List.Folds.{list_any_at}
 use Rattle.rail_model.specs.declared.stair.Use.{Use}
+use Rattle.rail_model.proofs.Numbers.{le_both_ways}
 use Rattle.plan_model.specs.declared.cut.Cut.{Cut}
 use Rattle.plan_model.specs.Places.{block_count, blocks}
 use Rattle.plan_model.specs.Members.{member, members, no_member, uses_place, use_at, no_use}
@@ -24,9 +25,6 @@ use Rattle.plan_model.proofs.Greatest.{above_each, greatest_within, below_each, 
 abs_is : (z : ℤ) → pos 0 ≤ℤ z → pos (nat_abs z) ≡ z
 abs_is (pos n) h = refl
 abs_is (negsuc n) h = absurd (omega (arith, ints, h))
-
-both_ways : (a b : ℤ) → a ≤ℤ b → b ≤ℤ a → a ≡ b
-both_ways a b p q = omega (arith, ints)
 
 -- what starts before it ends, and ends before another starts, starts before it
 starts_before : (s f e x t : ℤ) → s <ℤ f → (f -ℤ e +ℤ x) ≤ℤ t → (s -ℤ e +ℤ x) ≤ℤ t
@@ -96,7 +94,7 @@ module _ (cut : Cut) (entries : List ℤ) (c : ℕ) (entry : ℤ) (sound : IsSou
 
     first_is : first_start cut entries b ≡ start_by cut entries c b
     first_is =
-        both_ways _ _ (below_each (λ i. start_by cut entries i b) (users cut b) c (is_user cut c b opens.is_there u))
+        le_both_ways _ _ (below_each (λ i. start_by cut entries i b) (users cut b) c (is_user cut c b opens.is_there u))
         (least_within (λ i. start_by cut entries i b) (start_by cut entries c b) (users cut b) c
         (is_user cut c b opens.is_there u) starts_first)
 
@@ -152,7 +150,7 @@ module _ (cut : Cut) (entries : List ℤ) (c : ℕ) (entry : ℤ) (sound : IsSou
       omega (arith, ints, last, meets)
 
   pub is_to_closing : pos (occupancy cut entries) ≡ entry -ℤ opening
-  is_to_closing = both_ways _ _ at_most (back opening entry (occupancy cut entries) (closing.least _ after_all))
+  is_to_closing = le_both_ways _ _ at_most (back opening entry (occupancy cut entries) (closing.least _ after_all))
 
 pub occupancy_is_to_closing : OccupancyIsToClosing
 occupancy_is_to_closing = is_to_closing

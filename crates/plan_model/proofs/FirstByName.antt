@@ -2,28 +2,13 @@
 use Rattle.std.proofs.Common.{◌≡◌, ℕ, ◌<◌, Bool, true, false, List, [], ◌∷◌, ◌∙◌, inl, inr, refl, sym, ap, subst}
 use Rattle.std.specs.Prelude.{◌==◌, not, None, Some, find}
 use Rattle.std.specs.List.{list_all}
-use Rattle.std.specs.Cmp.Lexicographic.{slice_cmp}
-use Rattle.std.specs.Ordering.{nat_cmp, is_lt}
-use Rattle.std.specs.declared.cmp.Ordering.{Ordering}
-use Rattle.std.specs.declared.cmp.Ordering.TheVariants.{Less, Equal, Greater}
 use Rattle.std.proofs.lemmas.Bool.{cases_Bool, cases_order, eqb-true, eq-eqb, and_from, and_parts, or_left, or_right, or_cases, not_from_false}
 use Rattle.rail_model.specs.Name.{is_before}
-use Rattle.rail_model.proofs.NameOrder.{same_name, is_same-equal, IsBefore-flip, is_before-from}
+use Rattle.rail_model.proofs.NameOrder.{same_if_neither}
 use Rattle.plan_model.specs.declared.cut.Cut.{Cut}
 use Rattle.plan_model.specs.Places.{place_name, place_count, first_by_name}
 use Rattle.plan_model.specs.Cut.{IsSoundCut}
 use Rattle.plan_model.proofs.MemberTests.{has}
-
--- of two names of which neither comes before the other, both are the same
-pub same_if_neither : (a b : List ℕ) → is_before a b ≡ false → is_before b a ≡ false → a ≡ b
-same_if_neither a b p q =
-    let by : (o : Ordering) → slice_cmp nat_cmp a b ≡ o → a ≡ b = λ o.
-    elim o as (λ o. slice_cmp nat_cmp a b ≡ o → a ≡ b) [
-      | Less ↦ λ e. absurd (let yes : is_before a b ≡ true = ap is_lt e in (cc))
-      | Equal ↦ λ e. same_name a b (is_same-equal a b e)
-      | Greater ↦ λ e. absurd (let yes : is_before b a ≡ true = is_before-from b a (IsBefore-flip a b e) in (cc))
-    ] in
-    by (slice_cmp nat_cmp a b) refl
 
 pub all_pass : (test : ℕ → Bool) (some : List ℕ) → ((i : ℕ) → has some i ≡ true → test i ≡ true)
     → list_all test some ≡ true

@@ -1,30 +1,14 @@
 -- The first by name of some places, as one place after the other is looked at.
 use Rattle.std.proofs.Common.{◌≡◌, ◌⊎◌, ℕ, ◌<◌, Bool, true, false, ◌||◌, ◌==◌, List, [], ◌∷◌, ◌++◌, inl, inr, refl, sym, ap, subst, ◌∙◌}
 use Rattle.std.specs.Prelude.{Option, Some, None}
-use Rattle.std.specs.Ordering.{is_lt}
 use Rattle.std.proofs.lemmas.Bool.{cases_Bool, or_cases, or_left, or_right, eqb-true, eq-eqb, both_ways, false_from_ne_true}
-use Rattle.std.proofs.lemmas.Cmp.{nat_list_cmp_total, tied_itself}
 use Rattle.std.proofs.lemmas.List.Folds.{list_any-append}
 use Rattle.rail_model.specs.Name.{is_before}
-use Rattle.rail_model.proofs.NameOrder.{is_before-from, IsBefore-trans}
+use Rattle.rail_model.proofs.NameOrder.{is_before-from, IsBefore-from, IsBefore-trans, is_before-itself, is_before-through}
 use Rattle.plan_model.specs.declared.cut.Cut.{Cut}
 use Rattle.plan_model.specs.Places.{place_name, place_count, first_by_name, is_among, leads, first_with, IsFirstPlace, AnswersFirst}
 use Rattle.plan_model.specs.Cut.{IsSoundCut}
-use Rattle.plan_model.proofs.Order.{less_from}
-use Rattle.plan_model.proofs.FirstByName.{first_is, same_if_neither}
-
--- ---- names
-
-pub not_itself : (a : List ℕ) → is_before a a ≡ false
-not_itself a = ap is_lt (tied_itself nat_list_cmp_total a)
-
--- what is before a name is before one that isn't before that
-pub before_through : (a b c : List ℕ) → is_before a b ≡ true → is_before c b ≡ false → is_before a c ≡ true
-before_through a b c h n =
-    elim (cases_Bool (is_before b c)) [
-      | inl l ↦ is_before-from a c (IsBefore-trans a b c (less_from a b h) (less_from b c l))
-      | inr e ↦ subst (λ x. is_before a x ≡ true) (same_if_neither b c e n) h
-    ]
+use Rattle.plan_model.proofs.FirstByName.{first_is}
 
 -- ---- one place more
 
@@ -54,10 +38,10 @@ module _ (cut : Cut) where
     there = among_new some p;
     least = λ q h. elim (among_both some p q h) [
       | inl m ↦
-          false_from_ne_true (before q p) (λ t. both_ways (before p p) (not_itself (place_name cut p))
+          false_from_ne_true (before q p) (λ t. both_ways (before p p) (is_before-itself (place_name cut p))
           (is_before-from (place_name cut p) (place_name cut p) (IsBefore-trans (place_name cut p) (place_name cut q) (place_name cut p)
-          (less_from (place_name cut p) (place_name cut q) (first q m)) (less_from (place_name cut q) (place_name cut p) t))))
-      | inr e ↦ subst (λ x. before x p ≡ false) e (not_itself (place_name cut p))
+          (IsBefore-from (place_name cut p) (place_name cut q) (first q m)) (IsBefore-from (place_name cut q) (place_name cut p) t))))
+      | inr e ↦ subst (λ x. before x p ≡ false) e (is_before-itself (place_name cut p))
     ];
   }
 
@@ -67,7 +51,7 @@ module _ (cut : Cut) where
   moves some p None none t =
       subst (λ ps. IsFirstPlace cut (ps ++ p ∷ []) p) (sym none) (takes [] p (λ q m. absurd (cc)))
   moves some p (Some b) first t =
-      takes some p (λ q m. before_through (place_name cut p) (place_name cut b) (place_name cut q) t (first.least q m))
+      takes some p (λ q m. is_before-through (place_name cut p) (place_name cut b) (place_name cut q) t (first.least q m))
 
   -- the first of some stays the first where another doesn't lead
   pub stays : (some : List ℕ) (p : ℕ) (best : Option ℕ) → AnswersFirst cut some best → leads cut best p ≡ false

@@ -18,6 +18,7 @@ use Rattle.plan_model.specs.Laws.{LeastIsTied}
 use Rattle.plan_model.proofs.MemberTests.{has-range, has_any, some_member}
 use Rattle.plan_model.proofs.Uses.{place_there}
 use Rattle.plan_model.proofs.Planned.{not_itself}
+use Rattle.rail_model.proofs.Numbers.{le_from_same}
 
 less_if_other : (a b : ℤ) → a ≤ℤ b → int_eq a b ≡ false → a <ℤ b
 less_if_other a b h ne =
@@ -47,9 +48,6 @@ moved end e x x' start f y y' h p q = omega (arith, ints)
 moved_start : (end e x x' start f y y' : ℤ) → (end -ℤ e +ℤ x) <ℤ (start -ℤ f +ℤ y) → x' ≡ x → y' ≡ (y -ℤ pos 1)
     → (end -ℤ e +ℤ x') ≤ℤ (start -ℤ f +ℤ y')
 moved_start end e x x' start f y y' h p q = omega (arith, ints)
-
-no_later : (a b : ℤ) → a ≡ b → a ≤ℤ b
-no_later a b e = omega (arith, ints)
 
 a_second_less : (a b : ℤ) → a ≡ (b -ℤ pos 1) → a ≤ℤ b
 a_second_less a b e = omega (arith, ints)
@@ -95,7 +93,7 @@ module _ (cut : Cut) (floor : ℕ → ℤ) (entries : List ℤ) (sound : IsSound
         | inl e ↦
             subst (λ m. entry_at earlier m ≤ℤ entry_at entries m) (sym e)
             (a_second_less (entry_at earlier j) (entry_at entries j) at_j)
-        | inr ne ↦ no_later (entry_at earlier i) (entry_at entries i) (at_other i ne)
+        | inr ne ↦ le_from_same (entry_at earlier i) (entry_at entries i) (at_other i ne)
       ]
 
   in_order : (i k place : ℕ) → i < member_count cut → k < member_count cut
@@ -108,7 +106,7 @@ module _ (cut : Cut) (floor : ℕ → ℤ) (entries : List ℤ) (sound : IsSound
         | inr other ↦
             moved end (member cut i).entry (entry_at entries i) (entry_at earlier i) start (member cut k).entry
             (entry_at entries k) (entry_at earlier k) (schedule.order i k place li lk p) (none_later i)
-            (no_later (entry_at entries k) (entry_at earlier k) (sym (at_other k other)))
+            (le_from_same (entry_at entries k) (entry_at earlier k) (sym (at_other k other)))
         | inl e ↦
             let q = subst (λ m. precedes (member cut i) (member cut m) place ≡ true) e p in
             let apart : i ≡ j → ⊥ =

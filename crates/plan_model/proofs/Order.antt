@@ -1,24 +1,19 @@
 -- The order of two moments with names, and of two uses of one place.
-use Rattle.std.proofs.Common.{◌≡◌, ℕ, ◌<◌, ◌⊎◌, true, false, ◌&&◌, List, inl, inr, refl, arith}
-use Rattle.std.specs.Cmp.Lexicographic.{slice_cmp}
-use Rattle.std.specs.declared.cmp.Ordering.{Ordering}
-use Rattle.std.specs.declared.cmp.Ordering.TheVariants.{Less, Equal, Greater}
+use Rattle.std.proofs.Common.{◌≡◌, ℕ, ◌<◌, ◌⊎◌, true, ◌&&◌, List, inl, inr, arith}
 use Rattle.std.specs.Prelude.{ℤ, int_lt, IsTrue}
-use Rattle.std.specs.Ordering.{int_eq, nat_cmp, is_lt}
+use Rattle.std.specs.Ordering.{int_eq}
 use Rattle.std.proofs.lemmas.Bool.{cases_Bool, cases_order, or_left, or_right, or_cases, and_from, and_parts}
 use Rattle.std.proofs.lemmas.Bool.Decides.{Decides-int_eq}
 use Rattle.std.proofs.lemmas.Int.{ints}
 use Rattle.rail_model.specs.Name.{IsBefore, is_before}
-use Rattle.rail_model.proofs.NameOrder.{is_before-from}
+use Rattle.rail_model.proofs.NameOrder.{is_before-from, IsBefore-from}
+use Rattle.rail_model.proofs.Numbers.{same_if_neither_less}
 use Rattle.plan_model.specs.declared.cut.Cut.{Cut}
 use Rattle.plan_model.specs.Members.{member, member_count, uses_place, use_at, no_member}
 use Rattle.plan_model.specs.Precedence.{precedes, comes_before}
 use Rattle.plan_model.specs.Cut.{IsSoundCut}
 use Rattle.plan_model.specs.Schedule.{IsScheduleFrom}
 use Rattle.plan_model.specs.Laws.{UsesAreApart, IsClearOf, ComesBeforeIsTested}
-
-same_moment : (s t : ℤ) → int_lt s t ≡ false → int_lt t s ≡ false → s ≡ t
-same_moment s t p q = grind (arith, ints)
 
 -- of two moments with different names, one comes before the other
 ordered : (s t : ℤ) (a b : List ℕ) → IsBefore a b → (comes_before s a t b ≡ true) ⊎ (comes_before t b s a ≡ true)
@@ -29,7 +24,7 @@ ordered s t a b h =
         | inl l ↦ inr (or_left (int_lt t s) (int_eq t s && is_before b a) l)
         | inr e ↦
             inl (or_right (int_lt s t) (int_eq s t && is_before a b)
-            (and_from (int_eq s t) (is_before a b) ((Decides-int_eq s t).1 (same_moment s t g e))
+            (and_from (int_eq s t) (is_before a b) ((Decides-int_eq s t).1 (same_if_neither_less s t g e))
             (is_before-from a b h)))
       ]
     ]
@@ -65,20 +60,12 @@ uses_are_apart cut floor entries sound schedule i j place li lj ne p q =
       ]
     ]
 
-is_less : (o : Ordering) → is_lt o ≡ true → o ≡ Less
-is_less Less h = refl
-is_less Equal h = absurd (cc)
-is_less Greater h = absurd (cc)
-
-pub less_from : (a b : List ℕ) → is_before a b ≡ true → IsBefore a b
-less_from a b h = is_less (slice_cmp nat_cmp a b) h
-
 pub comes_before_is_tested : ComesBeforeIsTested
 comes_before_is_tested s t a b = (
   λ h.
       elim (or_cases (int_lt s t) (int_eq s t && is_before a b) h) [
         | inl l ↦ inl (grind (arith, ints, l))
-        | inr e ↦ inr ((Decides-int_eq s t).0 (and_parts _ _ e).0, less_from a b (and_parts _ _ e).1)
+        | inr e ↦ inr ((Decides-int_eq s t).0 (and_parts _ _ e).0, IsBefore-from a b (and_parts _ _ e).1)
       ],
   λ h.
       elim h [

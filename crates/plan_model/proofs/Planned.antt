@@ -1,16 +1,14 @@
 -- Where the planned timetable is free of conflict and keeps its connections, its entries are a schedule.
-use Rattle.std.proofs.Common.{◌≡◌, ℕ, ◌<◌, true, false, ◌&&◌, List, inl, inr, refl, subst, arith}
-use Rattle.std.specs.Prelude.{◌≢◌, ℤ, pos, ◌+ℤ◌, ◌-ℤ◌, ◌≤ℤ◌, ◌<ℤ◌, int_lt, IsTrue}
-use Rattle.std.specs.Ordering.{int_eq, nat_cmp, is_lt, ordering_reverse}
-use Rattle.std.specs.Cmp.Lexicographic.{slice_cmp}
-use Rattle.std.specs.declared.cmp.Ordering.{Ordering}
-use Rattle.std.specs.declared.cmp.Ordering.TheVariants.{Less, Equal, Greater}
+use Rattle.std.proofs.Common.{◌≡◌, ℕ, ◌<◌, true, ◌&&◌, List, inl, inr, subst, arith}
+use Rattle.std.specs.Prelude.{◌≢◌, ℤ, pos, ◌+ℤ◌, ◌-ℤ◌, ◌≤ℤ◌, int_lt, IsTrue}
+use Rattle.std.specs.Ordering.{int_eq}
 use Rattle.std.proofs.lemmas.Bool.{cases_Bool, cases_lt, or_cases, and_parts, and_from, both_ways}
 use Rattle.std.proofs.lemmas.Bool.Decides.{Decides-int_eq}
-use Rattle.std.proofs.lemmas.Cmp.{nat_list_cmp_total}
 use Rattle.std.proofs.lemmas.Int.{ints}
 use Rattle.std.proofs.lemmas.List.{length-map, get_or-map}
 use Rattle.rail_model.specs.Name.{is_before}
+use Rattle.rail_model.proofs.NameOrder.{is_before-itself}
+use Rattle.rail_model.proofs.Numbers.{lt_from_test, test_from_lt, le_from_not_lt, lt_through}
 use Rattle.plan_model.specs.declared.cut.CutRow.{CutRow}
 use Rattle.plan_model.specs.declared.cut.Cut.{Cut}
 use Rattle.plan_model.specs.Places.{block_count}
@@ -21,26 +19,6 @@ use Rattle.plan_model.specs.Schedule.{entry_at, IsSchedule}
 use Rattle.plan_model.specs.Planned.{planned_entries, IsFreeOfConflict, KeepsConnections}
 use Rattle.plan_model.specs.Laws.{NoneIsLater}
 use Rattle.plan_model.proofs.Uses.{takes_time}
-
-not_less : (o : Ordering) → o ≡ ordering_reverse o → is_lt o ≡ false
-not_less Less e = absurd (cc)
-not_less Equal e = refl
-not_less Greater e = refl
-
-not_before_itself : (a : List ℕ) → is_before a a ≡ false
-not_before_itself a = not_less (slice_cmp nat_cmp a a) (nat_list_cmp_total.antisymm a a)
-
-lt_from_test : (s t : ℤ) → int_lt s t ≡ true → s <ℤ t
-lt_from_test s t h = grind (arith, ints)
-
-test_from_lt : (s t : ℤ) → s <ℤ t → int_lt s t ≡ true
-test_from_lt s t h = grind (arith, ints)
-
-le_from_not : (s t : ℤ) → int_lt s t ≡ false → t ≤ℤ s
-le_from_not s t h = grind (arith, ints)
-
-lt_through : (s t u : ℤ) → s ≤ℤ t → t <ℤ u → s <ℤ u
-lt_through s t u p q = omega (arith, ints)
 
 -- the moment that comes before another is no later
 pub no_later : (s t : ℤ) (a b : List ℕ) → comes_before s a t b ≡ true → s ≤ℤ t
@@ -56,7 +34,7 @@ not_itself row place h =
     let s = (use_at row place).start in
     elim (or_cases (int_lt s s) (int_eq s s && is_before row.name row.name) (and_parts _ _ h).1) [
       | inl l ↦ let lt = lt_from_test s s l in omega (arith, ints)
-      | inr e ↦ both_ways _ (not_before_itself row.name) (and_parts (int_eq s s) (is_before row.name row.name) e).1
+      | inr e ↦ both_ways _ (is_before-itself row.name) (and_parts (int_eq s s) (is_before row.name row.name) e).1
     ]
 
 -- times that aren't moved
@@ -84,7 +62,7 @@ module _ (cut : Cut) (sound : IsSoundCut cut) (free : IsFreeOfConflict cut) (kee
             (no_later a.start b.start (member cut i).name (member cut j).name parts.1)
             (takes_time cut sound j place lj used.1) in
             elim (cases_Bool (int_lt b.start a.«end»)) [
-              | inr clear ↦ le_from_not b.start a.«end» clear
+              | inr clear ↦ le_from_not_lt b.start a.«end» clear
               | inl second ↦
                   absurd (both_ways _ (free i j place li lj apart block)
                   (and_from _ _ parts.0 (and_from _ _ (test_from_lt a.start b.«end» first) second)))

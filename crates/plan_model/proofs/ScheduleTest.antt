@@ -1,10 +1,10 @@
 -- Tests that show a list of entries to be a schedule, and the least.
-use Rattle.std.proofs.Common.{◌≡◌, ℕ, ◌<◌, Bool, true, not, ◌&&◌, ◌||◌, List, [], length, inl, inr, arith}
+use Rattle.std.proofs.Common.{◌≡◌, ℕ, ◌<◌, Bool, true, not, ◌&&◌, ◌||◌, List, [], length, inl, inr}
 use Rattle.std.specs.Prelude.{ℤ, ◌==◌, ◌≤ℤ◌, int_le, IsTrue}
 use Rattle.std.specs.List.{list_all, list_any}
 use Rattle.std.proofs.lemmas.Bool.{and_parts, or_cases, not-true, eqb-true, both_ways}
-use Rattle.std.proofs.lemmas.Int.{ints}
 use Rattle.rail_model.specs.declared.stair.Use.{Use}
+use Rattle.rail_model.proofs.Numbers.{le_from_test}
 use Rattle.plan_model.specs.declared.cut.Cut.{Cut}
 use Rattle.plan_model.specs.Members.{member, member_count, members}
 use Rattle.plan_model.specs.Precedence.{precedes}
@@ -17,9 +17,6 @@ use Rattle.plan_model.specs.Laws.{IsTied}
 use Rattle.plan_model.proofs.Tied.{tied_is_least}
 use Rattle.std.specs.Ordering.{int_eq}
 use Rattle.std.proofs.lemmas.Bool.Decides.{Decides-int_eq}
-
-le_from_test : (a b : ℤ) → int_le a b ≡ true → a ≤ℤ b
-le_from_test a b h = grind (arith, ints)
 
 module _ (cut : Cut) (entries : List ℤ) where
   -- member i keeps its order with member j at a place

@@ -1,10 +1,8 @@
 -- A test that shows a cut to be sound.
 use Rattle.std.proofs.Common.{◌≡◌, ℕ, zero, suc, ◌<◌, ◌≤◌, Bool, true, not, ◌&&◌, ◌||◌, List, [], ◌∷◌, ◌++◌, length, map, get_or, inl, inr, refl, ap, ◌∙◌, subst, arith}
-use Rattle.std.specs.Prelude.{ℤ, pos, ◌-ℤ◌, ◌≤ℤ◌, ◌<ℤ◌, int_lt, int_le, nat_lt, nat_le, ◌==◌, filter, count_by, All, AllPairs}
+use Rattle.std.specs.Prelude.{ℤ, pos, ◌-ℤ◌, int_lt, int_le, nat_lt, nat_le, ◌==◌, filter, count_by, All, AllPairs}
 use Rattle.std.specs.List.{list_all}
-use Rattle.std.specs.Ordering.{int_eq, is_lt}
-use Rattle.std.specs.declared.cmp.Ordering.{Ordering}
-use Rattle.std.specs.declared.cmp.Ordering.TheVariants.{Less, Equal, Greater}
+use Rattle.std.specs.Ordering.{int_eq}
 use Rattle.std.proofs.lemmas.Bool.{and_parts, or_cases, both_ways, not-true, ltb-true, leb-true, eqb-true, eq-eqb, le-ltb}
 use Rattle.std.proofs.lemmas.Bool.Decides.{Decides-int_eq}
 use Rattle.std.proofs.lemmas.Int.{ints}
@@ -13,7 +11,8 @@ use Rattle.std.proofs.lemmas.List.FromFn.{length-range_with_len, get_or-range_wi
 use Rattle.rail_model.specs.declared.stair.Use.{Use}
 use Rattle.rail_model.specs.declared.limits.TheConstants.{RUNS, CONNECTIONS, PATH_HOPS, GREATEST_MOMENT_S}
 use Rattle.rail_model.specs.Name.{is_before, is_same}
-use Rattle.rail_model.proofs.NameOrder.{is_same-from}
+use Rattle.rail_model.proofs.NameOrder.{is_same-from, IsBefore-from}
+use Rattle.rail_model.proofs.Numbers.{le_from_test, lt_from_test}
 use Rattle.plan_model.specs.declared.cut.CutRow.{CutRow}
 use Rattle.plan_model.specs.declared.cut.Cut.{Cut}
 use Rattle.plan_model.specs.Places.{place_names, block_count, place_count, places}
@@ -72,17 +71,6 @@ parted test (x ∷ xs) h =
 
 moment : (t : ℤ) → int_le (pos 0 -ℤ GREATEST_MOMENT_S) t ≡ true → int_le t GREATEST_MOMENT_S ≡ true → IsMoment t
 moment t p q = record { after = grind (arith, ints); before = grind (arith, ints) }
-
-le_from_test : (a b : ℤ) → int_le a b ≡ true → a ≤ℤ b
-le_from_test a b h = grind (arith, ints)
-
-lt_from_test : (a b : ℤ) → int_lt a b ≡ true → a <ℤ b
-lt_from_test a b h = grind (arith, ints)
-
-less_from : (o : Ordering) → is_lt o ≡ true → o ≡ Less
-less_from Less h = refl
-less_from Equal h = absurd (cc)
-less_from Greater h = absurd (cc)
 
 module _ (cut : Cut) where
   abbrev pub is_sound_use : Use → Bool
@@ -178,7 +166,7 @@ module _ (cut : Cut) where
         most_connections = leb-true (length cut.connections) CONNECTIONS f.1;
         most_rows = leb-true (length cut.rows) RUNS e.1;
         places_differ = λ k m none l n same. both_ways _ (not-true _ (differ k m none l n)) (is_same-from _ _ same);
-        names_rise = λ k m none l n. less_from _ (rise k m none l n);
+        names_rise = λ k m none l n. IsBefore-from (get_or cut.rows k none).name (get_or cut.rows m none).name (rise k m none l n);
         each = λ k none l. sound_row (get_or cut.rows k none) (rows k none l);
         two_rows = two_rows a.1;
       }

@@ -1,7 +1,6 @@
 -- A cut has at most one least schedule and one answer.
 use Rattle.std.proofs.Common.{◌≡◌, ◌<◌, sym, ap, ◌∙◌, arith}
-use Rattle.std.specs.Prelude.{ℤ, pos, ◌≤ℤ◌, Option, Some, None}
-use Rattle.std.proofs.lemmas.Int.{ints}
+use Rattle.std.specs.Prelude.{pos, Option, Some, None}
 use Rattle.std.proofs.lemmas.List.{ext_get_or}
 use Rattle.plan_model.specs.declared.cut.Cut.{Cut}
 use Rattle.plan_model.specs.declared.answer.Plan.{Plan}
@@ -12,16 +11,14 @@ use Rattle.plan_model.specs.Disorder.{Opposite}
 use Rattle.plan_model.specs.Schedule.{entry_at, window_floor}
 use Rattle.plan_model.specs.Answer.{plan_of, IsCompressed}
 use Rattle.plan_model.specs.Laws.{LeastIsUnique, AnswerIsUnique}
-
-both_ways : (a b : ℤ) → a ≤ℤ b → b ≤ℤ a → a ≡ b
-both_ways a b p q = omega (arith, ints)
+use Rattle.rail_model.proofs.Numbers.{le_both_ways}
 
 pub least_is_unique : LeastIsUnique
 least_is_unique cut floor entries other p q =
     ext_get_or (pos 0) entries other (p.schedule.count ∙ sym q.schedule.count)
     (λ i l.
     let here : i < member_count cut = omega (arith, l, p.schedule.count) in
-    both_ways (entry_at entries i) (entry_at other i) (p.least other q.schedule i here)
+    le_both_ways (entry_at entries i) (entry_at other i) (p.least other q.schedule i here)
     (q.least entries p.schedule i here))
 
 plan_is_unique : (cut : Cut) (plan other : Plan) → IsCompressed cut plan → IsCompressed cut other → plan ≡ other
