@@ -30,3 +30,4 @@ pub mod Reduced
 pub mod Sound
 pub mod UseFound
 pub mod FirstWith
+pub mod Preceded

@@ -1,6 +1,6 @@
 -- What the rows of a sound cut have, and their uses of its places.
 use Rattle.std.proofs.Common.{◌≡◌, ℕ, ◌<◌, true, List, [], ◌∷◌, length, map, inl, inr, refl, suc, arith}
-use Rattle.std.specs.Prelude.{◌==◌, ◌≤ℤ◌, ℤ, find, unwrap_or, All, IfSome}
+use Rattle.std.specs.Prelude.{◌==◌, ◌≤ℤ◌, ◌+ℤ◌, ◌-ℤ◌, ◌^◌, ℤ, pos, find, unwrap_or, All, IfSome}
 use Rattle.std.specs.List.{list_any}
 use Rattle.std.proofs.lemmas.Bool.{cases_Bool}
 use Rattle.std.proofs.lemmas.Int.{ints, fold-int_min_bounds}
@@ -11,7 +11,7 @@ use Rattle.plan_model.specs.declared.cut.CutRow.{CutRow}
 use Rattle.plan_model.specs.declared.cut.Cut.{Cut}
 use Rattle.plan_model.specs.Places.{block_count, place_count}
 use Rattle.plan_model.specs.Members.{member, member_count, no_member, uses_place, use_of, use_at, no_use}
-use Rattle.plan_model.specs.Cut.{least, is_block, block_uses, IsMoment, IsBounded, IsSoundUse, IsSoundRow, IsSoundCut, IsUsable, AreOfOtherPlaces, AreBlocksFirst}
+use Rattle.plan_model.specs.Cut.{least, is_block, block_uses, IsMoment, IsBounded, IsSoundUse, IsSoundRow, IsSoundCut, IsUsable, AreOfOtherPlaces, AreBlocksFirst, MembersAreUsable}
 
 least_most : (uses : List Use) (z : ℤ) → 0 < length uses → All (λ (u : Use). u.start ≤ℤ z) uses
     → least (map (λ (u : Use). u.start) uses) ≤ℤ z
@@ -39,6 +39,14 @@ usable_row cut row sound =
 -- a moment of a timetable is one of trains that are moved
 pub bounded : (t : ℤ) → IsMoment t → IsBounded t
 bounded t h = record { after = omega (arith, ints, h.after); before = omega (arith, ints, h.before) }
+
+-- moments of a train that is planned at one moment and enters at another from -2^49 to 2^49 are bounded
+pub shifted : (time planned entry : ℤ) → IsMoment time → IsMoment planned → (pos 0 -ℤ pos (2 ^ 49)) ≤ℤ entry
+    → entry ≤ℤ pos (2 ^ 49) → IsBounded (time -ℤ planned +ℤ entry)
+shifted time planned entry t p a b = record {
+  after = omega (arith, ints, t.after, p.before, a);
+  before = omega (arith, ints, t.before, p.after, b);
+}
 
 -- what holds of all uses holds of that of a place
 pub of_all : (P : Use → Type 0) (uses : List Use) (place : ℕ) → All P uses
@@ -80,3 +88,6 @@ module _ (cut : Cut) (sound : IsSoundCut cut) where
 
     pub found_sound : (place : ℕ) → IfSome (use_of (member cut i) place) (IsSoundUse cut)
     found_sound place = of_found (IsSoundUse cut) (member cut i).uses place (sound.each i no_member l).each
+
+pub members_are_usable : MembersAreUsable
+members_are_usable cut i sound l = usable cut sound i l

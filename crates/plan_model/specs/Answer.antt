@@ -6,6 +6,9 @@ use Rattle.plan_model.specs.declared.answer.Placed.{Placed}
 use Rattle.plan_model.specs.declared.answer.Plan.{Plan}
 use Rattle.plan_model.specs.declared.answer.Answer.{Answer}
 use Rattle.plan_model.specs.declared.answer.Answer.TheVariants as answer
+use Rattle.plan_model.specs.declared.answer.Disorder.{Disorder}
+use Rattle.plan_model.specs.declared.answer.Disorder.TheVariants as disorder
+use Rattle.plan_model.specs.Cut.{IsSoundCut}
 use Rattle.plan_model.specs.Places.{place_names}
 use Rattle.plan_model.specs.Members.{member, member_count, members}
 use Rattle.plan_model.specs.Disorder.{opposite, remaining, ring}
@@ -38,6 +41,22 @@ plan_of cut entries = record {
 -- the compressed timetable: the one of the least schedule
 abbrev pub IsCompressed : Cut → Plan → Type 0
 IsCompressed cut plan = (entries : List ℤ) × IsLeast cut entries × (plan ≡ plan_of cut entries)
+
+-- a plan is the compressed timetable of a sound cut whose trains have an order, and there is such a cut
+abbrev pub IsPlanOf : Cut → Plan → Type 0
+IsPlanOf cut plan = IsSoundCut cut × (remaining cut ≡ []) × IsCompressed cut plan
+
+abbrev pub IsPlan : Plan → Type 0
+IsPlan plan = (cut : Cut) × IsPlanOf cut plan
+
+-- the entries of a plan's trains
+abbrev pub entries_of : Plan → List ℤ
+entries_of plan = map (λ p. p.entry) plan.placed
+
+-- the answer that tells why trains have no order
+abbrev pub answer_of : Disorder → Answer
+answer_of (disorder.Opposite first second block1 block2) = answer.Opposite first second block1 block2
+answer_of (disorder.Ring links) = answer.Ring links
 
 -- the answer of a cut: that it is crowded; else its opposite trains; else its ring, where members remain; else its
 -- compressed timetable

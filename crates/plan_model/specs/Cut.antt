@@ -8,8 +8,7 @@ use Rattle.rail_model.specs.Name.{NamesRise}
 use Rattle.plan_model.specs.declared.cut.CutRow.{CutRow}
 use Rattle.plan_model.specs.declared.cut.Cut.{Cut}
 use Rattle.plan_model.specs.Places.{place_names, block_count, place_count}
-use Rattle.plan_model.specs.Members.{member_count, uses_place}
-use Rattle.plan_model.specs.declared.limits.TheConstants.{MEMBERS}
+use Rattle.plan_model.specs.Members.{member, member_count, uses_place}
 
 -- a row, and a cut at each row, with this stamp
 abbrev pub stamped_row : ℕ → CutRow → CutRow
@@ -91,7 +90,7 @@ pub record IsUsable (places : ℕ) (row : CutRow) : Type 0 where
   pub ends : All (λ u. IsMoment u.«end») row.uses
   pub there : All (λ u. u.block < places) row.uses
 
--- a sound cut with no more members than are compressed
-pub record IsFitCut (cut : Cut) : Type 0 where
-  pub sound : IsSoundCut cut
-  pub few : member_count cut ≤ MEMBERS
+-- the members of a sound cut have moments within the limit, at places of the cut
+abbrev pub MembersAreUsable : Type 0
+MembersAreUsable =
+    (cut : Cut) (i : ℕ) → IsSoundCut cut → i < member_count cut → IsUsable (place_count cut) (member cut i)

@@ -1,9 +1,9 @@
 -- Disorder: members whose order differs from place to place, so that they have no order in time.
-use Rattle.std.specs.Prelude.{ℕ, zero, suc, ◌+◌, ◌-◌, Bool, ◌&&◌, ◌==◌, nat_le, List, [], ◌∷◌, ◌++◌, length, map, filter, find, take, drop, reverse, zip, Option, option_map, unwrap_or, slice_index}
+use Rattle.std.specs.Prelude.{◌≡◌, ℕ, zero, suc, ◌+◌, ◌-◌, ◌<◌, Bool, true, ◌&&◌, ◌==◌, nat_le, List, [], ◌∷◌, ◌++◌, length, map, filter, find, take, drop, reverse, zip, Option, option_map, unwrap_or, slice_index}
 use Rattle.std.specs.List.{list_any, list_all, flat_map, range_with_len, position_or_len}
 use Rattle.plan_model.specs.declared.cut.Cut.{Cut}
 use Rattle.plan_model.specs.declared.answer.Link.{Link}
-use Rattle.plan_model.specs.Places.{place_name, place_count, first_by_name}
+use Rattle.plan_model.specs.Places.{place_name, place_count, first_by_name, is_among}
 use Rattle.plan_model.specs.Members.{member, member_count, members}
 use Rattle.plan_model.specs.Precedence.{places_of_precedence, precedes_somewhere}
 
@@ -60,6 +60,19 @@ after_rounds cut (suc n) some = after_rounds cut n (preceded cut some)
 -- the members that remain: as many rounds as there are members leave nothing to take out
 abbrev pub remaining : Cut → List ℕ
 remaining cut = after_rounds cut (member_count cut) (members cut)
+
+-- one of some members precedes a member somewhere
+pub record IsPrecededAmong (cut : Cut) (some : List ℕ) (j : ℕ) : Type 0 where
+  pub there : j < member_count cut
+  pub member : ℕ
+  pub among : is_among some member ≡ true
+  pub precedes : precedes_somewhere cut member j ≡ true
+
+-- members of which each is preceded by one of them have no order: each of them remains
+abbrev pub PrecededRemain : Type 0
+PrecededRemain =
+    (cut : Cut) (some : List ℕ) → ((j : ℕ) → is_among some j ≡ true → IsPrecededAmong cut some j)
+    → (j : ℕ) → is_among some j ≡ true → is_among (remaining cut) j ≡ true
 
 -- ---- the ring
 

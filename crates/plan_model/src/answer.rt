@@ -56,6 +56,47 @@ pub struct Link {
     pub next: Name,
 }
 
+/// Why the trains of a cut have no order.
+#[derive(Drop)]
+pub enum Disorder {
+    /// Two trains, each of which precedes the other at some place: the least such pair by names.
+    Opposite {
+        first: Name,
+        second: Name,
+        /// The first place by name at which the first precedes the second.
+        block1: Name,
+        /// The first place by name at which the second precedes the first.
+        block2: Name,
+    },
+    /// Trains of which each precedes the next, and the last the first.
+    Ring(List<Link>),
+}
+
+impl Disorder {
+    ghost use Rattle.std.specs.Prelude.{◌≡◌};
+    ghost use Rattle.plan_model.specs.Answer.{answer_of};
+
+    /// The answer of a cut whose trains have no order.
+    pub fn into_answer(self) -> Answer
+        ensures { result ≡ answer_of self }
+    {
+        match self {
+            Disorder::Opposite {
+                first,
+                second,
+                block1,
+                block2,
+            } => Answer::Opposite {
+                first,
+                second,
+                block1,
+                block2,
+            },
+            Disorder::Ring(links) => Answer::Ring(links),
+        }
+    }
+}
+
 /// The answer of a cut.
 #[derive(Drop)]
 pub enum Answer {

@@ -1,4 +1,6 @@
 //! Laws of the definitions: each function does nothing, and its contract is the law.
+ghost use Rattle.plan_model.specs.Cut.{MembersAreUsable};
+ghost use Rattle.plan_model.specs.Disorder.{PrecededRemain};
 ghost use Rattle.plan_model.specs.Laws.{LeastIsUnique, AnswerIsUnique, UsesAreApart, RemainingIsLeft, TiedIsLeast, LeastIsTied, NoneIsLater, OccupancyIsToClosing, OccupancyReachesClosing, FractionIsReduced, ReducedIsUnique, ComesBeforeIsTested, ConflictIsOverlap};
 
 /// A cut has at most one least schedule from floors, one for each member: from the window's start
@@ -72,4 +74,14 @@ pub fn comes_before_is_tested()
 /// do.
 pub fn conflict_is_overlap()
     ensures { ConflictIsOverlap }
+{}
+
+/// Members of which each is preceded by one of them have no order: each of them remains.
+pub fn preceded_remain()
+    ensures { PrecededRemain }
+{}
+
+/// The members of a sound cut have moments within the limit, at places of the cut.
+pub fn members_are_usable()
+    ensures { MembersAreUsable }
 {}

@@ -21,7 +21,7 @@ mod reading;
 mod rows;
 mod scripts;
 
-pub use answer::{Answer, Done, Link, Placed, Plan, Tie};
+pub use answer::{Answer, Disorder, Done, Link, Placed, Plan, Tie};
 pub use board::Board;
 pub use cut::{Cut, CutRow};
 pub use fit_cut::{FitCut, SoundCut, shift, use_of};
@@ -33,8 +33,9 @@ pub use journal_laws::{
 };
 pub use laws::{
     answer_is_unique, comes_before_is_tested, conflict_is_overlap, fraction_is_reduced,
-    least_is_tied, least_is_unique, none_is_later, occupancy_is_to_closing,
-    occupancy_reaches_closing, reduced_is_unique, remaining_is_left, tied_is_least, uses_are_apart,
+    least_is_tied, least_is_unique, members_are_usable, none_is_later, occupancy_is_to_closing,
+    occupancy_reaches_closing, preceded_remain, reduced_is_unique, remaining_is_left,
+    tied_is_least, uses_are_apart,
 };
 pub use limits::MEMBERS;
 pub use outcome::{Asked, Next, NotTaken, Stepped};
