@@ -14,6 +14,7 @@ pub mod Under
 pub mod Reaches
 pub mod Moves
 pub mod Known
+pub mod Answered
 pub mod RulesOfPut
 pub mod RulesOfChange
 pub mod Joined

@@ -6,3 +6,4 @@ pub mod RouteSets
 pub mod References
 pub mod Inside
 pub mod Hops
+pub mod AnswersEdit

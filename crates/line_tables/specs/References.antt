@@ -25,8 +25,8 @@ rule_of_references tables x =
     else if repeats tables x then Some Twice
     else None
 
--- the rule of an edit that is told before it is made: what a route refers to is looked up when it is put, and a signal
--- and its block when the signal is changed
+-- the rule of an edit that is told before it is made: what a route refers to is looked up when it is put or changed, and a
+-- signal and its block when the signal is changed
 abbrev pub rule_before_put : Tables → Item → Option Rule
 rule_before_put tables (item.Block b) = rule_of_put tables (item.Block b)
 rule_before_put tables (item.Signal s) = rule_of_put tables (item.Signal s)
@@ -38,7 +38,7 @@ rule_before_put tables (item.Connection c) = rule_of_put tables (item.Connection
 abbrev pub rule_before_change : Tables → Item → Option Rule
 rule_before_change tables (item.Block b) = rule_of_change tables (item.Block b)
 rule_before_change tables (item.Signal s) = if not (is_within (item.Signal s)) then Some Range else None
-rule_before_change tables (item.Route r) = rule_of_change tables (item.Route r)
+rule_before_change tables (item.Route r) = if not (is_within (item.Route r)) then Some Range else None
 rule_before_change tables (item.Run r) = rule_of_change tables (item.Run r)
 rule_before_change tables (item.Section s) = rule_of_change tables (item.Section s)
 rule_before_change tables (item.Connection c) = rule_of_change tables (item.Connection c)

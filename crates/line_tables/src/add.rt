@@ -4,6 +4,7 @@ ghost use Rattle.std.specs.Prelude.{◌≡◌, ℕ, ◌+◌, false, Some, None, 
 ghost use Rattle.rail_model.specs.declared.items.Item.TheVariants as item;
 ghost use Rattle.rail_model.specs.Rules.{rule_of_put, is_named};
 ghost use Rattle.rail_model.specs.Edits.{after_put, with_item};
+ghost use Rattle.line_tables.specs.AnswersEdit.{AnswersEdit};
 ghost use Rattle.line_tables.specs.References.{rule_of_item};
 ghost use Rattle.line_tables.specs.Table.{under, IsTable};
 ghost use Rattle.line_tables.specs.KeyCounts.{count_of, times, SameCounts};
@@ -41,14 +42,8 @@ impl LineTables {
     // looked up once: for the rules, for its entry, for the counts and for the sets.
     pub(crate) fn put_route(&mut self, route: Route) -> Result<Result<(), Rule>, OutOfMemory>
         requires { rule_of_item self.old (item.Route route) ≡ None }
-        ensures refused { IfOk result
-            (λ answer. IfErr answer (λ rule. rule_of_put self.old (item.Route route) ≡ Some rule)) }
-        ensures accepted { IfOk result
-            (λ answer. OnOk answer (rule_of_put self.old (item.Route route) ≡ None)) }
-        ensures after { IfOk result
-            (λ answer. OnOk answer (self.new ≡ after_put self.old (item.Route route))) }
-        ensures kept { IfOk result (λ answer. OnErr answer (self.new ≡ self.old)) }
-        ensures kept_without_memory { OnErr result (self.new ≡ self.old) }
+        ensures { AnswersEdit (rule_of_put self.old (item.Route route)) (after_put self.old (item.Route route))
+            result self.old self.new }
     {
         self.blocks.learn_order();
         let Some(signals) = known_keys(self.alloc, &self.signals, &route.signals)? else {

@@ -2,6 +2,7 @@
 ghost use Rattle.std.specs.Prelude.{◌≡◌, Some, None, OnOk, OnErr, IfOk, IfErr};
 ghost use Rattle.rail_model.specs.Rules.{rule_of, rule_of_put, rule_of_change, rule_of_drop};
 ghost use Rattle.rail_model.specs.Edits.{after, after_put, after_change, after_drop};
+ghost use Rattle.line_tables.specs.AnswersEdit.{AnswersEdit};
 ghost use Rattle.line_tables.specs.References.{rule_before, rule_before_put, rule_before_change};
 
 use crate::LineTables;
@@ -37,16 +38,12 @@ impl LineTables {
         self.make(edit)
     }
 
-    // Makes an edit that no rule refuses, save one of what a put route refers to, or of a changed
-    // signal and its block: that is told here.
+    // Makes an edit that no rule refuses, save one of what a put or changed route refers to, or of a
+    // changed signal and its block: that is told here.
     fn make(&mut self, edit: Edit) -> Result<Result<(), Rule>, OutOfMemory>
         requires { rule_before self.old edit ≡ None }
-        ensures refused { IfOk result
-            (λ answer. IfErr answer (λ rule. rule_of self.old edit ≡ Some rule)) }
-        ensures accepted { IfOk result (λ answer. OnOk answer (rule_of self.old edit ≡ None)) }
-        ensures after { IfOk result (λ answer. OnOk answer (self.new ≡ after self.old edit)) }
-        ensures kept { IfOk result (λ answer. OnErr answer (self.new ≡ self.old)) }
-        ensures kept_without_memory { OnErr result (self.new ≡ self.old) }
+        ensures { AnswersEdit (rule_of self.old edit) (after self.old edit)
+            result self.old self.new }
     {
         match edit {
             Edit::Put(item) => self.add(item),
@@ -60,12 +57,8 @@ impl LineTables {
 
     fn add(&mut self, item: Item) -> Result<Result<(), Rule>, OutOfMemory>
         requires { rule_before_put self.old item ≡ None }
-        ensures refused { IfOk result
-            (λ answer. IfErr answer (λ rule. rule_of_put self.old item ≡ Some rule)) }
-        ensures accepted { IfOk result (λ answer. OnOk answer (rule_of_put self.old item ≡ None)) }
-        ensures after { IfOk result (λ answer. OnOk answer (self.new ≡ after_put self.old item)) }
-        ensures kept { IfOk result (λ answer. OnErr answer (self.new ≡ self.old)) }
-        ensures kept_without_memory { OnErr result (self.new ≡ self.old) }
+        ensures { AnswersEdit (rule_of_put self.old item) (after_put self.old item)
+            result self.old self.new }
     {
         match item {
             Item::Block(block) => self.add_block(block)?,
@@ -80,19 +73,13 @@ impl LineTables {
 
     fn replace(&mut self, item: Item) -> Result<Result<(), Rule>, OutOfMemory>
         requires { rule_before_change self.old item ≡ None }
-        ensures refused { IfOk result
-            (λ answer. IfErr answer (λ rule. rule_of_change self.old item ≡ Some rule)) }
-        ensures accepted { IfOk result
-            (λ answer. OnOk answer (rule_of_change self.old item ≡ None)) }
-        ensures after { IfOk result
-            (λ answer. OnOk answer (self.new ≡ after_change self.old item)) }
-        ensures kept { IfOk result (λ answer. OnErr answer (self.new ≡ self.old)) }
-        ensures kept_without_memory { OnErr result (self.new ≡ self.old) }
+        ensures { AnswersEdit (rule_of_change self.old item) (after_change self.old item)
+            result self.old self.new }
     {
         match item {
             Item::Block(block) => self.replace_block(block),
             Item::Signal(signal) => return self.change_signal(signal),
-            Item::Route(route) => self.replace_route(route)?,
+            Item::Route(route) => return self.change_route(route),
             Item::Run(run) => self.replace_run(run)?,
             Item::Section(section) => self.replace_section(section)?,
             Item::Connection(connection) => self.replace_connection(connection)?,

@@ -5,9 +5,13 @@ ghost use Rattle.rail_model.specs.declared.items.Item.TheVariants as item;
 ghost use Rattle.rail_model.specs.Rules.{rule_of_change};
 ghost use Rattle.rail_model.specs.Within.{is_within};
 ghost use Rattle.rail_model.specs.Edits.{after_change};
+ghost use Rattle.line_tables.specs.AnswersEdit.{AnswersEdit};
 
 use crate::LineTables;
-use crate::linked::{block_of, blocks_of, change_linked, keys_of, one_key, swap_linked};
+use crate::key_set::repeats;
+use crate::linked::{
+    block_of, blocks_of, change_linked, keys_of, known_keys, one_key, swap_linked,
+};
 use rail_model::{Block, Connection, OutOfMemory, Route, Rule, Run, Section, Signal};
 
 impl LineTables {
@@ -24,14 +28,8 @@ impl LineTables {
     // for the sets.
     pub(crate) fn change_signal(&mut self, signal: Signal) -> Result<Result<(), Rule>, OutOfMemory>
         requires { is_within (item.Signal signal) ≡ true }
-        ensures refused { IfOk result (λ answer. IfErr answer
-            (λ rule. rule_of_change self.old (item.Signal signal) ≡ Some rule)) }
-        ensures accepted { IfOk result
-            (λ answer. OnOk answer (rule_of_change self.old (item.Signal signal) ≡ None)) }
-        ensures after { IfOk result
-            (λ answer. OnOk answer (self.new ≡ after_change self.old (item.Signal signal))) }
-        ensures kept { IfOk result (λ answer. OnErr answer (self.new ≡ self.old)) }
-        ensures kept_without_memory { OnErr result (self.new ≡ self.old) }
+        ensures { AnswersEdit (rule_of_change self.old (item.Signal signal)) (after_change self.old (item.Signal signal))
+            result self.old self.new }
     {
         self.routes.learn_order();
         let Some(key) = self.signals.key_of(&signal.name) else {
@@ -51,22 +49,37 @@ impl LineTables {
         Ok(Ok(()))
     }
 
-    pub(crate) fn replace_route(&mut self, route: Route) -> Result<(), OutOfMemory>
-        requires { rule_of_change self.old (item.Route route) ≡ None }
-        ensures after { OnOk result (self.new ≡ after_change self.old (item.Route route)) }
-        ensures kept { OnErr result (self.new ≡ self.old) }
+    // Puts a route in the place of the one of its name, or tells the rule by which its name, what it
+    // refers to or the runs on it refuse it. Its signals are looked up once: for the rules, for its
+    // entry, for the counts and for the sets.
+    pub(crate) fn change_route(&mut self, route: Route) -> Result<Result<(), Rule>, OutOfMemory>
+        requires { is_within (item.Route route) ≡ true }
+        ensures { AnswersEdit (rule_of_change self.old (item.Route route))
+            (after_change self.old (item.Route route)) result self.old self.new }
     {
-        let refs = keys_of(self.alloc, &self.signals, route.signals.slice())?;
+        self.blocks.learn_order();
+        if !self.has_route(&route.name) {
+            return Ok(Err(Rule::Unknown));
+        }
+        let Some(signals) = known_keys(self.alloc, &self.signals, &route.signals)? else {
+            return Ok(Err(Rule::Unknown));
+        };
+        let blocks = blocks_of(self.alloc, &self.signals, &signals)?;
+        if repeats(self.alloc, blocks.slice())? {
+            return Ok(Err(Rule::Twice));
+        }
+        if self.makes_miscount(&route) {
+            return Ok(Err(Rule::Count));
+        }
         let key = self.routes.key_of(&route.name).unwrap();
-        self.signal_uses.make_room(refs.slice())?;
-        let blocks = blocks_of(self.alloc, &self.signals, &refs)?;
+        self.signal_uses.make_room(signals.slice())?;
         self.route_sets
-            .make_room(refs.slice(), blocks.slice(), key)?;
+            .make_room(signals.slice(), blocks.slice(), key)?;
         let old = self.routes.get(key).refs.slice();
         self.route_sets.take(&self.signals, old, key);
-        self.route_sets.put(refs.slice(), blocks.slice(), key);
-        swap_linked(&mut self.routes, &mut self.signal_uses, key, route, refs);
-        Ok(())
+        self.route_sets.put(signals.slice(), blocks.slice(), key);
+        swap_linked(&mut self.routes, &mut self.signal_uses, key, route, signals);
+        Ok(Ok(()))
     }
 
     pub(crate) fn replace_run(&mut self, run: Run) -> Result<(), OutOfMemory>

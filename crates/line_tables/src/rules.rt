@@ -18,8 +18,8 @@ use rail_model::{
 };
 
 impl LineTables {
-    /// The first rule that refuses an edit, if one does, but for what a put route refers to, and
-    /// for a changed signal and its block: they are looked up when the edit is made.
+    /// The first rule that refuses an edit, if one does, but for what a put or changed route refers
+    /// to, and for a changed signal and its block: they are looked up when the edit is made.
     pub(crate) fn rule_before(&self, edit: &Edit) -> Result<Option<Rule>, OutOfMemory>
         ensures { IfOk result (λ rule. rule ≡ rule_before self.now edit.now) }
     {
@@ -47,12 +47,9 @@ impl LineTables {
         ensures { IfOk result (λ rule. rule ≡ rule_before_change self.now item.now) }
     {
         match item {
-            Item::Signal(_) => Ok(range_unless(is_within(item))),
-            Item::Block(_)
-            | Item::Route(_)
-            | Item::Run(_)
-            | Item::Section(_)
-            | Item::Connection(_) => self.rule_of_change(item),
+            Item::Signal(_) | Item::Route(_) => Ok(range_unless(is_within(item))),
+            Item::Block(_) | Item::Run(_) | Item::Section(_) | Item::Connection(_) =>
+                self.rule_of_change(item),
         }
     }
 
@@ -87,9 +84,10 @@ impl LineTables {
         None
     }
 
-    // The first rule that refuses to change an item that is no signal.
+    // The first rule that refuses to change an item that is neither a signal nor a route.
     fn rule_of_change(&self, item: &Item) -> Result<Option<Rule>, OutOfMemory>
-        requires { rules.makes_repeat self.now item.now ≡ false }
+        requires repeat { rules.makes_repeat self.now item.now ≡ false }
+        requires miscount { rules.makes_miscount self.now item.now ≡ false }
         ensures { IfOk result (λ rule. rule ≡ rules.rule_of_change self.now item.now) }
     {
         if !is_within(item) {
@@ -101,7 +99,7 @@ impl LineTables {
         if let Some(rule) = self.rule_of_references(item)? {
             return Ok(Some(rule));
         }
-        if self.miscounts_legs(item) || self.makes_miscount(item) {
+        if self.miscounts_legs(item) {
             return Ok(Some(Rule::Count));
         }
         Ok(None)
@@ -131,7 +129,7 @@ impl LineTables {
         self.signals.key_of(name).is_some()
     }
 
-    fn has_route(&self, name: &Name) -> bool
+    pub(crate) fn has_route(&self, name: &Name) -> bool
         ensures { result ≡ rules.has_route self.now name.now }
     {
         self.routes.key_of(name).is_some()
@@ -279,21 +277,11 @@ impl LineTables {
     }
 
     // Each run on the route has a leg for each of the signals that it has now.
-    fn makes_miscount(&self, item: &Item) -> bool
-        requires { rules.is_there self.now item.now ≡ true }
-        ensures { result ≡ rules.makes_miscount self.now item.now }
+    pub(crate) fn makes_miscount(&self, route: &Route) -> bool
+        requires { rules.has_route self.now route.now.name ≡ true }
+        ensures { result ≡ rules.makes_miscount self.now (item.Route route.now) }
     {
-        match item {
-            Item::Route(route) => {
-                self.signal_count(&route.name) != route.signals.len()
-                    && self.is_route_used(&route.name)
-            }
-            Item::Block(_)
-            | Item::Signal(_)
-            | Item::Run(_)
-            | Item::Section(_)
-            | Item::Connection(_) => false,
-        }
+        self.signal_count(&route.name) != route.signals.len() && self.is_route_used(&route.name)
     }
 
     fn is_block_used(&self, name: &Name) -> bool

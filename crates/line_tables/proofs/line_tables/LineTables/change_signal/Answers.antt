@@ -6,7 +6,7 @@ use Rattle.rail_model.specs.declared.items.Signal.{Signal}
 use Rattle.rail_model.specs.declared.items.Route.{Route}
 use Rattle.rail_model.specs.declared.items.Item.TheVariants as item
 use Rattle.rail_model.specs.declared.edit.Rule.{Rule}
-use Rattle.rail_model.specs.declared.edit.Rule.TheVariants.{Twice}
+use Rattle.rail_model.specs.declared.edit.Rule.TheVariants.{Unknown, Twice}
 use Rattle.rail_model.specs.Rules.{has_signal, has_block, makes_repeat, rule_of_change}
 use Rattle.rail_model.specs.Within.{is_within}
 use Rattle.line_tables.specs.declared.linked.Linked.{Linked}
@@ -23,6 +23,7 @@ use Rattle.line_tables.proofs.Meets.{makes_repeat_where_moved, makes_none_where_
 use Rattle.line_tables.proofs.Reaches.{meet_tells}
 use Rattle.line_tables.proofs.Moves.{one_block, follows_after}
 use Rattle.line_tables.proofs.Known.{refs_of_found}
+use Rattle.line_tables.proofs.Answered.{refuses, makes}
 use Rattle.line_tables.proofs.RulesOfChange.{refused_signal, refused_block, refused_repeat}
 use Rattle.line_tables.proofs.JoinedSignals.{signal_change}
 use Rattle.line_tables.proofs.line_tables.LineTables.change_signal.Goals as goal
@@ -62,17 +63,17 @@ module _ (t : Inside) (j : IsJoined t) (signals : IsTable signal_name t.signals)
   told within twice is =
       refused_repeat (tables_of t) s within (has_signal_by t s.name ∙ ap is_some here) (has_block_by t s.block ∙ ap is_some known) twice is
 
-pub returns-in_default-clause-refused : goal.returns-in_default-clause-refused
-returns-in_default-clause-refused c =
+pub returns-in_default : goal.returns-in_default
+returns-in_default c =
     let t = c.self.inside in
     let s = c.args.signal in
-    rw (← c.self.view_is) (refused_signal (tables_of t) s c.requires (has_signal_by t s.name ∙ ap is_some (sym c.in_default.ensures.key)))
+    rw (← c.self.view_is) (refuses _ _ _ _ Unknown (refused_signal (tables_of t) s c.requires (has_signal_by t s.name ∙ ap is_some (sym c.in_default.ensures.key))) refl)
 
-pub returns-in_default-key_of-clause-refused : goal.returns-in_default-key_of-clause-refused
-returns-in_default-key_of-clause-refused c =
+pub returns-in_default-key_of : goal.returns-in_default-key_of
+returns-in_default-key_of c =
     let t = c.self.inside in
     let s = c.args.signal in
-    rw (← c.self.view_is) (refused_block (tables_of t) s c.requires (has_signal_by t s.name ∙ ap is_some (sym c.in-Some.ensures.key)) (has_block_by t s.block ∙ ap is_some (sym c.in_default-key_of.ensures.key)))
+    rw (← c.self.view_is) (refuses _ _ _ _ Unknown (refused_block (tables_of t) s c.requires (has_signal_by t s.name ∙ ap is_some (sym c.in-Some.ensures.key)) (has_block_by t s.block ∙ ap is_some (sym c.in_default-key_of.ensures.key))) refl)
 
 pub block_of-from-requires-clause-there : goal.block_of-from-requires-clause-there
 block_of-from-requires-clause-there c =
@@ -82,14 +83,14 @@ block_of-from-requires-clause-there c =
 pub block_of-from-requires-clause-one : goal.block_of-from-requires-clause-one
 block_of-from-requires-clause-one c = one_block c.self.inside c.self.invariant
 
-pub returns-then-meet_where_moved-clause-refused : goal.returns-then-meet_where_moved-clause-refused
-returns-then-meet_where_moved-clause-refused c =
+pub returns-then-meet_where_moved : goal.returns-then-meet_where_moved
+returns-then-meet_where_moved c =
     let t = c.self.inside in
     let s = c.args.signal in
     let asked = c.meet_where_moved in
     let is = met t c.self.invariant c.key_of.ensures.table c.key_of-2.ensures.table c.learn_order.ensures s c.in-Some.key c.in-Some-key_of.to (sym c.in-Some.ensures.key) (sym c.in-Some-key_of.ensures.key) c.block_of-from.result c.block_of-from.ensures asked.result asked.ensures.stays asked.ensures.some asked.ensures.none in
     let rule = told t c.self.invariant c.key_of.ensures.table c.key_of-2.ensures.table c.learn_order.ensures s c.in-Some.key c.in-Some-key_of.to (sym c.in-Some.ensures.key) (sym c.in-Some-key_of.ensures.key) c.requires asked.result is in
-    rw (← c.self.view_is) (rule ∙ ap answer c.if-meet_where_moved.true)
+    rw (← c.self.view_is) (refuses _ _ _ _ Twice (rule ∙ ap answer c.if-meet_where_moved.true) refl)
 
 pub change_linked-requires-clause-same_name : goal.change_linked-requires-clause-same_name
 change_linked-requires-clause-same_name c =
@@ -121,19 +122,14 @@ invariant_of-self-2 c =
     (signal_change t key s refs c.change_linked.new.uses c.self.invariant c.key_of.ensures.table same (rule ∙ ap answer c.if-meet_where_moved.false) found done.counted from to c.move_routes.new.self c.key_of-2.ensures.table (sym c.block_of-from.ensures) (ap (λ l. get_or l 0 0) c.in_ok-refs.ensures) (moves.signals ∙ room.signals)
     (follows_after t.route_sets.of_signals c.make_room_to_move.new.self.of_signals key from to t.route_sets.of_blocks c.make_room_to_move.new.self.of_blocks c.move_routes.new.self.of_blocks room.signals room.blocks moves.stayed moves.moved))
 
-pub returns-clause-accepted : goal.returns-clause-accepted
-returns-clause-accepted c =
+pub returns : goal.returns
+returns c =
     let t = c.self.inside in
     let s = c.args.signal in
     let asked = c.meet_where_moved in
     let is = met t c.self.invariant c.key_of.ensures.table c.key_of-2.ensures.table c.learn_order.ensures s c.in-Some.key c.in-Some-key_of.to (sym c.in-Some.ensures.key) (sym c.in-Some-key_of.ensures.key) c.block_of-from.result c.block_of-from.ensures asked.result asked.ensures.stays asked.ensures.some asked.ensures.none in
     let rule = told t c.self.invariant c.key_of.ensures.table c.key_of-2.ensures.table c.learn_order.ensures s c.in-Some.key c.in-Some-key_of.to (sym c.in-Some.ensures.key) (sym c.in-Some-key_of.ensures.key) c.requires asked.result is in
-    rw (← c.self.view_is) (rule ∙ ap answer c.if-meet_where_moved.false)
-
-pub returns-clause-after : goal.returns-clause-after
-returns-clause-after c =
-    let t = c.self.inside in
-    let key = c.in-Some.key in
-    let same = name_under signal_name t.signals c.args.signal.name key c.key_of.ensures.table (sym c.in-Some.ensures.key) in
+    let same = name_under signal_name t.signals s.name c.in-Some.key c.key_of.ensures.table (sym c.in-Some.ensures.key) in
     rw (← c.self.view_is, c.in_ok-change_linked.ensures.changed)
-    (ap (λ l. record (tables_of t) { signals = l }) (map-with_change (λ (e : Linked _). e.item) (λ x. x.name) t.signals key (entry c.args.signal c.in_ok-refs.refs) c.key_of.ensures.table same))
+    (makes _ _ _ _ (rule ∙ ap answer c.if-meet_where_moved.false)
+    (ap (λ l. record (tables_of t) { signals = l }) (map-with_change (λ (e : Linked _). e.item) (λ x. x.name) t.signals c.in-Some.key (entry s c.in_ok-refs.refs) c.key_of.ensures.table same)))
