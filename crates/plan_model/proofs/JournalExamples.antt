@@ -22,6 +22,7 @@ use Rattle.plan_model.specs.declared.journal.Reply.TheVariants as reply
 use Rattle.plan_model.specs.declared.journal.Act.{Act}
 use Rattle.plan_model.specs.declared.journal.Act.TheVariants as act
 use Rattle.plan_model.specs.declared.journal.Entry.{Entry}
+use Rattle.plan_model.specs.Answer.{IsAnswer}
 use Rattle.plan_model.specs.Journal.{last_number, tables_at, tables_of, last_publication, issued, done_by, tasks_left}
 use Rattle.plan_model.specs.Touch.{cut_at, Touches, IsCurrent}
 use Rattle.plan_model.specs.Legal.{IsAnswerAt, IsNext, IsLegal}
@@ -168,7 +169,7 @@ pub apart_back : {X : Type 0} (f : X → ℕ) (a b : X) → f b < f a → a ≢ 
 apart_back f a b lt e = let same : f a ≡ f b = ap f e in absurd (omega arith)
 
 -- the entry of the second train of a cut, if it has one
-abbrev second_entry : Option Cut → ℕ
+abbrev pub second_entry : Option Cut → ℕ
 second_entry None = 0
 second_entry (Some cut) = nat_abs (slice_index_or cut.rows 1 (row [] (pos 0) [])).entry
 
@@ -208,6 +209,9 @@ moved_entry_3 : IsNext moved_2 (by_main (act.Edited 1 9 move))
 unfolding last_number tables_of issued
 moved_entry_3 = record { pass = lit< tt; follows = (refl, refl) }
 
+pub together_answer : IsAnswer together at_9
+together_answer = compressed together (pos 0 ∷ pos 150 ∷ []) (lit≤ tt) refl refl refl refl
+
 moved_entry_4 : IsNext moved_3 (by_main (act.Published s 9 at_9))
 unfolding last_number last_publication issued cut_at tables_at
 moved_entry_4 = record {
@@ -218,7 +222,7 @@ moved_entry_4 = record {
       to_last = lit≤ tt;
       cut = together;
       there = refl;
-      is_answer = compressed together (pos 0 ∷ pos 150 ∷ []) (lit≤ tt) refl refl refl refl;
+      is_answer = together_answer;
     };
     untouched = stays_at _ 9;
     wanted = touched_since moved_3 s (record { at = 8; answer = at_8 }) 9 refl (lit< tt) (lit≤ tt) moved_touches;

@@ -1,7 +1,9 @@
 mod Examples
 mod JournalExamples
 mod TouchExamples
+mod SessionExamples
 mod RefusedEntries
+mod WrongCalls
 pub mod Growing
 pub mod Changing
 pub mod Legality

@@ -2,6 +2,7 @@
 use Rattle.std.proofs.Common.{◌≡◌, ℕ, List, [], ◌∷◌, ◌++◌, arith, refl, inl, inr, lit≤, lit<, drop, length, Option, Some, None}
 use Rattle.std.specs.Prelude.{pos, codes}
 use Rattle.std.proofs.lemmas.List.Elements.{All-nil}
+use Rattle.rail_model.specs.declared.items.Section.{Section}
 use Rattle.rail_model.specs.declared.items.Item.TheVariants as item
 use Rattle.rail_model.specs.declared.edit.Kind.TheVariants as kind
 use Rattle.rail_model.specs.declared.edit.Edit.{Edit}
@@ -17,7 +18,7 @@ use Rattle.plan_model.specs.Touch.{cut_at, row_at, Touches, IsUntouchedSince, Is
 use Rattle.plan_model.specs.Legal.{MayBePublished, IsLegal}
 use Rattle.plan_model.specs.Session.{IsMade, IsPublicationAt, tasks_in_turn, GoesInTurn, IsSessionAlone}
 use Rattle.plan_model.proofs.Changing.{stays_at, stays_more}
-use Rattle.plan_model.proofs.Examples.{train, row, kept, t2, two_trains}
+use Rattle.plan_model.proofs.Examples.{section, train, row, kept, t2, two_trains}
 use Rattle.plan_model.proofs.JournalExamples.{s, two_runs, two_runs_sound, at_8, by_main, first_at_8, by_one, apart, apart_back, all_current, published_now, each_of}
 
 -- ---- a train that enters after the window does not touch the section
@@ -219,6 +220,48 @@ again_reading = record {
         to_last = lit≤ tt;
         changes = inr (λ e. cc);
         stays = stays_at _ 10;
+      },
+      tt,
+    ),
+  );
+}
+
+-- ---- another rate for the section
+
+abbrev rated : Section
+rated = record (section (codes "A" ∷ codes "B" ∷ [])) { add_percent = 34 }
+
+abbrev rated_journal : List Entry
+rated_journal = again ++ by_main (act.Edited 0 11 (edit.Change (item.Section rated))) ∷ []
+
+-- the rate of a cut
+abbrev rate_of : Option Cut → ℕ
+rate_of None = 0
+rate_of (Some cut) = cut.section.add_percent
+
+-- it touches the section
+rate_touches : Touches rated_journal s 11
+unfolding cut_at tables_at
+rate_touches = apart_back rate_of _ _ (lit< tt)
+
+-- and the rows keep their stamps
+rated_reading : IsReading rated_journal s (record again_cut { section = rated })
+unfolding last_number cut_at tables_at row_at
+rated_reading = record {
+  value = refl;
+  stamps = each_of (IsStamp rated_journal s) again_cut.rows (
+    record {
+      from_first = lit≤ tt;
+      to_last = lit≤ tt;
+      changes = inl refl;
+      stays = stays_more _ 8 10 (stays_more _ 8 9 (stays_more _ 8 8 (stays_at _ 8) refl) refl) refl;
+    },
+    (
+      record {
+        from_first = lit≤ tt;
+        to_last = lit≤ tt;
+        changes = inr (λ e. cc);
+        stays = stays_more _ 10 10 (stays_at _ 10) refl;
       },
       tt,
     ),
