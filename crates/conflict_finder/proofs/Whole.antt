@@ -17,8 +17,7 @@ use Rattle.rail_model.specs.Conflict.{IsConflict, IsListedBefore, AreConflicts, 
 use Rattle.rail_model.proofs.NameOrder.{never_before_itself, IsBefore-trans}
 use Rattle.conflict_finder.specs.declared.ranked.Ranked.{Ranked}
 use Rattle.conflict_finder.specs.declared.visits.Visit.{Visit}
-use Rattle.rail_model.specs.Timetable.{IsTimetable}
-use Rattle.rail_model.specs.Timetable.{no_stair}
+use Rattle.rail_model.specs.Timetable.{IsTimetable, no_stair}
 use Rattle.conflict_finder.specs.Runs.{no_ranked, ranked_at, visit_of, uses_of, all_visits, key_of, key_cmp}
 use Rattle.conflict_finder.specs.Sweep.{ComesBefore, IsSwept, meets, conflict_of, no_visit, conflicts_at, found}
 use Rattle.rail_model.proofs.Lists.{AllPairs-map}

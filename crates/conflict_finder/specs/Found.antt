@@ -9,7 +9,8 @@ use Rattle.conflict_finder.specs.declared.found.TheConstants.{LISTED}
 
 -- a conflict as it is listed: the start of the first run's use is left out
 abbrev pub as_listed : whole.Conflict → Conflict
-as_listed c = record { block = c.block; first = c.first; second = c.second; from = c.from; to = c.to }
+as_listed c =
+    record { block = c.block; first = c.first; second = c.second; from = c.from; to = c.to }
 
 -- of all conflicts of a timetable, in their order, the first are listed and the rest are counted
 pub record IsFound (stairs : List Stair) (found : Conflicts) : Type 0 where

@@ -1,8 +1,6 @@
 -- The sweep over the visits.
-use Rattle.std.specs.Prelude.{◌≡◌, ◌⊎◌, ℕ, ◌+◌, ◌<◌, ◌<ℤ◌, Bool, ◌&&◌, ◌==◌}
-use Rattle.std.specs.Prelude.{List, length, map, drop, slice_index_or, AllPairs}
+use Rattle.std.specs.Prelude.{◌≡◌, ◌⊎◌, ℕ, ◌+◌, ◌<◌, ◌<ℤ◌, Bool, ◌&&◌, ◌==◌, List, length, map, drop, slice_index_or, AllPairs, pos, int_lt}
 use Rattle.std.specs.Int.{int_min}
-use Rattle.std.specs.Prelude.{pos, int_lt}
 use Rattle.std.specs.List.{flat_map, range_with_len, take_while}
 use Rattle.rail_model.specs.Conflict as whole
 use Rattle.conflict_finder.specs.declared.ranked.Ranked.{Ranked}

@@ -25,8 +25,8 @@ pub fn conflicts(alloc: Global, stairs: &List<Stair>) -> Result<Conflicts, OutOf
     sweep(alloc, &runs, &by_block)
 }
 
-// Walks over the lists of visits, one block after another. Visits of two lists are to two blocks, so
-// they don't meet.
+// Walks over the lists of visits, one block after another. Visits of two lists are to two blocks,
+// so they don't meet.
 fn sweep(alloc: Global, runs: &[Ranked], by_block: &[Vec<Visit>]) -> Result<Conflicts, OutOfMemory>
     requires most { length (one_after_another by_block.now) ≤ RUNS * PATH_HOPS }
     requires there { All (λ b. b.run < length runs.now) (one_after_another by_block.now) }
@@ -46,9 +46,9 @@ fn sweep(alloc: Global, runs: &[Ranked], by_block: &[Vec<Visit>]) -> Result<Conf
     Ok(Conflicts { list, more })
 }
 
-// Walks over the visits to one block, in order. Each overlaps some of those next to it, and none past
-// the first that it doesn't overlap. The conflicts are listed as long as there is room, and all of
-// them are counted.
+// Walks over the visits to one block, in order. Each overlaps some of those next to it, and none
+// past the first that it doesn't overlap. The conflicts are listed as long as there is room, and
+// all of them are counted.
 fn sweep_block(
     list: &mut List<Conflict>,
     runs: &[Ranked],
