@@ -69,8 +69,10 @@ fn raise(greatest: &mut [i32], place: &Ending)
     ensures each { (j : ℕ) → j < length greatest.old → slice_index_or greatest.new j (pos 0)
         ≡ numbers.raised_at place.now j (slice_index_or greatest.old j (pos 0)) }
 {
+    // A copy is read once: no number that is written can lie in it.
+    let place = *place;
     for j in 0..greatest.len() {
-        greatest[j] = raised(greatest[j], place, j);
+        greatest[j] = raised(greatest[j], &place, j);
     }
 }
 
@@ -91,11 +93,13 @@ fn raise_four(
         ≡ numbers.raised_by_four first.now second.now third.now fourth.now j
         (slice_index_or greatest.old j (pos 0)) }
 {
+    // Copies are read once: no number that is written can lie in them.
+    let (first, second, third, fourth) = (*first, *second, *third, *fourth);
     for j in 0..greatest.len() {
-        let number = raised(greatest[j], first, j);
-        let number = raised(number, second, j);
-        let number = raised(number, third, j);
-        greatest[j] = raised(number, fourth, j);
+        let number = raised(greatest[j], &first, j);
+        let number = raised(number, &second, j);
+        let number = raised(number, &third, j);
+        greatest[j] = raised(number, &fourth, j);
     }
 }
 
