@@ -1,14 +1,18 @@
 -- Numbers of which none stands twice, in whatever order they are put.
 use Rattle.std.proofs.Common.{◌≡◌, ◌≢◌, ℕ, ◌<◌, Bool, ◌==◌, List, length, get_or, inl, inr, sym, ◌∙◌, arith}
 use Rattle.std.specs.Prelude.{filter, AllPairs}
-use Rattle.std.specs.List.{range_with_len}
+use Rattle.std.specs.List.{range_with_len, All}
 use Rattle.std.specs.List.Sorted.{IsPermutation}
 use Rattle.std.proofs.lemmas.Bool.{cases_order, cases_eq, eq-eqb, ne_eqb, both_ways}
 use Rattle.std.proofs.lemmas.Bool.Decides.{Decides-eqb}
 use Rattle.std.proofs.lemmas.List.FromFn.{length-range_with_len, get_or-range_with_len}
+use Rattle.std.proofs.lemmas.List.Elements.{All-from_get_or}
+use Rattle.std.proofs.lemmas.List.Sorted.{All-permutation}
 use Rattle.std.proofs.lemmas.List.Kept.{AllPairs-filter}
 use Rattle.std.proofs.lemmas.Map.Keys.{IsDistinct-IsPermutation, apart_from_distinct}
 use Rattle.std.proofs.lemmas.Map.Made.{IsDistinct-from_AllPairs}
+use Rattle.plan_model.specs.declared.cut.Cut.{Cut}
+use Rattle.plan_model.specs.Members.{member_count, members}
 
 -- numbers of which no two are equal
 abbrev pub Differ : List ℕ → Type 0
@@ -49,3 +53,12 @@ module _ (some other : List ℕ) (differ : Differ some) (same : IsPermutation so
         | inl s ↦ s
         | inr d ↦ elim d [ inl lt ↦ absurd (not_twice k l lt ll e) | inr gt ↦ absurd (not_twice l k gt lk (sym e)) ]
       ]
+
+-- the members of a cut in another order are members
+pub below : (cut : Cut) (positions : List ℕ) → IsPermutation (members cut) positions → All (λ i. i < member_count cut) positions
+below cut positions once =
+    let n = member_count cut in
+    All-permutation (λ i. i < n) (members cut) positions once
+    (All-from_get_or (λ i. i < n) (members cut) 0 (λ k l.
+    let lk : k < n = omega (arith, l, length-range_with_len 0 n) in
+    omega (arith, lk, get_or-range_with_len 0 n k 0 lk)))

@@ -1,101 +1,18 @@
 -- The first place by name, as one use more is looked at.
-use Rattle.std.proofs.Common.{◌≡◌, ◌⊎◌, ℕ, ◌+◌, ◌<◌, Bool, true, false, ◌||◌, ◌==◌, List, [], ◌∷◌, ◌++◌, length, take, get_or, map, inl, inr, refl, sym, ap, subst, ◌∙◌, arith}
+use Rattle.std.proofs.Common.{◌≡◌, ℕ, ◌+◌, ◌<◌, Bool, true, false, ◌==◌, List, [], ◌∷◌, ◌++◌, length, take, get_or, map, inl, inr, refl, sym, ap, subst, ◌∙◌, arith}
 use Rattle.std.specs.Prelude.{Option, Some, None, IfSome, filter}
 use Rattle.std.specs.List.{list_any, All}
-use Rattle.std.specs.Cmp.Lexicographic.{slice_cmp}
-use Rattle.std.specs.Ordering.{nat_cmp, is_lt}
-use Rattle.std.specs.declared.cmp.Ordering.{Ordering}
-use Rattle.std.specs.declared.cmp.Ordering.TheVariants.{Less, Equal, Greater}
-use Rattle.std.proofs.lemmas.Bool.{cases_Bool, or_cases, or_left, or_right, eqb-true, eq-eqb, both_ways, false_from_ne_true}
-use Rattle.std.proofs.lemmas.Cmp.{nat_list_cmp_total, tied_itself}
+use Rattle.std.proofs.lemmas.Bool.{cases_Bool, eqb-true}
 use Rattle.std.proofs.lemmas.List.{append-nil, map-append, take_more}
 use Rattle.std.proofs.lemmas.List.Elements.{filter-append, All-take}
-use Rattle.std.proofs.lemmas.List.Folds.{list_any-append, Any-from_list_any}
+use Rattle.std.proofs.lemmas.List.Folds.{Any-from_list_any}
 use Rattle.rail_model.specs.declared.stair.Use.{Use}
-use Rattle.rail_model.specs.Name.{IsBefore, is_before}
-use Rattle.rail_model.proofs.NameOrder.{same_name, is_same-equal, is_before-from, IsBefore-flip, IsBefore-trans}
 use Rattle.plan_model.specs.declared.cut.Cut.{Cut}
-use Rattle.plan_model.specs.Places.{place_name}
+use Rattle.plan_model.specs.Places.{IsFirstPlace, AnswersFirst, leads}
+use Rattle.plan_model.proofs.FirstWith.{moves, stays}
 use Rattle.plan_model.specs.Members.{no_use}
 use Rattle.train_order.specs.Taking.{is_among}
-use Rattle.train_order.specs.Starts.{IsFirstPlace, AnswersFirst, is_first_of, leads, places_first}
-
--- ---- names
-
-less_is : (o : Ordering) → is_lt o ≡ true → o ≡ Less
-less_is Less h = refl
-less_is Equal h = absurd (cc)
-less_is Greater h = absurd (cc)
-
-before_from : (a b : List ℕ) → is_before a b ≡ true → IsBefore a b
-before_from a b h = less_is (slice_cmp nat_cmp a b) h
-
-itself : (a : List ℕ) → is_before a a ≡ false
-itself a = ap is_lt (tied_itself nat_list_cmp_total a)
-
-by_order : (a b : List ℕ) (o : Ordering) → slice_cmp nat_cmp a b ≡ o → is_lt o ≡ false → (a ≡ b) ⊎ IsBefore b a
-by_order a b Less e h = absurd (cc)
-by_order a b Equal e h = inl (same_name a b (is_same-equal a b e))
-by_order a b Greater e h = inr (IsBefore-flip a b e)
-
--- what is before a name is before one that isn't before that
-before_through : (a b c : List ℕ) → is_before a b ≡ true → is_before c b ≡ false → is_before a c ≡ true
-before_through a b c h n =
-    elim (by_order c b (slice_cmp nat_cmp c b) refl n) [
-      | inl e ↦ subst (λ x. is_before a x ≡ true) (sym e) h
-      | inr l ↦ is_before-from a c (IsBefore-trans a b c (before_from a b h) l)
-    ]
-
--- ---- one place more
-
-among_both : (some : List ℕ) (p q : ℕ) → is_among (some ++ p ∷ []) q ≡ true → (is_among some q ≡ true) ⊎ (p ≡ q)
-among_both some p q h =
-    elim (or_cases (is_among some q) ((p == q) || false) (sym (list_any-append (λ k. k == q) some (p ∷ [])) ∙ h)) [
-      | inl e ↦ inl e
-      | inr e ↦ elim (or_cases (p == q) false e) [ inl f ↦ inr (eqb-true p q f) | inr f ↦ absurd (cc) ]
-    ]
-
-among_old : (some : List ℕ) (p q : ℕ) → is_among some q ≡ true → is_among (some ++ p ∷ []) q ≡ true
-among_old some p q h = list_any-append (λ k. k == q) some (p ∷ []) ∙ or_left (is_among some q) _ h
-
-among_new : (some : List ℕ) (p : ℕ) → is_among (some ++ p ∷ []) p ≡ true
-among_new some p =
-    list_any-append (λ k. k == p) some (p ∷ [])
-    ∙ or_right (is_among some p) _ (or_left (p == p) false (eq-eqb p p refl))
-
-module _ (cut : Cut) where
-  abbrev before : ℕ → ℕ → Bool
-  before p q = is_before (place_name cut p) (place_name cut q)
-
-  -- a place before all of some is the first of them and it
-  takes : (some : List ℕ) (p : ℕ) → ((q : ℕ) → is_among some q ≡ true → before p q ≡ true) → IsFirstPlace cut (some ++ p ∷ []) p
-  takes some p first = record {
-    there = among_new some p;
-    least = λ q h. elim (among_both some p q h) [
-      | inl m ↦
-          false_from_ne_true (before q p) (λ t. both_ways (before p p) (itself (place_name cut p))
-          (is_before-from (place_name cut p) (place_name cut p) (IsBefore-trans (place_name cut p) (place_name cut q) (place_name cut p)
-          (before_from (place_name cut p) (place_name cut q) (first q m)) (before_from (place_name cut q) (place_name cut p) t))))
-      | inr e ↦ subst (λ x. before x p ≡ false) e (itself (place_name cut p))
-    ];
-  }
-
-  -- a place that leads is the first of some and it
-  moves : (some : List ℕ) (p : ℕ) (best : Option ℕ) → AnswersFirst cut some best → leads cut best p ≡ true
-      → IsFirstPlace cut (some ++ p ∷ []) p
-  moves some p None none t =
-      subst (λ ps. IsFirstPlace cut (ps ++ p ∷ []) p) (sym none) (takes [] p (λ q m. absurd (cc)))
-  moves some p (Some b) first t =
-      takes some p (λ q m. before_through (place_name cut p) (place_name cut b) (place_name cut q) t (first.least q m))
-
-  -- the first of some stays the first where another doesn't lead
-  stays : (some : List ℕ) (p : ℕ) (best : Option ℕ) → AnswersFirst cut some best → leads cut best p ≡ false
-      → AnswersFirst cut (some ++ p ∷ []) best
-  stays some p None none f = absurd (cc)
-  stays some p (Some b) first f = record {
-    there = among_old some p b first.there;
-    least = λ q h. elim (among_both some p q h) [ inl m ↦ first.least q m | inr e ↦ subst (λ x. before x b ≡ false) e f ];
-  }
+use Rattle.train_order.specs.Starts.{is_first_of, places_first}
 
 -- ---- the places of some uses
 

@@ -1,10 +1,7 @@
 pub mod First
 pub mod Ranges
-pub mod Listed
 pub mod Before
-pub mod Visitors
-pub mod Once
-pub mod Preceding
+pub mod InTurn
 pub mod Later
 pub mod Following
 pub mod Gathered

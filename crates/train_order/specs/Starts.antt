@@ -1,11 +1,7 @@
--- The starts of a member at its places, and the first place by name among some.
-use Rattle.std.specs.Prelude.{◌≡◌, ℕ, ℤ, int_lt, Bool, true, false, ◌==◌, ◌&&◌, ◌||◌, List, [], map, filter, find, Option, Some, None, option_map}
+-- The starts of a member at its places, beside those of another.
+use Rattle.std.specs.Prelude.{ℕ, ℤ, int_lt, Bool, false, ◌==◌, ◌&&◌, ◌||◌, List, map, filter, find, Option, Some, None, option_map}
 use Rattle.std.specs.Ordering.{int_eq}
 use Rattle.rail_model.specs.declared.stair.Use.{Use}
-use Rattle.rail_model.specs.Name.{is_before}
-use Rattle.plan_model.specs.declared.cut.Cut.{Cut}
-use Rattle.plan_model.specs.Places.{place_name}
-use Rattle.train_order.specs.Taking.{is_among}
 
 -- the start of the first of some uses that is of a place
 abbrev pub start_of : List Use → ℕ → Option ℤ
@@ -24,18 +20,3 @@ is_first_of named others u = starts_first named (Some u.start) (start_of others 
 -- the places of those uses that do
 abbrev pub places_first : Bool → List Use → List Use → List ℕ
 places_first named uses others = map (λ u. u.block) (filter (is_first_of named others) uses)
-
--- the name of a place comes before that of the best, or there is none
-abbrev pub leads : Cut → Option ℕ → ℕ → Bool
-leads cut None place = true
-leads cut (Some best) place = is_before (place_name cut place) (place_name cut best)
-
--- a place is the first by name of some
-pub record IsFirstPlace (cut : Cut) (some : List ℕ) (best : ℕ) : Type 0 where
-  pub there : is_among some best ≡ true
-  pub least : (place : ℕ) → is_among some place ≡ true → is_before (place_name cut place) (place_name cut best) ≡ false
-
--- it is, or there is none
-abbrev pub AnswersFirst : Cut → List ℕ → Option ℕ → Type 0
-AnswersFirst cut some None = some ≡ []
-AnswersFirst cut some (Some best) = IsFirstPlace cut some best

@@ -1,12 +1,9 @@
 -- Members that are taken up one after the other, each as soon as those that precede it are.
 use Rattle.std.specs.Prelude.{◌≡◌, ℕ, ◌+◌, ◌-◌, ◌<◌, ◌≤◌, Bool, true, false, not, cond, ◌==◌, ◌&&◌, List, [], ◌∷◌, length, take, filter, slice_index, All, ⊤}
-use Rattle.std.specs.List.{list_any, range_with_len}
+use Rattle.std.specs.List.{range_with_len}
+pub use Rattle.plan_model.specs.Places.{is_among}
 use Rattle.train_order.specs.declared.member_set.MemberSet.{MemberSet}
 use Rattle.train_order.specs.Sets.{holds, relates}
-
--- a number is among some
-abbrev pub is_among : List ℕ → ℕ → Bool
-is_among some i = list_any (λ k. k == i) some
 
 -- no number stands twice
 abbrev pub IsDistinct : List ℕ → Type 0

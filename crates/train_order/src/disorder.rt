@@ -13,7 +13,7 @@ use crate::opposite::opposite_members;
 use crate::precedence::put_preceded;
 use crate::ring::ring_members;
 use crate::taking::take_up_all;
-use plan_model::{Cut, MEMBERS};
+use plan_model::{Cut, FitCut, MEMBERS};
 
 /// Why a cut's trains have no order, if they have none. It takes no memory.
 ///
@@ -27,13 +27,13 @@ pub fn disorder_of(cut: &Cut) -> Option<Disordered>
     ensures in_turn { IfSome result (PrecedeInTurn cut.now) }
 {
     let mut room = [MemberSet::new(); MEMBERS];
-    disorder_by(cut, &mut room[..cut.rows.len()])
+    let cut = FitCut::of(cut);
+    let count = cut.member_count() as usize;
+    disorder_by(&cut, &mut room[..count])
 }
 
 // The same, with an empty set for each member.
-fn disorder_by(cut: &Cut, sets: &mut [MemberSet]) -> Option<Disordered>
-    requires sound { IsSoundCut cut.now }
-    requires few { member_count cut.now ≤ MEMBERS }
+fn disorder_by(cut: &FitCut, sets: &mut [MemberSet]) -> Option<Disordered>
     requires count { length sets.old ≡ member_count cut.now }
     requires none { (i j : ℕ) → i < length sets.old → relates sets.old i j ≡ false }
     ensures disorder { IsDisorder cut.now result }

@@ -22,3 +22,4 @@ pub use found::{Disorder, Disordered, Order, RingMembers};
 pub use laws::each_comes_next;
 pub use link_place::place_of_link;
 pub use ordering::order;
+pub use visits::{Visit, visits_at};

@@ -10,7 +10,7 @@ use crate::found::{Disorder, Order};
 use crate::precedence::precedence_sets;
 use crate::taking::take_up_all;
 use crate::told::tell;
-use plan_model::{Cut, MEMBERS};
+use plan_model::{Cut, FitCut, MEMBERS};
 use rail_model::{List, OutOfMemory};
 use std::alloc::Global;
 
@@ -25,16 +25,17 @@ pub fn order(alloc: Global, cut: &Cut) -> Result<Result<Order, Disorder>, OutOfM
     requires few { member_count cut.now ≤ MEMBERS }
     ensures { IfOk result (λ answer. IsOrdering cut.now answer) }
 {
+    let cut = FitCut::of(cut);
     // Where trains keep the order of their entries at each place, it takes no sets to find it.
-    if let Some(order) = order_by_entry(alloc, cut)? {
+    if let Some(order) = order_by_entry(alloc, cut.sound())? {
         return Ok(Ok(order));
     }
-    let sets = precedence_sets(alloc, cut)?;
+    let sets = precedence_sets(alloc, &cut)?;
     let taken = take_up_all(&sets);
     if taken.len() == sets.len() {
         let positions = List::from_vec(Vec::from_slice(alloc, taken.slice())?);
         return Ok(Ok(Order { positions }));
     }
-    let told = tell(alloc, cut, &find_disorder(&sets, taken.slice()))?;
+    let told = tell(alloc, cut.sound(), &find_disorder(&sets, taken.slice()))?;
     Ok(Err(told))
 }

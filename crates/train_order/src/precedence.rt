@@ -9,20 +9,18 @@ ghost use Rattle.train_order.specs.Sets.{ArePreceded, relates};
 ghost use Rattle.train_order.specs.Visits.{AreVisits, key_of, key_cmp, comes_first};
 
 use crate::member_set::MemberSet;
-use crate::visits::{Visit, count_places, gather, visits_by_place};
-use plan_model::{Cut, MEMBERS};
+use crate::visits::{Visit, put_in_order, visits_at, visits_by_place};
+use plan_model::{Cut, FitCut, MEMBERS};
 use rail_model::{List, OutOfMemory};
 use std::alloc::Global;
 
 /// For each member the set of those that it precedes somewhere.
-pub(crate) fn precedence_sets(alloc: Global, cut: &Cut) -> Result<Vec<MemberSet>, OutOfMemory>
-    requires sound { IsSoundCut cut.now }
-    requires few { member_count cut.now ≤ MEMBERS }
+pub(crate) fn precedence_sets(alloc: Global, cut: &FitCut) -> Result<Vec<MemberSet>, OutOfMemory>
     ensures { IfOk result (λ sets. ArePreceded cut.now sets.items) }
 {
-    let lists = visits_by_place(alloc, cut)?;
-    let mut sets = empty_sets(alloc, cut.rows.len())?;
-    put_listed(alloc, cut, &lists, &mut sets)?;
+    let lists = visits_by_place(alloc, cut.sound())?;
+    let mut sets = empty_sets(alloc, cut.member_count())?;
+    put_listed(alloc, cut.sound().cut(), &lists, &mut sets)?;
     Ok(sets)
 }
 
@@ -48,7 +46,7 @@ fn put_listed(
     Ok(())
 }
 
-fn empty_sets(alloc: Global, count: usize) -> Result<Vec<MemberSet>, OutOfMemory>
+fn empty_sets(alloc: Global, count: u32) -> Result<Vec<MemberSet>, OutOfMemory>
     ensures count { IfOk result (λ sets. length sets.items ≡ count) }
     ensures none { IfOk result (λ sets. (i j : ℕ) → i < count → relates sets.items i j ≡ false) }
 {
@@ -60,27 +58,24 @@ fn empty_sets(alloc: Global, count: usize) -> Result<Vec<MemberSet>, OutOfMemory
 }
 
 /// Puts into the empty set of each member those that it precedes somewhere. It takes no memory.
-pub(crate) fn put_preceded(cut: &Cut, sets: &mut [MemberSet])
-    requires sound { IsSoundCut cut.now }
-    requires few { member_count cut.now ≤ MEMBERS }
+pub(crate) fn put_preceded(cut: &FitCut, sets: &mut [MemberSet])
     requires count { length sets.old ≡ member_count cut.now }
     requires none { (i j : ℕ) → i < length sets.old → relates sets.old i j ≡ false }
-    ensures { ArePreceded cut.now sets.new }
+    ensures sets { ArePreceded cut.now sets.new }
+    ensures few { length sets.new ≤ MEMBERS }
 {
     let mut room = [Visit {
         start: 0,
+        lasts_s: 0,
         member: 0,
     }; MEMBERS];
-    for place in 0..count_places(cut) {
+    for place in 0..cut.sound().place_count() {
         put_preceded_at(cut, place, sets, &mut room);
     }
 }
 
 // Puts into the set of each member those that it precedes at a place; the room is for the visits.
-fn put_preceded_at(cut: &Cut, place: usize, sets: &mut [MemberSet], room: &mut [Visit])
-    requires sound { IsSoundCut cut.now }
-    requires few { member_count cut.now ≤ MEMBERS }
-    requires there { place < place_count cut.now }
+fn put_preceded_at(cut: &FitCut, place: u32, sets: &mut [MemberSet], room: &mut [Visit])
     requires count { length sets.old ≡ member_count cut.now }
     requires room { member_count cut.now ≤ length room.old }
     ensures count { length sets.new ≡ length sets.old }
@@ -88,8 +83,8 @@ fn put_preceded_at(cut: &Cut, place: usize, sets: &mut [MemberSet], room: &mut [
         → relates sets.new i j
         ≡ (relates sets.old i j || precedes (member cut.now i) (member cut.now j) place) }
 {
-    let count = gather(cut, place, room);
-    take_in_visits(sets, &mut room[..count]);
+    let count = visits_at(cut.sound(), place, room);
+    take_in_later(sets, &room[..count]);
 }
 
 // Puts those that visit a place later, by their starts and names, into the set of each visitor.
@@ -102,7 +97,7 @@ fn take_in_visits(sets: &mut [MemberSet], visits: &mut [Visit])
     ensures sets { (i j : ℕ) → relates sets.new i j
         ≡ (relates sets.old i j || comes_first visits.new i j) }
 {
-    visits.sort_unstable_by_key(|visit| (visit.start, visit.member));
+    put_in_order(visits);
     take_in_later(sets, visits);
 }
 

@@ -10,14 +10,17 @@ ghost use Rattle.train_order.specs.Ordering.{PrecedeInTurn, IsTold};
 ghost use Rattle.train_order.specs.Walk.{IsNext, IsRing};
 
 use crate::found::{Disorder, Disordered};
-use crate::link_place::place_of_link;
-use plan_model::{Cut, Link};
+use crate::link_place::place_between;
+use plan_model::{Link, SoundCut};
 use rail_model::{List, OutOfMemory};
 use std::alloc::Global;
 
 /// What is told of members that have no order.
-pub(crate) fn tell(alloc: Global, cut: &Cut, found: &Disordered) -> Result<Disorder, OutOfMemory>
-    requires sound { IsSoundCut cut.now }
+pub(crate) fn tell(
+    alloc: Global,
+    cut: &SoundCut,
+    found: &Disordered,
+) -> Result<Disorder, OutOfMemory>
     requires in_turn { PrecedeInTurn cut.now found.now }
     ensures { IfOk result (λ told. IsTold cut.now found.now told) }
 {
@@ -28,28 +31,25 @@ pub(crate) fn tell(alloc: Global, cut: &Cut, found: &Disordered) -> Result<Disor
 }
 
 // Members i and j are opposite.
-fn opposite(cut: &Cut, i: u32, j: u32) -> Disorder
-    requires sound { IsSoundCut cut.now }
+fn opposite(cut: &SoundCut, i: u32, j: u32) -> Disorder
     requires one { i < member_count cut.now }
     requires other { j < member_count cut.now }
     requires precedes { IsTrue (precedes_somewhere cut.now i j) }
     requires preceded { IsTrue (precedes_somewhere cut.now j i) }
     ensures { result ≡ told_opposite cut.now i j }
 {
-    let block1 = place_of_link(cut, i, j);
-    let block2 = place_of_link(cut, j, i);
-    let rows = cut.rows.slice();
+    let block1 = place_between(cut, i, j);
+    let block2 = place_between(cut, j, i);
     Disorder::Opposite {
-        first: rows[i as usize].name,
-        second: rows[j as usize].name,
+        first: cut.row(i).name,
+        second: cut.row(j).name,
         block1,
         block2,
     }
 }
 
 // The links of a ring: of each member to the next, and of the last to the first.
-fn links(alloc: Global, cut: &Cut, members: &[u32]) -> Result<List<Link>, OutOfMemory>
-    requires sound { IsSoundCut cut.now }
+fn links(alloc: Global, cut: &SoundCut, members: &[u32]) -> Result<List<Link>, OutOfMemory>
     requires ring { IsRing cut.now members.now }
     ensures { IfOk result (λ links. links ≡ map (disorder.link_of cut.now)
         (zip members.now (drop 1 members.now ++ take 1 members.now))) }
@@ -72,18 +72,16 @@ fn next_place(k: usize, count: usize) -> usize
 }
 
 // Member i precedes member j.
-fn link(cut: &Cut, i: u32, j: u32) -> Link
-    requires sound { IsSoundCut cut.now }
+fn link(cut: &SoundCut, i: u32, j: u32) -> Link
     requires one { i < member_count cut.now }
     requires other { j < member_count cut.now }
     requires precedes { precedes_somewhere cut.now i j ≡ true }
     ensures { result ≡ disorder.link_of cut.now (i, j) }
 {
-    let block = place_of_link(cut, i, j);
-    let rows = cut.rows.slice();
+    let block = place_between(cut, i, j);
     Link {
-        train: rows[i as usize].name,
+        train: cut.row(i).name,
         block,
-        next: rows[j as usize].name,
+        next: cut.row(j).name,
     }
 }

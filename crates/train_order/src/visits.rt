@@ -1,45 +1,94 @@
-//! Who uses each place of a cut, and when.
-ghost use Rattle.std.specs.Prelude.{◌≡◌, ℕ, ◌+◌, ◌<◌, ◌≤◌, [], All, take, length, replicate, IfOk, OnOk};
+//! Who visits each place of a cut, and when.
+ghost use Rattle.std.specs.Prelude.{◌≡◌, ◌<◌, ◌≤◌, All, [], take, length, replicate, IfOk, OnOk};
+ghost use Rattle.std.specs.List.Sorted.{IsPermutation, IsSortedByKey};
+ghost use Rattle.plan_model.specs.Cut.{IsSoundCut};
 ghost use Rattle.plan_model.specs.Places.{place_count};
 ghost use Rattle.plan_model.specs.Members.{member_count};
-ghost use Rattle.plan_model.specs.Cut.{IsSoundCut};
-ghost use Rattle.train_order.specs.Visits.{HasMore, AreVisits, AreBlocksFirst, AreOfOtherPlaces, visits as visits_of};
-ghost use Rattle.train_order.specs.Starts.{start_of};
+ghost use Rattle.train_order.specs.Visits.{IsLasting, HasMore, AreVisits, AreInTurn, key_of, key_cmp, visits, visit_of as visit_by_use};
 
-use plan_model::Cut;
+use plan_model::SoundCut;
 use rail_model::{List, OutOfMemory, Use};
 use std::alloc::Global;
 
-/// A member's use of a place, by its start.
+/// A member's visit of a place: its use of it.
 #[derive(Clone, Copy)]
-pub(crate) struct Visit {
-    pub(crate) start: i64,
+pub struct Visit {
+    /// When it starts: seconds from the timetable's origin.
+    pub start: i64,
+    /// How long it lasts: seconds.
+    pub lasts_s: u32,
     /// The member's position.
-    pub(crate) member: u32,
+    pub member: u32,
+}
+
+/// Puts the visits of a place in front of `room`, in the order of precedence, and says how many
+/// there are. It takes no memory.
+pub fn visits_at(cut: &SoundCut, place: u32, room: &mut [Visit]) -> usize
+    requires { member_count cut.now ≤ length room.old }
+    ensures room { length room.new ≡ length room.old }
+    ensures within { result ≤ length room.new }
+    ensures visits { AreInTurn cut.now place (take result room.new) }
+    ensures sound { IsSoundCut cut.now }
+{
+    let count = gather(cut, place, room);
+    put_in_order(&mut room[..count]);
+    count
+}
+
+/// Puts visits in the order of precedence.
+pub(crate) fn put_in_order(visits: &mut [Visit])
+    ensures same { IsPermutation visits.old visits.new }
+    ensures order { IsSortedByKey key_of key_cmp visits.new }
+{
+    visits.sort_unstable_by_key(|visit| (visit.start, visit.member));
+}
+
+// Gathers the visits of a place in front of `room`, and says how many there are.
+fn gather(cut: &SoundCut, place: u32, room: &mut [Visit]) -> usize
+    requires { member_count cut.now ≤ length room.old }
+    ensures room { length room.new ≡ length room.old }
+    ensures within { result ≤ length room.new }
+    ensures visits { take result room.new ≡ visits cut.now place }
+    ensures sound { IsSoundCut cut.now }
+{
+    let mut count = 0;
+    for i in 0..cut.member_count() {
+        if let Some(one) = cut.use_at(i, place) {
+            room[count] = visit_of(i, one);
+            count += 1;
+        }
+    }
+    count
+}
+
+// A member's visit by a use.
+fn visit_of(member: u32, one: Use) -> Visit
+    requires { IsLasting one }
+    ensures { result ≡ visit_by_use member one }
+{
+    Visit {
+        start: one.start,
+        lasts_s: (one.end - one.start) as u32,
+        member,
+    }
 }
 
 /// The visits of each place.
-pub(crate) fn visits_by_place(alloc: Global, cut: &Cut) -> Result<Vec<List<Visit>>, OutOfMemory>
-    requires { IsSoundCut cut.now }
+pub(crate) fn visits_by_place(
+    alloc: Global,
+    cut: &SoundCut,
+) -> Result<Vec<List<Visit>>, OutOfMemory>
     ensures { IfOk result (λ lists.
         AreVisits cut.now (member_count cut.now) (place_count cut.now) lists.items) }
 {
-    let mut lists = empty_lists(alloc, count_places(cut))?;
-    for (i, row) in cut.rows.slice().iter().enumerate() {
-        add_uses(&mut lists, i as u32, row.uses.slice())?;
+    let mut lists = empty_lists(alloc, cut.place_count())?;
+    for i in 0..cut.member_count() {
+        add_visits(&mut lists, i, cut.row(i).uses.slice())?;
     }
     Ok(lists)
 }
 
-/// How many places there are.
-pub(crate) fn count_places(cut: &Cut) -> usize
-    requires { IsSoundCut cut.now }
-    ensures { result ≡ place_count cut.now }
-{
-    cut.section.blocks.len() + cut.connections.len()
-}
-
-fn empty_lists(alloc: Global, count: usize) -> Result<Vec<List<Visit>>, OutOfMemory>
+fn empty_lists(alloc: Global, count: u32) -> Result<Vec<List<Visit>>, OutOfMemory>
     ensures { IfOk result (λ lists. lists.items ≡ replicate count []) }
 {
     let mut lists = Vec::new(alloc);
@@ -50,79 +99,13 @@ fn empty_lists(alloc: Global, count: usize) -> Result<Vec<List<Visit>>, OutOfMem
 }
 
 // Adds the visits of a member by its uses.
-fn add_uses(lists: &mut Vec<List<Visit>>, member: u32, uses: &[Use]) -> Result<(), OutOfMemory>
-    requires { All (λ u. u.block < length lists.old.items) uses.now }
+fn add_visits(lists: &mut Vec<List<Visit>>, member: u32, uses: &[Use]) -> Result<(), OutOfMemory>
+    requires there { All (λ u. u.block < length lists.old.items) uses.now }
+    requires lasting { All IsLasting uses.now }
     ensures { OnOk result (HasMore lists.old.items lists.new.items member uses.now) }
 {
     for one in uses {
-        let start = one.start;
-        lists[one.block as usize].push(Visit { start, member })?;
+        lists[one.block as usize].push(visit_of(member, *one))?;
     }
     Ok(())
-}
-
-/// Gathers the visits of a place in front of `room`, and says how many there are. It takes no
-/// memory.
-pub(crate) fn gather(cut: &Cut, place: usize, room: &mut [Visit]) -> usize
-    requires sound { IsSoundCut cut.now }
-    requires room { member_count cut.now ≤ length room.old }
-    ensures within { result ≤ length room.new }
-    ensures visits { take result room.new ≡ visits_of cut.now place }
-{
-    let blocks = cut.section.blocks.len();
-    let mut count = 0;
-    for (i, row) in cut.rows.slice().iter().enumerate() {
-        if let Some(start) = start_at(row.uses.slice(), blocks, place) {
-            let member = i as u32;
-            room[count] = Visit { start, member };
-            count += 1;
-        }
-    }
-    count
-}
-
-/// The start at a place, if it is used.
-pub(crate) fn start_at(uses: &[Use], blocks: usize, place: usize) -> Option<i64>
-    requires differ { AreOfOtherPlaces uses.now }
-    requires blocks { AreBlocksFirst blocks uses.now }
-    ensures { result ≡ start_of uses.now place }
-{
-    if place < blocks {
-        start_on_block(uses, place)
-    } else {
-        start_on_connection(uses, blocks, place)
-    }
-}
-
-fn start_on_block(uses: &[Use], place: usize) -> Option<i64>
-    requires { AreOfOtherPlaces uses.now }
-    ensures { result ≡ start_of uses.now place }
-{
-    for one in uses {
-        if one.block as usize == place {
-            return Some(one.start);
-        }
-    }
-    None
-}
-
-// Looks from the back, where the uses of connections stand.
-fn start_on_connection(uses: &[Use], blocks: usize, place: usize) -> Option<i64>
-    requires differ { AreOfOtherPlaces uses.now }
-    requires blocks { AreBlocksFirst blocks uses.now }
-    requires behind { blocks ≤ place }
-    ensures { result ≡ start_of uses.now place }
-{
-    let mut left = uses.len();
-    while left > 0 {
-        left -= 1;
-        let one = uses[left];
-        if one.block as usize == place {
-            return Some(one.start);
-        }
-        if (one.block as usize) < blocks {
-            return None;
-        }
-    }
-    None
 }

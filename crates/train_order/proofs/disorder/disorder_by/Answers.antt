@@ -11,8 +11,8 @@ returns-then-len-sets-clause-disorder c =
     let taken = c.take_up_all-taken.result in
     let up = c.take_up_all-taken.ensures in
     let whole : length taken ≡ length sets = omega (arith, c.len.ensures, c.if-len-sets.true) in (
-      none_opposite cut (not_both cut sets c.put_preceded.ensures taken up whole),
-      none_remain cut sets c.put_preceded.ensures taken up whole,
+      none_opposite cut (not_both cut sets c.put_preceded.ensures.sets taken up whole),
+      none_remain cut sets c.put_preceded.ensures.sets taken up whole,
     )
 
 pub find_disorder-requires-clause-some : goal.find_disorder-requires-clause-some

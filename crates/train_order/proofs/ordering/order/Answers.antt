@@ -1,7 +1,7 @@
 use Rattle.std.proofs.Common.{◌≡◌, length, sym, ap, subst, ◌∙◌, arith}
 use Rattle.plan_model.specs.Disorder.{opposite_of}
 use Rattle.std.specs.Option.{option_map}
-use Rattle.train_order.specs.Ordering.{IsOrder}
+use Rattle.train_order.specs.Ordering.{IsOrder, IsTold}
 use Rattle.train_order.specs.Sets.{ArePreceded}
 use Rattle.train_order.specs.Taking.{AreTakenUp}
 use Rattle.train_order.proofs.Answered.{told_is}
@@ -15,7 +15,7 @@ returns-then-len c =
     let cut = c.args.cut.now in
     let sets = c.in_ok-sets.sets.items in
     let taken = c.take_up_all-taken.result in
-    let told : ArePreceded cut sets = c.in_ok-sets.ensures in
+    let told : ArePreceded cut sets = (subst (λ k. ArePreceded k sets) c.of-cut.ensures c.in_ok-sets.ensures) in
     let up : AreTakenUp sets taken = subst (λ ss. AreTakenUp ss taken) c.deref.ensures.value c.take_up_all-taken.ensures in
     let whole : length taken ≡ length sets = omega (arith, c.len.ensures, c.len-2.ensures, c.if-len.true) in (
       ap (option_map (opposite_of cut)) (none_opposite cut (not_both cut sets told taken up whole)),
@@ -43,5 +43,7 @@ pub returns : goal.returns
 returns c =
     let cut = c.args.cut.now in
     let told : ArePreceded cut c.deref-2.result.now =
-    subst (λ ss. ArePreceded cut ss) (sym c.deref-2.ensures.value) c.in_ok-sets.ensures in
-    told_is cut c.find_disorder.result c.in_ok-told.told (c.find_disorder.ensures.is cut told) c.in_ok-told.ensures
+    subst (λ ss. ArePreceded cut ss) (sym c.deref-2.ensures.value)
+    (subst (λ k. ArePreceded k c.in_ok-sets.sets.items) c.of-cut.ensures c.in_ok-sets.ensures) in
+    told_is cut c.find_disorder.result c.in_ok-told.told (c.find_disorder.ensures.is cut told)
+    (subst (λ k. IsTold k c.find_disorder.result c.in_ok-told.told) (c.sound-2.ensures.cut ∙ c.of-cut.ensures) c.in_ok-told.ensures)

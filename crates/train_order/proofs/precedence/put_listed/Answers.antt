@@ -9,8 +9,7 @@ use Rattle.plan_model.specs.Precedence.{precedes}
 use Rattle.train_order.specs.declared.visits.Visit.{Visit}
 use Rattle.train_order.specs.Visits.{AreVisits, visits}
 use Rattle.train_order.proofs.Ranges.{any_more}
-use Rattle.train_order.proofs.Visitors.{visitors_there}
-use Rattle.train_order.proofs.Preceding.{taken_in}
+use Rattle.train_order.proofs.InTurn.{visitors_there, taken_in}
 use Rattle.train_order.proofs.precedence.put_listed.Goals as goal
 
 -- the list at a place has the visits of the place
@@ -28,7 +27,7 @@ take_in_visits-requires-clause-there c =
     c.deref_mut.ensures.value in
     subst (λ n. All (λ (v : Visit). v.member < n) c.deref_mut.result.now) (sym c.loop-list.invariant.count)
     (subst (λ vs. All (λ (v : Visit). v.member < member_count cut) vs) here
-    (visitors_there cut c.requires.sound c.loop-list.list-index))
+    (visitors_there cut c.loop-list.list-index))
 
 pub loop-list-preserved : goal.loop-list-preserved
 loop-list-preserved c =
@@ -40,9 +39,10 @@ loop-list-preserved c =
     record {
       count = c.take_in_visits.ensures.count ∙ c.loop-list.invariant.count;
       each = λ i j li lj.
-          taken_in cut c.requires.sound place c.take_in_visits.new.visits
-          (subst (λ vs. IsPermutation vs c.take_in_visits.new.visits) (sym here) c.take_in_visits.ensures.same)
-          c.take_in_visits.ensures.order c.loop-list.sets c.take_in_visits.new.sets c.take_in_visits.ensures.sets i j li lj
+          taken_in cut c.requires.sound place c.take_in_visits.new.visits (record {
+            same = subst (λ vs. IsPermutation vs c.take_in_visits.new.visits) (sym here) c.take_in_visits.ensures.same;
+            order = c.take_in_visits.ensures.order;
+          }) c.loop-list.sets c.take_in_visits.new.sets c.take_in_visits.ensures.sets i j li lj
           ∙ ap (λ b. b || precedes (member cut i) (member cut j) place) (c.loop-list.invariant.each i j li lj)
           ∙ sym (any_more (precedes (member cut i) (member cut j)) place);
     }

@@ -1,0 +1,18 @@
+use Rattle.std.proofs.Common.{◌≡◌, map, rules, sym, ap, subst, ◌∙◌}
+use Rattle.std.specs.List.Sorted.{IsPermutation}
+use Rattle.std.proofs.lemmas.Fn.{always_returns_same}
+use Rattle.std.proofs.lemmas.Result.{IfOk-weaker}
+use Rattle.train_order.specs.declared.entry_order.Moment.{Moment}
+use Rattle.train_order.specs.EntryOrder.{AreByEntry, pair_of}
+use Rattle.train_order.proofs.InOrder.{by_entry}
+use Rattle.train_order.proofs.entry_order.by_entry.Goals as goal
+
+pub returns-clause-order : goal.returns-clause-order
+returns-clause-order c =
+    let cut = c.args.cut.now in
+    let sorted = c.sort_unstable_by_key.new.self.items in
+    let are = by_entry cut sorted
+    (subst (λ ms. IsPermutation ms sorted) c.in_ok-entries.ensures.each c.sort_unstable_by_key.ensures.permutation)
+    (c.sort_unstable_by_key.ensures.sorted pair_of (always_returns_same _ _ _ (λ a r q k. search rules))) in
+    IfOk-weaker c.members_of.result (λ members. members.items ≡ map (λ (m : Moment). m.member) c.deref.result.now) (λ positions. AreByEntry cut positions.items) (λ positions is.
+    subst (AreByEntry cut) (sym (is ∙ ap (map (λ (m : Moment). m.member)) c.deref.ensures.value)) are) c.members_of.ensures
