@@ -23,7 +23,7 @@ use Rattle.plan_model.specs.Laws.{IsTied}
 use Rattle.plan_model.proofs.MemberTests.{has, has_any, has-range}
 use Rattle.plan_model.proofs.Uses.{place_there}
 use Rattle.critical_chain.proofs.Rounds.{IsOutWithin, some_rounds, earlier}
-use Rattle.critical_chain.proofs.Users.{users_there}
+use Rattle.train_order.proofs.Users.{users}
 
 -- ---- a member's moments
 
@@ -95,7 +95,7 @@ module _ (cut : Cut) (entries : List ℤ) (sound : IsSoundCut cut)
             let at = Any-from_list_any (touches cut entries i j) (places cut) t in
             let p = at.1 in
             let parts = and_parts (precedes (member cut i) (member cut j) p) _ at.4 in
-            let used = users_there cut i j p parts.0 in
+            let used = users cut i j p parts.0 in
             let somewhere = has_any (precedes (member cut i) (member cut j)) (places cut) p
             (has-range (place_count cut) p (place_there cut sound i p li used.0)) parts.0 in
             tied_latest n (use_at (member cut i) p).«end» (member cut i).entry (entry_at entries i)

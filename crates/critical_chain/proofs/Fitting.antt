@@ -13,20 +13,19 @@ use Rattle.plan_model.specs.declared.answer.Tie.TheVariants.{Start, After}
 use Rattle.plan_model.specs.declared.answer.Placed.{Placed}
 use Rattle.plan_model.specs.declared.answer.Plan.{Plan}
 use Rattle.plan_model.specs.Members.{member_count, members}
-use Rattle.plan_model.specs.Cut.{IsSoundCut}
+use Rattle.plan_model.specs.Cut.{IsSoundCut, IsBounded}
 use Rattle.plan_model.specs.Disorder.{remaining}
 use Rattle.plan_model.specs.Schedule.{window_start, entry_at, start_by, end_by}
 use Rattle.plan_model.specs.Tie.{tie_of}
 use Rattle.plan_model.specs.Answer.{placed_at, plan_of}
 use Rattle.plan_model.proofs.Uses.{place_there}
-use Rattle.occupancy_rate.specs.Kept.{IsBounded}
 use Rattle.critical_chain.specs.Chain.{no_train, train_at}
 use Rattle.critical_chain.specs.Checked.{entries_of, IsChecked}
 use Rattle.critical_chain.specs.Parts.{HasFrame, HasTrains, HasTie, tie_in, KeepsAll}
 use Rattle.critical_chain.proofs.Checked.{tied_by}
 use Rattle.critical_chain.proofs.EntryBounds.{bounded}
 use Rattle.critical_chain.proofs.Tied.{touching, tie_by, has_tie, first_touch}
-use Rattle.critical_chain.proofs.Users.{users_there}
+use Rattle.train_order.proofs.Users.{users}
 
 -- ---- equal parts
 
@@ -118,7 +117,7 @@ module _ (cut : Cut) (plan : Plan) (sound : IsSoundCut cut) where
         count = length-map plan.placed (λ (p : Placed). p.entry) ∙ trains.count;
         from = λ i l. subst (λ x. window_start cut ≤ℤ x) (sym (its_entry i l)) (trains.each i l).after;
         order = λ i j p li lj h.
-            (all.keep p (place_there cut sound i p li (users_there cut i j p h).0) i j li lj h).clear;
+            (all.keep p (place_there cut sound i p li (users cut i j p h).0) i j li lj h).clear;
       };
       starts = λ j l. starts_by j (tie_in plan.placed j) (its_tie j l) (all.ties j l);
     }

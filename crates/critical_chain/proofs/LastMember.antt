@@ -1,26 +1,20 @@
 -- The first member that ends its use of a block last, visit after visit.
 use Rattle.std.proofs.Common.{◌≡◌, ◌⊎◌, ℕ, true, false, List, [], ◌∷◌, inl, inr, refl, sym, ap, subst, ◌∙◌, arith}
-use Rattle.std.specs.Prelude.{ℤ, ◌≤ℤ◌, ◌<ℤ◌, int_lt, ◌==◌, Option, None, Some, find, filter, map, fold}
+use Rattle.std.specs.Prelude.{ℤ, ◌≤ℤ◌, ◌<ℤ◌, int_lt, ◌==◌, Option, None, Some, find, filter, fold}
 use Rattle.std.specs.Ordering.{int_eq}
 use Rattle.std.proofs.lemmas.Bool.{cases_Bool, eqb-true, or_cases, false_from_ne_true}
 use Rattle.std.proofs.lemmas.Bool.Decides.{Decides-int_eq}
 use Rattle.std.proofs.lemmas.Int.{ints}
+use Rattle.rail_model.proofs.Numbers.{le_both_ways, le_from_lt, le_from_not_lt, lt_from_test}
 use Rattle.plan_model.specs.declared.cut.Cut.{Cut}
 use Rattle.plan_model.specs.Members.{member, member_count, members, uses_place}
 use Rattle.plan_model.specs.Schedule.{end_by}
 use Rattle.plan_model.specs.Occupancy.{users, last_end, last_member}
 use Rattle.plan_model.proofs.MemberTests.{has}
 use Rattle.plan_model.proofs.Greatest.{above_each, greatest_within}
-use Rattle.critical_chain.specs.declared.visits.Visit.{Visit}
 use Rattle.critical_chain.specs.declared.last.Latest.{Latest}
-use Rattle.critical_chain.specs.Parts.{visit_of, later, member_of, latest_upto}
+use Rattle.critical_chain.specs.Parts.{later, member_of, latest_upto}
 use Rattle.critical_chain.proofs.Ties.{found}
-
-no_later : (a b : ℤ) → int_lt a b ≡ false → b ≤ℤ a
-no_later a b h = grind (arith, ints)
-
-is_later : (a b : ℤ) → int_lt a b ≡ true → a <ℤ b
-is_later a b h = grind (arith, ints)
 
 not_same : (a b : ℤ) → a <ℤ b → int_eq a b ≡ false
 not_same a b h =
@@ -32,27 +26,18 @@ before_too a b c p q = omega (arith, ints)
 then_after : (a b c : ℤ) → a <ℤ b → b ≤ℤ c → a <ℤ c
 then_after a b c p q = omega (arith, ints)
 
-up_to : (a b : ℤ) → a <ℤ b → a ≤ℤ b
-up_to a b h = omega (arith, ints)
-
 itself : (a : ℤ) → a ≤ℤ a
 itself a = omega (arith, ints)
 
-both : (a b : ℤ) → a ≤ℤ b → b ≤ℤ a → a ≡ b
-both a b p q = omega (arith, ints)
-
 module _ (cut : Cut) (entries : List ℤ) (block : ℕ) where
-  abbrev step : Option Latest → Visit → Option Latest
-  step latest v = later latest v.member v.until
-
   abbrev ends : ℕ → ℤ
   ends i = end_by cut entries i block
 
+  abbrev step : Option Latest → ℕ → Option Latest
+  step latest i = later latest i (ends i)
+
   abbrev using : List ℕ → List ℕ
   using some = filter (λ i. uses_place (member cut i) block) some
-
-  abbrev by : List ℕ → List Visit
-  by some = filter (λ (v : Visit). uses_place (member cut v.member) block) (map (visit_of cut entries block) some)
 
   -- one of some members ends last, and is the first that does
   record IsLatest (some : List ℕ) (l : Latest) : Type 0 where
@@ -66,8 +51,8 @@ module _ (cut : Cut) (entries : List ℤ) (block : ℕ) where
   -- after one before them some members leave it, or one of them ends later
   abbrev Left : List ℕ → Latest → Type 0
   Left some a =
-      ((fold step (Some a) (by some) ≡ Some a) × NoneAfter some a)
-      ⊎ ((l : Latest) × (fold step (Some a) (by some) ≡ Some l) × (a.until <ℤ l.until) × IsLatest (using some) l)
+      ((fold step (Some a) (using some) ≡ Some a) × NoneAfter some a)
+      ⊎ ((l : Latest) × (fold step (Some a) (using some) ≡ Some l) × (a.until <ℤ l.until) × IsLatest (using some) l)
 
   more : (k : ℕ) (some : List ℕ) (z : ℤ) → ends k ≤ℤ z → ((i : ℕ) → has (using some) i ≡ true → ends i ≤ℤ z)
       → (i : ℕ) → has (k ∷ using some) i ≡ true → ends i ≤ℤ z
@@ -80,7 +65,7 @@ module _ (cut : Cut) (entries : List ℤ) (block : ℕ) where
   -- a member that uses the block ends later than all before it
   taken : (k : ℕ) (some : List ℕ) → uses_place (member cut k) block ≡ true
       → Left some (record { member = k; until = ends k })
-      → (l : Latest) × (fold step (Some (record { member = k; until = ends k })) (by some) ≡ Some l)
+      → (l : Latest) × (fold step (Some (record { member = k; until = ends k })) (using some) ≡ Some l)
       × (ends k ≤ℤ l.until) × IsLatest (using (k ∷ some)) l
   taken k some u (inl (is, none)) =
       let same : int_eq (ends k) (ends k) ≡ true = (Decides-int_eq (ends k) (ends k)).1 refl in (
@@ -93,17 +78,17 @@ module _ (cut : Cut) (entries : List ℤ) (block : ℕ) where
       let other : int_eq (ends k) l.until ≡ false = not_same (ends k) l.until after in (
         l,
         is,
-        up_to (ends k) l.until after,
-        rw u (record { most = more k some l.until (up_to (ends k) l.until after) latest.most; first = rw other latest.first }),
+        le_from_lt (ends k) l.until after,
+        rw u (record { most = more k some l.until (le_from_lt (ends k) l.until after) latest.most; first = rw other latest.first }),
       )
 
   -- one more that uses the block
   with_user : (a : Option Latest) (k : ℕ) (some : List ℕ) → uses_place (member cut k) block ≡ true
-      → fold step a (by (k ∷ some)) ≡ fold step (later a k (ends k)) (by some)
+      → fold step a (using (k ∷ some)) ≡ fold step (later a k (ends k)) (using some)
   with_user a k some u = rw u refl
 
   without_user : (a : Option Latest) (k : ℕ) (some : List ℕ) → uses_place (member cut k) block ≡ false
-      → fold step a (by (k ∷ some)) ≡ fold step a (by some)
+      → fold step a (using (k ∷ some)) ≡ fold step a (using some)
   without_user a k some u = rw u refl
 
   takes : (a : Latest) (k : ℕ) (z : ℤ) → int_lt a.until z ≡ true → later (Some a) k z ≡ Some (record { member = k; until = z })
@@ -120,29 +105,29 @@ module _ (cut : Cut) (entries : List ℤ) (block : ℕ) where
         | inl u ↦ elim (cases_Bool (int_lt a.until (ends k))) [
           | inl t ↦
               let r = taken k some u (left some (record { member = k; until = ends k })) in
-              let after = then_after a.until (ends k) r.0.until (is_later a.until (ends k) t) r.2 in
+              let after = then_after a.until (ends k) r.0.until (lt_from_test a.until (ends k) t) r.2 in
               inr (
                 r.0,
-                with_user (Some a) k some u ∙ ap (λ o. fold step o (by some)) (takes a k (ends k) t) ∙ r.1,
+                with_user (Some a) k some u ∙ ap (λ o. fold step o (using some)) (takes a k (ends k) t) ∙ r.1,
                 after,
                 r.3,
               )
           | inr t ↦
-              let before = no_later a.until (ends k) t in
+              let before = le_from_not_lt a.until (ends k) t in
               elim (left some a) [
                 | inl (is, none) ↦
                     inl (
-                      with_user (Some a) k some u ∙ ap (λ o. fold step o (by some)) (leaves a k (ends k) t) ∙ is,
+                      with_user (Some a) k some u ∙ ap (λ o. fold step o (using some)) (leaves a k (ends k) t) ∙ is,
                       rw u (more k some a.until before none),
                     )
                 | inr (l, is, after, latest) ↦
                     let other : int_eq (ends k) l.until ≡ false = not_same (ends k) l.until (before_too (ends k) a.until l.until before after) in
                     inr (
                       l,
-                      with_user (Some a) k some u ∙ ap (λ o. fold step o (by some)) (leaves a k (ends k) t) ∙ is,
+                      with_user (Some a) k some u ∙ ap (λ o. fold step o (using some)) (leaves a k (ends k) t) ∙ is,
                       after,
                       rw u (record {
-                        most = more k some l.until (up_to (ends k) l.until (before_too (ends k) a.until l.until before after)) latest.most;
+                        most = more k some l.until (le_from_lt (ends k) l.until (before_too (ends k) a.until l.until before after)) latest.most;
                         first = rw other latest.first;
                       }),
                     )
@@ -152,8 +137,8 @@ module _ (cut : Cut) (entries : List ℤ) (block : ℕ) where
 
   -- the latest of some members, if any uses the block
   latest_of : (some : List ℕ)
-      → ((fold step None (by some) ≡ None) × (using some ≡ []))
-      ⊎ ((l : Latest) × (fold step None (by some) ≡ Some l) × IsLatest (using some) l)
+      → ((fold step None (using some) ≡ None) × (using some ≡ []))
+      ⊎ ((l : Latest) × (fold step None (using some) ≡ Some l) × IsLatest (using some) l)
   latest_of [] = inl (refl, refl)
   latest_of (k ∷ some) =
       elim (cases_Bool (uses_place (member cut k) block)) [
@@ -171,7 +156,7 @@ module _ (cut : Cut) (entries : List ℤ) (block : ℕ) where
       let one = found (λ i. int_eq (ends i) l.until) (users cut block) l.member latest.first in
       let its = (Decides-int_eq (ends l.member) l.until).0 one.1 in
       let most : last_end cut entries block ≡ l.until =
-      both (last_end cut entries block) l.until (greatest_within ends l.until (users cut block) l.member one.0 latest.most)
+      le_both_ways (last_end cut entries block) l.until (greatest_within ends l.until (users cut block) l.member one.0 latest.most)
       (subst (λ z. z ≤ℤ last_end cut entries block) its (above_each ends (users cut block) l.member one.0)) in
       ap (λ z. find (λ i. int_eq (ends i) z) (users cut block)) most ∙ latest.first
 

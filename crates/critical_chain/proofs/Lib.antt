@@ -7,10 +7,8 @@ pub mod Checked
 pub mod Unique
 pub mod Opposite
 pub mod Visited
-pub mod Gathered
 pub mod InTurn
 pub mod LastMember
-pub mod Users
 pub mod Tied
 pub mod EntryBounds
 pub mod Fitting

@@ -22,7 +22,7 @@ use Rattle.plan_model.proofs.FirstByName.{first_is, one_passes}
 use Rattle.plan_model.proofs.Uses.{place_there}
 use Rattle.critical_chain.specs.Parts.{IsWithin, HasTie, comes_first}
 use Rattle.critical_chain.proofs.Ties.{bound, touch_at}
-use Rattle.critical_chain.proofs.Users.{user_there}
+use Rattle.train_order.proofs.Users.{user_there, users}
 
 -- a train's tie names a member and a place, if it names any
 pub within : (cut : Cut) (entries : List ℤ) (j : ℕ) (tie : Tie) → HasTie cut entries j tie → IsWithin cut tie
@@ -69,10 +69,11 @@ module _ (cut : Cut) (entries : List ℤ) (sound : IsSoundCut cut) where
   pub touching : (i j place : ℕ) → touches cut entries i j place ≡ true → Touches i j place
   touching i j place h =
       let parts = and_parts (precedes (member cut i) (member cut j) place) _ h in
-      let l = user_there cut i j place parts.0 in
+      let used = users cut i j place parts.0 in
+      let there = user_there cut i place used.0 in
       record {
-        member_there = l.0;
-        place_is = place_there cut sound i place l.0 l.1;
+        member_there = there;
+        place_is = place_there cut sound i place there used.0;
         before = parts.0;
         ends = (Decides-int_eq (end_by cut entries i place) (start_by cut entries j place)).0 parts.1;
       }

@@ -1,130 +1,133 @@
--- A member's visit of a place, by what is found among its uses, and the visits of more and more members.
-use Rattle.std.proofs.Common.{◌≡◌, ℕ, suc, ◌+◌, Bool, true, List, [], ◌∷◌, ◌++◌, inl, inr, refl, sym, ap, subst, ◌∙◌, arith}
-use Rattle.std.specs.Prelude.{ℤ, ◌+ℤ◌, ◌-ℤ◌, ◌==◌, Option, None, Some, find, unwrap_or, cond, if◌then◌else◌, fold, All}
-use Rattle.std.specs.List.{list_any}
-use Rattle.std.proofs.lemmas.Bool.{cases_Bool}
-use Rattle.std.proofs.lemmas.Option.{none-some, same_Some}
-use Rattle.std.proofs.lemmas.List.FromFn.{filter_of_map_range_with_len_more}
-use Rattle.std.proofs.lemmas.List.{append-nil}
+-- What is moved with a train's entry, and the members that use a block, one after the other.
+use Rattle.std.proofs.Common.{◌≡◌, ℕ, ◌+◌, ◌<◌, length, get_or, false, ◌&&◌, List, [], ◌∷◌, ◌++◌, refl, sym, ap, subst, ◌∙◌, arith}
+use Rattle.std.specs.Prelude.{ℤ, ◌+ℤ◌, ◌-ℤ◌, ◌<ℤ◌, pos, nat_abs, Option, None, Some, fold, filter}
+use Rattle.std.specs.List.{range_with_len}
+use Rattle.std.specs.Ordering.{int_eq}
+use Rattle.std.proofs.lemmas.Int.{ints}
 use Rattle.rail_model.specs.declared.stair.Use.{Use}
 use Rattle.plan_model.specs.declared.cut.Cut.{Cut}
-use Rattle.plan_model.specs.Members.{member, uses_place, use_at, no_use}
-use Rattle.plan_model.specs.Schedule.{entry_at}
-use Rattle.critical_chain.specs.declared.visits.Visit.{Visit}
+use Rattle.plan_model.specs.Members.{member, uses_place, use_of, use_at}
+use Rattle.plan_model.specs.Precedence.{comes_before}
+use Rattle.plan_model.specs.Cut.{IsSoundCut, IsMoment}
+use Rattle.plan_model.specs.declared.answer.Tie.{Tie}
+use Rattle.plan_model.specs.declared.answer.Placed.{Placed}
+use Rattle.plan_model.specs.Schedule.{entry_at, start_by, end_by}
+use Rattle.plan_model.specs.Tie.{touches}
+use Rattle.plan_model.proofs.Uses.{takes_time}
+use Rattle.plan_model.proofs.Sound.{use_sound}
+use Rattle.train_order.specs.declared.visits.Visit.{Visit}
+use Rattle.train_order.proofs.Gathered.{is_used, its_use}
+use Rattle.train_order.specs.Visits.{no_visit, AreInTurn}
+use Rattle.train_order.proofs.InTurn.{IsVisit, is_visit}
+use Rattle.train_order.proofs.Ranges.{passing_yes, passing_no}
 use Rattle.critical_chain.specs.declared.last.Latest.{Latest}
-use Rattle.critical_chain.specs.Parts.{visit_of, visit_by, visits_upto, later, latest_upto}
-
--- ---- what is found among uses
-
-found_use : (uses : List Use) (place : ℕ)
-    → find (λ (u : Use). u.block == place) uses
-    ≡ (if list_any (λ (u : Use). u.block == place) uses
-    then Some (unwrap_or (find (λ (u : Use). u.block == place) uses) no_use) else None)
-found_use [] place = refl
-found_use (u ∷ uses) place =
-    elim (cases_Bool (u.block == place)) [
-      | inl e ↦ rw e refl
-      | inr e ↦ rw e (found_use uses place)
-    ]
-
-pub found_all : (P : Use → Type 0) (uses : List Use) (test : Use → Bool) (u : Use) → All P uses → find test uses ≡ Some u → P u
-found_all P [] test u all e = absurd (none-some u e)
-found_all P (v ∷ uses) test u all e =
-    elim (cases_Bool (test v)) [
-      | inl t ↦ subst P (same_Some v u (rw t at e)) (all 0 v (omega arith))
-      | inr t ↦ found_all P uses test u (λ k d l. all (suc k) d (omega (arith, l))) (rw t at e)
-    ]
+use Rattle.critical_chain.specs.Parts.{later, latest_upto, Follows, MayFollowAt, tie_in}
 
 -- ---- a visit
 
-module _ (cut : Cut) (entries : List ℤ) (place i : ℕ) where
-  -- the visit by a use
-  abbrev pub by_use : Use → Visit
-  by_use u = record {
-    start = u.start;
-    member = i;
-    from = u.start -ℤ (member cut i).entry +ℤ entry_at entries i;
-    until = u.«end» -ℤ (member cut i).entry +ℤ entry_at entries i;
-  }
+-- what lasts so long from a start ends at its end
+lasting : (s f e y : ℤ) → s <ℤ f → (s -ℤ e +ℤ y +ℤ pos (nat_abs (f -ℤ s))) ≡ (f -ℤ e +ℤ y)
+lasting s f e y h = omega (arith, ints, h)
 
-  visit_is : visit_by cut entries place i ≡ (if uses_place (member cut i) place then Some (by_use (use_at (member cut i) place)) else None)
-  visit_is = refl
+module _ (cut : Cut) (entries : List ℤ) (place : ℕ) (v : Visit) (is : IsVisit cut place v) where
+  pub starts_at : (v.start -ℤ (member cut v.member).entry +ℤ entry_at entries v.member) ≡ start_by cut entries v.member place
+  starts_at = ap (λ (w : Visit). w.start -ℤ (member cut v.member).entry +ℤ entry_at entries v.member) is.is
 
-  pub visit_some : (u : Use) → find (λ (v : Use). v.block == place) (member cut i).uses ≡ Some u
-      → visit_by cut entries place i ≡ Some (by_use u)
-  visit_some u e =
-      elim (cases_Bool (uses_place (member cut i) place)) [
-        | inl t ↦
-            let all : Some (use_at (member cut i) place) ≡ Some u =
-            sym (let f = found_use (member cut i).uses place in (rw t at f)) ∙ e in
-            rw t (ap (λ v. Some (by_use v)) (same_Some _ _ all))
-        | inr t ↦
-            let none : find (λ (v : Use). v.block == place) (member cut i).uses ≡ None =
-            (let f = found_use (member cut i).uses place in (rw t at f)) in
-            absurd (none-some u (sym none ∙ e))
-      ]
+  pub ends_at : IsSoundCut cut
+      → (v.start -ℤ (member cut v.member).entry +ℤ entry_at entries v.member +ℤ pos v.lasts_s) ≡ end_by cut entries v.member place
+  ends_at sound =
+      let u = use_at (member cut v.member) place in
+      ap (λ (w : Visit). w.start -ℤ (member cut v.member).entry +ℤ entry_at entries v.member +ℤ pos w.lasts_s) is.is
+      ∙ lasting u.start u.«end» (member cut v.member).entry (entry_at entries v.member)
+      (takes_time cut sound v.member place is.there is.used)
 
-  pub visit_none : find (λ (v : Use). v.block == place) (member cut i).uses ≡ None → visit_by cut entries place i ≡ None
-  visit_none e =
-      elim (cases_Bool (uses_place (member cut i) place)) [
-        | inl t ↦
-            let some : find (λ (v : Use). v.block == place) (member cut i).uses ≡ Some (use_at (member cut i) place) =
-            (let f = found_use (member cut i).uses place in (rw t at f)) in
-            absurd (none-some _ (sym e ∙ some))
-        | inr t ↦ rw t refl
-      ]
+  pub starts_within : IsSoundCut cut → IsMoment v.start
+  starts_within sound =
+      subst (λ (w : Visit). IsMoment w.start) (sym is.is) (use_sound cut sound v.member is.there place is.used).starts
 
-  pub visit_from : (v : Visit) → Some v ≡ visit_by cut entries place i
-      → (uses_place (member cut i) place ≡ true) × (v ≡ visit_of cut entries place i)
-  visit_from v e =
-      elim (cases_Bool (uses_place (member cut i) place)) [
-        | inl t ↦ (t, same_Some v _ (rw t at e))
-        | inr t ↦ absurd (let none : Some v ≡ None = rw t at e in none-some v (sym none))
-      ]
+-- a visit may follow the one before it
+module _ (cut : Cut) (entries : List ℤ) (placed : List Placed) (place : ℕ) (sound : IsSoundCut cut) (some : List Visit)
+    (are : AreInTurn cut place some) (j k : ℕ) (e : j + 1 ≡ k) (l : k < length some) (until from : ℤ) (tie : Tie) where
+  abbrev v : Visit
+  v = get_or some j no_visit
 
--- ---- the visits of more members
+  abbrev w : Visit
+  w = get_or some k no_visit
 
-module _ (cut : Cut) (entries : List ℤ) (place n : ℕ) where
-  upto_more : visits_upto cut entries place (n + 1)
-      ≡ visits_upto cut entries place n ++ cond (uses_place (member cut n) place) (visit_of cut entries place n ∷ []) []
-  upto_more =
-      filter_of_map_range_with_len_more (λ (v : Visit). uses_place (member cut v.member) place) (visit_of cut entries place) 0 n n
-      (omega arith)
+  module _ (ends : until ≡ (v.start -ℤ (member cut v.member).entry +ℤ entry_at entries v.member +ℤ pos v.lasts_s))
+      (starts : from ≡ (w.start -ℤ (member cut w.member).entry +ℤ entry_at entries w.member))
+      (its : tie ≡ tie_in placed w.member) where
+    until_is : until ≡ end_by cut entries v.member place
+    until_is = ends ∙ ends_at cut entries place v (is_visit cut place some are j (omega (arith, e, l))) sound
 
-  pub with_visit : (v : Visit) → visit_by cut entries place n ≡ Some v
-      → visits_upto cut entries place (n + 1) ≡ visits_upto cut entries place n ++ v ∷ []
-  with_visit v e =
-      elim (cases_Bool (uses_place (member cut n) place)) [
-        | inl t ↦
-            let is : visit_of cut entries place n ≡ v = same_Some _ _ (rw t at e) in
-            let more : visits_upto cut entries place (n + 1) ≡ visits_upto cut entries place n ++ visit_of cut entries place n ∷ [] =
-            (let m = upto_more in (rw t at m)) in
-            more ∙ ap (λ w. visits_upto cut entries place n ++ w ∷ []) is
-        | inr t ↦ absurd (let none : None ≡ Some v = rw t at e in none-some v none)
-      ]
+    from_is : from ≡ start_by cut entries w.member place
+    from_is = starts ∙ starts_at cut entries place w (is_visit cut place some are k l)
 
-  pub without_visit : visit_by cut entries place n ≡ None
-      → visits_upto cut entries place (n + 1) ≡ visits_upto cut entries place n
-  without_visit e =
-      elim (cases_Bool (uses_place (member cut n) place)) [
-        | inl t ↦ absurd (let some : Some (visit_of cut entries place n) ≡ None = rw t at e in none-some _ (sym some))
-        | inr t ↦
-            let more : visits_upto cut entries place (n + 1) ≡ visits_upto cut entries place n ++ [] =
-            (let m = upto_more in (rw t at m)) in
-            more ∙ append-nil (visits_upto cut entries place n)
-      ]
+    same : Follows cut until from v.member place tie
+        ≡ Follows cut (end_by cut entries v.member place) (start_by cut entries w.member place) v.member place (tie_in placed w.member)
+    same =
+        ap (λ x. Follows cut x from v.member place tie) until_is
+        ∙ ap (λ x. Follows cut (end_by cut entries v.member place) x v.member place tie) from_is
+        ∙ ap (λ x. Follows cut (end_by cut entries v.member place) (start_by cut entries w.member place) v.member place x) its
+
+    abbrev at : ℕ → Type 0
+    at m = Follows cut (end_by cut entries v.member place) (start_by cut entries (get_or some m no_visit).member place) v.member
+        place (tie_in placed (get_or some m no_visit).member)
+
+    pub may : Follows cut until from v.member place tie → MayFollowAt cut entries placed place some j
+    may h = subst at (sym e) (subst (λ T. T) same h)
+
+    pub may_back : MayFollowAt cut entries placed place some j → Follows cut until from v.member place tie
+    may_back h = subst (λ T. T) (sym same) (subst at e h)
+
+-- ---- two uses that are found
+
+pub touches_by : (cut : Cut) (entries : List ℤ) (i j place : ℕ) (u w : Use) → use_of (member cut i) place ≡ Some u
+    → use_of (member cut j) place ≡ Some w
+    → touches cut entries i j place
+    ≡ (comes_before u.start (member cut i).name w.start (member cut j).name
+    && int_eq (u.«end» -ℤ (member cut i).entry +ℤ entry_at entries i) (w.start -ℤ (member cut j).entry +ℤ entry_at entries j))
+touches_by cut entries i j place u w p q =
+    let one = is_used (member cut i) place (Some u) p in
+    let other = is_used (member cut j) place (Some w) q in
+    let its = use_at (member cut i) place in
+    let theirs = use_at (member cut j) place in
+    let whole : touches cut entries i j place
+    ≡ (comes_before its.start (member cut i).name theirs.start (member cut j).name
+    && int_eq (its.«end» -ℤ (member cut i).entry +ℤ entry_at entries i) (theirs.start -ℤ (member cut j).entry +ℤ entry_at entries j)) = rw (one, other) refl in
+    whole
+    ∙ ap (λ (x : Use). comes_before x.start (member cut i).name theirs.start (member cut j).name
+    && int_eq (x.«end» -ℤ (member cut i).entry +ℤ entry_at entries i) (theirs.start -ℤ (member cut j).entry +ℤ entry_at entries j))
+    (its_use (member cut i) place u p)
+    ∙ ap (λ (x : Use). comes_before u.start (member cut i).name x.start (member cut j).name
+    && int_eq (u.«end» -ℤ (member cut i).entry +ℤ entry_at entries i) (x.start -ℤ (member cut j).entry +ℤ entry_at entries j))
+    (its_use (member cut j) place w q)
+
+-- one of them is not there
+pub not_touching : (cut : Cut) (entries : List ℤ) (i j place : ℕ)
+    → (uses_place (member cut i) place && uses_place (member cut j) place) ≡ false → touches cut entries i j place ≡ false
+not_touching cut entries i j place h = rw h refl
+
+-- ---- one member more
 
 fold_one : {A X : Type 0} (f : A → X → A) (a : A) (xs : List X) (x : X) → fold f a (xs ++ x ∷ []) ≡ f (fold f a xs) x
 fold_one f a [] x = refl
 fold_one f a (y ∷ xs) x = fold_one f (f a y) xs x
 
-pub latest_with : (cut : Cut) (entries : List ℤ) (place n : ℕ) (v : Visit) → visit_by cut entries place n ≡ Some v
-    → latest_upto cut entries place (n + 1) ≡ later (latest_upto cut entries place n) v.member v.until
-latest_with cut entries place n v e =
-    let step = λ (latest : Option Latest) (w : Visit). later latest w.member w.until in
-    ap (fold step None) (with_visit cut entries place n v e) ∙ fold_one step None (visits_upto cut entries place n) v
+module _ (cut : Cut) (entries : List ℤ) (block n : ℕ) where
+  abbrev step : Option Latest → ℕ → Option Latest
+  step latest i = later latest i (end_by cut entries i block)
 
-pub latest_without : (cut : Cut) (entries : List ℤ) (place n : ℕ) → visit_by cut entries place n ≡ None
-    → latest_upto cut entries place (n + 1) ≡ latest_upto cut entries place n
-latest_without cut entries place n e =
-    ap (fold (λ (latest : Option Latest) (w : Visit). later latest w.member w.until) None) (without_visit cut entries place n e)
+  pub latest_with : (u : Use) → use_of (member cut n) block ≡ Some u
+      → latest_upto cut entries block (n + 1)
+      ≡ later (latest_upto cut entries block n) n (u.«end» -ℤ (member cut n).entry +ℤ entry_at entries n)
+  latest_with u e =
+      ap (fold step None) (passing_yes (λ i. uses_place (member cut i) block) n (is_used (member cut n) block (Some u) e))
+      ∙ fold_one step None (filter (λ i. uses_place (member cut i) block) (range_with_len 0 n)) n
+      ∙ ap (λ (x : Use). later (latest_upto cut entries block n) n (x.«end» -ℤ (member cut n).entry +ℤ entry_at entries n))
+      (its_use (member cut n) block u e)
+
+  pub latest_without : use_of (member cut n) block ≡ None
+      → latest_upto cut entries block (n + 1) ≡ latest_upto cut entries block n
+  latest_without e =
+      ap (fold step None) (passing_no (λ i. uses_place (member cut i) block) n (is_used (member cut n) block None e))

@@ -1,20 +1,20 @@
 -- What is looked at in a timetable, part by part.
-use Rattle.std.specs.Prelude.{◌≡◌, ◌≢◌, ℕ, ◌+◌, ◌^◌, ◌<◌, nat_lt, ◌==◌, ◌&&◌, ◌||◌, ℤ, pos, ◌≤ℤ◌, int_lt, Bool, true, false, if◌then◌else◌, List, length, map, filter, fold, slice_index_or, Option, None, Some}
+use Rattle.std.specs.Prelude.{◌≡◌, ◌≢◌, ℕ, ◌+◌, ◌^◌, ◌<◌, ℤ, pos, ◌≤ℤ◌, int_lt, Bool, true, false, if◌then◌else◌, List, length, filter, fold, slice_index_or, Option, None, Some}
 use Rattle.std.specs.List.{range_with_len}
-use Rattle.rail_model.specs.Name.{is_before}
 use Rattle.plan_model.specs.declared.cut.CutRow.{CutRow}
 use Rattle.plan_model.specs.declared.cut.Cut.{Cut}
 use Rattle.plan_model.specs.declared.answer.Tie.{Tie}
 use Rattle.plan_model.specs.declared.answer.Tie.TheVariants.{Start, After}
 use Rattle.plan_model.specs.declared.answer.Placed.{Placed}
 use Rattle.plan_model.specs.declared.answer.Plan.{Plan}
-use Rattle.plan_model.specs.Places.{place_names, place_name, place_count}
-use Rattle.plan_model.specs.Members.{member, member_count, uses_place, use_at}
+use Rattle.plan_model.specs.Places.{place_names, place_count, comes_first as first_by_names}
+use Rattle.plan_model.specs.Members.{member, member_count, uses_place}
 use Rattle.plan_model.specs.Precedence.{precedes}
 use Rattle.plan_model.specs.Schedule.{window_start, entry_at, start_by, end_by}
 use Rattle.plan_model.specs.Tie.{touches}
 use Rattle.plan_model.specs.Occupancy.{occupancy, busiest, critical}
-use Rattle.critical_chain.specs.declared.visits.Visit.{Visit}
+use Rattle.train_order.specs.declared.visits.Visit.{Visit}
+use Rattle.train_order.specs.Visits.{no_visit}
 use Rattle.critical_chain.specs.declared.last.Latest.{Latest}
 use Rattle.critical_chain.specs.Chain.{no_train}
 
@@ -70,8 +70,7 @@ HaveTies cut entries placed = (j : ℕ) → j < member_count cut → HasTie cut 
 -- a member and a place come before those of a tie, by name
 abbrev pub comes_first : Cut → ℕ → ℕ → Tie → Bool
 comes_first cut i place Start = false
-comes_first cut i place (After k other) =
-    nat_lt i k || (i == k && is_before (place_name cut place) (place_name cut other))
+comes_first cut i place (After k other) = first_by_names cut (i, place) (k, other)
 
 -- a use may start at one moment after member i's of the place, which ends at the other: it doesn't start before, and
 -- where it starts then, they do not come before its train's tie
@@ -102,47 +101,19 @@ pub record KeepsAll (cut : Cut) (entries : List ℤ) (plan : Plan) : Type 0 wher
   pub keep : KeepPlaces cut entries plan.placed
   pub occupied : IsOccupied cut entries plan
 
--- ---- the visits of a place
-
--- a member's visit of a place
-abbrev pub visit_of : Cut → List ℤ → ℕ → ℕ → Visit
-visit_of cut entries place i = record {
-  start = (use_at (member cut i) place).start;
-  member = i;
-  from = start_by cut entries i place;
-  until = end_by cut entries i place;
-}
-
--- its visit, if it uses the place
-abbrev pub visit_by : Cut → List ℤ → ℕ → ℕ → Option Visit
-visit_by cut entries place i =
-    if uses_place (member cut i) place then Some (visit_of cut entries place i) else None
-
--- the visits of the first n members, and of all
-abbrev pub visits_upto : Cut → List ℤ → ℕ → ℕ → List Visit
-visits_upto cut entries place n =
-    filter (λ v. uses_place (member cut v.member) place) (map (visit_of cut entries place) (range_with_len 0 n))
-
-abbrev pub visits : Cut → List ℤ → ℕ → List Visit
-visits cut entries place = visits_upto cut entries place (member_count cut)
-
--- visits are ordered by their planned starts, then by their members
-abbrev pub key_of : Visit → ℤ × ℕ
-key_of v = (v.start, v.member)
-
-abbrev pub no_visit : Visit
-no_visit = record { start = pos 0; member = 0; from = pos 0; until = pos 0 }
+-- ---- the visits of a place in the order of precedence
 
 -- the visit after one may follow it
-abbrev pub MayFollowAt : Cut → List Placed → ℕ → List Visit → ℕ → Type 0
-MayFollowAt cut placed place visits k =
-    let v = slice_index_or visits k no_visit in
-    let w = slice_index_or visits (k + 1) no_visit in
-    Follows cut v.until w.from v.member place (tie_in placed w.member)
+abbrev pub MayFollowAt : Cut → List ℤ → List Placed → ℕ → List Visit → ℕ → Type 0
+MayFollowAt cut entries placed place visits k =
+    let i = (slice_index_or visits k no_visit).member in
+    let j = (slice_index_or visits (k + 1) no_visit).member in
+    Follows cut (end_by cut entries i place) (start_by cut entries j place) i place (tie_in placed j)
 
 -- each visit may follow the one before it
-abbrev pub FollowInTurn : Cut → List Placed → ℕ → List Visit → Type 0
-FollowInTurn cut placed place visits = (k : ℕ) → k + 1 < length visits → MayFollowAt cut placed place visits k
+abbrev pub FollowInTurn : Cut → List ℤ → List Placed → ℕ → List Visit → Type 0
+FollowInTurn cut entries placed place visits =
+    (k : ℕ) → k + 1 < length visits → MayFollowAt cut entries placed place visits k
 
 -- ---- the last member at a block
 
@@ -160,4 +131,5 @@ member_of (Some latest) = Some latest.member
 -- the first of the first n members that ends its use of a block last
 abbrev pub latest_upto : Cut → List ℤ → ℕ → ℕ → Option Latest
 latest_upto cut entries block n =
-    fold (λ latest v. later latest v.member v.until) None (visits_upto cut entries block n)
+    fold (λ latest i. later latest i (end_by cut entries i block)) None
+    (filter (λ i. uses_place (member cut i) block) (range_with_len 0 n))

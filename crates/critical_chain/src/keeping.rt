@@ -1,22 +1,18 @@
 //! Whether the trains of a plan keep a place one after the other, in the order of precedence.
-ghost use Rattle.std.specs.Prelude.{◌≡◌, ℕ, ◌+◌, ◌<◌, ◌≤◌, ◌↔◌, All, IsTrue, length, take, slice_index_or};
-ghost use Rattle.std.specs.List.Sorted.{IsPermutation, IsSortedByKey};
-ghost use Rattle.plan_model.specs.Members.{member, member_count};
+ghost use Rattle.std.specs.Prelude.{◌≡◌, ℕ, ◌+◌, ◌<◌, ◌↔◌, All, IsTrue, length};
+ghost use Rattle.plan_model.specs.Cut.{IsBounded, IsSoundCut};
+ghost use Rattle.plan_model.specs.Members.{member_count};
 ghost use Rattle.plan_model.specs.Places.{place_count};
-ghost use Rattle.plan_model.specs.Cut.{IsSoundCut};
-ghost use Rattle.occupancy_rate.specs.Kept.{IsBounded};
-ghost use Rattle.train_order.specs.Visits.{key_cmp};
+ghost use Rattle.train_order.specs.Visits.{AreInTurn};
 ghost use Rattle.critical_chain.specs.Parts as parts;
 
-use crate::names::place_name;
-use crate::visits::{Visit, gather};
-use plan_model::{Cut, MEMBERS, Placed, Tie};
+use crate::moved::{end_of, start_of};
+use plan_model::{FitCut, MEMBERS, Placed, Tie};
+use train_order::{Visit, visits_at};
 
 // Whether each train ends its use of a place by the time that the next starts there and, where it
 // ends just then, does not come before the next train's tie, by name.
-pub(crate) fn keeps_place(cut: &Cut, entries: &[i64], placed: &[Placed], place: u32) -> bool
-    requires sound { IsSoundCut cut.now }
-    requires few { member_count cut.now ≤ MEMBERS }
+pub(crate) fn keeps_place(cut: &FitCut, entries: &[i64], placed: &[Placed], place: u32) -> bool
     requires entries { length entries.now ≡ member_count cut.now }
     requires bounded { All IsBounded entries.now }
     requires placed { length placed.now ≡ member_count cut.now }
@@ -26,67 +22,63 @@ pub(crate) fn keeps_place(cut: &Cut, entries: &[i64], placed: &[Placed], place: 
 {
     let nothing = Visit {
         start: 0,
+        lasts_s: 0,
         member: 0,
-        from: 0,
-        until: 0,
     };
     let mut room = [nothing; MEMBERS];
-    let count = gather(&mut room, cut, entries, place);
-    let visits = &mut room[..count];
-    put_in_order(visits);
-    follow_in_turn(cut, visits, placed, place)
-}
-
-// In the order of precedence.
-fn put_in_order(visits: &mut [Visit])
-    ensures same { IsPermutation visits.old visits.new }
-    ensures order { IsSortedByKey parts.key_of key_cmp visits.new }
-{
-    visits.sort_unstable_by_key(|visit| (visit.start, visit.member));
+    let count = visits_at(cut.sound(), place, &mut room);
+    follow_in_turn(cut, entries, placed, place, &room[..count])
 }
 
 // Whether each visit may follow the one before it.
-fn follow_in_turn(cut: &Cut, visits: &[Visit], placed: &[Placed], place: u32) -> bool
-    requires place { place < place_count cut.now }
-    requires there { All (λ v. v.member < length placed.now) visits.now }
+fn follow_in_turn(
+    cut: &FitCut,
+    entries: &[i64],
+    placed: &[Placed],
+    place: u32,
+    visits: &[Visit],
+) -> bool
+    requires sound { IsSoundCut cut.now }
+    requires entries { length entries.now ≡ member_count cut.now }
+    requires bounded { All IsBounded entries.now }
+    requires placed { length placed.now ≡ member_count cut.now }
     requires ties { All (λ p. parts.IsWithin cut.now p.tie) placed.now }
-    ensures { IsTrue result ↔ parts.FollowInTurn cut.now placed.now place visits.now }
+    requires place { place < place_count cut.now }
+    requires visits { AreInTurn cut.now place visits.now }
+    ensures { IsTrue result
+        ↔ parts.FollowInTurn cut.now entries.now placed.now place visits.now }
 {
     for k in 1..visits.len() {
+        let visit = visits[k - 1];
         let next = visits[k];
-        if !may_follow(
-            cut,
-            visits[k - 1],
-            next,
-            place,
-            placed[next.member as usize].tie,
-        ) {
+        let until = end_of(cut, entries, visit);
+        let from = start_of(cut, entries, next);
+        let tie = placed[next.member as usize].tie;
+        if !may_follow(cut, until, from, (visit.member, place), tie) {
             return false;
         }
     }
     true
 }
 
-// Whether a visit may follow another at a place: the train of it has this tie.
-fn may_follow(cut: &Cut, visit: Visit, next: Visit, place: u32, tie: Tie) -> bool
-    requires place { place < place_count cut.now }
+// Whether a use may start at one moment after a member's use of a place that ends at another: the
+// train of it has this tie.
+fn may_follow(cut: &FitCut, until: i64, from: i64, before: (u32, u32), tie: Tie) -> bool
+    requires place { before.1 < place_count cut.now }
     requires tie { parts.IsWithin cut.now tie }
-    ensures { IsTrue result ↔ parts.Follows cut.now visit.until next.from visit.member place tie }
+    ensures { IsTrue result ↔ parts.Follows cut.now until from before.0 before.1 tie }
 {
-    visit.until < next.from
-        || visit.until == next.from && !comes_first(cut, visit.member, place, tie)
+    until < from || until == from && !comes_first(cut, before, tie)
 }
 
 // Whether a member and a place come before those of a tie, by name.
-fn comes_first(cut: &Cut, member: u32, place: u32, tie: Tie) -> bool
-    requires place { place < place_count cut.now }
+fn comes_first(cut: &FitCut, before: (u32, u32), tie: Tie) -> bool
+    requires place { before.1 < place_count cut.now }
     requires tie { parts.IsWithin cut.now tie }
-    ensures { result ≡ parts.comes_first cut.now member place tie }
+    ensures { result ≡ parts.comes_first cut.now before.0 before.1 tie }
 {
     match tie {
         Tie::Start => false,
-        Tie::After { train, block } => {
-            member < train || member == train && place_name(cut, place) < place_name(cut, block)
-        }
+        Tie::After { train, block } => cut.sound().comes_first(before, (train, block)),
     }
 }

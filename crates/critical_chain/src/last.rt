@@ -1,13 +1,12 @@
 //! The train that ends its use of a block last.
-ghost use Rattle.std.specs.Prelude.{◌≡◌, ◌<◌, All, length, option_and_then};
-ghost use Rattle.plan_model.specs.Members.{member, member_count};
-ghost use Rattle.plan_model.specs.Cut.{IsSoundCut};
+ghost use Rattle.std.specs.Prelude.{◌≡◌, All, length, option_and_then};
+ghost use Rattle.plan_model.specs.Cut.{IsBounded};
+ghost use Rattle.plan_model.specs.Members.{member_count};
 ghost use Rattle.plan_model.specs.Occupancy.{last_member};
-ghost use Rattle.occupancy_rate.specs.Kept.{IsBounded};
 ghost use Rattle.critical_chain.specs.Parts as parts;
 
-use crate::visits::visit_of;
-use plan_model::Cut;
+use crate::moved::moved;
+use plan_model::FitCut;
 
 // The first member by name that ends its use of a block last.
 #[derive(Clone, Copy)]
@@ -17,8 +16,7 @@ pub(crate) struct Latest {
 }
 
 // The critical train where this block is the busiest.
-pub(crate) fn critical(cut: &Cut, entries: &[i64], busiest: Option<u32>) -> Option<u32>
-    requires sound { IsSoundCut cut.now }
+pub(crate) fn critical_train(cut: &FitCut, entries: &[i64], busiest: Option<u32>) -> Option<u32>
     requires entries { length entries.now ≡ member_count cut.now }
     requires bounded { All IsBounded entries.now }
     ensures { result ≡ option_and_then (last_member cut.now entries.now) busiest }
@@ -30,16 +28,15 @@ pub(crate) fn critical(cut: &Cut, entries: &[i64], busiest: Option<u32>) -> Opti
 }
 
 // The first member by name that ends its use of a block last, if any uses it.
-fn last_at(cut: &Cut, entries: &[i64], block: u32) -> Option<u32>
-    requires sound { IsSoundCut cut.now }
+fn last_at(cut: &FitCut, entries: &[i64], block: u32) -> Option<u32>
     requires entries { length entries.now ≡ member_count cut.now }
     requires bounded { All IsBounded entries.now }
     ensures { result ≡ last_member cut.now entries.now block }
 {
     let mut latest = None;
-    for i in 0..cut.rows.len() {
-        if let Some(visit) = visit_of(cut, entries, i, block) {
-            latest = later(latest, visit.member, visit.until);
+    for i in 0..cut.member_count() {
+        if let Some(one) = cut.sound().use_at(i, block) {
+            latest = later(latest, i, moved(cut, entries, i, one.end));
         }
     }
     member_of(latest)

@@ -12,10 +12,9 @@ mod keeping;
 mod last;
 mod laws;
 mod links;
-mod names;
+mod moved;
 mod touched;
 mod trains;
-mod visits;
 
 pub use answered::is_answer;
 pub use laws::{chain_is_of, chain_is_unique, checked_is_compressed, ordered_is_not_opposite};

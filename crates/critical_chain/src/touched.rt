@@ -2,57 +2,51 @@
 ghost use Rattle.std.specs.Prelude.{◌≡◌, ◌<◌, ◌↔◌, All, IsTrue, length};
 ghost use Rattle.plan_model.specs.Members.{member, member_count};
 ghost use Rattle.plan_model.specs.Places.{place_count};
-ghost use Rattle.plan_model.specs.Cut.{IsSoundCut};
+ghost use Rattle.plan_model.specs.Cut.{IsBounded};
 ghost use Rattle.plan_model.specs.Precedence.{precedes, comes_before};
 ghost use Rattle.plan_model.specs.Tie.{touches};
-ghost use Rattle.occupancy_rate.specs.Kept.{IsBounded};
 ghost use Rattle.critical_chain.specs.Parts as parts;
 
-use crate::visits::visit_of;
-use plan_model::{Cut, CutRow, Tie};
+use crate::moved::moved;
+use plan_model::{CutRow, FitCut, Tie};
 
 // Whether a member enters at the window's start, where its tie says so, or else is touched as it
 // says.
-pub(crate) fn has_tie(cut: &Cut, entries: &[i64], j: usize, tie: Tie) -> bool
-    requires sound { IsSoundCut cut.now }
+pub(crate) fn has_tie(cut: &FitCut, entries: &[i64], j: u32, tie: Tie) -> bool
     requires entries { length entries.now ≡ member_count cut.now }
     requires bounded { All IsBounded entries.now }
     requires there { j < member_count cut.now }
     ensures { IsTrue result ↔ parts.HasTie cut.now entries.now j tie }
 {
-    let starts = entries[j] == i64::from(cut.section.from_s);
+    let starts = entries[j as usize] == cut.sound().window_start();
     match tie {
         Tie::Start => starts,
         Tie::After { train, block } => {
-            !starts && is_pair(cut, train, block) && touches(cut, entries, train as usize, j, block)
+            !starts && is_pair(cut, train, block) && touches(cut, entries, train, j, block)
         }
     }
 }
 
 // Whether there are such a member and such a place.
-fn is_pair(cut: &Cut, train: u32, block: u32) -> bool
+fn is_pair(cut: &FitCut, train: u32, block: u32) -> bool
     ensures { IsTrue result ↔ parts.IsPair cut.now train block }
 {
-    (train as usize) < cut.rows.len()
-        && (block as usize) < cut.section.blocks.len() + cut.connections.len()
+    train < cut.member_count() && block < cut.sound().place_count()
 }
 
 // Whether member i precedes member j at a place and ends its use as the other starts.
-fn touches(cut: &Cut, entries: &[i64], i: usize, j: usize, place: u32) -> bool
-    requires sound { IsSoundCut cut.now }
+fn touches(cut: &FitCut, entries: &[i64], i: u32, j: u32, place: u32) -> bool
     requires entries { length entries.now ≡ member_count cut.now }
     requires bounded { All IsBounded entries.now }
     requires one { i < member_count cut.now }
     requires other { j < member_count cut.now }
     ensures { result ≡ touches cut.now entries.now i j place }
 {
-    match (
-        visit_of(cut, entries, i, place),
-        visit_of(cut, entries, j, place),
-    ) {
+    let rows = cut.sound();
+    match (rows.use_at(i, place), rows.use_at(j, place)) {
         (Some(one), Some(other)) => {
-            let rows = cut.rows.slice();
-            comes_before(&rows[i], one.start, &rows[j], other.start) && one.until == other.from
+            comes_before(rows.row(i), one.start, rows.row(j), other.start)
+                && moved(cut, entries, i, one.end) == moved(cut, entries, j, other.start)
         }
         _ => false,
     }

@@ -3,7 +3,7 @@ use Rattle.std.specs.Prelude.{ℤ, All}
 use Rattle.plan_model.specs.declared.answer.Placed.{Placed}
 use Rattle.plan_model.specs.declared.answer.Plan.{Plan}
 use Rattle.plan_model.specs.declared.cut.Cut.{Cut}
-use Rattle.occupancy_rate.specs.Kept.{IsBounded}
+use Rattle.plan_model.specs.Cut.{IsBounded}
 use Rattle.critical_chain.specs.Parts.{HasTrains}
 use Rattle.critical_chain.proofs.Fitting.{all_bounded}
 use Rattle.critical_chain.proofs.checking.keeps_all.Goals as goal

@@ -1,4 +1,5 @@
-use Rattle.std.proofs.Common.{length-append, refl, arith, below_more}
+use Rattle.std.proofs.Common.{refl, ap, ◌∙◌, arith, below_more}
+use Rattle.plan_model.specs.Places.{place_count}
 use Rattle.critical_chain.proofs.checking.keeps_places.Goals as goal
 
 pub loop-place-init : goal.loop-place-init
@@ -11,13 +12,6 @@ pub returns : goal.returns
 returns c = (
   λ t place l.
       c.loop-place.invariant place
-      (omega (
-        arith,
-        l,
-        c.loop-place-test.false,
-        length-append c.args.cut.now.section.blocks c.args.cut.now.connections,
-        c.len.ensures.count,
-        c.len-2.ensures.count,
-      )),
+      (omega (arith, l, c.loop-place-test.false, c.place_count-place-end.ensures ∙ ap place_count c.sound.ensures.cut)),
   λ k. refl,
 )

@@ -1,23 +1,21 @@
-use Rattle.std.proofs.Common.{◌<◌, sym, subst, arith}
-use Rattle.std.specs.List.{All}
-use Rattle.std.specs.List.Sorted.{IsPermutation}
-use Rattle.critical_chain.specs.declared.visits.Visit.{Visit}
+use Rattle.std.proofs.Common.{take, sym, subst, arith}
 use Rattle.std.proofs.lemmas.List.{get_or_default}
 use Rattle.plan_model.specs.declared.answer.Placed.{Placed}
+use Rattle.plan_model.specs.Cut.{IsSoundCut}
+use Rattle.train_order.specs.Visits.{AreInTurn}
 use Rattle.critical_chain.specs.Chain.{no_train}
-use Rattle.critical_chain.specs.Parts.{visits, IsWithin, tie_in}
+use Rattle.critical_chain.specs.Parts.{IsWithin, tie_in}
 use Rattle.critical_chain.proofs.Tied.{within}
-use Rattle.critical_chain.proofs.InTurn.{in_turn, kept, all_there}
+use Rattle.critical_chain.proofs.InTurn.{in_turn, kept}
 use Rattle.critical_chain.proofs.keeping.keeps_place.Goals as goal
 
-pub follow_in_turn-requires-clause-there : goal.follow_in_turn-requires-clause-there
-follow_in_turn-requires-clause-there c =
-    let cut = c.args.cut.now in
-    let some = c.put_in_order.new.visits in
-    let same : IsPermutation (visits cut c.args.entries.now c.args.place) some =
-    subst (λ vs. IsPermutation vs some) c.gather-count.ensures.visits c.put_in_order.ensures.same in
-    subst (λ n. All (λ (v : Visit). v.member < n) some) (sym c.requires.placed)
-    (all_there cut c.args.entries.now c.args.placed.now c.args.place c.requires.sound some same c.put_in_order.ensures.order)
+pub follow_in_turn-requires-clause-sound : goal.follow_in_turn-requires-clause-sound
+follow_in_turn-requires-clause-sound c = subst IsSoundCut c.sound.ensures.cut c.visits_at-count.ensures.sound
+
+pub follow_in_turn-requires-clause-visits : goal.follow_in_turn-requires-clause-visits
+follow_in_turn-requires-clause-visits c =
+    subst (λ k. AreInTurn k c.args.place (take c.visits_at-count.result c.visits_at-count.new.room)) c.sound.ensures.cut
+    c.visits_at-count.ensures.visits
 
 pub follow_in_turn-requires-clause-ties : goal.follow_in_turn-requires-clause-ties
 follow_in_turn-requires-clause-ties c k d l =
@@ -32,10 +30,9 @@ returns c =
     let cut = c.args.cut.now in
     let entries = c.args.entries.now in
     let placed = c.args.placed.now in
-    let some = c.put_in_order.new.visits in
-    let same : IsPermutation (visits cut entries c.args.place) some =
-    subst (λ vs. IsPermutation vs some) c.gather-count.ensures.visits c.put_in_order.ensures.same in
-    let order = c.put_in_order.ensures.order in (
-      λ t. kept cut entries placed c.args.place c.requires.sound some same order (c.follow_in_turn.ensures.0 t),
-      λ k. c.follow_in_turn.ensures.1 (in_turn cut entries placed c.args.place c.requires.sound some same order k),
+    let some = take c.visits_at-count.result c.visits_at-count.new.room in
+    let sound = subst IsSoundCut c.sound.ensures.cut c.visits_at-count.ensures.sound in
+    let are = subst (λ k. AreInTurn k c.args.place some) c.sound.ensures.cut c.visits_at-count.ensures.visits in (
+      λ t. kept cut entries placed c.args.place sound some are (c.follow_in_turn.ensures.0 t),
+      λ k. c.follow_in_turn.ensures.1 (in_turn cut entries placed c.args.place sound some are k),
     )

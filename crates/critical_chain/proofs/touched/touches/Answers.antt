@@ -1,75 +1,83 @@
-use Rattle.std.proofs.Common.{◌≡◌, ℕ, ◌<◌, Bool, true, false, ◌&&◌, List, rules, refl, sym, ap, subst, ◌∙◌, to_z, of_z, w64, nat_eq, slice_index_or}
-use Rattle.std.specs.Prelude.{ℤ, Some}
+use Rattle.std.proofs.Common.{◌≡◌, ℕ, Bool, List, ◌&&◌, rules, refl, sym, ap, ◌∙◌, to_z, of_z, w64, nat_eq}
+use Rattle.std.specs.Prelude.{ℤ, ◌+ℤ◌, ◌-ℤ◌, Some, None}
 use Rattle.std.specs.Ordering.{int_eq}
+use Rattle.std.proofs.lemmas.Bool.{and_right}
 use Rattle.plan_model.specs.declared.cut.CutRow.{CutRow}
-use Rattle.plan_model.specs.declared.cut.Cut.{Cut}
-use Rattle.plan_model.specs.Members.{member, member_count, no_member}
+use Rattle.plan_model.specs.Members.{member, use_of, uses_place}
 use Rattle.plan_model.specs.Precedence.{comes_before}
-use Rattle.plan_model.specs.Tie.{touches}
-use Rattle.critical_chain.specs.declared.visits.Visit.{Visit}
-use Rattle.critical_chain.specs.Parts.{visit_of, visit_by}
-use Rattle.critical_chain.proofs.Walk.{read}
-use Rattle.critical_chain.proofs.Visited.{visit_from}
+use Rattle.plan_model.specs.Schedule.{entry_at}
+use Rattle.train_order.proofs.Gathered.{is_used}
+use Rattle.critical_chain.proofs.Visited.{touches_by, not_touching}
 use Rattle.critical_chain.proofs.touched.touches.Goals as goal
 
-module _ (cut : Cut) (entries : List ℤ) (place i j : ℕ) (v w : Visit) (first : Some v ≡ visit_by cut entries place i)
-    (second : Some w ≡ visit_by cut entries place j) where
-  touches_by : touches cut entries i j place
-      ≡ (comes_before v.start (member cut i).name w.start (member cut j).name && int_eq v.until w.from)
-  touches_by =
-      let one = visit_from cut entries place i v first in
-      let other = visit_from cut entries place j w second in
-      let is : touches cut entries i j place
-      ≡ (comes_before (visit_of cut entries place i).start (member cut i).name (visit_of cut entries place j).start (member cut j).name
-      && int_eq (visit_of cut entries place i).until (visit_of cut entries place j).from) = rw (one.0, other.0) refl in
-      subst (λ (x : Visit). touches cut entries i j place
-      ≡ (comes_before x.start (member cut i).name w.start (member cut j).name && int_eq x.until w.from)) (sym one.1)
-      (subst (λ (x : Visit). touches cut entries i j place
-      ≡ (comes_before (visit_of cut entries place i).start (member cut i).name x.start (member cut j).name
-      && int_eq (visit_of cut entries place i).until x.from)) (sym other.1) is)
-
-  module _ (rows : List CutRow) (same : rows ≡ cut.rows) (li : i < member_count cut) (lj : j < member_count cut)
-      (a b : CutRow) (ai : a ≡ slice_index_or rows i a) (bj : b ≡ slice_index_or rows j b) where
-    before_is : comes_before v.start a.name w.start b.name
-        ≡ comes_before v.start (member cut i).name w.start (member cut j).name
-    before_is =
-        ap (λ (r : CutRow). comes_before v.start r.name w.start b.name) (ai ∙ read rows cut.rows i a no_member same li)
-        ∙ ap (λ (r : CutRow). comes_before v.start (member cut i).name w.start r.name) (bj ∙ read rows cut.rows j b no_member same lj)
-
-    touches_if : comes_before v.start a.name w.start b.name ≡ true → int_eq v.until w.from ≡ touches cut entries i j place
-    touches_if t = let e = sym before_is ∙ t in sym (touches_by ∙ rw e refl)
-
-    touches_not : comes_before v.start a.name w.start b.name ≡ false → false ≡ touches cut entries i j place
-    touches_not t = let e = sym before_is ∙ t in sym (touches_by ∙ rw e refl)
-
-before_told : (r : Bool) (s t s' t' : ℤ) (a b : List ℕ) → r ≡ comes_before s' a t' b → s' ≡ s → t' ≡ t → comes_before s a t b ≡ r
-before_told r s t s' t' a b h e f =
-    sym (h ∙ ap (λ x. comes_before x a t' b) e ∙ ap (λ x. comes_before s a x b) f)
+before_told : (r : Bool) (s t s' t' : ℤ) (a b m n : List ℕ) → r ≡ comes_before s' a t' b → s' ≡ s → t' ≡ t → a ≡ m → b ≡ n
+    → comes_before s m t n ≡ r
+before_told r s t s' t' a b m n h e f g k =
+    sym (h ∙ ap (λ x. comes_before x a t' b) e ∙ ap (λ x. comes_before s a x b) f ∙ ap (λ x. comes_before s x t b) g
+    ∙ ap (λ x. comes_before s m t x) k)
 
 pub returns-then-comes_before : goal.returns-then-comes_before
 returns-then-comes_before c =
-    let v = c.in-Some-Some.one in
-    let w = c.in-Some-Some.other in
-    let a = c.index-rows-i.result in
-    let b = c.index-rows-j.result in
-    let test : nat_eq (of_z w64 v.until) (of_z w64 w.from) ≡ int_eq v.until w.from = search rules in
-    let s : to_z w64 (of_z w64 v.start) ≡ v.start = search rules in
-    let t : to_z w64 (of_z w64 w.start) ≡ w.start = search rules in
-    let before = before_told c.comes_before.result v.start w.start _ _ a.name b.name c.comes_before.ensures s t in
-    test ∙ touches_if c.args.cut.now c.args.entries.now c.args.place c.args.i c.args.j v w c.in-Some-Some.ensures
-    c.in-Some-Some.ensures' _ c.slice-rows.ensures c.requires.one c.requires.other a b c.index-rows-i.is c.index-rows-j.is
-    (before ∙ c.if-comes_before.true)
+    let cut = c.args.cut.now in
+    let i = c.args.i in
+    let j = c.args.j in
+    let place = c.args.place in
+    let one = c.in-Some-Some.one in
+    let other = c.in-Some-Some.other in
+    let here : use_of (member cut i) place ≡ Some one = ap (λ k. use_of (member k i) place) (sym c.sound-rows.ensures.cut) ∙ sym c.in-Some-Some.ensures.is in
+    let there : use_of (member cut j) place ≡ Some other = ap (λ k. use_of (member k j) place) (sym c.sound-rows.ensures.cut) ∙ sym c.in-Some-Some.ensures'.is in
+    let whole = touches_by cut c.args.entries.now i j place one other here there in
+    let s : to_z w64 (of_z w64 one.start) ≡ one.start = search rules in
+    let t : to_z w64 (of_z w64 other.start) ≡ other.start = search rules in
+    let a : c.row.result.now.name ≡ (member cut i).name =
+    ap (λ (r : CutRow). r.name) (c.row.ensures.row ∙ ap (λ k. member k i) c.sound-rows.ensures.cut) in
+    let b : c.row-in-Some-Some.result.now.name ≡ (member cut j).name =
+    ap (λ (r : CutRow). r.name) (c.row-in-Some-Some.ensures.row ∙ ap (λ k. member k j) c.sound-rows.ensures.cut) in
+    let before = before_told c.comes_before.result one.start other.start _ _ _ _ (member cut i).name (member cut j).name c.comes_before.ensures s t a b in
+    let e : to_z w64 (of_z w64 one.«end») ≡ one.«end» = search rules in
+    let test : nat_eq (of_z w64 c.moved.result) (of_z w64 c.moved-then-comes_before.result) ≡ int_eq c.moved.result c.moved-then-comes_before.result = search rules in
+    let ends = c.moved.ensures.is ∙ ap (λ x. x -ℤ (member cut i).entry +ℤ entry_at c.args.entries.now i) e in
+    let starts = c.moved-then-comes_before.ensures.is ∙ ap (λ x. x -ℤ (member cut j).entry +ℤ entry_at c.args.entries.now j) t in
+    test
+    ∙ ap (λ x. int_eq x c.moved-then-comes_before.result) ends
+    ∙ ap (int_eq (one.«end» -ℤ (member cut i).entry +ℤ entry_at c.args.entries.now i)) starts
+    ∙ sym (whole ∙ ap (λ x. x && int_eq (one.«end» -ℤ (member cut i).entry +ℤ entry_at c.args.entries.now i)
+    (other.start -ℤ (member cut j).entry +ℤ entry_at c.args.entries.now j)) (before ∙ c.if-comes_before.true))
 
 pub returns-else-comes_before : goal.returns-else-comes_before
 returns-else-comes_before c =
-    let v = c.in-Some-Some.one in
-    let w = c.in-Some-Some.other in
-    let a = c.index-rows-i.result in
-    let b = c.index-rows-j.result in
-    let s : to_z w64 (of_z w64 v.start) ≡ v.start = search rules in
-    let t : to_z w64 (of_z w64 w.start) ≡ w.start = search rules in
-    let before = before_told c.comes_before.result v.start w.start _ _ a.name b.name c.comes_before.ensures s t in
+    let cut = c.args.cut.now in
+    let i = c.args.i in
+    let j = c.args.j in
+    let place = c.args.place in
+    let one = c.in-Some-Some.one in
+    let other = c.in-Some-Some.other in
+    let here : use_of (member cut i) place ≡ Some one = ap (λ k. use_of (member k i) place) (sym c.sound-rows.ensures.cut) ∙ sym c.in-Some-Some.ensures.is in
+    let there : use_of (member cut j) place ≡ Some other = ap (λ k. use_of (member k j) place) (sym c.sound-rows.ensures.cut) ∙ sym c.in-Some-Some.ensures'.is in
+    let whole = touches_by cut c.args.entries.now i j place one other here there in
+    let s : to_z w64 (of_z w64 one.start) ≡ one.start = search rules in
+    let t : to_z w64 (of_z w64 other.start) ≡ other.start = search rules in
+    let a : c.row.result.now.name ≡ (member cut i).name =
+    ap (λ (r : CutRow). r.name) (c.row.ensures.row ∙ ap (λ k. member k i) c.sound-rows.ensures.cut) in
+    let b : c.row-in-Some-Some.result.now.name ≡ (member cut j).name =
+    ap (λ (r : CutRow). r.name) (c.row-in-Some-Some.ensures.row ∙ ap (λ k. member k j) c.sound-rows.ensures.cut) in
+    let before = before_told c.comes_before.result one.start other.start _ _ _ _ (member cut i).name (member cut j).name c.comes_before.ensures s t a b in
     c.if-comes_before.false
-    ∙ touches_not c.args.cut.now c.args.entries.now c.args.place c.args.i c.args.j v w c.in-Some-Some.ensures
-    c.in-Some-Some.ensures' _ c.slice-rows.ensures c.requires.one c.requires.other a b c.index-rows-i.is c.index-rows-j.is
-    (before ∙ c.if-comes_before.false)
+    ∙ sym (whole ∙ ap (λ x. x && int_eq (one.«end» -ℤ (member cut i).entry +ℤ entry_at c.args.entries.now i)
+    (other.start -ℤ (member cut j).entry +ℤ entry_at c.args.entries.now j)) (before ∙ c.if-comes_before.false))
+
+pub returns-in_default : goal.returns-in_default
+returns-in_default c =
+    let cut = c.args.cut.now in
+    let none : use_of (member cut c.args.j) c.args.place ≡ None =
+    ap (λ k. use_of (member k c.args.j) c.args.place) (sym c.sound-rows.ensures.cut) ∙ sym c.use_at-2.ensures.is ∙ c.in_default.is-1 in
+    sym (not_touching cut c.args.entries.now c.args.i c.args.j c.args.place
+    (and_right (uses_place (member cut c.args.i) c.args.place) _ (is_used (member cut c.args.j) c.args.place None none)))
+
+pub returns-in_default-2 : goal.returns-in_default-2
+returns-in_default-2 c =
+    let cut = c.args.cut.now in
+    let none : use_of (member cut c.args.i) c.args.place ≡ None =
+    ap (λ k. use_of (member k c.args.i) c.args.place) (sym c.sound-rows.ensures.cut) ∙ sym c.use_at.ensures.is ∙ c.in_default.is-0 in
+    let unused = is_used (member cut c.args.i) c.args.place None none in
+    sym (not_touching cut c.args.entries.now c.args.i c.args.j c.args.place (rw unused refl))

@@ -1,7 +1,0 @@
-use Rattle.std.proofs.Common.{rules}
-use Rattle.std.proofs.lemmas.Fn.{always_returns_same}
-use Rattle.critical_chain.specs.Parts.{key_of}
-use Rattle.critical_chain.proofs.keeping.put_in_order.Goals as goal
-
-pub returns-clause-order : goal.returns-clause-order
-returns-clause-order c = c.sort_unstable_by_key.ensures.sorted key_of (always_returns_same _ _ _ (λ a r q k. search rules))
