@@ -1,8 +1,8 @@
 -- The answer that tells of disorder.
 use Rattle.plan_model.specs.declared.answer.Answer.{Answer}
 use Rattle.plan_model.specs.declared.answer.Answer.TheVariants as answer
-use Rattle.train_order.specs.declared.found.Disorder.{Disorder}
-use Rattle.train_order.specs.declared.found.Disorder.TheVariants as disorder
+use Rattle.plan_model.specs.declared.answer.Disorder.{Disorder}
+use Rattle.plan_model.specs.declared.answer.Disorder.TheVariants as disorder
 
 abbrev pub told : Disorder → Answer
 told (disorder.Opposite first second block1 block2) = answer.Opposite first second block1 block2

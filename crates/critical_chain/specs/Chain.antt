@@ -8,15 +8,7 @@ use Rattle.plan_model.specs.declared.answer.Plan.{Plan}
 use Rattle.plan_model.specs.declared.answer.Link.{Link}
 use Rattle.plan_model.specs.Cut.{IsSoundCut}
 use Rattle.plan_model.specs.Disorder.{remaining}
-use Rattle.plan_model.specs.Answer.{IsCompressed}
-
--- a plan is the compressed timetable of a sound cut whose trains have an order
-abbrev pub IsPlanOf : Cut → Plan → Type 0
-IsPlanOf cut plan = IsSoundCut cut × (remaining cut ≡ []) × IsCompressed cut plan
-
--- there is such a cut
-abbrev pub IsPlan : Plan → Type 0
-IsPlan plan = (cut : Cut) × IsPlanOf cut plan
+pub use Rattle.plan_model.specs.Answer.{IsPlanOf, IsPlan}
 
 -- stands where a plan has no train
 abbrev pub no_train : Placed

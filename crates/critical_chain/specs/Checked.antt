@@ -9,10 +9,7 @@ use Rattle.plan_model.specs.Disorder.{remaining, opposite}
 use Rattle.plan_model.specs.Schedule.{window_start, entry_at, IsSchedule}
 use Rattle.plan_model.specs.Tie.{tie_of}
 use Rattle.plan_model.specs.Answer.{plan_of, IsCompressed}
-
--- the entries of a plan's trains
-abbrev pub entries_of : Plan → List ℤ
-entries_of plan = map (λ p. p.entry) plan.placed
+pub use Rattle.plan_model.specs.Answer.{entries_of}
 
 -- the plan is what its entries make of the cut; they are a schedule; a train whose tie is Start enters at the window's
 -- start

@@ -7,11 +7,11 @@ ghost use Rattle.plan_model.specs.Cut.{IsSoundCut};
 ghost use Rattle.plan_model.specs.Disorder as disorder;
 ghost use Rattle.plan_model.specs.Answer.{IsAnswer};
 ghost use Rattle.train_order.specs.Ordering.{AreOpposed};
-ghost use Rattle.train_order.specs.Walk.{IsNext, IsRing};
+ghost use Rattle.train_order.specs.Walk.{IsRing};
 
 use crate::checking::is_checked;
 use plan_model::{Answer, Cut, Link, MEMBERS};
-use train_order::{Disordered, disorder_of, place_of_link};
+use train_order::{Disordered, disorder_of, next_place, place_of_link};
 
 /// Whether an answer is that of a cut. It takes no memory, and looks for no better timetable: the
 /// answer `Ordered` is looked at train by train and place by place, whether it keeps running times,
@@ -114,15 +114,6 @@ fn are_links(cut: &Cut, members: &[u32], links: &[Link]) -> bool
         }
     }
     true
-}
-
-// The place after k in a ring.
-fn next_place(k: usize, count: usize) -> usize
-    requires { k < count }
-    ensures within { result < count }
-    ensures next { IsNext count k result }
-{
-    if k + 1 < count { k + 1 } else { 0 }
 }
 
 // Whether a link says that member i precedes member j at the first place where it does.

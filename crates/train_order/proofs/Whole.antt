@@ -7,12 +7,9 @@ use Rattle.std.proofs.lemmas.Bool.{cases_Bool, cases_eq, and_from, and_right, eq
 use Rattle.std.proofs.lemmas.List.Elements.{All-head, All-tail}
 use Rattle.std.proofs.lemmas.List.FromFn.{length-range_with_len}
 use Rattle.std.proofs.lemmas.List.Sorted.{IsPermutation-refl, IsPermutation-trans, IsPermutation-append_right, IsPermutation-middle, IsPermutation-filter_both, length_permutation}
+pub use Rattle.train_order.specs.Taking.{left_of}
 use Rattle.train_order.specs.Taking.{is_among, IsDistinct}
 use Rattle.train_order.proofs.Waiting.{same_passing}
-
--- the numbers below n that are not among some
-abbrev pub left_of : ℕ → List ℕ → List ℕ
-left_of n some = filter (λ i. not (is_among some i)) (range_with_len 0 n)
 
 pub twice : (p q : ℕ → Bool) (some : List ℕ) → filter q (filter p some) ≡ filter (λ i. p i && q i) some
 twice p q [] = refl

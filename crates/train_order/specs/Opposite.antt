@@ -5,8 +5,8 @@ use Rattle.plan_model.specs.Disorder.{pairs}
 use Rattle.train_order.specs.declared.member_set.MemberSet.{MemberSet}
 use Rattle.plan_model.specs.declared.cut.Cut.{Cut}
 use Rattle.plan_model.specs.Disorder.{opposite_of}
-use Rattle.train_order.specs.declared.found.Disorder.{Disorder}
-use Rattle.train_order.specs.declared.found.Disorder.TheVariants as disorder
+use Rattle.plan_model.specs.declared.answer.Disorder.{Disorder}
+use Rattle.plan_model.specs.declared.answer.Disorder.TheVariants as disorder
 use Rattle.train_order.specs.Sets.{relates}
 
 -- each of two members precedes the other

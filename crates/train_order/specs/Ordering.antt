@@ -7,14 +7,14 @@ use Rattle.plan_model.specs.Members.{member_count, members}
 use Rattle.plan_model.specs.Precedence.{precedes_somewhere}
 use Rattle.plan_model.specs.Disorder.{opposite, opposite_pair, remaining, link_of, ring, ring_members}
 use Rattle.train_order.specs.declared.found.Order.{Order}
-use Rattle.train_order.specs.declared.found.Disorder.{Disorder}
-use Rattle.train_order.specs.declared.found.Disorder.TheVariants as disorder
+use Rattle.plan_model.specs.declared.answer.Disorder.{Disorder}
+use Rattle.plan_model.specs.declared.answer.Disorder.TheVariants as disorder
 use Rattle.train_order.specs.declared.found.Disordered.{Disordered}
 use Rattle.train_order.specs.declared.found.Disordered.TheVariants as disordered
 use Rattle.train_order.specs.declared.member_set.MemberSet.{MemberSet}
-use Rattle.train_order.specs.Sets.{ArePreceded}
-use Rattle.train_order.specs.Opposite.{told_opposite}
-use Rattle.train_order.specs.Walk.{IsRing}
+use Rattle.train_order.specs.Taking.{left_of}
+use Rattle.train_order.specs.Opposite.{first_opposed, told_opposite}
+use Rattle.train_order.specs.Walk.{IsRing, IsRingBy}
 
 -- one number stands before another in a list
 pub record StandsBefore (positions : List ℕ) (i j : ℕ) : Type 0 where
@@ -61,10 +61,12 @@ abbrev pub PrecedeInTurn : Cut → Disordered → Type 0
 PrecedeInTurn cut (disordered.Opposite i j) = AreOpposed cut i j
 PrecedeInTurn cut (disordered.Ring members) = IsRing cut members
 
--- by sets that tell of a cut's precedence, these members of it have no order
-pub record IsDisorderBy (sets : List MemberSet) (found : Disordered) : Type 0 where
-  pub is : (cut : Cut) → ArePreceded cut sets → IsDisorder cut (Some found)
-  pub in_turn : (cut : Cut) → ArePreceded cut sets → PrecedeInTurn cut found
+-- why members have no order, by the sets of those that each precedes and by those that are taken up: the first two that
+-- precede each other; else a ring of those that are left
+abbrev pub IsDisorderBy : List MemberSet → List ℕ → Disordered → Type 0
+IsDisorderBy sets taken (disordered.Opposite i j) = first_opposed sets ≡ Some (i, j)
+IsDisorderBy sets taken (disordered.Ring members) =
+    (first_opposed sets ≡ None) × IsRingBy sets (left_of (length sets) taken) members
 
 -- what is told of them: their names, and the places at which they precede
 abbrev pub IsTold : Cut → Disordered → Disorder → Type 0

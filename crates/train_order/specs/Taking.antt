@@ -10,6 +10,10 @@ abbrev pub IsDistinct : List ℕ → Type 0
 IsDistinct [] = ⊤
 IsDistinct (i ∷ some) = (is_among some i ≡ false) × IsDistinct some
 
+-- the numbers below n that are not among some
+abbrev pub left_of : ℕ → List ℕ → List ℕ
+left_of n some = filter (λ i. not (is_among some i)) (range_with_len 0 n)
+
 -- how many members that precede j are not taken up
 abbrev pub waiting : List MemberSet → List ℕ → ℕ → ℕ
 waiting sets taken j = length (filter (λ i. relates sets i j && not (is_among taken i)) (range_with_len 0 (length sets)))

@@ -1,10 +1,10 @@
 -- A walk over members, each time to the first that precedes, until one comes a second time.
-use Rattle.std.specs.Prelude.{◌≡◌, ◌⊎◌, ℕ, zero, suc, ◌+◌, ◌<◌, true, List, length, find, unwrap_or, slice_index}
+use Rattle.std.specs.Prelude.{◌≡◌, ◌⊎◌, ℕ, zero, suc, ◌+◌, ◌<◌, true, List, length, find, drop, reverse, unwrap_or, slice_index}
 use Rattle.std.specs.List.{list_any}
 use Rattle.plan_model.specs.declared.cut.Cut.{Cut}
 use Rattle.plan_model.specs.Members.{member_count}
 use Rattle.plan_model.specs.Precedence.{precedes_somewhere}
-use Rattle.plan_model.specs.Disorder.{ring_members}
+use Rattle.plan_model.specs.Disorder.{ring_members, from_least}
 use Rattle.train_order.specs.declared.member_set.MemberSet.{MemberSet}
 use Rattle.train_order.specs.Sets.{relates}
 use Rattle.train_order.specs.Taking.{is_among, IsDistinct}
@@ -51,3 +51,11 @@ pub record IsRing (cut : Cut) (members : List ℕ) : Type 0 where
 pub record IsRingOf (cut : Cut) (members : List ℕ) : Type 0 where
   pub is : members ≡ ring_members cut
   pub in_turn : IsRing cut members
+
+-- members of a ring: a walk over some members from the place on to which it comes back, the other way round and from
+-- the least on
+pub record IsRingBy (sets : List MemberSet) (left members : List ℕ) : Type 0 where
+  pub walk : List ℕ
+  pub from : ℕ
+  pub round : IsRound sets left walk from
+  pub is : members ≡ from_least (reverse (drop from walk))

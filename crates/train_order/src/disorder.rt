@@ -52,7 +52,7 @@ pub(crate) fn find_disorder(sets: &[MemberSet], taken: &[u32]) -> Disordered
     requires few { length sets.now ≤ MEMBERS }
     requires taken { AreTakenUp sets.now taken.now }
     requires some { length taken.now < length sets.now }
-    ensures { IsDisorderBy sets.now result }
+    ensures { IsDisorderBy sets.now taken.now result }
 {
     if let Some((i, j)) = opposite_members(sets) {
         return Disordered::Opposite(i as u32, j as u32);

@@ -18,8 +18,10 @@ mod told;
 mod visits;
 
 pub use disorder::disorder_of;
-pub use found::{Disorder, Disordered, Order, RingMembers};
+pub use found::{Disordered, Order, RingMembers};
 pub use laws::each_comes_next;
 pub use link_place::place_of_link;
 pub use ordering::order;
+pub use plan_model::Disorder;
+pub use ring::next_place;
 pub use visits::{Visit, visits_at};

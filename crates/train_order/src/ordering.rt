@@ -6,11 +6,11 @@ ghost use Rattle.train_order.specs.Ordering.{IsOrdering};
 
 use crate::disorder::find_disorder;
 use crate::entry_order::order_by_entry;
-use crate::found::{Disorder, Order};
+use crate::found::Order;
 use crate::precedence::precedence_sets;
 use crate::taking::take_up_all;
 use crate::told::tell;
-use plan_model::{Cut, FitCut, MEMBERS};
+use plan_model::{Cut, Disorder, FitCut, MEMBERS};
 use rail_model::{List, OutOfMemory};
 use std::alloc::Global;
 

@@ -1,11 +1,10 @@
 //! The ring of the members that remain, where no order takes up all.
 ghost use Rattle.std.specs.Prelude.{◌≡◌, ℕ, ◌<◌, ◌≤◌, ◌==◌, All, not, reverse, drop, length, filter, nat_le};
 ghost use Rattle.std.specs.List.{list_all, range_with_len, position_or_len};
-ghost use Rattle.plan_model.specs.declared.cut.Cut.{Cut};
 ghost use Rattle.plan_model.specs.Disorder as disorder;
-ghost use Rattle.train_order.specs.Sets.{ArePreceded, holds};
-ghost use Rattle.train_order.specs.Taking.{is_among, AreTakenUp};
-ghost use Rattle.train_order.specs.Walk.{step as step_of, ArePrecededWithin, IsRound, IsRingOf};
+ghost use Rattle.train_order.specs.Sets.{holds};
+ghost use Rattle.train_order.specs.Taking.{is_among, left_of, AreTakenUp};
+ghost use Rattle.train_order.specs.Walk.{step as step_of, ArePrecededWithin, IsRound, IsNext, IsRingBy};
 
 use crate::member_set::MemberSet;
 use crate::members::Members;
@@ -17,7 +16,7 @@ pub(crate) fn ring_members(sets: &[MemberSet], taken: &[u32]) -> Members
     requires few { length sets.now ≤ MEMBERS }
     requires taken { AreTakenUp sets.now taken.now }
     requires some { length taken.now < length sets.now }
-    ensures { (cut : Cut) → ArePreceded cut sets.now → IsRingOf cut result }
+    ensures { IsRingBy sets.now (left_of (length sets.now) taken.now) result }
 {
     let left = left_members(sets.len(), taken);
     let (walk, from) = walk_back(sets, left.slice());
@@ -28,7 +27,7 @@ pub(crate) fn ring_members(sets: &[MemberSet], taken: &[u32]) -> Members
 fn left_members(count: usize, taken: &[u32]) -> Members
     requires few { count ≤ MEMBERS }
     requires there { All (λ k. k < count) taken.now }
-    ensures { result ≡ filter (λ i. not (is_among taken.now i)) (range_with_len 0 count) }
+    ensures { result ≡ left_of count taken.now }
 {
     let gone = set_of(taken);
     let mut left = Members::new();
@@ -121,4 +120,13 @@ fn least_place(members: &[u32]) -> usize
         }
     }
     least
+}
+
+/// The place after k in a ring of so many members.
+pub fn next_place(k: usize, count: usize) -> usize
+    requires { k < count }
+    ensures within { result < count }
+    ensures next { IsNext count k result }
+{
+    if k + 1 < count { k + 1 } else { 0 }
 }

@@ -7,11 +7,12 @@ ghost use Rattle.plan_model.specs.Cut.{IsSoundCut};
 ghost use Rattle.plan_model.specs.Disorder as disorder;
 ghost use Rattle.train_order.specs.Opposite.{told_opposite};
 ghost use Rattle.train_order.specs.Ordering.{PrecedeInTurn, IsTold};
-ghost use Rattle.train_order.specs.Walk.{IsNext, IsRing};
+ghost use Rattle.train_order.specs.Walk.{IsRing};
 
-use crate::found::{Disorder, Disordered};
+use crate::found::Disordered;
 use crate::link_place::place_between;
-use plan_model::{Link, SoundCut};
+use crate::ring::next_place;
+use plan_model::{Disorder, Link, SoundCut};
 use rail_model::{List, OutOfMemory};
 use std::alloc::Global;
 
@@ -60,15 +61,6 @@ fn links(alloc: Global, cut: &SoundCut, members: &[u32]) -> Result<List<Link>, O
         links.push(link(cut, members[k], members[next]))?;
     }
     Ok(links)
-}
-
-// The place after k in a ring.
-fn next_place(k: usize, count: usize) -> usize
-    requires { k < count }
-    ensures within { result < count }
-    ensures next { IsNext count k result }
-{
-    if k + 1 < count { k + 1 } else { 0 }
 }
 
 // Member i precedes member j.

@@ -1,4 +1,6 @@
-use Rattle.std.proofs.Common.{◌≡◌, length, ap, arith}
+use Rattle.std.proofs.Common.{◌≡◌, ◌<◌, length, ap, subst, arith}
+use Rattle.train_order.specs.Ordering.{IsDisorderBy}
+use Rattle.train_order.proofs.Answered.{disorder_is}
 use Rattle.train_order.proofs.Opposed.{none_opposite}
 use Rattle.train_order.proofs.Rounds.{none_remain, not_both}
 use Rattle.train_order.proofs.Whole.{whole_length}
@@ -27,3 +29,14 @@ find_disorder-requires-clause-some c =
       c.if-len-sets.false,
       ap length c.slice.ensures,
     )
+
+pub returns : goal.returns
+returns c =
+    let sets = c.put_preceded.new.sets in
+    let taken = c.take_up_all-taken.result in
+    let up = c.take_up_all-taken.ensures in
+    let some : length taken < length sets =
+    omega (arith, whole_length (length sets) taken up.sound.within up.sound.once, c.len.ensures, c.if-len-sets.false) in
+    let is = disorder_is c.args.cut.now sets c.put_preceded.ensures.sets taken up some c.find_disorder.result
+    (subst (λ ms. IsDisorderBy sets ms c.find_disorder.result) c.slice.ensures c.find_disorder.ensures) in
+    record { disorder = is.0; in_turn = is.1 }

@@ -1,7 +1,7 @@
-use Rattle.std.proofs.Common.{sym, subst, ◌∙◌, arith}
-use Rattle.train_order.specs.Walk.{IsRing}
-use Rattle.train_order.proofs.Opposed.{first_below, pair_is, are_opposed}
-use Rattle.train_order.proofs.Rounds.{some_remain}
+use Rattle.std.proofs.Common.{length, sym, subst, arith}
+use Rattle.train_order.specs.Taking.{left_of}
+use Rattle.train_order.specs.Walk.{IsRingBy}
+use Rattle.train_order.proofs.Opposed.{first_below}
 use Rattle.train_order.proofs.disorder.find_disorder.Goals as goal
 
 pub overflow_cast-result : goal.overflow_cast-result
@@ -14,21 +14,8 @@ overflow_cast-result-in-Some c =
     omega (arith, (first_below c.args.sets.now c.in-Some.i c.in-Some.j c.in-Some.ensures).1, c.requires.few)
 
 pub returns-in-Some : goal.returns-in-Some
-returns-in-Some c =
-    let sets = c.args.sets.now in
-    record {
-      is = λ cut told. pair_is cut sets told ∙ sym c.in-Some.ensures;
-      in_turn = λ cut told. are_opposed cut sets told c.in-Some.i c.in-Some.j c.in-Some.ensures;
-    }
+returns-in-Some c = sym c.in-Some.ensures
 
 pub returns : goal.returns
 returns c =
-    let sets = c.args.sets.now in
-    record {
-      is = λ cut told. (
-        pair_is cut sets told ∙ sym c.in_default.ensures,
-        some_remain cut sets told c.args.taken.now c.requires.taken c.requires.some,
-        c.new.ensures ∙ (c.ring_members.ensures cut told).is,
-      );
-      in_turn = λ cut told. subst (λ ms. IsRing cut ms) (sym c.new.ensures) (c.ring_members.ensures cut told).in_turn;
-    }
+    (sym c.in_default.ensures, subst (IsRingBy c.args.sets.now (left_of (length c.args.sets.now) c.args.taken.now)) (sym c.new.ensures) c.ring_members.ensures)

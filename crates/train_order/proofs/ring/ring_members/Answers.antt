@@ -1,8 +1,8 @@
 use Rattle.std.proofs.Common.{◌<◌, List, ℕ, length, drop, sym, ap, subst, ◌∙◌, arith}
 use Rattle.std.specs.Prelude.{reverse}
 use Rattle.plan_model.specs.Disorder.{from_least}
-use Rattle.train_order.specs.Walk.{ArePrecededWithin, IsRound, IsRingOf}
-use Rattle.train_order.proofs.Ringed.{left, some_left, within, walk_is_short, ring_of}
+use Rattle.train_order.specs.Walk.{ArePrecededWithin, IsRound}
+use Rattle.train_order.proofs.Ringed.{left, some_left, within, walk_is_short}
 use Rattle.train_order.proofs.ring.ring_members.Goals as goal
 
 pub walk_back-walk-requires-clause-some : goal.walk_back-walk-requires-clause-some
@@ -26,8 +26,11 @@ turn_round-requires-clause-few c =
     omega (arith, short, ap length c.slice-2.ensures, c.requires.few)
 
 pub returns : goal.returns
-returns c = λ cut told.
-    let from = c.walk_back-walk.result.1 in
-    let round = subst (λ ls. IsRound c.args.sets.now ls c.walk_back-walk.result.0 from) (c.slice.ensures ∙ c.left_members-left.ensures) c.walk_back-walk.ensures in
-    subst (λ ms. IsRingOf cut ms) (sym (c.turn_round.ensures ∙ ap (λ w. from_least (reverse (drop from w))) c.slice-2.ensures))
-    (ring_of c.args.sets.now c.args.taken.now c.requires.taken c.requires.some c.walk_back-walk.result.0 from round cut told)
+returns c = record {
+  walk = c.walk_back-walk.result.0;
+  from = c.walk_back-walk.result.1;
+  round =
+      subst (λ ls. IsRound c.args.sets.now ls c.walk_back-walk.result.0 c.walk_back-walk.result.1)
+      (c.slice.ensures ∙ c.left_members-left.ensures) c.walk_back-walk.ensures;
+  is = c.turn_round.ensures ∙ ap (λ w. from_least (reverse (drop c.walk_back-walk.result.1 w))) c.slice-2.ensures;
+}
