@@ -1,13 +1,10 @@
 -- Chains: which trains, each touched by the next, make a train enter no earlier.
 use Rattle.std.specs.Prelude.{◌≡◌, ℕ, zero, suc, ◌<◌, pos, List, [], ◌∷◌, ◌++◌, length, slice_index_or}
-use Rattle.plan_model.specs.declared.cut.Cut.{Cut}
 use Rattle.plan_model.specs.declared.answer.Tie.{Tie}
 use Rattle.plan_model.specs.declared.answer.Tie.TheVariants.{Start, After}
 use Rattle.plan_model.specs.declared.answer.Placed.{Placed}
 use Rattle.plan_model.specs.declared.answer.Plan.{Plan}
 use Rattle.plan_model.specs.declared.answer.Link.{Link}
-use Rattle.plan_model.specs.Cut.{IsSoundCut}
-use Rattle.plan_model.specs.Disorder.{remaining}
 pub use Rattle.plan_model.specs.Answer.{IsPlanOf, IsPlan}
 
 -- stands where a plan has no train

@@ -1,5 +1,5 @@
 -- What is looked at in a timetable to tell whether it is the compressed one of a cut.
-use Rattle.std.specs.Prelude.{◌≡◌, ◌↔◌, ℕ, ◌<◌, ℤ, List, [], map, None}
+use Rattle.std.specs.Prelude.{◌≡◌, ◌↔◌, ℕ, ◌<◌, [], None}
 use Rattle.plan_model.specs.declared.cut.Cut.{Cut}
 use Rattle.plan_model.specs.declared.answer.Tie.TheVariants.{Start}
 use Rattle.plan_model.specs.declared.answer.Plan.{Plan}
