@@ -9,12 +9,11 @@ use Rattle.rail_model.specs.declared.tables.Tables.{Tables}
 use Rattle.rail_model.specs.declared.path.Hop.{Hop}
 use Rattle.rail_model.specs.Path.{hop_count}
 use Rattle.rail_model.specs.Motion.{departure}
-use Rattle.rail_model.specs.Tables.{signal_named, route_named, run_at, hop_beyond, path_in}
+use Rattle.rail_model.specs.Tables.{signal_named, route_named, run_at, hop_beyond, path_in, last_arrival}
 use Rattle.rail_model.specs.Sound.{IsSound}
 use Rattle.rail_model.proofs.Paths.{run_stands, path_at_fits}
 use Rattle.blocking_time.proofs.Places.{departure_most}
 use Rattle.blocking_time.proofs.Clearing.{arrival_is}
-use Rattle.rail_model.specs.Tables.{last_arrival}
 
 -- a leg's time
 abbrev pub leg_time : Leg → ℕ

@@ -8,9 +8,8 @@ use Rattle.rail_model.specs.declared.items.Run.{Run}
 use Rattle.rail_model.specs.declared.items.Section.{Section}
 use Rattle.rail_model.specs.declared.tables.Tables.{Tables}
 use Rattle.rail_model.specs.Name.{is_same}
-use Rattle.rail_model.specs.Tables.{no_run, number_of, run_at}
+use Rattle.rail_model.specs.Tables.{no_run, number_of, run_at, run_named}
 use Rattle.rail_model.proofs.NameOrder.{same_name}
-use Rattle.rail_model.specs.Tables.{run_named}
 use Rattle.plan_model.specs.SectionCut.{entry_of, is_member}
 use Rattle.section_cut.specs.declared.members.Member.{Member}
 use Rattle.section_cut.specs.Members.{member_at}

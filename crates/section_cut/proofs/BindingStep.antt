@@ -10,18 +10,16 @@ use Rattle.rail_model.specs.declared.items.Connection.{Connection}
 use Rattle.rail_model.specs.declared.tables.Tables.{Tables}
 use Rattle.rail_model.specs.declared.stair.Use.{Use}
 use Rattle.rail_model.specs.Name.{is_same}
-use Rattle.rail_model.specs.Tables.{no_run}
+use Rattle.rail_model.specs.Tables.{no_run, run_named}
 use Rattle.rail_model.specs.Sound.{IsSound}
-use Rattle.rail_model.proofs.NameOrder.{is_same-from}
+use Rattle.rail_model.proofs.NameOrder.{is_same-from, names_apart}
 use Rattle.plan_model.specs.declared.cut.CutRow.{CutRow}
 use Rattle.plan_model.specs.Members.{no_member}
-use Rattle.rail_model.specs.Tables.{run_named}
 use Rattle.plan_model.specs.SectionCut.{connection_use}
 use Rattle.section_cut.specs.declared.connections.Bound.{Bound}
 use Rattle.section_cut.specs.Members.{members_of}
 use Rattle.section_cut.specs.Bound.{with_use, first_use, second_use, use_added, both_added, with_connections, IsBound}
 use Rattle.section_cut.proofs.Lists.{enumerate_push}
-use Rattle.rail_model.proofs.NameOrder.{names_apart}
 use Rattle.section_cut.proofs.Names.{member_of_name, members_rise}
 
 -- a row with some uses more

@@ -18,23 +18,19 @@ use Rattle.rail_model.specs.Name.{is_same}
 use Rattle.rail_model.specs.Path.{hop, hop_count}
 use Rattle.rail_model.specs.Motion.{departure}
 use Rattle.rail_model.specs.Blocking.{approach_moment, use_of, stairway}
-use Rattle.rail_model.specs.Tables.{no_block, run_at, path_in}
+use Rattle.rail_model.specs.Tables.{no_block, run_at, path_in, last_arrival, block_name}
 use Rattle.rail_model.specs.Sound.{IsSound}
-use Rattle.rail_model.proofs.NameOrder.{same_name, is_same-from}
+use Rattle.rail_model.proofs.NameOrder.{same_name, is_same-from, names_apart}
 use Rattle.rail_model.proofs.Paths.{path_at_fits}
 use Rattle.rail_model.specs.Moment.{IsMoment}
 use Rattle.blocking_time.proofs.Places.{departures_rise}
 use Rattle.blocking_time.proofs.Bounds.{approach_before_entry, entry_before_exit}
 use Rattle.rail_model.proofs.Numbers.{lt_from_test, le_from_test}
-use Rattle.rail_model.proofs.Lists.{All-from_one}
+use Rattle.rail_model.proofs.Lists.{All-from_one, AllPairs-map}
 use Rattle.blocking_time.proofs.Uses.{not_empty, bounded, blocks_differ}
 use Rattle.plan_model.specs.Cut.{least}
-use Rattle.rail_model.specs.Tables.{last_arrival}
 use Rattle.plan_model.specs.SectionCut.{position_in_section, use_in_section, section_uses, entry_of, is_member}
-use Rattle.rail_model.specs.Tables.{block_name}
-use Rattle.rail_model.proofs.Lists.{AllPairs-map}
 use Rattle.section_cut.proofs.Lists.{few_pass}
-use Rattle.rail_model.proofs.NameOrder.{names_apart}
 use Rattle.rail_model.proofs.Timetables.{used_there}
 use Rattle.section_cut.proofs.Arrivals.{last_departure}
 

@@ -12,7 +12,7 @@ use Rattle.rail_model.specs.declared.items.Connection.{Connection}
 use Rattle.rail_model.specs.declared.tables.Tables.{Tables}
 use Rattle.rail_model.specs.declared.limits.TheConstants.{CONNECTIONS, GREATEST_START_S, GREATEST_TIME_S}
 use Rattle.rail_model.specs.Name.{is_same}
-use Rattle.rail_model.specs.Tables.{no_run, run_at, number_of}
+use Rattle.rail_model.specs.Tables.{no_run, run_at, number_of, run_named}
 use Rattle.rail_model.specs.Rules.{has_run}
 use Rattle.rail_model.specs.Sound.{IsSound}
 use Rattle.rail_model.proofs.Facts.{run_facts}
@@ -20,7 +20,6 @@ use Rattle.rail_model.proofs.NameOrder.{same_name}
 use Rattle.rail_model.proofs.Paths.{run_stands}
 use Rattle.rail_model.proofs.Places.{number_of-found}
 use Rattle.plan_model.specs.declared.cut.CutRow.{CutRow}
-use Rattle.rail_model.specs.Tables.{run_named}
 use Rattle.plan_model.specs.SectionCut.{binds}
 use Rattle.section_cut.specs.Bound.{with_connections}
 use Rattle.section_cut.proofs.Lists.{few_pass}

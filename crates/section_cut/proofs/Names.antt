@@ -8,10 +8,9 @@ use Rattle.rail_model.specs.declared.items.Run.{Run}
 use Rattle.rail_model.specs.declared.items.Section.{Section}
 use Rattle.rail_model.specs.declared.tables.Tables.{Tables}
 use Rattle.rail_model.specs.Name.{IsBefore, NamesRise}
-use Rattle.rail_model.specs.Tables.{no_run}
+use Rattle.rail_model.specs.Tables.{no_run, run_named}
 use Rattle.rail_model.specs.Sound.{IsSound}
 use Rattle.rail_model.proofs.Places.{number_of-found}
-use Rattle.rail_model.specs.Tables.{run_named}
 use Rattle.plan_model.specs.SectionCut.{is_member}
 use Rattle.section_cut.specs.Members.{members_of}
 

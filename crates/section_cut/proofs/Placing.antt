@@ -10,13 +10,11 @@ use Rattle.rail_model.specs.declared.items.Section.{Section}
 use Rattle.rail_model.specs.declared.tables.Tables.{Tables}
 use Rattle.rail_model.specs.declared.stair.Use.{Use}
 use Rattle.rail_model.specs.Name.{is_same}
-use Rattle.rail_model.specs.Tables.{number_of, no_block, block_number}
+use Rattle.rail_model.specs.Tables.{number_of, no_block, block_number, block_name}
 use Rattle.rail_model.specs.Rules.{has_block}
 use Rattle.rail_model.specs.Sound.{IsSound}
-use Rattle.rail_model.proofs.NameOrder.{same_name, is_same-sym}
+use Rattle.rail_model.proofs.NameOrder.{same_name, is_same-sym, names_apart}
 use Rattle.rail_model.proofs.Members.{none_passes}
-use Rattle.rail_model.proofs.NameOrder.{names_apart}
-use Rattle.rail_model.specs.Tables.{block_name}
 use Rattle.section_cut.specs.Positions.{IsPositions, IsPlaced, with_position, uses_in}
 
 -- from some name of the section's list on, the table has what the rest of the list says

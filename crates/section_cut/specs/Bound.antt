@@ -5,10 +5,9 @@ use Rattle.rail_model.specs.declared.items.Section.{Section}
 use Rattle.rail_model.specs.declared.items.Connection.{Connection}
 use Rattle.rail_model.specs.declared.tables.Tables.{Tables}
 use Rattle.rail_model.specs.declared.stair.Use.{Use}
-use Rattle.rail_model.specs.Tables.{no_run}
+use Rattle.rail_model.specs.Tables.{no_run, run_named, last_arrival}
 use Rattle.plan_model.specs.declared.cut.CutRow.{CutRow}
 use Rattle.plan_model.specs.Members.{no_member}
-use Rattle.rail_model.specs.Tables.{run_named, last_arrival}
 use Rattle.plan_model.specs.SectionCut.{entry_of, is_member, binds, connection_use}
 use Rattle.section_cut.specs.declared.members.Member.{Member}
 use Rattle.section_cut.specs.declared.connections.Bound.{Bound}
