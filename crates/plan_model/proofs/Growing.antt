@@ -99,3 +99,8 @@ last_publication-more xs ys section =
 pub done_by-more : (xs ys : List Entry) (planner : ℕ) → done_by (xs ++ ys) planner ≡ done_by xs planner ++ done_by ys planner
 unfolding done_by
 done_by-more xs ys planner = filter_map-append (λ e. task_of planner e.act) xs ys
+
+-- as many passes as either issues, pass 0 once
+pub issued-more : (xs ys : List Entry) → issued (xs ++ ys) + 1 ≡ issued xs + issued ys
+unfolding issued
+issued-more xs ys = rw (sum_by-append (λ e. cond (issues e.act) 1 0) xs ys) (omega arith)

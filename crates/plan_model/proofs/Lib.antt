@@ -12,6 +12,7 @@ pub mod Stamps
 pub mod TasksLeft
 pub mod OneWay
 pub mod Adding
+pub mod Working
 pub mod MemberTests
 pub mod SoundTest
 pub mod ScheduleTest

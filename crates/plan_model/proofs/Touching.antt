@@ -1,21 +1,23 @@
 -- What touches a section, what leaves it current, and what its published answer says.
-use Rattle.std.proofs.Common.{◌≡◌, ℕ, ◌<◌, ◌≤◌, List, [], ◌∷◌, ◌++◌, length, Option, Some, None, inl, inr, refl, sym, ◌∙◌, subst, arith, append_assoc, length-append}
+use Rattle.std.proofs.Common.{◌≡◌, ℕ, ◌<◌, ◌≤◌, List, [], ◌∷◌, ◌++◌, length, Option, Some, None, inl, inr, refl, sym, ap, ◌∙◌, subst, arith, append_assoc, length-append}
 use Rattle.std.specs.List.{last_or, cons_option}
 use Rattle.std.proofs.lemmas.Bool.{cases_Bool}
 use Rattle.std.proofs.lemmas.List.{append-nil}
 use Rattle.rail_model.specs.Name.{is_same}
+use Rattle.rail_model.specs.Tables.{section_at}
 use Rattle.rail_model.proofs.NameOrder.{same_name}
 use Rattle.plan_model.specs.declared.answer.Answer.{Answer}
 use Rattle.plan_model.specs.declared.journal.Act.{Act}
 use Rattle.plan_model.specs.declared.journal.Act.TheVariants as act
 use Rattle.plan_model.specs.declared.journal.Entry.{Entry}
-use Rattle.plan_model.specs.Journal.{Publication, last_number, publication_of, last_publication}
+use Rattle.plan_model.specs.Journal.{Publication, last_number, publication_of, last_publication, edits, tables_of}
 use Rattle.plan_model.specs.Changes.{Stays}
 use Rattle.plan_model.specs.Touch.{cut_at, Touches, IsCurrent}
 use Rattle.plan_model.specs.Legal.{IsAnswerAt, MayFollow, IsNext, AllFollow, Opens, IsLegal}
+use Rattle.plan_model.specs.Outcome.{section_name, ShareIsCurrent}
 use Rattle.plan_model.specs.JournalLaws.{CurrentStays, CurrentIsAnswered}
-use Rattle.plan_model.proofs.Growing.{opening-more, last_number-more, cut_at-more, last_publication-more}
-use Rattle.plan_model.proofs.Changing.{stays_on, stays_within, stays_too, same_from}
+use Rattle.plan_model.proofs.Growing.{others_keep_tables, opening-more, last_number-more, cut_at-more, last_publication-more}
+use Rattle.plan_model.proofs.Changing.{stays_at, stays_on, stays_within, stays_too, same_from}
 
 pub same_one : {X : Type 0} (a b : X) → Some a ≡ Some b → a ≡ b
 same_one a b e = cc
@@ -193,3 +195,19 @@ current_is_answered journal section legal current =
       there = same_from (cut_at journal section) current.publication.at (last_number journal) right.to_last current.untouched ∙ right.there;
       is_answer = right.is_answer;
     }
+
+-- a section that is current stays so by entries that make no edit, and so does a share
+pub current_without_edits : (journal more : List Entry) (section : List ℕ) → 0 < length journal → IsLegal (journal ++ more)
+    → edits more ≡ [] → IsCurrent journal section → IsCurrent (journal ++ more) section
+current_without_edits journal more section some legal none current =
+    let same = (others_keep_tables journal more some none).number in
+    current_stays journal more section some legal current (rw same (stays_at (cut_at (journal ++ more) section) (last_number journal)))
+
+pub share_without_edits : (share of : ℕ) (journal more : List Entry) → 0 < length journal → IsLegal (journal ++ more)
+    → edits more ≡ [] → ShareIsCurrent share of journal → ShareIsCurrent share of (journal ++ more)
+share_without_edits share of journal more some legal none current number is_of =
+    let same = (others_keep_tables journal more some none).tables in
+    let there : number < length (tables_of journal).sections = subst (λ t. number < length t.sections) same is_of.there in
+    subst (IsCurrent (journal ++ more)) (ap (λ t. (section_at t number).name) (sym same))
+    (current_without_edits journal more (section_name journal number) some legal none
+    (current number (record { there = there; rest = is_of.rest })))

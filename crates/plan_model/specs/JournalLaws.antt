@@ -6,6 +6,7 @@ use Rattle.rail_model.specs.Sound.{IsSound}
 use Rattle.plan_model.specs.declared.cut.CutRow.{CutRow}
 use Rattle.plan_model.specs.declared.cut.Cut.{Cut}
 use Rattle.plan_model.specs.declared.answer.Done.{Done}
+use Rattle.plan_model.specs.declared.journal.Act.TheVariants as act
 use Rattle.plan_model.specs.declared.journal.Entry.{Entry}
 use Rattle.plan_model.specs.declared.outcome.Asked.{Asked}
 use Rattle.plan_model.specs.declared.outcome.Stepped.{Stepped}
@@ -15,7 +16,7 @@ use Rattle.plan_model.specs.Journal.{edits, last_number, tables_at, tables_of, i
 use Rattle.plan_model.specs.Changes.{Stays}
 use Rattle.plan_model.specs.Touch.{cut_at, cut_now, IsCurrent, IsReading}
 use Rattle.plan_model.specs.Legal.{IsNext, IsLegal, IsJournal}
-use Rattle.plan_model.specs.Outcome.{EditsTo, AsksTo, IsPlanner, StepsTo, IsDone, PublishesTo}
+use Rattle.plan_model.specs.Outcome.{AddsEntry, EditsTo, AsksTo, IsPlanner, StepsTo, IsDone, PublishesTo}
 
 -- ---- beginnings of journals
 
@@ -125,3 +126,17 @@ pub record EndsInOneWay (found : List Entry) : Type 0 where
 
 abbrev pub CallsEndInOneWay : Type 0
 CallsEndInOneWay = (found : List Entry) → IsLegal found → EndsInOneWay found
+
+-- after each call on a journal of planners it is such a journal again: outside the scripts, by the next task of a
+-- planner, by a publication, and where a pass is issued
+pub record LeavesJournal (found after : List Entry) : Type 0 where
+  pub edit : (pass : ℕ) (edit : Edit) (r : Result ℕ Rule) → EditsTo pass 0 edit found r after → IsJournal after
+  pub ask : (pass : ℕ) (section : List ℕ) (a : Asked) → AsksTo pass 0 section found a after → IsJournal after
+  pub step : (pass planner : ℕ) (s : Stepped) → IsPlanner found planner → StepsTo pass planner found s after
+      → IsJournal after
+  pub publish : (pass : ℕ) (done : Done) (r : Result (Unit {0}) NotTaken) → PublishesTo pass done found r after
+      → IsJournal after
+  pub enter : (pass number : ℕ) → AddsEntry pass (act.Entered number) found after → IsJournal after
+
+abbrev pub CallsLeaveJournals : Type 0
+CallsLeaveJournals = (found after : List Entry) → IsJournal found → LeavesJournal found after

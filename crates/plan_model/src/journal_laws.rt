@@ -3,7 +3,7 @@ ghost use Rattle.plan_model.specs.JournalLaws.{BeginningIsLegal, BeginningIsJour
 ghost use Rattle.plan_model.specs.JournalLaws.{NextIsLegal, LongerIssuesNoFewer, TablesAreSound};
 ghost use Rattle.plan_model.specs.JournalLaws.{LongerAgrees, OthersKeepTables, CurrentStays};
 ghost use Rattle.plan_model.specs.JournalLaws.{CurrentIsAnswered, StampTellsRow, NoneIsLeft};
-ghost use Rattle.plan_model.specs.JournalLaws.{CallsEndInOneWay};
+ghost use Rattle.plan_model.specs.JournalLaws.{CallsEndInOneWay, CallsLeaveJournals};
 
 /// Each beginning of a legal journal, with an entry at least, is legal.
 pub fn beginning_is_legal()
@@ -70,4 +70,9 @@ pub fn none_is_left()
 /// that the call finds: a refusal comes where it may come, and nowhere else.
 pub fn calls_end_in_one_way()
     ensures { CallsEndInOneWay }
+{}
+
+/// After each call on a journal in which planners keep to their scripts it is such a journal again.
+pub fn calls_leave_journals()
+    ensures { CallsLeaveJournals }
 {}

@@ -27,9 +27,9 @@ pub use cut::{Cut, CutRow};
 pub use fit_cut::{FitCut, SoundCut, shift, use_of};
 pub use journal::{Act, Entry, Reply};
 pub use journal_laws::{
-    beginning_is_journal, beginning_is_legal, calls_end_in_one_way, current_is_answered,
-    current_stays, each_is_next, longer_agrees, longer_issues_no_fewer, next_is_legal,
-    none_is_left, others_keep_tables, stamp_tells_row, tables_are_sound,
+    beginning_is_journal, beginning_is_legal, calls_end_in_one_way, calls_leave_journals,
+    current_is_answered, current_stays, each_is_next, longer_agrees, longer_issues_no_fewer,
+    next_is_legal, none_is_left, others_keep_tables, stamp_tells_row, tables_are_sound,
 };
 pub use laws::{
     answer_is_unique, comes_before_is_tested, conflict_is_overlap, fraction_is_reduced,
