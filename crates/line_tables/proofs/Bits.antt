@@ -7,6 +7,7 @@ use Rattle.std.proofs.lemmas.Bool.{cases_Bool, cases_lt, eqb-true, eq-eqb, both_
 use Rattle.std.proofs.lemmas.Bool.Decides.{nat_tests}
 use Rattle.std.proofs.lemmas.List.{get_or-set_same, get_or-set_other, get_or_past}
 use Rattle.std.proofs.lemmas.Nat.Bits.{bit_at_and, bit_at_or, bit_at_not, bit_at-zero, bit_at-lt, bit_at-trailing_zeros}
+use Rattle.std.proofs.Math.Bool.{and-false}
 use Rattle.line_tables.specs.KeySet.{holds, Meets, KeepsApart}
 
 -- ---- one bit of a word
@@ -105,10 +106,6 @@ module _ (old others words : List ℕ) (place : ℕ) (l : place < length words) 
         | inr e ↦ rw (e, lt_more (k / 64) place e) (h k)
       ]
 
-and_none : (a : Bool) → (a && false) ≡ false
-and_none true = refl
-and_none false = refl
-
 lt_true : (a b : ℕ) → a < b → nat_lt a b ≡ true
 lt_true a b l = grind (arith, nat_tests)
 
@@ -117,7 +114,7 @@ pub joined_whole : (old others words : List ℕ) (place : ℕ) → length others
 joined_whole old others words place whole h k =
     elim (cases_lt (k / 64) (length others)) [
       | inl l ↦ h k ∙ rw (lt_true (k / 64) place (omega arith)) refl
-      | inr past ↦ h k ∙ rw (holds_past others k past, and_none (nat_lt (k / 64) place)) refl
+      | inr past ↦ h k ∙ rw (holds_past others k past, and-false (nat_lt (k / 64) place)) refl
     ]
 
 pub parted_whole : (old others words : List ℕ) (place : ℕ) → min (length old) (length others) ≤ place → PartedTo old others place words → (k : ℕ) → holds words k ≡ (not (holds others k) && holds old k)
@@ -127,9 +124,9 @@ parted_whole old others words place whole h k =
         | inl m ↦ h k ∙ rw (lt_true (k / 64) place (omega arith)) refl
         | inr past ↦
             let none = holds_past old k past in
-            h k ∙ rw (none, and_none (not (nat_lt (k / 64) place && holds others k)), and_none (not (holds others k))) refl
+            h k ∙ rw (none, and-false (not (nat_lt (k / 64) place && holds others k)), and-false (not (holds others k))) refl
       ]
-      | inr past ↦ h k ∙ rw (holds_past others k past, and_none (nat_lt (k / 64) place)) refl
+      | inr past ↦ h k ∙ rw (holds_past others k past, and-false (nat_lt (k / 64) place)) refl
     ]
 
 -- ---- keys that two sets share
@@ -152,7 +149,7 @@ module _ (a b : List ℕ) where
   pub apart_whole : (place : ℕ) → min (length a) (length b) ≤ place → ApartTo place → KeepsApart a b
   apart_whole place whole h k =
       elim (cases_lt (k / 64) (length a)) [
-        | inl l ↦ elim (cases_lt (k / 64) (length b)) [ inl m ↦ h k (omega arith) | inr past ↦ rw (holds_past b k past) (and_none (holds a k)) ]
+        | inl l ↦ elim (cases_lt (k / 64) (length b)) [ inl m ↦ h k (omega arith) | inr past ↦ rw (holds_past b k past) (and-false (holds a k)) ]
         | inr past ↦ rw (holds_past a k past) refl
       ]
 

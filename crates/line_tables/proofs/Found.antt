@@ -28,11 +28,6 @@ find_some p (y ∷ xs) x e =
           (rest.0, λ P all. rest.1 P (All-tail P y xs all))
     ]
 
-pub find-map : {X Y : Type 0} (f : X → Y) (p : Y → Bool) (xs : List X) → find p (map f xs) ≡ option_map f (find (λ x. p (f x)) xs)
-find-map f p [] = refl
-find-map f p (x ∷ xs) =
-    elim (cases_Bool (p (f x))) [ inl e ↦ rw e refl | inr e ↦ rw e (find-map f p xs) ]
-
 pub list_any-map : {X Y : Type 0} (f : X → Y) (p : Y → Bool) (xs : List X) → list_any p (map f xs) ≡ list_any (λ x. p (f x)) xs
 list_any-map f p [] = refl
 list_any-map f p (x ∷ xs) = elim (cases_Bool (p (f x))) [ inl e ↦ rw e refl | inr e ↦ rw e (list_any-map f p xs) ]

@@ -1,5 +1,5 @@
 -- What an edit of one table keeps of its references: of those that its items make, and of those that are made to them.
-use Rattle.std.proofs.Common.{◌≡◌, ℕ, ◌+◌, Bool, true, false, List, [], ◌∷◌, map, Some, refl, sym, ap, ◌∙◌, inl, inr, arith}
+use Rattle.std.proofs.Common.{◌≡◌, ℕ, ◌+◌, Bool, true, false, List, [], ◌∷◌, get_or, map, Some, refl, sym, ap, ◌∙◌, inl, inr, arith}
 use Rattle.std.specs.Prelude.{option_map, nat_lt}
 use Rattle.std.specs.List.{list_any}
 use Rattle.std.proofs.lemmas.Bool.{cases_Bool, ltb-false}
@@ -13,8 +13,8 @@ use Rattle.line_tables.specs.Links.{IsLinked, references}
 use Rattle.line_tables.specs.Inside.{items_of}
 use Rattle.line_tables.proofs.Filed.{some_from_map}
 use Rattle.line_tables.proofs.Found.{key_after_put, key_after_change, key_after_drop, sum-with_item, sum-with_change, sum-without, list_any-map}
-use Rattle.line_tables.proofs.References.{entry, linked_by_put, linked_by_change, linked_by_drop, linked_to_same, linked_to_rest, references_tell}
-use Rattle.line_tables.proofs.Known.{CountsMore, entry_there, list_any_alike}
+use Rattle.line_tables.proofs.References.{entry, linked_by_put, linked_by_change, linked_by_drop, linked_to_same, linked_to_rest, references_tell, list_any_same}
+use Rattle.line_tables.proofs.Known.{CountsMore, entry_there}
 
 -- a name is the same as another where it is listed alone
 pub is_listed : (m n : List ℕ) → is_same m n ≡ list_any (λ q. is_same q n) (m ∷ [])
@@ -70,7 +70,7 @@ module _ {A B : Type 0} (names : A → List (List ℕ)) (label : A → List ℕ)
     pub referred : (n : List ℕ) (key : ℕ) → key_of name used n ≡ Some key → (names_it : A → Bool) → ((x : A) → names_it x ≡ list_any (λ m. is_same m n) (names x)) → list_any names_it (items_of users) ≡ nat_lt 0 (references users key)
     referred n key is names_it told =
         list_any-map (λ (u : ℕ × Linked A). u.1.item) names_it users
-        ∙ (list_any_alike (λ (u : ℕ × Linked A). names_it u.1.item) (λ u. list_any (λ m. is_same m n) (names u.1.item)) (λ u. told u.1.item) users
+        ∙ (list_any_same (λ (u : ℕ × Linked A). names_it u.1.item) (λ u. list_any (λ m. is_same m n) (names u.1.item)) users (λ i d l. told (get_or users i d).1.item)
         ∙ references_tell names label name users used n key table linked is)
 
     pub unreferred : (n : List ℕ) (key : ℕ) → key_of name used n ≡ Some key → (names_it : A → Bool) → ((x : A) → names_it x ≡ list_any (λ m. is_same m n) (names x)) → list_any names_it (items_of users) ≡ false → references users key ≡ 0

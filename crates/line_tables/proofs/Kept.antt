@@ -13,7 +13,7 @@ use Rattle.std.proofs.lemmas.List.Folds.{list_any_at, find_at}
 use Rattle.std.proofs.lemmas.Option.{slice_get-get_or}
 use Rattle.rail_model.specs.Name.{IsBefore, is_same, NamesRise}
 use Rattle.rail_model.specs.Edits.{with_item, without}
-use Rattle.rail_model.proofs.NameOrder.{is_same-from, is_same-before, is_same-after}
+use Rattle.rail_model.proofs.NameOrder.{is_same-from, is_same-before, is_same-after, never_before_itself}
 use Rattle.rail_model.proofs.Places.{IsPlace, place_searched, is_named-place, with_item-place, number_of-found, All-insert, filter_all}
 use Rattle.line_tables.specs.Table.{filed, under, with_change, named, name_at, key_of, item_of, IsTable, IsKept, IsPlaceOf, IsPlaceFor}
 use Rattle.line_tables.proofs.Filed.{IsStored, stored_at, filed-append, filed-cons, filed-same, length-filed, filed-at, All-filed, under-filed, under_slot, some_from_map}
@@ -29,9 +29,6 @@ pub record StandsAt {X : Type 0} (at : ℕ → Option X) (order : List ℕ) (i k
   pub within : i < length order
   pub key : (d : ℕ) → get_or order i d ≡ k
   pub item : at k ≡ Some x
-
-no_name_before_itself : (n : List ℕ) → IsBefore n n → ⊥
-no_name_before_itself n b = both_ways (is_same n n) (is_same-before n n b) (is_same-from n n refl)
 
 -- another key than k
 abbrev IsOther : ℕ → ℕ → Type 0
@@ -149,11 +146,11 @@ module _ {X : Type 0} (name : X → List ℕ) where
 
   apart_before : (at : ℕ → Option X) (k : ℕ) (x : X) (ks : List ℕ) → at k ≡ Some x → All (λ q. IsBefore (name_at name at q) (name x)) ks → All (IsOther k) ks
   apart_before at k x ks e b i d l same =
-      no_name_before_itself (name x) (subst (λ m. IsBefore m (name x)) (ap (name_at name at) same ∙ name_at-is at k x e) (b i d l))
+      never_before_itself (name x) (subst (λ m. IsBefore m (name x)) (ap (name_at name at) same ∙ name_at-is at k x e) (b i d l))
 
   apart_after : (at : ℕ → Option X) (k : ℕ) (x : X) (ks : List ℕ) → at k ≡ Some x → All (λ q. IsBefore (name x) (name_at name at q)) ks → All (IsOther k) ks
   apart_after at k x ks e b i d l same =
-      no_name_before_itself (name x) (subst (λ m. IsBefore (name x) m) (ap (name_at name at) same ∙ name_at-is at k x e) (b i d l))
+      never_before_itself (name x) (subst (λ m. IsBefore (name x) m) (ap (name_at name at) same ∙ name_at-is at k x e) (b i d l))
 
   pub drop_is : (at other : ℕ → Option X) (order : List ℕ) (i k : ℕ) (x : X) → All (IsStored at) order → NamesRise (named name) (filed at order) → Sets at other k None → StandsAt at order i k x → filed other (remove order i) ≡ without (named name) (filed at order) (name x)
   drop_is at other order i k x s rise sets h =

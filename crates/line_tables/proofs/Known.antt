@@ -1,7 +1,7 @@
 -- What an item that no rule refuses refers to, and what it is counted for.
-use Rattle.std.proofs.Common.{◌≡◌, ℕ, ◌+◌, ◌≤◌, Bool, true, if◌then◌else◌, false, List, [], ◌∷◌, Some, None, refl, sym, ap, ◌∙◌, arith}
+use Rattle.std.proofs.Common.{◌≡◌, ℕ, ◌+◌, ◌≤◌, Bool, true, if◌then◌else◌, false, List, Some, None, refl, sym, ap, ◌∙◌, arith}
 use Rattle.std.specs.Prelude.{option_map}
-use Rattle.std.specs.List.{list_any, list_all, find}
+use Rattle.std.specs.List.{list_all, find}
 use Rattle.std.proofs.lemmas.Bool.{and_parts, and_from}
 use Rattle.rail_model.specs.declared.items.Block.{Block}
 use Rattle.rail_model.specs.declared.items.Signal.{Signal}
@@ -31,10 +31,6 @@ entry_there name items n there =
     let key = stored_at (key_of name items n) (is_some-key_of name items n ∙ there) in
     let y = some_from_map (λ (e : ℕ × _). e.0) (entry_of name items n) key.0 key.1 in
     (y.0, y.1)
-
-pub list_any_alike : {X : Type 0} (p q : X → Bool) → ((x : X) → p x ≡ q x) → (xs : List X) → list_any p xs ≡ list_any q xs
-list_any_alike p q same [] = refl
-list_any_alike p q same (x ∷ xs) = rw (same x, list_any_alike p q same xs) refl
 
 -- each key is counted as before, and as often more as it stands in the list
 abbrev pub CountsMore : List ℕ → List ℕ → List ℕ → Type 0

@@ -1,8 +1,8 @@
 -- Whether a run has another number of legs than its changed route has signals.
-use Rattle.std.proofs.Common.{◌≡◌, ◌==◌, Bool, true, false, not, ◌&&◌, List, [], ◌∷◌, length, get_or, refl, sym, ap, ◌∙◌, inl, inr}
+use Rattle.std.proofs.Common.{◌≡◌, ◌==◌, Bool, true, false, not, ◌&&◌, List, [], ◌∷◌, length, get_or, refl, ap, ◌∙◌, inl, inr}
 use Rattle.std.specs.Prelude.{All}
 use Rattle.std.specs.List.{list_any}
-use Rattle.std.proofs.lemmas.Bool.{cases_Bool, eqb-true, not-true}
+use Rattle.std.proofs.lemmas.Bool.{cases_Bool, eqb-true, not-true, not-false}
 use Rattle.std.proofs.lemmas.List.Elements.{All-head, All-tail}
 use Rattle.rail_model.specs.declared.items.Route.{Route}
 use Rattle.rail_model.specs.declared.items.Run.{Run}
@@ -14,10 +14,6 @@ use Rattle.rail_model.specs.Tables.{route_named}
 use Rattle.rail_model.specs.Rules.{makes_miscount, miscounts_legs, is_used}
 use Rattle.rail_model.specs.Sound.{IsSound}
 use Rattle.rail_model.proofs.NameOrder.{same_name}
-
-not_not : (b : Bool) → not b ≡ false → b ≡ true
-not_not true h = refl
-not_not false h = sym h
 
 -- a second test that depends on the first alone
 any_and : {X : Type 0} (p q : X → Bool) (b : Bool) (xs : List X) → All (λ x. p x ≡ true → q x ≡ b) xs → list_any (λ x. p x && q x) xs ≡ (b && list_any p xs)
@@ -39,5 +35,5 @@ makes_miscount_is t r s =
     any_and (λ (run : Run). is_same run.route r.name) (λ run. not (length run.legs == length r.signals)) (not (length (route_named t r.name).signals == length r.signals)) t.runs
     (λ k d l same.
     let run = get_or t.runs k d in
-    let legs = eqb-true _ _ (not_not _ (not-true (miscounts_legs t (item.Run run)) (s.runs.each k d l).count)) in
+    let legs = eqb-true _ _ (not-false _ (not-true (miscounts_legs t (item.Run run)) (s.runs.each k d l).count)) in
     ap (λ n. not (n == length r.signals)) (legs ∙ ap (λ m. length (route_named t m).signals) (same_name run.route r.name same)))

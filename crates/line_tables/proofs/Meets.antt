@@ -27,7 +27,8 @@ use Rattle.line_tables.proofs.Filed.{some_from_map}
 use Rattle.line_tables.proofs.Entries.{is_some-key_of}
 use Rattle.line_tables.proofs.Found.{find_some, found_by_key, name_of_key, list_any-map}
 use Rattle.line_tables.proofs.References.{named_listed, list_any_same}
-use Rattle.line_tables.proofs.Views.{is_named-map, item_named, map_same}
+use Rattle.rail_model.proofs.Lists.{map_same}
+use Rattle.line_tables.proofs.Views.{is_named-map, item_named}
 use Rattle.line_tables.proofs.Repeats.{moved, repeats_moved}
 
 -- ---- lists of names and of their keys

@@ -5,6 +5,7 @@ use Rattle.std.specs.List.{list_any, find}
 use Rattle.std.specs.Option.{option_map_or}
 use Rattle.std.proofs.lemmas.Bool.{cases_Bool, both_ways, eqb-true, eq-eqb, or_parts, and_parts, false_from_ne_true}
 use Rattle.std.proofs.lemmas.List.Folds.{list_any_none}
+use Rattle.std.proofs.Math.Bool.{or-true, and-false}
 use Rattle.rail_model.specs.declared.items.Route.{Route}
 use Rattle.rail_model.specs.declared.items.Signal.{Signal}
 use Rattle.line_tables.specs.declared.linked.Linked.{Linked}
@@ -18,10 +19,6 @@ use Rattle.line_tables.proofs.References.{list_any_same}
 use Rattle.line_tables.proofs.Meets.{under_passes}
 use Rattle.line_tables.proofs.Repeats.{moved, key_once}
 use Rattle.line_tables.proofs.Under.{IsSwapped}
-
-and_none : (a : Bool) → (a && false) ≡ false
-and_none true = refl
-and_none false = refl
 
 or_none : (a : Bool) → (a || false) ≡ a
 or_none true = refl
@@ -62,7 +59,7 @@ module _ (f : ℕ → ℕ) where
             left ∙ sym (rw stands (led_by f now x))
         | inr e ↦
             let stays : has new x r ≡ has old x r =
-            put x r ∙ rw (e, and_none (lead_to f (refs_of now) x)) (taken x r ∙ rw (e, and_none (lead_to f (refs_of (under routes k)) x)) refl) in
+            put x r ∙ rw (e, and-false (lead_to f (refs_of now) x)) (taken x r ∙ rw (e, and-false (lead_to f (refs_of (under routes k)) x)) refl) in
             let stands : under later r ≡ under routes r = swapped r ∙ rw e refl in
             stays ∙ sets x r ∙ rw stands refl
       ]
@@ -95,7 +92,7 @@ module _ (f : ℕ → ℕ) where
 module _ (f : ℕ → ℕ) (s from to : ℕ) (is : f s ≡ from) where
   -- the signals of one route
   moved_leads : (refs : List ℕ) (x : ℕ) → repeats_key (map f refs) ≡ false → lead_to (moved f s to) refs x ≡ ((to == x && lists_key refs s) || (not (from == x && lists_key refs s) && lead_to f refs x))
-  moved_leads [] x h = rw (and_none (to == x), and_none (not (from == x && false))) refl
+  moved_leads [] x h = rw (and-false (to == x), and-false (not (from == x && false))) refl
   moved_leads (q ∷ refs) x h =
       let apart = or_parts (lists_key (map f refs) (f q)) (repeats_key (map f refs)) h in
       let rest = moved_leads refs x apart.1 in
@@ -104,7 +101,7 @@ module _ (f : ℕ → ℕ) (s from to : ℕ) (is : f s ≡ from) where
             let key = eqb-true q s t in
             let once = key_once f s to refs q t apart.0 in
             let image : f q ≡ from = ap f key ∙ is in
-            let past : lead_to (moved f s to) refs x ≡ lead_to f refs x = rest ∙ rw (once, and_none (to == x), and_none (from == x)) refl in
+            let past : lead_to (moved f s to) refs x ≡ lead_to f refs x = rest ∙ rw (once, and-false (to == x), and-false (from == x)) refl in
             elim (cases_Bool (from == x)) [
               | inl e ↦
                   let none : lead_to f refs x ≡ false = ap (lead_to f refs) (sym (eqb-true from x e) ∙ sym image) ∙ sym (list_any-map f (λ y. y == f q) refs) ∙ apart.0 in
@@ -119,15 +116,11 @@ module _ (f : ℕ → ℕ) (s from to : ℕ) (is : f s ≡ from) where
               let parts = and_parts (from == x) (lists_key refs s) both in
               let image : f s ≡ f q = is ∙ eqb-true from x parts.0 ∙ sym (eqb-true (f q) x e) in
               both_ways (lists_key (map f refs) (f q)) apart.0 (listed_image f s refs (f q) parts.1 image)) in
-              rw (t, e, stays) (sym (or_true (to == x && lists_key refs s)))
+              rw (t, e, stays) (sym (or-true (to == x && lists_key refs s)))
           | inr e ↦ rw (t, e) rest
         ]
       ]
     where
-      or_true : (a : Bool) → (a || true) ≡ true
-      or_true true = refl
-      or_true false = refl
-
       listed_image : (f : ℕ → ℕ) (s : ℕ) (refs : List ℕ) (y : ℕ) → lists_key refs s ≡ true → f s ≡ y → lists_key (map f refs) y ≡ true
       listed_image f s [] y listed e = absurd (cc)
       listed_image f s (q ∷ refs) y listed e =
@@ -141,7 +134,7 @@ module _ (f : ℕ → ℕ) (s from to : ℕ) (is : f s ≡ from) where
       moves x r ∙ rw (listed s r, sets x r) (images (under routes r) refl)
     where
       images : (o : Option (Linked Route)) → under routes r ≡ o → ((to == x && reaches (λ q. q) routes s r) || (not (from == x && reaches (λ q. q) routes s r) && reaches f routes x r)) ≡ reaches (moved f s to) routes x r
-      images None e = rw e (rw (and_none (to == x), and_none (not (from == x && false))) refl)
+      images None e = rw e (rw (and-false (to == x), and-false (not (from == x && false))) refl)
       images (Some route) e =
           let passes = under_passes (λ u. repeats_key (map f u.1.refs) ≡ false) routes r route e apart in
           let once : repeats_key (map f route.refs) ≡ false = subst (λ (e : Linked Route). repeats_key (map f e.refs) ≡ false) passes.1 passes.2 in

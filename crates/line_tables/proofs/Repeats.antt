@@ -5,15 +5,10 @@ use Rattle.std.specs.List.{list_any}
 use Rattle.std.proofs.lemmas.Bool.{cases_Bool, or_cases, or_parts, or_left, or_right, eqb-true, eq-eqb, both_ways, false_from_ne_true}
 use Rattle.std.proofs.lemmas.List.{take-append-drop, take_more}
 use Rattle.std.proofs.lemmas.List.Folds.{list_any-append, list_any_more}
+use Rattle.std.proofs.Math.Bool.{or_comm}
+use Rattle.rail_model.proofs.Numbers.{eqb-sym}
 use Rattle.line_tables.specs.Links.{lists_key, repeats_key}
 use Rattle.line_tables.proofs.Found.{list_any-map}
-
-eqb-sym : (a b : ℕ) → (a == b) ≡ (b == a)
-eqb-sym a b =
-    elim (cases_Bool (a == b)) [
-      | inl e ↦ rw (e, eq-eqb b a (sym (eqb-true a b e))) refl
-      | inr e ↦ rw (e, false_from_ne_true (b == a) (λ t. both_ways (a == b) e (eq-eqb a b (sym (eqb-true b a t))))) refl
-    ]
 
 or_swap : (p q r s : Bool) → ((p || (q || false)) || (r || s)) ≡ ((p || r) || (q || s))
 or_swap true q r s = refl
@@ -44,12 +39,6 @@ module _ (keys : List ℕ) (i y : ℕ) (lt : i < length keys) (read : y ≡ get_
   repeats_found h =
       ap repeats_key (sym (take-append-drop (i + 1) keys))
       ∙ repeats-front (take (i + 1) keys) (drop (i + 1) keys) (repeats_more ∙ or_right (repeats_key (take i keys)) (lists_key (take i keys) y) h)
-
-or_comm : (a b : Bool) → (a || b) ≡ (b || a)
-or_comm true true = refl
-or_comm true false = refl
-or_comm false true = refl
-or_comm false false = refl
 
 -- the keys seen so far, with one more
 pub seen_more : (keys : List ℕ) (i k : ℕ) → i < length keys → (before : Bool) → before ≡ lists_key (take i keys) k → ((k == get_or keys i 0) || before) ≡ lists_key (take (i + 1) keys) k

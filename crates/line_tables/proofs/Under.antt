@@ -11,18 +11,12 @@ use Rattle.rail_model.specs.Name.{is_same}
 use Rattle.rail_model.specs.Rules.{is_named}
 use Rattle.rail_model.specs.Edits.{with_item, without}
 use Rattle.rail_model.proofs.NameOrder.{same_name, is_same-from}
+use Rattle.rail_model.proofs.Numbers.{eqb-sym}
 use Rattle.rail_model.proofs.Places.{place, with_item-place}
 use Rattle.line_tables.specs.Table.{under, with_change, named, key_of, entry_of, IsTable}
 use Rattle.line_tables.proofs.Filed.{some_from_map}
 use Rattle.line_tables.proofs.Found.{find_some, found_by_key}
 use Rattle.line_tables.proofs.Views.{key_by_name}
-
-eqb-sym : (a b : ℕ) → (a == b) ≡ (b == a)
-eqb-sym a b =
-    elim (cases_Bool (a == b)) [
-      | inl e ↦ rw (e, eq-eqb b a (sym (eqb-true a b e))) refl
-      | inr e ↦ rw (e, false_from_ne_true (b == a) (λ t. both_ways (a == b) e (eq-eqb a b (sym (eqb-true b a t))))) refl
-    ]
 
 -- under one key stands something else now (or nothing), and under all others what stood there
 abbrev pub IsSwapped : {X : Type 0} → List (ℕ × X) → List (ℕ × X) → ℕ → Option X → Type 0

@@ -4,7 +4,6 @@ use Rattle.std.specs.Prelude.{filter, map, option_map, unwrap_or, All, sum_by}
 use Rattle.std.specs.List.{list_all, find}
 use Rattle.std.proofs.lemmas.Bool.{cases_Bool, both_ways, eqb-true, eq-eqb, cases_order}
 use Rattle.std.proofs.lemmas.List.{map-append, get_or_default, get_or_past}
-use Rattle.std.proofs.lemmas.List.Elements.{All-head, All-tail}
 use Rattle.std.proofs.lemmas.List.Sums.{sum_by-cons}
 use Rattle.std.proofs.lemmas.Simd.{map-map}
 use Rattle.std.proofs.lemmas.Option.{unwrap_or-slice_get}
@@ -15,14 +14,10 @@ use Rattle.rail_model.specs.Name.{is_before, is_same}
 use Rattle.rail_model.specs.Rules.{is_named}
 use Rattle.rail_model.specs.Edits.{with_item, with_changed, without}
 use Rattle.rail_model.proofs.NameOrder.{same_name, is_same-from, is_same-before}
+use Rattle.rail_model.proofs.Lists.{map_same, find-map}
 use Rattle.line_tables.specs.Table.{under, with_change, key_of, entry_of, IsTable}
 use Rattle.line_tables.proofs.Filed.{some_from_map}
-use Rattle.line_tables.proofs.Found.{find_some, find-map, list_any-map, filter-map, keeps_name, found_by_key}
-
-pub map_same : {X Y : Type 0} (f g : X → Y) (xs : List X) → All (λ x. f x ≡ g x) xs → map f xs ≡ map g xs
-map_same f g [] h = refl
-map_same f g (x ∷ xs) h =
-    rw (All-head (λ x. f x ≡ g x) x xs h, map_same f g xs (All-tail (λ x. f x ≡ g x) x xs h)) refl
+use Rattle.line_tables.proofs.Found.{find_some, list_any-map, filter-map, keeps_name, found_by_key}
 
 pub list_all_same : {X : Type 0} (p q : X → Bool) → ((x : X) → p x ≡ q x) → (xs : List X) → list_all p xs ≡ list_all q xs
 list_all_same p q same [] = refl

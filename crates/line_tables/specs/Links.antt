@@ -16,9 +16,13 @@ IsLinked names name users used = All (λ u. map (key_of name used) (names u.1.it
 abbrev pub references : {A : Type 0} → List (ℕ × Linked A) → ℕ → ℕ
 references users k = sum_by (λ u. times k u.1.refs) users
 
+-- some key stands for k, where each stands for itself or for what f makes of it
+abbrev pub lead_to : (ℕ → ℕ) → List ℕ → ℕ → Bool
+lead_to f keys k = list_any (λ q. f q == k) keys
+
 -- a key stands among keys
 abbrev pub lists_key : List ℕ → ℕ → Bool
-lists_key keys k = list_any (λ q. q == k) keys
+lists_key keys k = lead_to (λ q. q) keys k
 
 -- a key stands twice
 abbrev pub repeats_key : List ℕ → Bool
@@ -31,7 +35,7 @@ block_of signals k = option_map_or (λ e. slice_index e.refs 0) (under signals k
 
 -- a route lists the signal under a key, and has a signal of the block under another
 abbrev pub meets : List (ℕ × Linked Signal) → ℕ → ℕ → ℕ × Linked Route → Bool
-meets signals signal block r = lists_key r.1.refs signal && list_any (λ q. block_of signals q == block) r.1.refs
+meets signals signal block r = lists_key r.1.refs signal && lead_to (block_of signals) r.1.refs block
 
 -- a key under which an item stands
 abbrev pub IsKey : {A : Type 0} → List (ℕ × A) → ℕ → Type 0

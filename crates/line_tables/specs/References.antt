@@ -1,5 +1,5 @@
 -- What refuses an item for itself, and what for what it refers to.
-use Rattle.std.specs.Prelude.{if◌then◌else◌, not, Option, Some, None}
+use Rattle.std.specs.Prelude.{if◌then◌else◌, not, Option, Some, None, ⊤}
 use Rattle.rail_model.specs.declared.items.Item.{Item}
 use Rattle.rail_model.specs.declared.items.Item.TheVariants as item
 use Rattle.rail_model.specs.declared.edit.Edit.{Edit}
@@ -9,6 +9,15 @@ use Rattle.rail_model.specs.declared.edit.Rule.TheVariants.{Range, Limit, Unknow
 use Rattle.rail_model.specs.declared.tables.Tables.{Tables}
 use Rattle.rail_model.specs.Rules.{is_taken, is_full, refers_to_known, repeats, rule_of_put, rule_of_change, rule_of_drop}
 use Rattle.rail_model.specs.Within.{is_within}
+
+-- the item is no route
+abbrev pub IsNoRoute : Item → Type 0
+IsNoRoute (item.Block b) = ⊤
+IsNoRoute (item.Signal s) = ⊤
+IsNoRoute (item.Route r) = ⊥
+IsNoRoute (item.Run r) = ⊤
+IsNoRoute (item.Section s) = ⊤
+IsNoRoute (item.Connection c) = ⊤
 
 -- the item may not be put for its own numbers, for its name, or because its kind has its greatest number of items
 abbrev pub rule_of_item : Tables → Item → Option Rule

@@ -1,12 +1,12 @@
 -- Sets of the keys of routes: at each signal's key of the routes that list it, at each block's key of those that have a
 -- signal of it.
 use Rattle.std.specs.Prelude.{◌≡◌, ℕ, ◌/◌, ◌==◌, ◌<◌, ◌≤◌, Bool, false, not, ◌&&◌, ◌||◌, List, [], length, slice_index_or, All}
-use Rattle.std.specs.List.{list_any}
 use Rattle.std.specs.Option.{option_map_or}
 use Rattle.rail_model.specs.declared.items.Route.{Route}
 use Rattle.line_tables.specs.declared.linked.Linked.{Linked}
 use Rattle.line_tables.specs.Table.{under}
 use Rattle.line_tables.specs.KeySet.{holds}
+pub use Rattle.line_tables.specs.Links.{lead_to}
 
 -- a key is in the set at another: in none past the end of the sets
 abbrev pub has : List (List ℕ) → ℕ → ℕ → Bool
@@ -25,10 +25,6 @@ abbrev pub NoneShorter : List (List ℕ) → List (List ℕ) → Type 0
 NoneShorter old new = (x : ℕ) → words_of old x ≤ words_of new x
 
 -- ---- signals, each of which stands for a key: its own, or its block's
-
--- some signal stands for the key
-abbrev pub lead_to : (ℕ → ℕ) → List ℕ → ℕ → Bool
-lead_to f signals x = list_any (λ q. f q == x) signals
 
 -- the sets at what the signals stand for have a word for the route
 abbrev pub HasRoomAt : (ℕ → ℕ) → List ℕ → ℕ → List (List ℕ) → Type 0

@@ -5,13 +5,13 @@ ghost use Rattle.rail_model.specs.declared.edit.Kind.TheVariants as kind;
 ghost use Rattle.rail_model.specs.Tables.{route_named};
 ghost use Rattle.rail_model.specs.declared.edit.Rule.TheVariants as rule;
 ghost use Rattle.rail_model.specs.Rules as rules;
-ghost use Rattle.line_tables.specs.References.{rule_of_item, rule_of_references};
+ghost use Rattle.line_tables.specs.References.{IsNoRoute, rule_of_item, rule_of_references};
 ghost use Rattle.line_tables.specs.References.{rule_before_put, rule_before_change, rule_before};
 ghost use Rattle.rail_model.specs.Sound.{IsSound};
 
 use crate::LineTables;
 use crate::key_set::repeats;
-use crate::linked::{blocks_of, known_keys};
+use crate::linked::known_keys;
 use rail_model::{
     BLOCKS, CONNECTIONS, Connection, Edit, Item, Kind, Name, OutOfMemory, ROUTES, RUNS, Route,
     Rule, SECTIONS, SIGNALS, Section, is_within,
@@ -53,7 +53,9 @@ impl LineTables {
         }
     }
 
+    // The first rule that refuses to put an item that is no route.
     fn rule_of_put(&self, item: &Item) -> Result<Option<Rule>, OutOfMemory>
+        requires { IsNoRoute item.now }
         ensures { IfOk result (λ rule. rule ≡ rules.rule_of_put self.now item.now) }
     {
         if let Some(rule) = self.rule_of_item(item) {
@@ -88,6 +90,7 @@ impl LineTables {
     fn rule_of_change(&self, item: &Item) -> Result<Option<Rule>, OutOfMemory>
         requires repeat { rules.makes_repeat self.now item.now ≡ false }
         requires miscount { rules.makes_miscount self.now item.now ≡ false }
+        requires route { IsNoRoute item.now }
         ensures { IfOk result (λ rule. rule ≡ rules.rule_of_change self.now item.now) }
     {
         if !is_within(item) {
@@ -209,29 +212,19 @@ impl LineTables {
     }
 
     // The rule that refuses an item for what it refers to: it isn't there, or it is named twice.
+    // What a route refers to is looked up where the route is put or changed.
     fn rule_of_references(&self, item: &Item) -> Result<Option<Rule>, OutOfMemory>
+        requires { IsNoRoute item.now }
         ensures { IfOk result (λ rule. rule ≡ rule_of_references self.now item.now) }
     {
         match item {
             Item::Block(_) => Ok(None),
             Item::Signal(signal) => Ok(unknown_unless(self.has_block(&signal.block))),
-            Item::Route(route) => self.rule_of_signals(route),
+            Item::Route(_) => unreachable!(),
             Item::Run(run) => Ok(unknown_unless(self.has_route(&run.route))),
             Item::Section(section) => self.rule_of_blocks(section),
             Item::Connection(connection) => Ok(self.rule_of_runs(connection)),
         }
-    }
-
-    // Each signal's name is looked up once, and its block found by its key.
-    fn rule_of_signals(&self, route: &Route) -> Result<Option<Rule>, OutOfMemory>
-        ensures { IfOk result (λ rule. rule ≡ rule_of_references self.now (item.Route route.now)) }
-    {
-        self.blocks.learn_order();
-        let Some(signals) = known_keys(self.alloc, &self.signals, &route.signals)? else {
-            return Ok(Some(Rule::Unknown));
-        };
-        let blocks = blocks_of(self.alloc, &self.signals, &signals)?;
-        Ok(twice_if(repeats(self.alloc, blocks.slice())?))
     }
 
     fn rule_of_blocks(&self, section: &Section) -> Result<Option<Rule>, OutOfMemory>
