@@ -1,4 +1,3 @@
 pub mod Divided
 pub mod Widened
 pub mod Longest
-pub mod Bounds
