@@ -10,7 +10,7 @@ ghost use Rattle.train_order.specs.Ordering.{AreOpposed};
 ghost use Rattle.train_order.specs.Walk.{IsRing};
 
 use crate::checking::is_checked;
-use plan_model::{Answer, Cut, Link, MEMBERS};
+use plan_model::{Answer, Cut, Link, MEMBERS, SoundCut};
 use train_order::{Disordered, disorder_of, next_place, place_of_link};
 
 /// Whether an answer is that of a cut. It takes no memory, and looks for no better timetable: the
@@ -78,7 +78,7 @@ fn is_ring(cut: &Cut, answer: &Answer, members: &[u32]) -> bool
     ensures { IsTrue result ↔ IsAnswer cut.now answer.now }
 {
     match answer {
-        Answer::Ring(links) => are_links(cut, members, links.slice()),
+        Answer::Ring(links) => are_links(&SoundCut::of(cut), members, links.slice()),
         _ => false,
     }
 }
@@ -98,8 +98,7 @@ fn is_ordered(cut: &Cut, answer: &Answer) -> bool
 }
 
 // Whether these are the links of a ring: of each member to the next, and of the last to the first.
-fn are_links(cut: &Cut, members: &[u32], links: &[Link]) -> bool
-    requires sound { IsSoundCut cut.now }
+fn are_links(cut: &SoundCut, members: &[u32], links: &[Link]) -> bool
     requires ring { IsRing cut.now members.now }
     ensures { IsTrue result ↔ (links.now ≡ map (disorder.link_of cut.now)
         (zip members.now (drop 1 members.now ++ take 1 members.now))) }
@@ -117,15 +116,13 @@ fn are_links(cut: &Cut, members: &[u32], links: &[Link]) -> bool
 }
 
 // Whether a link says that member i precedes member j at the first place where it does.
-fn is_link(cut: &Cut, link: &Link, i: u32, j: u32) -> bool
-    requires sound { IsSoundCut cut.now }
+fn is_link(cut: &SoundCut, link: &Link, i: u32, j: u32) -> bool
     requires one { i < member_count cut.now }
     requires other { j < member_count cut.now }
     requires precedes { precedes_somewhere cut.now i j ≡ true }
     ensures { IsTrue result ↔ (link.now ≡ disorder.link_of cut.now (i, j)) }
 {
-    let rows = cut.rows.slice();
-    link.train == rows[i as usize].name
-        && link.next == rows[j as usize].name
-        && link.block == place_of_link(cut, i, j)
+    link.train == cut.row(i).name
+        && link.next == cut.row(j).name
+        && link.block == place_of_link(cut.cut(), i, j)
 }
