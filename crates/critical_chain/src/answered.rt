@@ -10,7 +10,7 @@ ghost use Rattle.train_order.specs.Ordering.{AreOpposed};
 ghost use Rattle.train_order.specs.Walk.{IsRing};
 
 use crate::checking::is_checked;
-use plan_model::{Answer, Cut, Link, MEMBERS, SoundCut};
+use plan_model::{Answer, Cut, FitCut, Link, MEMBERS, SoundCut};
 use train_order::{Disordered, disorder_of, next_place, place_of_link};
 
 /// Whether an answer is that of a cut. It takes no memory, and looks for no better timetable: the
@@ -24,9 +24,10 @@ pub fn is_answer(cut: &Cut, answer: &Answer) -> bool
     if cut.rows.len() > MEMBERS {
         return is_crowded(cut, answer);
     }
+    let fit = FitCut::of(cut);
     match disorder_of(cut) {
-        Some(Disordered::Opposite(i, j)) => is_opposite(cut, answer, i, j),
-        Some(Disordered::Ring(members)) => is_ring(cut, answer, members.slice()),
+        Some(Disordered::Opposite(i, j)) => is_opposite(&fit, answer, i, j),
+        Some(Disordered::Ring(members)) => is_ring(&fit, answer, members.slice()),
         None => is_ordered(cut, answer),
     }
 }
@@ -43,13 +44,12 @@ fn is_crowded(cut: &Cut, answer: &Answer) -> bool
 }
 
 // Whether an answer is that of a cut with these opposite members.
-fn is_opposite(cut: &Cut, answer: &Answer, i: u32, j: u32) -> bool
-    requires sound { IsSoundCut cut.now }
-    requires few { member_count cut.now ≤ MEMBERS }
+fn is_opposite(cut: &FitCut, answer: &Answer, i: u32, j: u32) -> bool
     requires pair { disorder.opposite_pair cut.now ≡ Some (i, j) }
     requires opposed { AreOpposed cut.now i j }
     ensures { IsTrue result ↔ IsAnswer cut.now answer.now }
 {
+    let sound = cut.sound();
     match answer {
         Answer::Opposite {
             first,
@@ -57,28 +57,26 @@ fn is_opposite(cut: &Cut, answer: &Answer, i: u32, j: u32) -> bool
             block1,
             block2,
         } => {
-            let rows = cut.rows.slice();
-            *first == rows[i as usize].name
-                && *second == rows[j as usize].name
-                && *block1 == place_of_link(cut, i, j)
-                && *block2 == place_of_link(cut, j, i)
+            *first == sound.row(i).name
+                && *second == sound.row(j).name
+                && *block1 == place_of_link(sound.cut(), i, j)
+                && *block2 == place_of_link(sound.cut(), j, i)
         }
         _ => false,
     }
 }
 
 // Whether an answer is that of a cut with this ring.
-fn is_ring(cut: &Cut, answer: &Answer, members: &[u32]) -> bool
-    requires sound { IsSoundCut cut.now }
-    requires few { member_count cut.now ≤ MEMBERS }
+fn is_ring(cut: &FitCut, answer: &Answer, members: &[u32]) -> bool
     requires none { disorder.opposite_pair cut.now ≡ None }
     requires remain { disorder.remaining cut.now ≢ [] }
     requires members { members.now ≡ disorder.ring_members cut.now }
     requires ring { IsRing cut.now members.now }
     ensures { IsTrue result ↔ IsAnswer cut.now answer.now }
 {
+    let sound = cut.sound();
     match answer {
-        Answer::Ring(links) => are_links(&SoundCut::of(cut), members, links.slice()),
+        Answer::Ring(links) => are_links(sound, members, links.slice()),
         _ => false,
     }
 }
