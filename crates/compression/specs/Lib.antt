@@ -1,6 +1,1 @@
-pub mod Last
-pub mod Touch
-pub mod Placing
-pub mod Laid
-pub mod Told
 pub mod Promise

@@ -1,17 +1,19 @@
 //! The answer of a cut.
-ghost use Rattle.std.specs.Prelude.{◌≡◌, ◌≤◌, nat_lt, IfOk};
+ghost use Rattle.std.specs.Prelude.{◌≡◌, ◌≤◌, nat_lt, IfOk, []};
 ghost use Rattle.plan_model.specs.declared.limits.TheConstants.{MEMBERS};
 ghost use Rattle.plan_model.specs.Cut.{IsSoundCut};
 ghost use Rattle.plan_model.specs.Members.{member_count};
-ghost use Rattle.plan_model.specs.Answer.{IsAnswer};
-ghost use Rattle.compression.specs.Told.{told};
-ghost use Rattle.compression.specs.Promise.{IsTaken, OnPlan, HasNoneLater, ReachesToClosing, HasBoundedTimes};
+ghost use Rattle.plan_model.specs.Answer.{IsAnswer, IsCompressed};
+ghost use Rattle.plan_model.specs.Disorder.{remaining};
+ghost use Rattle.train_order.specs.Ordering.{IsOrder};
+ghost use Rattle.train_placing.specs.Laid.{HasBoundedTimes};
+ghost use Rattle.compression.specs.Promise.{IsTaken, OnPlan, HasNoneLater, ReachesToClosing, ReachesEachClosing};
 
-use crate::plan::plan;
-use plan_model::{Answer, Cut, MEMBERS, Rows};
+use plan_model::{Answer, Cut, FitCut, MEMBERS, Plan, Rows};
 use rail_model::OutOfMemory;
 use std::alloc::Global;
-use train_order::{Disorder, order};
+use train_order::order;
+use train_placing::{place_in_window, plan_of_placed};
 
 /// The answer of a reading's cut, from scratch.
 ///
@@ -28,6 +30,8 @@ pub fn answer<R: Rows>(alloc: Global, reading: &mut R) -> Result<Answer, OutOfMe
         OnPlan answer (HasNoneLater (R.shown reading.old).cut)) }
     ensures to_closing { IfOk result (λ answer.
         OnPlan answer (ReachesToClosing (R.shown reading.old).cut)) }
+    ensures at_least_closing { IfOk result (λ answer.
+        OnPlan answer (ReachesEachClosing (R.shown reading.old).cut)) }
     ensures within { IfOk result (λ answer.
         OnPlan answer (HasBoundedTimes (R.shown reading.old).cut)) }
 {
@@ -35,7 +39,7 @@ pub fn answer<R: Rows>(alloc: Global, reading: &mut R) -> Result<Answer, OutOfMe
     if is_crowded(count) {
         return Ok(Answer::Crowded { count });
     }
-    answer_of(alloc, reading.whole())
+    answer_of_cut(alloc, reading.whole())
 }
 
 // Whether so many members are more than are compressed.
@@ -45,39 +49,33 @@ fn is_crowded(count: u32) -> bool
     count as usize > MEMBERS
 }
 
-// The answer of a cut that isn't crowded.
-fn answer_of(alloc: Global, cut: &Cut) -> Result<Answer, OutOfMemory>
+/// The same of a cut that isn't crowded.
+pub fn answer_of_cut(alloc: Global, cut: &Cut) -> Result<Answer, OutOfMemory>
     requires sound { IsSoundCut cut.now }
     requires few { member_count cut.now ≤ MEMBERS }
     ensures answer { IfOk result (λ answer. IsAnswer cut.now answer) }
     ensures not_later { IfOk result (λ answer. OnPlan answer (HasNoneLater cut.now)) }
     ensures to_closing { IfOk result (λ answer. OnPlan answer (ReachesToClosing cut.now)) }
+    ensures at_least_closing { IfOk result (λ answer.
+        OnPlan answer (ReachesEachClosing cut.now)) }
     ensures within { IfOk result (λ answer. OnPlan answer (HasBoundedTimes cut.now)) }
 {
     match order(alloc, cut)? {
         Ok(found) => {
-            let plan = plan(alloc, cut, found.positions.slice())?;
+            let plan = plan(alloc, &FitCut::of(cut), found.positions.slice())?;
             Ok(Answer::Ordered(plan))
         }
-        Err(disorder) => Ok(told(disorder)),
+        Err(disorder) => Ok(disorder.into_answer()),
     }
 }
 
-fn told(disorder: Disorder) -> Answer
-    ensures { result ≡ told disorder }
+// The compressed timetable of a cut whose trains have an order.
+fn plan(alloc: Global, cut: &FitCut, order: &[u32]) -> Result<Plan, OutOfMemory>
+    requires none { remaining cut.now ≡ [] }
+    requires order { IsOrder cut.now order.now }
+    ensures compressed { IfOk result (λ plan. IsCompressed cut.now plan) }
+    ensures bounded { IfOk result (λ plan. HasBoundedTimes cut.now plan) }
 {
-    match disorder {
-        Disorder::Opposite {
-            first,
-            second,
-            block1,
-            block2,
-        } => Answer::Opposite {
-            first,
-            second,
-            block1,
-            block2,
-        },
-        Disorder::Ring(links) => Answer::Ring(links),
-    }
+    let placing = place_in_window(alloc, cut, order)?;
+    plan_of_placed(alloc, cut, &placing.entries, &placing.ties, &placing.last)
 }

@@ -9,10 +9,5 @@
 #![tactic(auto)]
 
 mod answering;
-mod last;
-mod names;
-mod placing;
-mod plan;
-mod tie;
 
-pub use answering::answer;
+pub use answering::{answer, answer_of_cut};

@@ -1,6 +1,6 @@
 -- The order of two moments with names, and of two uses of one place.
 use Rattle.std.proofs.Common.{◌≡◌, ℕ, ◌<◌, ◌⊎◌, true, ◌&&◌, List, inl, inr, arith}
-use Rattle.std.specs.Prelude.{ℤ, int_lt, IsTrue}
+use Rattle.std.specs.Prelude.{◌≢◌, ℤ, int_lt, IsTrue}
 use Rattle.std.specs.Ordering.{int_eq}
 use Rattle.std.proofs.lemmas.Bool.{cases_Bool, cases_order, or_left, or_right, or_cases, and_from, and_parts}
 use Rattle.std.proofs.lemmas.Bool.Decides.{Decides-int_eq}
@@ -12,8 +12,7 @@ use Rattle.plan_model.specs.declared.cut.Cut.{Cut}
 use Rattle.plan_model.specs.Members.{member, member_count, uses_place, use_at, no_member}
 use Rattle.plan_model.specs.Precedence.{precedes, comes_before}
 use Rattle.plan_model.specs.Cut.{IsSoundCut}
-use Rattle.plan_model.specs.Schedule.{IsScheduleFrom}
-use Rattle.plan_model.specs.Laws.{UsesAreApart, IsClearOf, ComesBeforeIsTested}
+use Rattle.plan_model.specs.Laws.{UsesAreApart, ComesBeforeIsTested}
 
 -- of two moments with different names, one comes before the other
 ordered : (s t : ℤ) (a b : List ℕ) → IsBefore a b → (comes_before s a t b ≡ true) ⊎ (comes_before t b s a ≡ true)
@@ -29,35 +28,39 @@ ordered s t a b h =
       ]
     ]
 
-module _ (cut : Cut) (floor : ℕ → ℤ) (entries : List ℤ) (sound : IsSoundCut cut)
-    (schedule : IsScheduleFrom cut floor entries) where
-  clear : (i j place : ℕ) → i < member_count cut → j < member_count cut
-      → IsTrue (precedes (member cut i) (member cut j) place) → IsClearOf cut entries i j place
-  clear i j place li lj p = record { precedes = p; apart = schedule.order i j place li lj p }
+module _ (cut : Cut) (sound : IsSoundCut cut) where
+  abbrev Precedes : ℕ → ℕ → ℕ → Type 0
+  Precedes i j place = IsTrue (precedes (member cut i) (member cut j) place)
 
-  apart_if_less : (i j place : ℕ) → i < j → j < member_count cut → IsTrue (uses_place (member cut i) place)
-      → IsTrue (uses_place (member cut j) place) → IsClearOf cut entries i j place ⊎ IsClearOf cut entries j i place
-  apart_if_less i j place l lj p q =
+  one_if_less : (i j place : ℕ) → i < j → j < member_count cut → IsTrue (uses_place (member cut i) place)
+      → IsTrue (uses_place (member cut j) place) → Precedes i j place ⊎ Precedes j i place
+  one_if_less i j place l lj p q =
       let a = member cut i in
       let b = member cut j in
       elim (ordered (use_at a place).start (use_at b place).start a.name b.name
       (sound.names_rise i j no_member l lj)) [
-        | inl e ↦ inl (clear i j place (omega arith) lj (and_from _ _ (and_from _ _ p q) e))
-        | inr e ↦ inr (clear j i place lj (omega arith) (and_from _ _ (and_from _ _ q p) e))
+        | inl e ↦ inl (and_from _ _ (and_from _ _ p q) e)
+        | inr e ↦ inr (and_from _ _ (and_from _ _ q p) e)
       ]
 
-swap_cases : {A B : Type 0} → A ⊎ B → B ⊎ A
-swap_cases (inl a) = inr a
-swap_cases (inr b) = inl b
+  -- of two members that use a place one precedes the other there
+  pub one_precedes : (i j place : ℕ) → i < member_count cut → j < member_count cut → i ≢ j
+      → IsTrue (uses_place (member cut i) place) → IsTrue (uses_place (member cut j) place)
+      → Precedes i j place ⊎ Precedes j i place
+  one_precedes i j place li lj ne p q =
+      elim (cases_order i j) [
+        | inl e ↦ absurd (ne e)
+        | inr d ↦ elim d [
+          | inl l ↦ one_if_less i j place l lj p q
+          | inr g ↦ elim (one_if_less j i place g li q p) [ inl e ↦ inr e | inr e ↦ inl e ]
+        ]
+      ]
 
 pub uses_are_apart : UsesAreApart
 uses_are_apart cut floor entries sound schedule i j place li lj ne p q =
-    elim (cases_order i j) [
-      | inl e ↦ absurd (ne e)
-      | inr d ↦ elim d [
-        | inl l ↦ apart_if_less cut floor entries sound schedule i j place l lj p q
-        | inr g ↦ swap_cases (apart_if_less cut floor entries sound schedule j i place g li q p)
-      ]
+    elim (one_precedes cut sound i j place li lj ne p q) [
+      | inl e ↦ inl (record { precedes = e; apart = schedule.order i j place li lj e })
+      | inr e ↦ inr (record { precedes = e; apart = schedule.order j i place lj li e })
     ]
 
 pub comes_before_is_tested : ComesBeforeIsTested

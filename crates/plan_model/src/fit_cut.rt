@@ -212,10 +212,11 @@ impl<'a> Model for FitCut<'a> {
 
     ghost use Rattle.plan_model.specs.declared.limits.TheConstants.{MEMBERS};
     ghost use Rattle.plan_model.specs.Members.{member_count};
+    ghost use Rattle.plan_model.specs.Cut.{IsSoundCut};
 
     ghost view = { λ f. f.sound };
 
-    ghost invariant = { λ f. member_count f.sound ≤ MEMBERS };
+    ghost invariant = { λ f. IsSoundCut f.sound × (member_count f.sound ≤ MEMBERS) };
 }
 
 impl<'a> FitCut<'a> {
@@ -234,6 +235,7 @@ impl<'a> FitCut<'a> {
     pub fn sound(&self) -> &SoundCut<'a>
         ensures cut { result.now ≡ self.now }
         ensures few { members.member_count self.now ≤ MEMBERS }
+        ensures sound { IsSoundCut self.now }
     {
         &self.sound
     }

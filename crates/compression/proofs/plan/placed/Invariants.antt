@@ -1,7 +1,0 @@
-use Rattle.std.proofs.Common.{◌≡◌, map}
-use Rattle.std.specs.List.{range_with_len}
-use Rattle.compression.specs.Laid.{placed_with}
-use Rattle.compression.proofs.plan.placed.Given as goal
-
-abbrev pub invariant-loop-i : goal.invariant-loop-i
-invariant-loop-i l = l.list ≡ map (placed_with l.rows l.entries l.ties) (range_with_len 0 l.i)

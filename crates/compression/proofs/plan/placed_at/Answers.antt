@@ -1,5 +1,0 @@
-use Rattle.std.proofs.Common.{rules}
-use Rattle.compression.proofs.plan.placed_at.Goals as goal
-
-pub returns : goal.returns
-returns c = search rules

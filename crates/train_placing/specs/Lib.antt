@@ -1,0 +1,4 @@
+pub mod Last
+pub mod Touch
+pub mod Placing
+pub mod Laid
