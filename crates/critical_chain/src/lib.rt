@@ -1,5 +1,6 @@
 //! The chain of trains that makes a train of a compressed timetable enter no earlier, and whether
-//! an answer is that of a cut. Laws say what tells that a plan is the compressed timetable of a cut.
+//! an answer is that of a cut. Laws say what tells that a plan is the compressed timetable of a
+//! cut.
 //!
 //! ```text
 //! for link in chain(alloc, &plan, critical)?.slice() { .. }

@@ -25,7 +25,8 @@ pub(crate) fn start_of(cut: &FitCut, entries: &[i64], visit: Visit) -> i64
     requires entries { length entries.now ≡ member_count cut.now }
     requires bounded { All IsBounded entries.now }
     requires moment { IsMoment visit.start }
-    ensures { result ≡ visit.start -ℤ (member cut.now visit.member).entry +ℤ entry_at entries.now visit.member }
+    ensures { result ≡ visit.start -ℤ (member cut.now visit.member).entry
+        +ℤ entry_at entries.now visit.member }
 {
     moved(cut, entries, visit.member, visit.start)
 }
