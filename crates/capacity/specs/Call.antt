@@ -1,25 +1,27 @@
--- A call of the program, and how the process ends after it. The runtime tells nothing of its words.
-use Rattle.std.specs.Prelude.{◌≡◌, ◌⊎◌, ℕ, List}
+-- A call of the program, and how the process ends after it.
+use Rattle.std.specs.Prelude.{◌≡◌, ◌⊎◌, ℕ, List, Option}
 use Rattle.std.specs.Process.{exit_status}
 use Rattle.rail_outside.specs.InCall.{SourceInCall, SinkInCall, IsUnread, IsUnwritten}
+use Rattle.rail_outside.specs.Words.{AreWords, AreNotText}
 use Rattle.capacity_cmd.specs.declared.status.Status.{Status}
 use Rattle.capacity_cmd.specs.declared.status.Status.TheVariants.{BadWords, OutOfMemory}
 use Rattle.capacity_cmd.specs.Outcome.{status_number}
 use Rattle.capacity_cmd.specs.Promise.{Answers}
 use Rattle.capacity.specs.declared.program.Ended.{Ended}
 
-module _ {S K : Type 0} (status : Status) (source : SourceInCall S) (sink : SinkInCall K) where
-  -- there are no words, and nothing is read or written
+module _ {S K : Type 0} (status : Status) (told : Option (List (List ℕ)))
+    (source : SourceInCall S) (sink : SinkInCall K) where
+  -- no words can be had, and nothing is read or written: one of them isn't UTF-8, or memory ran out
   pub record HasNoWords : Type 0 where
-    pub why : (status ≡ BadWords) ⊎ (status ≡ OutOfMemory)
+    pub why : ((status ≡ BadWords) × AreNotText told) ⊎ (status ≡ OutOfMemory)
     pub unread : IsUnread source
     pub unwritten : IsUnwritten sink
 
-  -- the program's promise is kept for some words, or there are none
+  -- the program's promise is kept for the words, where they are told, or no words can be had
   abbrev pub IsCall : Type 0
-  IsCall = ((words : List (List ℕ)) × Answers words status source sink) ⊎ HasNoWords
+  IsCall = ((words : List (List ℕ)) × AreWords told words × Answers words status source sink) ⊎ HasNoWords
 
 -- the process ends with the number of a call's status
-abbrev pub EndsAsCall : {S K : Type 0} → Ended → SourceInCall S → SinkInCall K → Type 0
-EndsAsCall ended source sink =
-    (status : Status) × IsCall status source sink × (exit_status ended.code ≡ status_number status)
+abbrev pub EndsAsCall : {S K : Type 0} → Ended → Option (List (List ℕ)) → SourceInCall S → SinkInCall K → Type 0
+EndsAsCall ended told source sink =
+    (status : Status) × IsCall status told source sink × (exit_status ended.code ≡ status_number status)

@@ -6,11 +6,12 @@ mod program;
 mod sentence;
 
 use program::{Ended, end_of_call};
-use rail_outside::{StdSink, StdSource};
+use rail_outside::{StdSink, StdSource, StdWords};
 
 fn main(rt: HostRuntime) -> Ended {
     end_of_call(
         &rt,
+        &StdWords::of(&rt),
         &mut StdSource::of(rt.stdin()),
         &mut StdSink::of(rt.stdout()),
     )

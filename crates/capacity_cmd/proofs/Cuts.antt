@@ -1,16 +1,16 @@
 -- The cut of the section that is named, and what a command on it ends with.
-use Rattle.std.proofs.Common.{◌≡◌, List, ℕ, Option, None, Some, refl, sym, ap, ◌∙◌, subst}
-use Rattle.std.specs.Prelude.{option_map, find, filter}
+use Rattle.std.proofs.Common.{◌≡◌, List, ℕ, Option, None, Some, Result, Ok, Err, refl, sym, ap, ◌∙◌, subst}
+use Rattle.std.specs.Prelude.{option_map, option_and_then, find, filter}
 use Rattle.std.proofs.lemmas.Simd.{map-map}
 use Rattle.rail_model.specs.declared.items.Section.{Section}
 use Rattle.rail_model.specs.declared.tables.Tables.{Tables}
 use Rattle.rail_model.specs.Name.{is_same}
-use Rattle.plan_model.specs.declared.cut.Cut.{Cut}
 use Rattle.plan_model.specs.declared.cut.CutRow.{CutRow}
 use Rattle.plan_model.specs.Cut.{stamped_row, stamped}
 use Rattle.plan_model.specs.SectionCut.{is_member, row_of, section_cut, cut_of}
-use Rattle.capacity_cmd.specs.declared.status.Cause.TheVariants as cause
-use Rattle.capacity_cmd.specs.Outcome.{Writes, Refuses, EndsOnCut, cut_named}
+use Rattle.capacity_cmd.specs.declared.status.Cause.{Cause}
+use Rattle.capacity_cmd.specs.Outcome.{Writes, Refuses}
+use Rattle.capacity_cmd.specs.Named.{EndsOnNamed}
 
 -- the cut as it is defined has the stamp 0 in each row
 pub stamped_none : (tables : Tables) (section : Section) → stamped 0 (section_cut tables section) ≡ section_cut tables section
@@ -20,19 +20,20 @@ stamped_none tables section =
     (map-map (stamped_row 0) (row_of tables section) (filter (is_member tables section) tables.runs))
 
 -- so has the cut of the section that a word names
-pub stamped_named : (tables : Tables) (word : Option (List ℕ)) (name : List ℕ) → word ≡ Some name → option_map (stamped 0) (cut_of tables name) ≡ cut_named tables word
+pub stamped_named : (tables : Tables) (word : Option (List ℕ)) (name : List ℕ) → word ≡ Some name
+    → option_map (stamped 0) (cut_of tables name) ≡ option_and_then (cut_of tables) word
 stamped_named tables word name is =
-    stamped_found (find (λ s. is_same s.name name) tables.sections) ∙ ap (cut_named tables) (sym is)
+    stamped_found (find (λ s. is_same s.name name) tables.sections) ∙ ap (option_and_then (cut_of tables)) (sym is)
   where
     stamped_found : (found : Option Section) → option_map (stamped 0) (option_map (section_cut tables) found) ≡ option_map (section_cut tables) found
     stamped_found None = refl
     stamped_found (Some section) = ap Some (stamped_none tables section)
 
--- a text for the cut is written, and where there is no cut, no section has the name
-pub writes_for_cut : (found : Option Cut) (cut : Cut) (IsText : Cut → List ℕ → Type 0) (text : List ℕ) → found ≡ Some cut → IsText cut text → EndsOnCut found IsText (Writes text)
-writes_for_cut found cut IsText text is h =
-    subst (λ cut. EndsOnCut cut IsText (Writes text)) (sym is) (text, h, refl)
+-- a text for what is named is written, and where it isn't found the input is refused
+pub writes_for_named : {X : Type 0} (IsText : X → List ℕ → Type 0) (found : Result X Cause) (x : X) (text : List ℕ)
+    → found ≡ Ok x → IsText x text → EndsOnNamed IsText found (Writes text)
+writes_for_named IsText found x text is h = subst (λ f. EndsOnNamed IsText f (Writes text)) (sym is) (text, h, refl)
 
-pub refuses_without_cut : (found : Option Cut) (IsText : Cut → List ℕ → Type 0) → found ≡ None → EndsOnCut found IsText (Refuses 0 cause.NoSection)
-refuses_without_cut found IsText is =
-    subst (λ cut. EndsOnCut cut IsText (Refuses 0 cause.NoSection)) (sym is) refl
+pub refuses_unnamed : {X : Type 0} (IsText : X → List ℕ → Type 0) (found : Result X Cause) (why : Cause)
+    → found ≡ Err why → EndsOnNamed IsText found (Refuses 0 why)
+refuses_unnamed IsText found why is = subst (λ f. EndsOnNamed IsText f (Refuses 0 why)) (sym is) refl

@@ -1,3 +1,4 @@
+pub mod Refused
 pub mod Outcomes
 pub mod Making
 pub mod Cuts

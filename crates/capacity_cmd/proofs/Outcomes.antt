@@ -1,48 +1,98 @@
 -- The outcome of a command on an input, by the input's length and by what a source gave of it.
-use Rattle.std.proofs.Common.{◌≡◌, ℕ, ◌+◌, ◌<◌, ◌≤◌, true, false, List, ◌++◌, length, Option, Some, None, refl, sym, ap, ◌∙◌, subst, arith, nat_lt, length-append}
+use Rattle.std.proofs.Common.{◌≡◌, ℕ, ◌+◌, ◌<◌, ◌≤◌, true, false, List, ◌++◌, length, Option, Some, None, Result, Ok, Err, refl, sym, ap, ◌∙◌, subst, arith, nat_lt, length-append}
 use Rattle.std.specs.Io.KnownBytes.{Consumes, IsAtEnd}
 use Rattle.std.proofs.lemmas.List.{append-nil}
 use Rattle.std.proofs.lemmas.Bool.{lt-ltb}
 use Rattle.std.proofs.lemmas.Bool.Decides.{nat_tests}
+use Rattle.rail_model.specs.declared.tables.Tables.{Tables}
+use Rattle.rail_outside.specs.InCall.{SourceInCall, HasGiven, IsReadToEnd}
 use Rattle.row_text.specs.Rows.{rows_of}
 use Rattle.capacity_cmd.specs.declared.command.Command.{Command}
+use Rattle.capacity_cmd.specs.declared.refusal.Refusal.{Refusal}
 use Rattle.capacity_cmd.specs.declared.status.Cause.TheVariants as cause
 use Rattle.capacity_cmd.specs.declared.limit.TheConstants.{INPUT_BYTES}
-use Rattle.capacity_cmd.specs.Input.{refused, tables_of, tables_of_input}
-use Rattle.capacity_cmd.specs.Outcome.{Outcome, Refuses, Ends, EndsOn, IsOutcome}
+use Rattle.capacity_cmd.specs.Input.{Said, refused, said_by, said_by_input}
+use Rattle.capacity_cmd.specs.TablesSoFar.{tables_said, tables_of}
+use Rattle.capacity_cmd.specs.Command.{planners_of}
+use Rattle.capacity_cmd.specs.Outcome.{Outcome, Refuses}
+use Rattle.capacity_cmd.specs.Ends.{EndsOnTables, Ends, EndsOn, IsOutcome}
+use Rattle.capacity_cmd.specs.Promise.{IsEnd}
+use Rattle.capacity_cmd.proofs.Refused.{ends_not_too_long, read_for}
 
--- an input that isn't too long makes what its rows make, and one that is too long is refused
-pub tables_of_short : (input : List ℕ) → length input ≤ INPUT_BYTES → tables_of_input input ≡ tables_of (rows_of input)
-unfolding tables_of_input
-tables_of_short input short =
+-- an input that isn't too long says what its rows say, and one that is too long is refused
+pub said_by_short : (planners : ℕ) (input : List ℕ) → length input ≤ INPUT_BYTES
+    → said_by_input planners input ≡ said_by planners (rows_of input)
+unfolding said_by_input
+said_by_short planners input short =
     let test : nat_lt INPUT_BYTES (length input) ≡ false = grind (arith, nat_tests) in
     rw test refl
 
-tables_of_long : (input : List ℕ) → INPUT_BYTES < length input → tables_of_input input ≡ refused 0 cause.TooLong
-unfolding tables_of_input
-tables_of_long input long =
+said_by_long : (planners : ℕ) (input : List ℕ) → INPUT_BYTES < length input
+    → said_by_input planners input ≡ refused 0 cause.TooLong
+unfolding said_by_input
+said_by_long planners input long =
     let test : nat_lt INPUT_BYTES (length input) ≡ true = lt-ltb _ _ long in
     rw test refl
 
 ends_too_long : (c : Command) (input : List ℕ) → INPUT_BYTES < length input → EndsOn c input (Refuses 0 cause.TooLong)
-ends_too_long c input long = subst (λ made. Ends c made (Refuses 0 cause.TooLong)) (sym (tables_of_long input long)) refl
+ends_too_long c input long =
+    subst (λ said. Ends c said (Refuses 0 cause.TooLong)) (sym (said_by_long (planners_of c) input long)) refl
+
+-- what a command that takes no scripts ends with on an input, by the tables or the refusal that its rows make
+by_tables : (c : Command) (said : Result Said Refusal) (tables : Tables) (outcome : Outcome)
+    → tables_said said ≡ Ok tables → EndsOnTables c tables outcome → Ends c said outcome
+by_tables c (Ok said) tables outcome is ends =
+    let same : said.tables ≡ tables = cc in subst (λ t. EndsOnTables c t outcome) (sym same) ends
+by_tables c (Err refusal) tables outcome is ends = absurd (cc)
+
+by_refusal : (c : Command) (said : Result Said Refusal) (refusal : Refusal) → tables_said said ≡ Err refusal
+    → Ends c said (Refuses refusal.row refusal.cause)
+by_refusal c (Ok said) refusal is = absurd (cc)
+by_refusal c (Err other) refusal is = let same : refusal ≡ other = cc in ap (λ (r : Refusal). Refuses r.row r.cause) same
+
+pub ends_on_tables : (c : Command) (input : List ℕ) (tables : Tables) (outcome : Outcome) → length input ≤ INPUT_BYTES
+    → tables_of (rows_of input) ≡ Ok tables → EndsOnTables c tables outcome → EndsOn c input outcome
+ends_on_tables c input tables outcome short made ends =
+    subst (λ said. Ends c said outcome) (sym (said_by_short (planners_of c) input short))
+    (by_tables c (said_by 0 (rows_of input)) tables outcome made ends)
+
+pub ends_refused : (c : Command) (input : List ℕ) (refusal : Refusal) → length input ≤ INPUT_BYTES
+    → tables_of (rows_of input) ≡ Err refusal → EndsOn c input (Refuses refusal.row refusal.cause)
+ends_refused c input refusal short made =
+    subst (λ said. Ends c said (Refuses refusal.row refusal.cause)) (sym (said_by_short (planners_of c) input short))
+    (by_refusal c (said_by 0 (rows_of input)) refusal made)
 
 -- the outcome is that of the bytes that a source gave, where it gave all that it had
-pub IsOutcome-all : (c : Command) (told left : Option (List ℕ)) (input : List ℕ) (outcome : Outcome) → Consumes told left input → IsAtEnd left
-    → EndsOn c input outcome → IsOutcome c told outcome
-IsOutcome-all c None left input outcome gave end ends = record { of_some = (input, ends); of_told = tt }
-IsOutcome-all c (Some xs) None input outcome gave end ends = absurd gave
-IsOutcome-all c (Some xs) (Some ys) input outcome gave end ends =
+all_given : (c : Command) (told left : Option (List ℕ)) (input : List ℕ) (outcome : Outcome) → Consumes told left input
+    → IsAtEnd left → EndsOn c input outcome → IsOutcome c told outcome
+all_given c None left input outcome gave end ends = (input, ends)
+all_given c (Some xs) None input outcome gave end ends = absurd gave
+all_given c (Some xs) (Some ys) input outcome gave end ends =
     let same = gave ∙ ap (λ rest. input ++ rest) end ∙ append-nil input in
-    record { of_some = (input, ends); of_told = subst (λ bytes. EndsOn c bytes outcome) (sym same) ends }
+    subst (λ bytes. EndsOn c bytes outcome) (sym same) ends
+
+pub IsEnd-all : {S : Type 0} (c : Command) (source : SourceInCall S) (input : List ℕ) (outcome : Outcome)
+    → length input ≤ INPUT_BYTES → Consumes (source.left source.before) (source.left source.after) input
+    → IsReadToEnd source → EndsOn c input outcome → IsEnd c source outcome
+IsEnd-all c source input outcome short gave end ends = record {
+  is = all_given c (source.left source.before) (source.left source.after) input outcome gave end ends;
+  read = read_for source outcome
+      (ends_not_too_long c (rows_of input) outcome
+      (subst (λ said. Ends c said outcome) (said_by_short (planners_of c) input short) ends))
+      end;
+}
 
 -- and where it gave more than is read
-pub IsOutcome-too_long : (c : Command) (told left : Option (List ℕ)) (input : List ℕ) → Consumes told left input
+more_given : (c : Command) (told left : Option (List ℕ)) (input : List ℕ) → Consumes told left input
     → length input ≡ INPUT_BYTES + 1 → IsOutcome c told (Refuses 0 cause.TooLong)
-IsOutcome-too_long c None left input gave long =
-    record { of_some = (input, ends_too_long c input (omega arith)); of_told = tt }
-IsOutcome-too_long c (Some xs) None input gave long = absurd gave
-IsOutcome-too_long c (Some xs) (Some ys) input gave long = record {
-  of_some = (input, ends_too_long c input (omega arith));
-  of_told = ends_too_long c xs (omega (arith, ap length gave, length-append {A = ℕ}));
+more_given c None left input gave long = (input, ends_too_long c input (omega arith))
+more_given c (Some xs) None input gave long = absurd gave
+more_given c (Some xs) (Some ys) input gave long =
+    ends_too_long c xs (omega (arith, ap length gave, length-append {A = ℕ}))
+
+pub IsEnd-too_long : {S : Type 0} (c : Command) (source : SourceInCall S) → HasGiven source (INPUT_BYTES + 1)
+    → IsEnd c source (Refuses 0 cause.TooLong)
+IsEnd-too_long c source given = record {
+  is = more_given c (source.left source.before) (source.left source.after) given.0 given.2 given.1;
+  read = given;
 }

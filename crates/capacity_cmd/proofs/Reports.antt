@@ -10,8 +10,7 @@ use Rattle.capacity_report.specs.Answers.{answer_rows}
 use Rattle.capacity_report.specs.Report.{AreAnswers, heads}
 use Rattle.capacity_report.specs.Total.{Total, total_row, with_answer}
 use Rattle.capacity_report.proofs.Reports.{total_more, heads_more, answers_more, answers_count}
-use Rattle.capacity_cmd.specs.Outcome.{IsReportText}
-use Rattle.capacity_cmd.specs.Report.{AddsHead, HasHeads}
+use Rattle.capacity_cmd.specs.Report.{IsReportText, AddsHead, HasHeads}
 
 -- the heads of the first sections, and that of the next
 pub heads_added : (tables : Tables) (count : ℕ) (rows more : List Row) (total greater : Total) → count < length tables.sections → HasHeads tables count rows total → AddsHead tables (section_at tables count) rows more total greater → HasHeads tables (count + 1) more greater

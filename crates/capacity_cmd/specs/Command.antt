@@ -20,3 +20,7 @@ command_of words = None
 -- a call with these words waits for nobody: no command waits
 abbrev pub IsAlone : List (List ℕ) → Type 0
 IsAlone words = ⊤
+
+-- how many planners' scripts a command takes: none
+abbrev pub planners_of : Command → ℕ
+planners_of command = 0

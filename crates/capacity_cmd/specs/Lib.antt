@@ -1,7 +1,14 @@
-pub mod Input
-pub mod TablesSoFar
 pub mod Command
+pub mod Spelled
+pub mod Input
 pub mod Outcome
+pub mod Named
+pub mod Stairs
+pub mod Check
+pub mod Compress
 pub mod Report
+pub mod Headways
+pub mod Ends
+pub mod TablesSoFar
 pub mod Reply
 pub mod Promise

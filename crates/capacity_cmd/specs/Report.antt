@@ -1,4 +1,4 @@
--- A report while the heads of its sections' answers are added one after the other.
+-- The text of `report`, also while the heads of its sections' answers are added one after the other.
 use Rattle.std.specs.Prelude.{◌≡◌, ℕ, List, ◌++◌, take}
 use Rattle.rail_model.specs.declared.items.Section.{Section}
 use Rattle.rail_model.specs.declared.tables.Tables.{Tables}
@@ -6,10 +6,17 @@ use Rattle.plan_model.specs.declared.answer.Answer.{Answer}
 use Rattle.plan_model.specs.SectionCut.{section_cut}
 use Rattle.plan_model.specs.Answer.{IsAnswer}
 use Rattle.row_text.specs.Row.{Row}
+use Rattle.row_text.specs.SheetRows.{text_of_rows}
 use Rattle.capacity_report.specs.declared.answers.Detail.TheVariants as detail
 use Rattle.capacity_report.specs.Answers.{answer_rows}
-use Rattle.capacity_report.specs.Report.{AreAnswers, heads}
+use Rattle.capacity_report.specs.Report.{AreAnswers, heads, report_rows}
 use Rattle.capacity_report.specs.Total.{Total, total_of, with_answer}
+
+-- the heads of the answers of all sections, and their total
+abbrev pub IsReportText : Tables → List ℕ → Type 0
+IsReportText tables text =
+    (answers : List Answer) × AreAnswers tables tables.sections answers
+    × (text ≡ text_of_rows (report_rows tables.sections answers))
 
 -- the head of a section's answer comes to the rows, and the answer to the total
 pub record AddsHead (tables : Tables) (section : Section) (rows more : List Row) (total greater : Total) : Type 0 where

@@ -6,7 +6,7 @@ ghost use Rattle.rail_outside.specs.InCall.{source_call, sink_call, ReadFailed, 
 ghost use Rattle.capacity_cmd.specs.declared.status.Status.TheVariants as status;
 ghost use Rattle.capacity_cmd.specs.Command.{IsAlone};
 ghost use Rattle.capacity_cmd.specs.Reply.{IsReply};
-ghost use Rattle.capacity_cmd.specs.Promise.{Answers};
+ghost use Rattle.capacity_cmd.specs.Promise.{IsEnd, Answers};
 
 use crate::command::command_of;
 use crate::limit::INPUT_BYTES;
@@ -41,7 +41,8 @@ pub fn run<R: AllocGlobal + Threads + Wait + Sync, S: Source, K: Sink, G: Gate>(
     run_telling(rt, words, source, sink, gate, &mut RowForm::NONE)
 }
 
-/// Runs a command as `run` does, and tells what a refused row is to look like.
+/// Runs a command as `run` does, and tells what a refused row is to look like. A command that waits
+/// for nobody is run by a call that can't wait, and no command waits.
 pub fn run_telling<R: AllocGlobal + Threads + Wait + Sync, S: Source, K: Sink, G: Gate>(
     rt: &R,
     words: &[String],
@@ -56,7 +57,7 @@ pub fn run_telling<R: AllocGlobal + Threads + Wait + Sync, S: Source, K: Sink, G
         (source_call S.left S.faults S.at_fault source.old source.new)
         (sink_call K.written K.flushed K.faults sink.old sink.new) }
 {
-    run_here(rt, words, source, sink, told)
+    run_alone_telling(rt, words, source, sink, told)
 }
 
 /// Runs a command that waits for nobody: it takes memory and may start threads, but no handle to
@@ -74,11 +75,11 @@ pub fn run_alone<R: AllocGlobal + Threads + Sync, S: Source, K: Sink>(
         (source_call S.left S.faults S.at_fault source.old source.new)
         (sink_call K.written K.flushed K.faults sink.old sink.new) }
 {
-    run_here(rt, words, source, sink, &mut RowForm::NONE)
+    run_alone_telling(rt, words, source, sink, &mut RowForm::NONE)
 }
 
-// Runs a command.
-fn run_here<R: AllocGlobal + Threads + Sync, S: Source, K: Sink>(
+/// Runs a command as `run_alone` does, and tells what a refused row is to look like.
+pub fn run_alone_telling<R: AllocGlobal + Threads + Sync, S: Source, K: Sink>(
     rt: &R,
     words: &[String],
     source: &mut S,
@@ -110,7 +111,8 @@ fn reply_from<R: AllocGlobal + Threads + Sync, S: Source>(
     command: Command,
     source: &mut S,
 ) -> Result<Reply, Status>
-    ensures replies { IfOk result (IsReply command (S.left source.old)) }
+    ensures replies { IfOk result (IsReply
+        (IsEnd command (source_call S.left S.faults S.at_fault source.old source.new))) }
     ensures whole_input { IfOk result (λ reply.
         reply.status ≡ status.Done → IsAtEnd (S.left source.new)) }
     ensures why { IfErr result (λ why. (why ≡ status.ReadFault) ⊎ (why ≡ status.OutOfMemory)) }

@@ -1,7 +1,7 @@
 //! From the bytes of an input to tables, or to the row at which it is refused.
 ghost use Rattle.std.specs.Prelude.{◌≡◌, ◌+◌, ◌<◌, ◌^◌, length, slice_index_or, [], IfOk, OnOk, Ok, Some};
 ghost use Rattle.rail_model.specs.Edits.{no_tables};
-ghost use Rattle.capacity_cmd.specs.Input.{tables_of, tables_in, edit_of, edit_in};
+ghost use Rattle.capacity_cmd.specs.TablesSoFar.{tables_of, tables_in, edit_of, edit_in};
 
 use crate::Cause;
 use crate::refusal::Refusal;

@@ -1,9 +1,9 @@
 //! The reply to an input: the text to write, and the status that says so.
-ghost use Rattle.std.specs.Prelude.{◌≡◌, ◌≤◌, ◌∷◌, [], List, length, IfOk, Ok, codes, decimal};
-ghost use Rattle.row_text.specs.SheetRows.{text_of_row};
-ghost use Rattle.capacity_cmd.specs.Outcome.{Refuses, Outcome, EndsOn, cause_text, form_text, rule_text};
+ghost use Rattle.std.specs.Prelude.{◌≡◌, ◌≤◌, length, IfOk};
+ghost use Rattle.capacity_cmd.specs.Outcome.{Refuses, cause_text, form_text, rule_text};
 ghost use Rattle.capacity_cmd.specs.Outcome as outcome;
-ghost use Rattle.capacity_cmd.specs.Reply.{Says, IsReplyFrom, IsReplyTo};
+ghost use Rattle.capacity_cmd.specs.Ends.{EndsOnTables, EndsOn};
+ghost use Rattle.capacity_cmd.specs.Reply.{Says, IsReply};
 
 use crate::input::tables_of_rows;
 use crate::limit::INPUT_BYTES;
@@ -32,7 +32,7 @@ pub(crate) fn reply_to(
     input: &[u8],
 ) -> Result<Reply, OutOfMemory>
     requires { length input.now ≤ INPUT_BYTES }
-    ensures { IfOk result (IsReplyTo command input.now) }
+    ensures { IfOk result (IsReply (EndsOn command input.now)) }
 {
     let rows = rows(alloc, input)?;
     match tables_of_rows(alloc, &rows)? {
@@ -54,15 +54,15 @@ fn reply_on(
     command: Command,
     tables: &LineTables,
 ) -> Result<Reply, OutOfMemory>
-    ensures { IfOk result (IsReplyFrom command (Ok tables.now)) }
+    ensures { IfOk result (IsReply (EndsOnTables command tables.now)) }
 {
     match text_of(rt, alloc, command, tables)? {
-        Some(text) => Ok(Reply {
+        Ok(text) => Ok(Reply {
             text,
             status: Status::Done,
             told: RowForm::NONE,
         }),
-        None => refusal(alloc, 0, Cause::NoSection, RowForm::NONE),
+        Err(cause) => refusal(alloc, 0, cause, RowForm::NONE),
     }
 }
 

@@ -1,6 +1,6 @@
 -- A source and a sink in a call: what they tell of themselves, and their states before and after it.
 use Rattle.std.specs.Prelude.{◌≡◌, ℕ, ◌-◌, ◌^◌, ◌<◌, ◌≤◌, List, length, take, Option}
-use Rattle.std.specs.Io.KnownBytes.{Appends, IsAtEnd}
+use Rattle.std.specs.Io.KnownBytes.{Consumes, Appends, IsAtEnd}
 use Rattle.rail_outside.specs.Faults.{RoseByOne}
 use Rattle.rail_outside.specs.Sink.{IsFlushed}
 
@@ -32,6 +32,11 @@ module _ {S : Type 0} (source : SourceInCall S) where
   -- nothing was read
   abbrev pub IsUnread : Type 0
   IsUnread = source.after ≡ source.before
+
+  -- exactly so many bytes were taken
+  abbrev pub HasGiven : ℕ → Type 0
+  HasGiven count =
+      (bytes : List ℕ) × (length bytes ≡ count) × Consumes (source.left source.before) (source.left source.after) bytes
 
   -- the source was read to its end
   abbrev pub IsReadToEnd : Type 0

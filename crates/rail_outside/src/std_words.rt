@@ -11,6 +11,7 @@ use std::io::{Error, ErrorKind};
 use std::rt::Env;
 
 /// The process's words. They are not told.
+#[derive(Drop)]
 pub struct StdWords<'a, R> {
     rt: &'a R,
 }

@@ -1,8 +1,8 @@
 use Rattle.std.proofs.Common.{refl, sym, subst}
-use Rattle.std.specs.Prelude.{IfOk, MatchOption}
+use Rattle.std.specs.Prelude.{IfOk, MatchResult}
 use Rattle.capacity_cmd.specs.declared.command.Command.{Command}
-use Rattle.capacity_cmd.specs.declared.status.Cause.TheVariants as cause
-use Rattle.capacity_cmd.specs.Outcome.{Writes, Refuses, EndsOnTables}
+use Rattle.capacity_cmd.specs.Outcome.{Writes, Refuses}
+use Rattle.capacity_cmd.specs.Ends.{EndsOnTables}
 use Rattle.capacity_cmd.proofs.texts.text_of.Goals as goal
 
 pub returns-in_ok-stairs_text-in-Stairs : goal.returns-in_ok-stairs_text-in-Stairs
@@ -22,14 +22,14 @@ returns-in_ok-report_text-in-Report g c =
 
 pub returns-in-Compress : goal.returns-in-Compress
 returns-in-Compress g c =
-    subst (λ (which : Command). IfOk c.compress_text.result (λ text. MatchOption text
-    (EndsOnTables which c.args.tables.now (Refuses 0 cause.NoSection))
-    (λ written. EndsOnTables which c.args.tables.now (Writes written.items))))
+    subst (λ (which : Command). IfOk c.compress_text.result (λ made. MatchResult made
+    (λ text. EndsOnTables which c.args.tables.now (Writes text.items))
+    (λ why. EndsOnTables which c.args.tables.now (Refuses 0 why))))
     (sym c.in-Compress.is) c.compress_text.ensures
 
 pub returns-in-Headways : goal.returns-in-Headways
 returns-in-Headways g c =
-    subst (λ (which : Command). IfOk c.headways_text.result (λ text. MatchOption text
-    (EndsOnTables which c.args.tables.now (Refuses 0 cause.NoSection))
-    (λ written. EndsOnTables which c.args.tables.now (Writes written.items))))
+    subst (λ (which : Command). IfOk c.headways_text.result (λ made. MatchResult made
+    (λ text. EndsOnTables which c.args.tables.now (Writes text.items))
+    (λ why. EndsOnTables which c.args.tables.now (Refuses 0 why))))
     (sym c.in-Headways.is) c.headways_text.ensures

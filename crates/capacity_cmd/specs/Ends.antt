@@ -1,0 +1,37 @@
+-- What each command ends with, by its input.
+use Rattle.std.specs.Prelude.{◌≡◌, ℕ, List, Option, Some, None, Result, Ok, Err}
+use Rattle.rail_model.specs.declared.tables.Tables.{Tables}
+use Rattle.capacity_cmd.specs.declared.command.Command.{Command}
+use Rattle.capacity_cmd.specs.declared.command.Command.TheVariants as command
+use Rattle.capacity_cmd.specs.declared.refusal.Refusal.{Refusal}
+use Rattle.capacity_cmd.specs.Input.{Said, said_by_input}
+use Rattle.capacity_cmd.specs.Command.{planners_of}
+use Rattle.capacity_cmd.specs.Outcome.{Outcome, Refuses, EndsInText}
+use Rattle.capacity_cmd.specs.Named.{cut_named, EndsOnNamed}
+use Rattle.capacity_cmd.specs.Stairs.{IsStairsText}
+use Rattle.capacity_cmd.specs.Check.{IsCheckText}
+use Rattle.capacity_cmd.specs.Compress.{IsCompressText}
+use Rattle.capacity_cmd.specs.Report.{IsReportText}
+use Rattle.capacity_cmd.specs.Headways.{IsHeadwaysText}
+
+-- the outcome of each command on the tables of a line
+abbrev pub EndsOnTables : Command → Tables → Outcome → Type 0
+EndsOnTables command.Stairs tables = EndsInText (IsStairsText tables)
+EndsOnTables command.Check tables = EndsInText (IsCheckText tables)
+EndsOnTables (command.Compress section) tables = EndsOnNamed IsCompressText (cut_named tables section)
+EndsOnTables command.Report tables = EndsInText (IsReportText tables)
+EndsOnTables (command.Headways section) tables = EndsOnNamed IsHeadwaysText (cut_named tables section)
+
+-- the outcome of a command on what an input says, or on its refusal
+abbrev pub Ends : Command → Result Said Refusal → Outcome → Type 0
+Ends command (Ok said) outcome = EndsOnTables command said.tables outcome
+Ends command (Err refusal) outcome = outcome ≡ Refuses refusal.row refusal.cause
+
+-- the outcome of a command on an input
+abbrev pub EndsOn : Command → List ℕ → Outcome → Type 0
+EndsOn command input outcome = Ends command (said_by_input (planners_of command) input) outcome
+
+-- the outcome of a command on the bytes of a source; where it doesn't tell them, on some bytes
+abbrev pub IsOutcome : Command → Option (List ℕ) → Outcome → Type 0
+IsOutcome command None outcome = (input : List ℕ) × EndsOn command input outcome
+IsOutcome command (Some input) outcome = EndsOn command input outcome

@@ -1,0 +1,21 @@
+//! The command `check`.
+ghost use Rattle.std.specs.Prelude.{◌≡◌, IfOk};
+ghost use Rattle.capacity_cmd.specs.Check.{IsCheckText};
+
+use capacity_report::{conflict_rows, stairways};
+use conflict_finder::conflicts;
+use line_tables::LineTables;
+use rail_model::OutOfMemory;
+use row_text::Sheet;
+use std::alloc::Global;
+
+// The rows of the timetable's conflicts.
+pub(crate) fn check_text(alloc: Global, tables: &LineTables) -> Result<Vec<u8>, OutOfMemory>
+    ensures { IfOk result (λ text. IsCheckText tables.now text.items) }
+{
+    let stairs = stairways(alloc, tables)?;
+    let found = conflicts(alloc, &stairs)?;
+    let mut sheet = Sheet::new(alloc);
+    conflict_rows(&mut sheet, tables, &found)?;
+    Ok(sheet.into_text())
+}
