@@ -14,17 +14,17 @@ use Rattle.rail_model.proofs.Edited.{at_place, accepted_more, refused_still}
 use Rattle.row_text.specs.declared.line.Line.{Line}
 use Rattle.row_text.specs.declared.line.Line.TheVariants as line
 use Rattle.row_text.specs.Row.{Row}
-use Rattle.row_text.specs.Lines.{read_in}
+use Rattle.row_text.specs.Lines.{read_in, ◌>>=◌}
 use Rattle.row_text.specs.Versions.{first_line}
 use Rattle.capacity_cmd.specs.declared.status.Cause.{Cause}
 use Rattle.capacity_cmd.specs.declared.refusal.Refusal.{Refusal}
 use Rattle.capacity_cmd.specs.declared.input.TablesSoFar.{TablesSoFar}
-use Rattle.capacity_cmd.specs.Spelled.{Spelled, with_line}
-use Rattle.capacity_cmd.specs.Input.{refused, ◌>>=◌, at_row, in_form, spelled_from, unless_refused, tables_from}
-use Rattle.capacity_cmd.specs.TablesSoFar.{tables_said, tables_in, edit_or_fault, edit_in, tables_so_far, by_rule, after_one_more, TakesRow}
+use Rattle.capacity_cmd.specs.Spelling.{Spelling, with_line}
+use Rattle.capacity_cmd.specs.Input.{refused, at_row, in_form, spelling_from, unless_refused, tables_from}
+use Rattle.capacity_cmd.specs.TablesSoFar.{tables_of_content, tables_in, edit_or_fault, edit_in, tables_so_far, by_rule, after_one_more, TakesRow}
 
 -- edits of a base alone
-of_base : List Edit → Spelled
+of_base : List Edit → Spelling
 of_base base = record { base = base; scripts = [] }
 
 -- ---- one row
@@ -49,33 +49,33 @@ stands_not number base (Err fault) why is = ap (λ w. refused number w) (cc)
 -- ---- the rows that are left
 
 -- what is made of a base and of the rows that are left, the first of which has this number
-made_of : ℕ → Result Spelled Refusal → Result Tables Refusal
-made_of first spelled =
-    tables_said (spelled >>= λ (s : Spelled). tables_from first s.base >>= λ tables. Ok (record { spelled = s; tables = tables }))
+made_of : ℕ → Result Spelling Refusal → Result Tables Refusal
+made_of first spelling =
+    tables_of_content (spelling >>= λ (s : Spelling). tables_from first s.base >>= λ tables. Ok (record { spelling = s; tables = tables }))
 
 pub goes_on : ℕ → ℕ → ℕ → List Edit → List Row → Result Tables Refusal
-goes_on version first number base rows = made_of first (spelled_from 0 version number (of_base base) rows)
+goes_on version first number base rows = made_of first (spelling_from 0 version number (of_base base) rows)
 
 goes_on-edit : (version first number : ℕ) (base : List Edit) (row : Row) (rows : List Row) (e : Edit)
     → edit_in version row ≡ Ok e
     → goes_on version first number base (row ∷ rows) ≡ goes_on version first (number + 1) (base ++ e ∷ []) rows
 unfolding goes_on
 goes_on-edit version first number base row rows e is =
-    ap (λ found. made_of first (found >>= λ more. spelled_from 0 version (number + 1) more rows))
+    ap (λ found. made_of first (found >>= λ more. spelling_from 0 version (number + 1) more rows))
     (stands number base (read_in version row) e is)
 
 goes_on-fault : (version first number : ℕ) (base : List Edit) (row : Row) (rows : List Row) (why : Cause)
     → edit_in version row ≡ Err why → goes_on version first number base (row ∷ rows) ≡ refused number why
 unfolding goes_on made_of
 goes_on-fault version first number base row rows why is =
-    ap (λ found. made_of first (found >>= λ more. spelled_from 0 version (number + 1) more rows))
+    ap (λ found. made_of first (found >>= λ more. spelling_from 0 version (number + 1) more rows))
     (stands_not number base (read_in version row) why is)
 
 goes_on-end : (version first number : ℕ) (base : List Edit) → goes_on version first number base [] ≡ tables_from first base
 unfolding goes_on made_of of_base
 goes_on-end version first number base = by_tables (tables_from first base)
   where
-    by_tables : (tables : Result Tables Refusal) → tables_said (tables >>= λ t. Ok (record { spelled = record { base = base; scripts = [] }; tables = t })) ≡ tables
+    by_tables : (tables : Result Tables Refusal) → tables_of_content (tables >>= λ t. Ok (record { spelling = record { base = base; scripts = [] }; tables = t })) ≡ tables
     by_tables (Ok t) = refl
     by_tables (Err refusal) = refl
 

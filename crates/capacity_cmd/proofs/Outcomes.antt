@@ -11,8 +11,8 @@ use Rattle.capacity_cmd.specs.declared.command.Command.{Command}
 use Rattle.capacity_cmd.specs.declared.refusal.Refusal.{Refusal}
 use Rattle.capacity_cmd.specs.declared.status.Cause.TheVariants as cause
 use Rattle.capacity_cmd.specs.declared.limit.TheConstants.{INPUT_BYTES}
-use Rattle.capacity_cmd.specs.Input.{Said, refused, said_by, said_by_input}
-use Rattle.capacity_cmd.specs.TablesSoFar.{tables_said, tables_of}
+use Rattle.capacity_cmd.specs.Input.{Content, refused, content_of_rows, content_of_input}
+use Rattle.capacity_cmd.specs.TablesSoFar.{tables_of_content, tables_of}
 use Rattle.capacity_cmd.specs.Command.{planners_of}
 use Rattle.capacity_cmd.specs.Outcome.{Outcome, Refuses}
 use Rattle.capacity_cmd.specs.Ends.{EndsOnTables, Ends, EndsOn, IsOutcome}
@@ -20,47 +20,47 @@ use Rattle.capacity_cmd.specs.Promise.{IsEnd}
 use Rattle.capacity_cmd.proofs.Refused.{ends_not_too_long, read_for}
 
 -- an input that isn't too long says what its rows say, and one that is too long is refused
-pub said_by_short : (planners : ℕ) (input : List ℕ) → length input ≤ INPUT_BYTES
-    → said_by_input planners input ≡ said_by planners (rows_of input)
-unfolding said_by_input
-said_by_short planners input short =
+pub content_of_short : (planners : ℕ) (input : List ℕ) → length input ≤ INPUT_BYTES
+    → content_of_input planners input ≡ content_of_rows planners (rows_of input)
+unfolding content_of_input
+content_of_short planners input short =
     let test : nat_lt INPUT_BYTES (length input) ≡ false = grind (arith, nat_tests) in
     rw test refl
 
-said_by_long : (planners : ℕ) (input : List ℕ) → INPUT_BYTES < length input
-    → said_by_input planners input ≡ refused 0 cause.TooLong
-unfolding said_by_input
-said_by_long planners input long =
+content_of_long : (planners : ℕ) (input : List ℕ) → INPUT_BYTES < length input
+    → content_of_input planners input ≡ refused 0 cause.TooLong
+unfolding content_of_input
+content_of_long planners input long =
     let test : nat_lt INPUT_BYTES (length input) ≡ true = lt-ltb _ _ long in
     rw test refl
 
 ends_too_long : (c : Command) (input : List ℕ) → INPUT_BYTES < length input → EndsOn c input (Refuses 0 cause.TooLong)
 ends_too_long c input long =
-    subst (λ said. Ends c said (Refuses 0 cause.TooLong)) (sym (said_by_long (planners_of c) input long)) refl
+    subst (λ content. Ends c content (Refuses 0 cause.TooLong)) (sym (content_of_long (planners_of c) input long)) refl
 
 -- what a command that takes no scripts ends with on an input, by the tables or the refusal that its rows make
-by_tables : (c : Command) (said : Result Said Refusal) (tables : Tables) (outcome : Outcome)
-    → tables_said said ≡ Ok tables → EndsOnTables c tables outcome → Ends c said outcome
-by_tables c (Ok said) tables outcome is ends =
-    let same : said.tables ≡ tables = cc in subst (λ t. EndsOnTables c t outcome) (sym same) ends
+by_tables : (c : Command) (content : Result Content Refusal) (tables : Tables) (outcome : Outcome)
+    → tables_of_content content ≡ Ok tables → EndsOnTables c tables outcome → Ends c content outcome
+by_tables c (Ok content) tables outcome is ends =
+    let same : content.tables ≡ tables = cc in subst (λ t. EndsOnTables c t outcome) (sym same) ends
 by_tables c (Err refusal) tables outcome is ends = absurd (cc)
 
-by_refusal : (c : Command) (said : Result Said Refusal) (refusal : Refusal) → tables_said said ≡ Err refusal
-    → Ends c said (Refuses refusal.row refusal.cause)
-by_refusal c (Ok said) refusal is = absurd (cc)
+by_refusal : (c : Command) (content : Result Content Refusal) (refusal : Refusal) → tables_of_content content ≡ Err refusal
+    → Ends c content (Refuses refusal.row refusal.cause)
+by_refusal c (Ok content) refusal is = absurd (cc)
 by_refusal c (Err other) refusal is = let same : refusal ≡ other = cc in ap (λ (r : Refusal). Refuses r.row r.cause) same
 
 pub ends_on_tables : (c : Command) (input : List ℕ) (tables : Tables) (outcome : Outcome) → length input ≤ INPUT_BYTES
     → tables_of (rows_of input) ≡ Ok tables → EndsOnTables c tables outcome → EndsOn c input outcome
 ends_on_tables c input tables outcome short made ends =
-    subst (λ said. Ends c said outcome) (sym (said_by_short (planners_of c) input short))
-    (by_tables c (said_by 0 (rows_of input)) tables outcome made ends)
+    subst (λ content. Ends c content outcome) (sym (content_of_short (planners_of c) input short))
+    (by_tables c (content_of_rows 0 (rows_of input)) tables outcome made ends)
 
 pub ends_refused : (c : Command) (input : List ℕ) (refusal : Refusal) → length input ≤ INPUT_BYTES
     → tables_of (rows_of input) ≡ Err refusal → EndsOn c input (Refuses refusal.row refusal.cause)
 ends_refused c input refusal short made =
-    subst (λ said. Ends c said (Refuses refusal.row refusal.cause)) (sym (said_by_short (planners_of c) input short))
-    (by_refusal c (said_by 0 (rows_of input)) refusal made)
+    subst (λ content. Ends c content (Refuses refusal.row refusal.cause)) (sym (content_of_short (planners_of c) input short))
+    (by_refusal c (content_of_rows 0 (rows_of input)) refusal made)
 
 -- the outcome is that of the bytes that a source gave, where it gave all that it had
 all_given : (c : Command) (told left : Option (List ℕ)) (input : List ℕ) (outcome : Outcome) → Consumes told left input
@@ -78,7 +78,7 @@ IsEnd-all c source input outcome short gave end ends = record {
   is = all_given c (source.left source.before) (source.left source.after) input outcome gave end ends;
   read = read_for source outcome
       (ends_not_too_long c (rows_of input) outcome
-      (subst (λ said. Ends c said outcome) (said_by_short (planners_of c) input short) ends))
+      (subst (λ content. Ends c content outcome) (content_of_short (planners_of c) input short) ends))
       end;
 }
 

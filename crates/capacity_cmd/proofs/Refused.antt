@@ -10,7 +10,7 @@ use Rattle.rail_outside.specs.InCall.{SourceInCall, IsReadToEnd}
 use Rattle.row_text.specs.declared.line.Line.{Line}
 use Rattle.row_text.specs.declared.line.Line.TheVariants as line
 use Rattle.row_text.specs.Row.{Row}
-use Rattle.row_text.specs.Lines.{read_in}
+use Rattle.row_text.specs.Lines.{read_in, ◌>>=◌}
 use Rattle.row_text.specs.Versions.{version_of, first_line}
 use Rattle.plan_model.specs.SectionCut.{cut_of}
 use Rattle.plan_model.specs.declared.scripts.Task.{Task}
@@ -21,8 +21,8 @@ use Rattle.capacity_cmd.specs.declared.command.Command.TheVariants as command
 use Rattle.capacity_cmd.specs.declared.refusal.Refusal.{Refusal}
 use Rattle.capacity_cmd.specs.declared.status.Cause.{Cause}
 use Rattle.capacity_cmd.specs.declared.status.Cause.TheVariants as cause
-use Rattle.capacity_cmd.specs.Spelled.{Spelled, nothing, takes_planner, takes_task, where_it_stands, with_one_task, with_line}
-use Rattle.capacity_cmd.specs.Input.{Said, ◌>>=◌, at_row, in_form, spelled_from, unless_refused, said_by}
+use Rattle.capacity_cmd.specs.Spelling.{Spelling, nothing, takes_planner, takes_task, where_it_stands, with_one_task, with_line}
+use Rattle.capacity_cmd.specs.Input.{Content, at_row, in_form, spelling_from, unless_refused, content_of_rows}
 use Rattle.capacity_cmd.specs.Command.{planners_of}
 use Rattle.capacity_cmd.specs.Outcome.{Outcome, Writes, Refuses, EndsInText}
 use Rattle.capacity_cmd.specs.Named.{EndsOnNamed}
@@ -58,20 +58,20 @@ form_other : {X : Type 0} (found : Result X Form) → HasOtherCause (in_form fou
 form_other (Ok x) = tt
 form_other (Err fault) = λ is. cc
 
-standing_other : (stands : Bool) (more : Spelled) → HasOtherCause (where_it_stands stands more)
+standing_other : (stands : Bool) (more : Spelling) → HasOtherCause (where_it_stands stands more)
 standing_other true more = tt
 standing_other false more = λ is. cc
 
-task_other : (so_far : Spelled) (t : Task) → HasOtherCause (with_one_task so_far t)
+task_other : (so_far : Spelling) (t : Task) → HasOtherCause (with_one_task so_far t)
 task_other so_far t =
     standing_other (takes_task so_far.scripts) (record so_far { scripts = with_task so_far.scripts t })
 
-edit_other : (stands : Bool) (found : Result Spelled Cause) (more : Spelled) → HasOtherCause found
+edit_other : (stands : Bool) (found : Result Spelling Cause) (more : Spelling) → HasOtherCause found
     → HasOtherCause (if stands then found else Ok more)
 edit_other true found more other = other
 edit_other false found more other = tt
 
-line_other : (planners : ℕ) (so_far : Spelled) (l : Line) → HasOtherCause (with_line planners so_far l)
+line_other : (planners : ℕ) (so_far : Spelling) (l : Line) → HasOtherCause (with_line planners so_far l)
 line_other planners so_far (line.Planner planner) =
     standing_other (takes_planner planners so_far.scripts planner)
     (record so_far { scripts = so_far.scripts ++ [] ∷ [] })
@@ -80,27 +80,27 @@ line_other planners so_far (line.Edit e) =
     edit_other (nat_lt 0 (length so_far.scripts)) (with_one_task so_far (task.Edit e))
     (record so_far { base = so_far.base ++ e ∷ [] }) (task_other so_far (task.Edit e))
 
-row_other : (planners : ℕ) (so_far : Spelled) (found : Result Line Form)
+row_other : (planners : ℕ) (so_far : Spelling) (found : Result Line Form)
     → HasOtherCause (in_form found >>= with_line planners so_far)
 row_other planners so_far (Ok l) = line_other planners so_far l
 row_other planners so_far (Err fault) = λ is. cc
 
-spelled_other : (planners version number : ℕ) (so_far : Spelled) (rows : List Row)
-    → HasOtherRefusal (spelled_from planners version number so_far rows)
-spelled_other planners version number so_far [] = tt
-spelled_other planners version number so_far (row ∷ rows) =
+spelling_other : (planners version number : ℕ) (so_far : Spelling) (rows : List Row)
+    → HasOtherRefusal (spelling_from planners version number so_far rows)
+spelling_other planners version number so_far [] = tt
+spelling_other planners version number so_far (row ∷ rows) =
     then_other _ _ (at_row_other number _ (row_other planners so_far (read_in version row)))
-    (λ more. spelled_other planners version (number + 1) more rows)
+    (λ more. spelling_other planners version (number + 1) more rows)
 
 rule_other : (number : ℕ) (tables : Tables) (found : Option Refused) → HasOtherRefusal (unless_refused number tables found)
 rule_other number tables None = tt
 rule_other number tables (Some refused) = λ is. cc
 
-said_other : (planners : ℕ) (rows : List Row) → HasOtherRefusal (said_by planners rows)
-said_other planners rows =
+content_other : (planners : ℕ) (rows : List Row) → HasOtherRefusal (content_of_rows planners rows)
+content_other planners rows =
     then_other _ _ (at_row_other 1 _ (form_other (version_of rows))) λ version.
-    then_other _ _ (spelled_other planners version (first_line rows + 1) nothing (drop (first_line rows) rows)) λ spelled.
-    then_other _ _ (rule_other (first_line rows + 1) (after_edits no_tables spelled.base) (first_refused no_tables spelled.base))
+    then_other _ _ (spelling_other planners version (first_line rows + 1) nothing (drop (first_line rows) rows)) λ spelling.
+    then_other _ _ (rule_other (first_line rows + 1) (after_edits no_tables spelling.base) (first_refused no_tables spelling.base))
     λ tables. tt
 
 -- ---- and by its tables
@@ -120,14 +120,14 @@ on_tables (command.Compress section) tables outcome ends = on_named _ (option_an
 on_tables command.Report tables outcome ends = in_text _ outcome ends
 on_tables (command.Headways section) tables outcome ends = on_named _ (option_and_then (cut_of tables) section) outcome ends
 
-by_said : (c : Command) (said : Result Said Refusal) (outcome : Outcome) → HasOtherRefusal said → Ends c said outcome
+by_content : (c : Command) (said : Result Content Refusal) (outcome : Outcome) → HasOtherRefusal said → Ends c said outcome
     → IsNotTooLong outcome
-by_said c (Ok said) outcome other ends = on_tables c said.tables outcome ends
-by_said c (Err refusal) outcome other ends = subst IsNotTooLong (sym ends) other
+by_content c (Ok content) outcome other ends = on_tables c content.tables outcome ends
+by_content c (Err refusal) outcome other ends = subst IsNotTooLong (sym ends) other
 
-pub ends_not_too_long : (c : Command) (rows : List Row) (outcome : Outcome) → Ends c (said_by (planners_of c) rows) outcome
+pub ends_not_too_long : (c : Command) (rows : List Row) (outcome : Outcome) → Ends c (content_of_rows (planners_of c) rows) outcome
     → IsNotTooLong outcome
-ends_not_too_long c rows outcome ends = by_said c (said_by (planners_of c) rows) outcome (said_other (planners_of c) rows) ends
+ends_not_too_long c rows outcome ends = by_content c (content_of_rows (planners_of c) rows) outcome (content_other (planners_of c) rows) ends
 
 -- for such an outcome the source is read to its end
 pub read_for : {S : Type 0} (source : SourceInCall S) (outcome : Outcome) → IsNotTooLong outcome → IsReadToEnd source

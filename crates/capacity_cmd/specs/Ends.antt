@@ -4,7 +4,7 @@ use Rattle.rail_model.specs.declared.tables.Tables.{Tables}
 use Rattle.capacity_cmd.specs.declared.command.Command.{Command}
 use Rattle.capacity_cmd.specs.declared.command.Command.TheVariants as command
 use Rattle.capacity_cmd.specs.declared.refusal.Refusal.{Refusal}
-use Rattle.capacity_cmd.specs.Input.{Said, said_by_input}
+use Rattle.capacity_cmd.specs.Input.{Content, content_of_input}
 use Rattle.capacity_cmd.specs.Command.{planners_of}
 use Rattle.capacity_cmd.specs.Outcome.{Outcome, Refuses, EndsInText}
 use Rattle.capacity_cmd.specs.Named.{cut_named, EndsOnNamed}
@@ -23,13 +23,13 @@ EndsOnTables command.Report tables = EndsInText (IsReportText tables)
 EndsOnTables (command.Headways section) tables = EndsOnNamed IsHeadwaysText (cut_named tables section)
 
 -- the outcome of a command on what an input says, or on its refusal
-abbrev pub Ends : Command → Result Said Refusal → Outcome → Type 0
-Ends command (Ok said) outcome = EndsOnTables command said.tables outcome
+abbrev pub Ends : Command → Result Content Refusal → Outcome → Type 0
+Ends command (Ok content) outcome = EndsOnTables command content.tables outcome
 Ends command (Err refusal) outcome = outcome ≡ Refuses refusal.row refusal.cause
 
 -- the outcome of a command on an input
 abbrev pub EndsOn : Command → List ℕ → Outcome → Type 0
-EndsOn command input outcome = Ends command (said_by_input (planners_of command) input) outcome
+EndsOn command input outcome = Ends command (content_of_input (planners_of command) input) outcome
 
 -- the outcome of a command on the bytes of a source; where it doesn't tell them, on some bytes
 abbrev pub IsOutcome : Command → Option (List ℕ) → Outcome → Type 0

@@ -14,11 +14,11 @@ use Rattle.capacity_cmd.specs.declared.status.Cause.{Cause}
 use Rattle.capacity_cmd.specs.declared.status.Cause.TheVariants as cause
 use Rattle.capacity_cmd.specs.declared.refusal.Refusal.{Refusal}
 use Rattle.capacity_cmd.specs.declared.limit.TheConstants.{INPUT_BYTES}
-use Rattle.capacity_cmd.specs.Spelled.{Spelled, nothing, with_line}
+use Rattle.capacity_cmd.specs.Spelling.{Spelling, nothing, with_line}
 
--- what an input says where it isn't refused
-pub record Said : Type 0 where
-  pub spelled : Spelled
+-- what an input that isn't refused says: the base edits and scripts that its rows spell, and the tables that the edits make
+pub record Content : Type 0 where
+  pub spelling : Spelling
   pub tables : Tables
 
 -- a row is refused, counted from 1, or with row 0 the input as a whole
@@ -34,11 +34,11 @@ in_form found = result_map_both (λ x. x) (λ fault. cause.Form fault) found
 
 -- what rows spell after others, in a version of the rows, where the first of them has this number; the first row with a
 -- fault is refused, first for its form and then for its place
-abbrev pub spelled_from : ℕ → ℕ → ℕ → Spelled → List Row → Result Spelled Refusal
-spelled_from planners version number so_far [] = Ok so_far
-spelled_from planners version number so_far (row ∷ rows) =
-    at_row number (in_form (read_in version row) >>= with_line planners so_far)
-    >>= λ more. spelled_from planners version (number + 1) more rows
+abbrev pub spelling_from : ℕ → ℕ → ℕ → Spelling → List Row → Result Spelling Refusal
+spelling_from planners version number so_far [] = Ok so_far
+spelling_from planners version number so_far (row ∷ rows) = do
+  more ← at_row number (in_form (read_in version row) >>= with_line planners so_far)
+  spelling_from planners version (number + 1) more rows
 
 -- the tables that base edits make, where the first stands in the row of this number; the first that a rule refuses is refused
 abbrev pub unless_refused : ℕ → Tables → Option Refused → Result Tables Refusal
@@ -50,17 +50,17 @@ tables_from number base = unless_refused number (after_edits no_tables base) (fi
 
 -- what the rows of an input say, for a command that takes the scripts of so many planners: their version is told first,
 -- then all rows are read, and then the edits of the base are made
-abbrev pub said_in : ℕ → Result ℕ Form → List Row → Result Said Refusal
-said_in planners version rows = do
+abbrev pub content_in : ℕ → Result ℕ Form → List Row → Result Content Refusal
+content_in planners version rows = do
   known ← at_row 1 (in_form version)
-  spelled ← spelled_from planners known (first_line rows + 1) nothing (drop (first_line rows) rows)
-  tables ← tables_from (first_line rows + 1) spelled.base
-  Ok (record { spelled = spelled; tables = tables })
+  spelling ← spelling_from planners known (first_line rows + 1) nothing (drop (first_line rows) rows)
+  tables ← tables_from (first_line rows + 1) spelling.base
+  Ok (record { spelling = spelling; tables = tables })
 
-abbrev pub said_by : ℕ → List Row → Result Said Refusal
-said_by planners rows = said_in planners (version_of rows) rows
+abbrev pub content_of_rows : ℕ → List Row → Result Content Refusal
+content_of_rows planners rows = content_in planners (version_of rows) rows
 
 -- what an input says, or its refusal; an input may have no more bytes than are read
-unfoldable pub said_by_input : ℕ → List ℕ → Result Said Refusal
-said_by_input planners input =
-    if nat_lt INPUT_BYTES (length input) then refused 0 cause.TooLong else said_by planners (rows_of input)
+unfoldable pub content_of_input : ℕ → List ℕ → Result Content Refusal
+content_of_input planners input =
+    if nat_lt INPUT_BYTES (length input) then refused 0 cause.TooLong else content_of_rows planners (rows_of input)

@@ -1,5 +1,5 @@
 pub mod Command
-pub mod Spelled
+pub mod Spelling
 pub mod Input
 pub mod Outcome
 pub mod Named

@@ -16,14 +16,14 @@ use Rattle.capacity_cmd.specs.declared.status.Cause.{Cause}
 use Rattle.capacity_cmd.specs.declared.status.Cause.TheVariants as cause
 use Rattle.capacity_cmd.specs.declared.refusal.Refusal.{Refusal}
 use Rattle.capacity_cmd.specs.declared.input.TablesSoFar.{TablesSoFar}
-use Rattle.capacity_cmd.specs.Input.{Said, refused, said_in}
+use Rattle.capacity_cmd.specs.Input.{Content, refused, content_in}
 
 -- the tables of what an input says
-abbrev pub tables_said : Result Said Refusal → Result Tables Refusal
-tables_said said = result_map_both (λ (s : Said). s.tables) (λ refusal. refusal) said
+abbrev pub tables_of_content : Result Content Refusal → Result Tables Refusal
+tables_of_content content = result_map_both (λ (c : Content). c.tables) (λ refusal. refusal) content
 
 abbrev pub tables_in : Result ℕ Form → List Row → Result Tables Refusal
-tables_in version rows = tables_said (said_in 0 version rows)
+tables_in version rows = tables_of_content (content_in 0 version rows)
 
 abbrev pub tables_of : List Row → Result Tables Refusal
 tables_of rows = tables_in (version_of rows) rows

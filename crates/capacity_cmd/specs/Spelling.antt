@@ -11,11 +11,11 @@ use Rattle.capacity_cmd.specs.declared.status.Cause.TheVariants as cause
 use Rattle.capacity_cmd.specs.declared.limit.TheConstants.{TASKS}
 
 -- the edits of the base rows, and the tasks of each planner's script, planner 1's first
-pub record Spelled : Type 0 where
+pub record Spelling : Type 0 where
   pub base : List Edit
   pub scripts : List (List Task)
 
-abbrev pub nothing : Spelled
+abbrev pub nothing : Spelling
 nothing = record { base = []; scripts = [] }
 
 -- a script is that of the next planner, where the command takes so many
@@ -27,14 +27,14 @@ abbrev pub takes_task : List (List Task) → Bool
 takes_task scripts = nat_lt 0 (length scripts) && nat_lt (sum_by length scripts) TASKS
 
 -- what is spelled with one more line, where the line may stand there
-abbrev pub where_it_stands : Bool → Spelled → Result Spelled Cause
+abbrev pub where_it_stands : Bool → Spelling → Result Spelling Cause
 where_it_stands stands more = if stands then Ok more else Err cause.Script
 
-abbrev pub with_one_task : Spelled → Task → Result Spelled Cause
+abbrev pub with_one_task : Spelling → Task → Result Spelling Cause
 with_one_task so_far t =
     where_it_stands (takes_task so_far.scripts) (record so_far { scripts = with_task so_far.scripts t })
 
-abbrev pub with_line : ℕ → Spelled → Line → Result Spelled Cause
+abbrev pub with_line : ℕ → Spelling → Line → Result Spelling Cause
 with_line planners so_far (line.Planner planner) =
     where_it_stands (takes_planner planners so_far.scripts planner)
     (record so_far { scripts = so_far.scripts ++ [] ∷ [] })
