@@ -1,7 +1,6 @@
 pub mod First
 pub mod Ranges
 pub mod Before
-pub mod Visitors
 pub mod InTurn
 pub mod Later
 pub mod Following
