@@ -7,7 +7,6 @@ use Rattle.rail_model.specs.declared.items.Section.{Section}
 use Rattle.rail_model.specs.declared.stair.Use.{Use}
 use Rattle.plan_model.specs.declared.cut.CutRow.{CutRow}
 use Rattle.plan_model.specs.declared.cut.Cut.{Cut}
-use Rattle.plan_model.specs.declared.answer.Link.{Link}
 use Rattle.plan_model.specs.declared.answer.Plan.{Plan}
 use Rattle.plan_model.specs.declared.answer.Answer.{Answer}
 use Rattle.plan_model.specs.declared.answer.Answer.TheVariants as answer
@@ -17,7 +16,7 @@ use Rattle.row_text.specs.Row.{Row}
 use Rattle.capacity_report.specs.declared.answers.Detail.{Detail}
 use Rattle.capacity_report.specs.declared.answers.Detail.TheVariants as detail
 use Rattle.capacity_report.specs.Answers.{answer_rows, rate_row}
-use Rattle.capacity_report.specs.Headways.{headway_rows, headways_or_count}
+use Rattle.capacity_report.specs.Headways.{headways_or_count}
 use Rattle.capacity_report.specs.Report.{report_rows}
 use Rattle.capacity_report.specs.Total.{total_of, total_row}
 

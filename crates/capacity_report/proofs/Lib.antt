@@ -2,7 +2,7 @@ mod Examples
 pub mod Rows
 pub mod Timetables
 pub mod Checks
-pub mod Joined
+pub mod Within
 pub mod Plans
 pub mod Reports
 pub mod Pairs

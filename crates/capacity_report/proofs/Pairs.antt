@@ -1,5 +1,5 @@
 -- The rows of headways, pair by pair.
-use Rattle.std.proofs.Common.{◌≡◌, ℕ, ◌<◌, List, [], ◌∷◌, ◌++◌, get_or, refl, ap, ◌∙◌, arith}
+use Rattle.std.proofs.Common.{◌≡◌, ℕ, ◌<◌, List, [], ◌∷◌, ◌++◌, get_or, refl, sym, ap, ◌∙◌, append-nil, arith}
 use Rattle.std.specs.Prelude.{ℤ, Option, None, Some, option_map, codes}
 use Rattle.std.specs.List.{flat_map, filter_map, cons_option}
 use Rattle.std.proofs.lemmas.List.{get_or-map}
@@ -49,5 +49,6 @@ name_there cut j name names same l is =
 -- the rows of a pair by what was read
 pub pair_there : (cut : Cut) (i j : ℕ) → j < member_count cut → {head second : Row} {o : Option ℤ}
     → head ≡ head_of cut i → second ≡ name_of (member cut j) → o ≡ between cut i j
-    → rows_to head second o ≡ pair_rows cut i (get_or (members cut) j 0)
-pair_there cut i j l head second o = rw (member_at cut j 0 l, head, second, o) refl
+    → rows_to head second o ≡ flat_map (pair_rows cut i) (get_or (members cut) j 0 ∷ [])
+pair_there cut i j l head second o =
+    rw (member_at cut j 0 l, head, second, o) (sym (append-nil (pair_rows cut i j)))

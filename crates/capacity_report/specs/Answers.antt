@@ -1,34 +1,21 @@
 -- The rows of a section's answer.
-use Rattle.std.specs.Prelude.{ℕ, ◌/◌, ◌%◌, ◌-◌, ◌-ℤ◌, if◌then◌else◌, List, [], ◌∷◌, ◌++◌, length, map, codes, decimal, Option, Some, None, slice_index_or}
+use Rattle.std.specs.Prelude.{ℕ, ◌-◌, ◌-ℤ◌, List, [], ◌∷◌, ◌++◌, length, map, codes, decimal, Option, Some, None, slice_index_or}
 use Rattle.std.specs.Fmt.{signed_decimal}
 use Rattle.plan_model.specs.declared.answer.Answer.{Answer}
 use Rattle.plan_model.specs.declared.answer.Answer.TheVariants as answer
-use Rattle.plan_model.specs.declared.answer.Link.{Link}
 use Rattle.plan_model.specs.declared.answer.Placed.{Placed}
 use Rattle.plan_model.specs.declared.answer.Plan.{Plan}
 use Rattle.plan_model.specs.declared.answer.Tie.{Tie}
 use Rattle.plan_model.specs.declared.answer.Tie.TheVariants as tie
-use Rattle.plan_model.specs.Rates.{Fraction, rate, consumption, is_within, hundredths_up}
+use Rattle.plan_model.specs.Rates.{Fraction, rate, consumption}
 use Rattle.critical_chain.specs.Chain.{train_at, chain_of}
 use Rattle.row_text.specs.Row.{Row}
+use Rattle.answer_parts.specs.Ties.{start_fields, after_fields}
+use Rattle.answer_parts.specs.Links.{link_row}
+use Rattle.answer_parts.specs.Rates as rates
+pub use Rattle.answer_parts.specs.Disorder.{opposite_row, ring_rows, crowded_row}
 use Rattle.capacity_report.specs.declared.answers.Detail.{Detail}
 use Rattle.capacity_report.specs.declared.answers.Detail.TheVariants as detail
-
--- NUM/DEN
-abbrev pub fraction_text : Fraction → List ℕ
-fraction_text f = decimal f.num ++ codes "/" ++ decimal f.den
-
--- so many hundredths, with a point before the last two digits
-abbrev pub hundredths_text : ℕ → List ℕ
-hundredths_text n = decimal (n / 100) ++ codes "." ++ decimal (n % 100 / 10) ++ decimal (n % 10)
-
--- a fraction in per cent, rounded up to two digits behind the point
-abbrev pub percent_text : Fraction → List ℕ
-percent_text f = hundredths_text (hundredths_up f)
-
--- a consumption of at most 1 is within the capacity
-abbrev pub verdict_text : Fraction → List ℕ
-verdict_text f = if is_within f then codes "within" else codes "over"
 
 -- the length of a plan's window, its occupancy time rate and its capacity consumption
 abbrev pub period_of : Plan → ℕ
@@ -56,30 +43,18 @@ ordered_row section plan =
 
 -- rate,SECTION,OCCUPANCY_RATE,PERCENT,CONSUMPTION,PERCENT,VERDICT
 abbrev pub rate_row : List ℕ → Plan → Row
-rate_row section plan =
-    codes "rate" ∷ section
-    ∷ fraction_text (rate_of plan) ∷ percent_text (rate_of plan)
-    ∷ fraction_text (consumption_of plan) ∷ percent_text (consumption_of plan)
-    ∷ verdict_text (consumption_of plan) ∷ []
-
--- after,TRAIN,BLOCK
-abbrev pub touch_fields : Plan → ℕ → ℕ → Row
-touch_fields plan train block = codes "after" ∷ (train_at plan train).train ∷ place_of plan block ∷ []
+rate_row section plan = rates.rate_row section (rate_of plan) (consumption_of plan)
 
 -- start, or after,TRAIN,BLOCK
 abbrev pub tie_fields : Plan → Tie → Row
-tie_fields plan tie.Start = codes "start" ∷ []
-tie_fields plan (tie.After train block) = touch_fields plan train block
+tie_fields plan tie.Start = start_fields
+tie_fields plan (tie.After train block) = after_fields (train_at plan train).train (place_of plan block)
 
 -- train,NAME,PLANNED,ENTRY,SHIFT and its tie
 abbrev pub train_row : Plan → Placed → Row
 train_row plan p =
     codes "train" ∷ p.train ∷ signed_decimal p.planned ∷ signed_decimal p.entry
     ∷ signed_decimal (p.entry -ℤ p.planned) ∷ tie_fields plan p.tie
-
--- link,TRAIN,BLOCK,NEXT
-abbrev pub link_row : Link → Row
-link_row link = codes "link" ∷ link.train ∷ link.block ∷ link.next ∷ []
 
 -- critical,TRAIN,LINKS
 abbrev pub critical_row : List ℕ → ℕ → Row
@@ -103,24 +78,11 @@ plan_rows section plan detail.Head = head_rows section plan
 plan_rows section plan detail.Trains = head_rows section plan ++ train_rows plan
 plan_rows section plan detail.Full = head_rows section plan ++ train_rows plan ++ critical_rows plan plan.critical
 
--- crowded,SECTION,COUNT
-abbrev pub crowded_row : List ℕ → ℕ → Row
-crowded_row section count = codes "crowded" ∷ section ∷ decimal count ∷ []
-
--- opposite,SECTION,FIRST,SECOND,BLOCK1,BLOCK2
-abbrev pub opposite_row : List ℕ → List ℕ → List ℕ → List ℕ → List ℕ → Row
-opposite_row section first second block1 block2 =
-    codes "opposite" ∷ section ∷ first ∷ second ∷ block1 ∷ block2 ∷ []
-
--- ring,SECTION,LINKS
-abbrev pub ring_row : List ℕ → ℕ → Row
-ring_row section links = codes "ring" ∷ section ∷ decimal links ∷ []
-
 -- the rows of an answer: of a compressed timetable those above; that two trains are opposite; a ring and its links; or
 -- that the section is crowded
 abbrev pub answer_rows : List ℕ → Answer → Detail → List Row
 answer_rows section (answer.Ordered plan) detail = plan_rows section plan detail
 answer_rows section (answer.Opposite first second block1 block2) detail =
     opposite_row section first second block1 block2 ∷ []
-answer_rows section (answer.Ring links) detail = ring_row section (length links) ∷ map link_row links
+answer_rows section (answer.Ring links) detail = ring_rows section links
 answer_rows section (answer.Crowded count) detail = crowded_row section count ∷ []

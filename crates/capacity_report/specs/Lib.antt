@@ -1,4 +1,3 @@
-pub mod Added
 pub mod Stairs
 pub mod Blockings
 pub mod Check

@@ -1,17 +1,13 @@
 -- The rows of `stairs`.
-use Rattle.std.specs.Prelude.{ℕ, ℤ, List, ◌∷◌, map, codes, slice_index_or}
+use Rattle.std.specs.Prelude.{ℕ, ℤ, List, ◌∷◌, map, codes}
 use Rattle.std.specs.List.{flat_map, range_with_len}
 use Rattle.std.specs.Fmt.{signed_decimal}
 use Rattle.rail_model.specs.declared.tables.Tables.{Tables}
 use Rattle.rail_model.specs.declared.path.Path.{Path}
 use Rattle.rail_model.specs.Path.{hop, hop_count}
 use Rattle.rail_model.specs.Blocking.{blocking_start, blocking_end, parts}
-use Rattle.rail_model.specs.Tables.{no_block, path_in}
+use Rattle.rail_model.specs.Tables.{block_name, path_in}
 use Rattle.row_text.specs.Row.{Row}
-
--- the name of the block with a number
-abbrev pub block_name : Tables → ℕ → List ℕ
-block_name tables number = (slice_index_or tables.blocks number no_block).name
 
 -- use,RUN,BLOCK,START,END,FORM,WATCH,APPROACH,RUNNING,CLEARING,RELEASE
 abbrev pub use_row : List ℕ → List ℕ → List ℤ → Row

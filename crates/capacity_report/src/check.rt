@@ -1,16 +1,16 @@
 //! The rows of `check`.
-ghost use Rattle.std.specs.Prelude.{◌≡◌, ◌<◌, ◌++◌, [], List, length, map, All, OnOk, OnErr, codes};
+ghost use Rattle.std.specs.Prelude.{◌≡◌, ◌<◌, ◌++◌, ◌∷◌, [], List, length, map, All, OnOk, OnErr};
 ghost use Rattle.rail_model.specs.Conflict.{Conflict as Whole, AreConflicts};
 ghost use Rattle.conflict_finder.specs.Found.{IsFound};
 ghost use Rattle.row_text.specs.SheetRows.{with_row};
-ghost use Rattle.capacity_report.specs.Added.{AddsPrefix};
+ghost use Rattle.row_text.specs.Adds.{Adds, AddsFirst};
 ghost use Rattle.rail_model.specs.Timetable.{timetable};
 ghost use Rattle.capacity_report.specs.Check as rows;
 
 use conflict_finder::{Conflict, Conflicts};
 use line_tables::LineTables;
 use rail_model::OutOfMemory;
-use row_text::Sheet;
+use row_text::{Field, Sheet};
 
 /// Adds the rows of the conflicts that were found, in their order, and their count. A row that is
 /// open is dropped first. Where memory runs out, only a prefix of the rows is added, and the next
@@ -25,45 +25,66 @@ pub fn conflict_rows(
         × (sheet.new.rows ≡ sheet.old.rows ++ rows.check_rows tables.now all)) }
     ensures closed { OnOk result (sheet.new.row ≡ []) }
     ensures err { OnErr result ((all : List Whole) × AreConflicts (timetable tables.now) all
-        × AddsPrefix sheet.old sheet.new (rows.check_rows tables.now all)) }
+        × AddsFirst sheet.old sheet.new (rows.check_rows tables.now all)) }
 {
     let _runs = tables.runs();
-    for conflict in found.list.slice() {
-        conflict_row(sheet, tables, conflict)?;
-    }
+    found_rows(sheet, tables, found)
+}
+
+// Adds the rows of what was found.
+fn found_rows(sheet: &mut Sheet, tables: &LineTables, found: &Conflicts) -> Result<(), OutOfMemory>
+    requires { All (λ c. c.block < length tables.now.blocks) found.now.list }
+    ensures { Adds result sheet.old sheet.new (rows.found_rows tables.now found.now) }
+{
+    listed_rows(sheet, tables, found.list.slice())?;
     count_row(sheet, found.list.len() as u64, found.more)
 }
 
-// Adds the row of a conflict. A row that is open is dropped first. Where memory runs out, no row is
-// added.
-fn conflict_row(
+// Adds the rows of the conflicts that are listed.
+fn listed_rows(
     sheet: &mut Sheet,
     tables: &LineTables,
-    conflict: &Conflict,
+    listed: &[Conflict],
+) -> Result<(), OutOfMemory>
+    requires { All (λ c. c.block < length tables.now.blocks) listed.now }
+    ensures { Adds result sheet.old sheet.new (map (rows.conflict_row tables.now) listed.now) }
+{
+    sheet.drop_row();
+    for conflict in listed {
+        conflict_row(sheet, tables, conflict)?;
+    }
+    Ok(())
+}
+
+// Adds the row of a conflict.
+fn conflict_row<'a>(
+    sheet: &mut Sheet,
+    tables: &'a LineTables,
+    conflict: &'a Conflict,
 ) -> Result<(), OutOfMemory>
     requires { conflict.now.block < length tables.now.blocks }
     ensures ok { OnOk result (sheet.new
-        ≡ with_row sheet.old (rows.found_row tables.now conflict.now)) }
+        ≡ with_row sheet.old (rows.conflict_row tables.now conflict.now)) }
     ensures err { OnErr result (sheet.new.rows ≡ sheet.old.rows) }
 {
-    sheet.drop_row();
-    sheet.push_field(b"conflict")?;
-    sheet.push_field(tables.block(conflict.block).name.bytes())?;
-    sheet.push_field(conflict.first.bytes())?;
-    sheet.push_field(conflict.second.bytes())?;
-    sheet.push_number(conflict.from)?;
-    sheet.push_number(conflict.to)?;
-    sheet.end_row()
+    sheet.write(&[
+        Field::Text(b"conflict"),
+        Field::Name(&tables.block(conflict.block).name),
+        Field::Name(&conflict.first),
+        Field::Name(&conflict.second),
+        Field::Number(conflict.from),
+        Field::Number(conflict.to),
+    ])
 }
 
-// Adds the row of the two counts in the same way.
+// Adds the row of the two counts.
 fn count_row(sheet: &mut Sheet, listed: u64, more: u64) -> Result<(), OutOfMemory>
     ensures ok { OnOk result (sheet.new ≡ with_row sheet.old (rows.count_row listed more)) }
     ensures err { OnErr result (sheet.new.rows ≡ sheet.old.rows) }
 {
-    sheet.drop_row();
-    sheet.push_field(b"conflicts")?;
-    sheet.push_count(listed)?;
-    sheet.push_count(more)?;
-    sheet.end_row()
+    sheet.write(&[
+        Field::Text(b"conflicts"),
+        Field::Count(listed),
+        Field::Count(more),
+    ])
 }

@@ -4,7 +4,7 @@ ghost use Rattle.plan_model.specs.Cut.{IsSoundCut};
 ghost use Rattle.plan_model.specs.Members.{member_count};
 ghost use Rattle.headway_table.specs.Table.{table_of};
 ghost use Rattle.row_text.specs.SheetRows.{with_row};
-ghost use Rattle.capacity_report.specs.Added.{AddsPrefix};
+ghost use Rattle.row_text.specs.Adds.{Adds, AddsFirst};
 ghost use Rattle.capacity_report.specs.Headways as rows;
 ghost use Rattle.capacity_report.specs.Pairs as pairs;
 
@@ -27,7 +27,21 @@ pub fn headway_rows(
     requires table { table.now ≡ table_of cut.now }
     ensures ok { OnOk result (sheet.new.rows ≡ sheet.old.rows ++ rows.headway_rows cut.now) }
     ensures closed { OnOk result (sheet.new.row ≡ []) }
-    ensures err { OnErr result (AddsPrefix sheet.old sheet.new (rows.headway_rows cut.now)) }
+    ensures err { OnErr result (AddsFirst sheet.old sheet.new (rows.headway_rows cut.now)) }
+{
+    rows_of_table(alloc, sheet, cut, table)
+}
+
+// The same.
+fn rows_of_table(
+    alloc: Global,
+    sheet: &mut Sheet,
+    cut: &Cut,
+    table: &Headways,
+) -> Result<(), OutOfMemory>
+    requires sound { IsSoundCut cut.now }
+    requires table { table.now ≡ table_of cut.now }
+    ensures { Adds result sheet.old sheet.new (rows.headway_rows cut.now) }
 {
     sheet.drop_row();
     let names = member_names(alloc, cut)?;
@@ -61,9 +75,7 @@ fn rows_from(
     requires names { names.now ≡ pairs.names_of cut.now }
     requires there { i < member_count cut.now }
     requires few { member_count cut.now < 4_294_967_296 }
-    ensures ok { OnOk result (sheet.new.rows ≡ sheet.old.rows ++ rows.rows_from cut.now i) }
-    ensures closed { OnOk result (sheet.new.row ≡ []) }
-    ensures err { OnErr result (AddsPrefix sheet.old sheet.new (rows.rows_from cut.now i)) }
+    ensures { Adds result sheet.old sheet.new (rows.rows_from cut.now i) }
 {
     let head = head_of(alloc, &cut.rows.slice()[i].name)?;
     sheet.drop_row();

@@ -5,13 +5,13 @@ mod answers;
 mod check;
 mod compressed;
 mod headways;
-mod links;
 mod rates;
 mod stairs;
 mod timetable;
 mod total;
 
-pub use answers::{Detail, answer_rows, crowded_row};
+pub use answer_parts::crowded_row;
+pub use answers::{Detail, answer_rows};
 pub use check::conflict_rows;
 pub use headways::headway_rows;
 pub use stairs::stairs_rows;

@@ -1,17 +1,16 @@
-//! The row of a compressed timetable's rates.
-ghost use Rattle.std.specs.Prelude.{◌≡◌, ◌<◌, ◌^◌, ◌∷◌, ◌++◌, [], codes, decimal, string_bytes};
-ghost use Rattle.std.specs.Prelude.{OnOk, OnErr, IfOk};
-ghost use Rattle.row_text.specs.SheetRows.{with_row, with_field, with_fields};
+//! The rates of a compressed timetable.
+ghost use Rattle.std.specs.Prelude.{◌≡◌, ◌<◌, ◌^◌, OnOk, OnErr};
+ghost use Rattle.row_text.specs.SheetRows.{with_row};
+ghost use Rattle.plan_model.specs.Rates as rates;
 ghost use Rattle.capacity_report.specs.Answers as rows;
 
 use occupancy_rate::{Fraction, consumption};
 use plan_model::Plan;
 use rail_model::{Name, OutOfMemory};
 use row_text::Sheet;
-use std::alloc::{AllocError, Global};
+use std::alloc::Global;
 
-// Adds the row of the rates. A row that is open is dropped first. Where memory runs out, no row is
-// added.
+// Adds the row of the rates.
 pub(crate) fn rate_row(
     alloc: Global,
     sheet: &mut Sheet,
@@ -19,18 +18,10 @@ pub(crate) fn rate_row(
     plan: &Plan,
 ) -> Result<(), OutOfMemory>
     requires { plan.now.from_s < plan.now.to_s }
-    ensures ok { OnOk result (sheet.new
-        ≡ with_row sheet.old (rows.rate_row section.now plan.now)) }
+    ensures ok { OnOk result (sheet.new ≡ with_row sheet.old (rows.rate_row section.now plan.now)) }
     ensures err { OnErr result (sheet.new.rows ≡ sheet.old.rows) }
 {
-    let consumption = consumption_of(plan);
-    sheet.drop_row();
-    sheet.push_field(b"rate")?;
-    sheet.push_field(section.bytes())?;
-    push_rate(alloc, sheet, &rate_of(plan))?;
-    push_rate(alloc, sheet, &consumption)?;
-    push_verdict(sheet, &consumption)?;
-    sheet.end_row()
+    answer_parts::rate_row(alloc, sheet, section, &rate_of(plan), &consumption_of(plan))
 }
 
 // The occupancy time rate.
@@ -46,7 +37,7 @@ fn rate_of(plan: &Plan) -> Fraction
 }
 
 // The capacity consumption.
-pub(crate) fn consumption_of(plan: &Plan) -> Fraction
+fn consumption_of(plan: &Plan) -> Fraction
     requires { plan.now.from_s < plan.now.to_s }
     ensures same { result ≡ rows.consumption_of plan.now }
     ensures bounded { result.num < 2 ^ 100 }
@@ -54,49 +45,18 @@ pub(crate) fn consumption_of(plan: &Plan) -> Fraction
     consumption(plan.occupancy, plan.add_percent, plan.to_s - plan.from_s)
 }
 
-// Adds a rate to a row, as a fraction and in per cent.
-fn push_rate(alloc: Global, sheet: &mut Sheet, rate: &Fraction) -> Result<(), OutOfMemory>
-    requires { rate.now.num < 2 ^ 100 }
-    ensures ok { OnOk result (sheet.new ≡ with_fields sheet.old
-        (rows.fraction_text rate.now ∷ rows.percent_text rate.now ∷ [])) }
-    ensures err { OnErr result (sheet.new.rows ≡ sheet.old.rows) }
+// Whether the capacity consumption is at most 1.
+pub(crate) fn is_within(plan: &Plan) -> bool
+    requires { plan.now.from_s < plan.now.to_s }
+    ensures { result ≡ rates.is_within (rows.consumption_of plan.now) }
 {
-    let fraction = fraction_text(alloc, rate.num(), rate.den())?;
-    sheet.push_field(fraction.as_bytes())?;
-    let n = rate.hundredths_up();
-    let percent = percent_text(alloc, n / 100, n % 100 / 10, n % 10)?;
-    sheet.push_field(percent.as_bytes())
+    is_at_most_one(plan.occupancy, plan.add_percent, plan.to_s - plan.from_s)
 }
 
-// NUM/DEN
-fn fraction_text(alloc: Global, num: u128, den: u128) -> Result<String, AllocError>
-    ensures { IfOk result (λ text. string_bytes text
-        ≡ decimal num ++ (codes "/" ++ decimal den)) }
+// The same by its parts: they are compared as they are, since it need not be reduced.
+fn is_at_most_one(occupancy: u64, add_percent: u32, period_s: u32) -> bool
+    requires { 0 < period_s }
+    ensures { result ≡ rates.is_within (rates.consumption occupancy add_percent period_s) }
 {
-    format!(in alloc; "{num}/{den}")
-}
-
-// A whole number and two digits behind the point.
-fn percent_text(
-    alloc: Global,
-    whole: u128,
-    tenths: u128,
-    hundredths: u128,
-) -> Result<String, AllocError>
-    ensures { IfOk result (λ text. string_bytes text
-        ≡ decimal whole ++ (codes "." ++ (decimal tenths ++ decimal hundredths))) }
-{
-    format!(in alloc; "{whole}.{tenths}{hundredths}")
-}
-
-// Adds whether a consumption is within the capacity to a row.
-fn push_verdict(sheet: &mut Sheet, consumption: &Fraction) -> Result<(), OutOfMemory>
-    ensures ok { OnOk result (sheet.new
-        ≡ with_field sheet.old (rows.verdict_text consumption.now)) }
-    ensures err { OnErr result (sheet.new ≡ sheet.old) }
-{
-    if consumption.is_within() {
-        return sheet.push_field(b"within");
-    }
-    sheet.push_field(b"over")
+    u128::from(occupancy) * (100 + u128::from(add_percent)) <= 100 * u128::from(period_s)
 }

@@ -3,7 +3,7 @@ ghost use Rattle.std.specs.Prelude.{◌≡◌, ◌<◌, ◌∷◌, ◌++◌, [],
 ghost use Rattle.std.specs.Prelude.{OnOk, OnErr, IfOk};
 ghost use Rattle.rail_model.specs.Path.{Fits};
 ghost use Rattle.row_text.specs.SheetRows.{with_row};
-ghost use Rattle.capacity_report.specs.Added.{AddsPrefix};
+ghost use Rattle.row_text.specs.Adds.{Adds, AddsFirst};
 ghost use Rattle.capacity_report.specs.Stairs as rows;
 ghost use Rattle.capacity_report.specs.Blockings.{blocking_row, named_row, rows_by_names, names_of};
 
@@ -19,7 +19,14 @@ use std::alloc::Global;
 pub fn stairs_rows(alloc: Global, sheet: &mut Sheet, tables: &LineTables) -> Result<(), OutOfMemory>
     ensures ok { OnOk result (sheet.new.rows ≡ sheet.old.rows ++ rows.stairs_rows tables.now) }
     ensures closed { OnOk result (sheet.new.row ≡ []) }
-    ensures err { OnErr result (AddsPrefix sheet.old sheet.new (rows.stairs_rows tables.now)) }
+    ensures err { OnErr result (AddsFirst sheet.old sheet.new (rows.stairs_rows tables.now)) }
+{
+    rows_of_runs(alloc, sheet, tables)
+}
+
+// The same.
+fn rows_of_runs(alloc: Global, sheet: &mut Sheet, tables: &LineTables) -> Result<(), OutOfMemory>
+    ensures { Adds result sheet.old sheet.new (rows.stairs_rows tables.now) }
 {
     sheet.drop_row();
     let names = block_names(alloc, tables)?;
@@ -52,9 +59,7 @@ fn run_rows(
 ) -> Result<(), OutOfMemory>
     requires fits { Fits path.now }
     requires there { All (λ h. h.block < length names.now) path.now.hops }
-    ensures ok { OnOk result (sheet.new.rows ≡ sheet.old.rows ++ rows_by_names names.now path.now) }
-    ensures closed { OnOk result (sheet.new.row ≡ []) }
-    ensures err { OnErr result (AddsPrefix sheet.old sheet.new (rows_by_names names.now path.now)) }
+    ensures { Adds result sheet.old sheet.new (rows_by_names names.now path.now) }
 {
     let head = head(alloc, path)?;
     let all = blockings(alloc, path)?;
@@ -76,11 +81,7 @@ fn blocking_rows(
     all: &[Blocking],
 ) -> Result<(), OutOfMemory>
     requires { All (λ b. b.used.block < length names.now) all.now }
-    ensures ok { OnOk result (sheet.new.rows
-        ≡ sheet.old.rows ++ map (named_row names.now head.now) all.now) }
-    ensures closed { OnOk result (sheet.new.row ≡ []) }
-    ensures err { OnErr result (AddsPrefix sheet.old sheet.new
-        (map (named_row names.now head.now) all.now)) }
+    ensures { Adds result sheet.old sheet.new (map (named_row names.now head.now) all.now) }
 {
     sheet.drop_row();
     for blocking in all {

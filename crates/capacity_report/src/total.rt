@@ -3,10 +3,10 @@ ghost use Rattle.std.specs.Prelude.{◌≡◌, ◌<◌, [], OnOk, OnErr};
 ghost use Rattle.row_text.specs.SheetRows.{with_row};
 ghost use Rattle.capacity_report.specs.Total as totals;
 
-use crate::rates::consumption_of;
+use crate::rates::is_within;
 use plan_model::Answer;
 use rail_model::OutOfMemory;
-use row_text::Sheet;
+use row_text::{Field, Sheet};
 use std::marker::Model;
 
 /// How many sections were counted, and how many of them are ordered, within and over their
@@ -59,10 +59,11 @@ impl Tally {
         requires room { self.old.sections < 4_294_967_295 }
         ensures { self.new ≡ totals.with_answer self.old answer.now }
     {
+        let within = is_within_capacity(answer);
         self.sections += 1;
         self.ordered += u32::from(is_ordered(answer));
-        self.within += u32::from(is_within_capacity(answer));
-        self.over += u32::from(is_over_capacity(answer));
+        self.within += u32::from(within);
+        self.over += u32::from(is_over_capacity(answer, within));
         self.disordered += u32::from(is_disordered(answer));
         self.crowded += u32::from(is_crowded(answer));
     }
@@ -79,17 +80,18 @@ fn is_within_capacity(answer: &Answer) -> bool
     ensures { result ≡ totals.is_within_capacity answer.now }
 {
     match answer {
-        Answer::Ordered(plan) => consumption_of(plan).is_within(),
+        Answer::Ordered(plan) => is_within(plan),
         _ => false,
     }
 }
 
-fn is_over_capacity(answer: &Answer) -> bool
-    requires { totals.IsAnswerOfSome answer.now }
+// The same of one that is over it.
+fn is_over_capacity(answer: &Answer, is_within: bool) -> bool
+    requires { is_within ≡ totals.is_within_capacity answer.now }
     ensures { result ≡ totals.is_over_capacity answer.now }
 {
     match answer {
-        Answer::Ordered(plan) => !consumption_of(plan).is_within(),
+        Answer::Ordered(_) => !is_within,
         _ => false,
     }
 }
@@ -112,13 +114,13 @@ pub fn total_row(sheet: &mut Sheet, tally: &Tally) -> Result<(), OutOfMemory>
     ensures ok { OnOk result (sheet.new ≡ with_row sheet.old (totals.total_row tally.now)) }
     ensures err { OnErr result (sheet.new.rows ≡ sheet.old.rows) }
 {
-    sheet.drop_row();
-    sheet.push_field(b"total")?;
-    sheet.push_count(u64::from(tally.sections))?;
-    sheet.push_count(u64::from(tally.ordered))?;
-    sheet.push_count(u64::from(tally.within))?;
-    sheet.push_count(u64::from(tally.over))?;
-    sheet.push_count(u64::from(tally.disordered))?;
-    sheet.push_count(u64::from(tally.crowded))?;
-    sheet.end_row()
+    sheet.write(&[
+        Field::Text(b"total"),
+        Field::Count(u64::from(tally.sections)),
+        Field::Count(u64::from(tally.ordered)),
+        Field::Count(u64::from(tally.within)),
+        Field::Count(u64::from(tally.over)),
+        Field::Count(u64::from(tally.disordered)),
+        Field::Count(u64::from(tally.crowded)),
+    ])
 }

@@ -1,7 +1,12 @@
-use Rattle.std.proofs.Common.{subst}
-use Rattle.capacity_report.specs.Total.{IsAnswerOfSome}
-use Rattle.capacity_report.proofs.Plans.{shown_in}
+use Rattle.answer_parts.proofs.Added.{adds_rows, adds_closed, adds_first}
+use Rattle.capacity_report.specs.Answers.{answer_rows}
 use Rattle.capacity_report.proofs.answers.answer_rows.Goals as goal
 
-pub plan_rows-requires-clause-shown : goal.plan_rows-requires-clause-shown
-plan_rows-requires-clause-shown c = shown_in c.in-Ordered.plan (subst IsAnswerOfSome c.in-Ordered.is c.requires)
+pub returns-clause-ok : goal.returns-clause-ok
+returns-clause-ok c = adds_rows c.args.sheet.now c.rows_of.new.sheet (answer_rows c.args.section.now c.args.answer.now c.args.detail) c.rows_of.result c.rows_of.ensures
+
+pub returns-clause-closed : goal.returns-clause-closed
+returns-clause-closed c = adds_closed c.args.sheet.now c.rows_of.new.sheet (answer_rows c.args.section.now c.args.answer.now c.args.detail) c.rows_of.result c.rows_of.ensures
+
+pub returns-clause-err : goal.returns-clause-err
+returns-clause-err c = adds_first c.args.sheet.now c.rows_of.new.sheet (answer_rows c.args.section.now c.args.answer.now c.args.detail) c.rows_of.result c.rows_of.ensures

@@ -1,15 +1,14 @@
-use Rattle.std.proofs.Common.{[], ◌∷◌, ap}
-use Rattle.std.proofs.lemmas.Result.{on_err_weaker}
-use Rattle.row_text.specs.SheetRows.{SheetRows}
-use Rattle.capacity_report.specs.Answers.{ordered_row, rate_row}
-use Rattle.capacity_report.proofs.Joined.{none_added, then_added}
+use Rattle.std.proofs.Common.{[], ◌∷◌}
+use Rattle.row_text.proofs.Adds.{adds_none, adds_one, adds_stopped}
+use Rattle.answer_parts.proofs.Added.{all_one, then_adds}
+use Rattle.capacity_report.specs.Answers.{rate_row}
 use Rattle.capacity_report.proofs.compressed.head_rows.Goals as goal
 
-pub returns-clause-err : goal.returns-clause-err
-returns-clause-err c =
-    let plan = c.args.plan.now in
-    let section = c.args.section.now in
-    on_err_weaker c.rate_row.result
-    (λ same. then_added c.args.sheet.now c.ordered_row.new.sheet c.rate_row.new.sheet (ordered_row section plan ∷ []) (rate_row section plan ∷ [])
-    (ap (λ (s : SheetRows). s.rows) c.in_ok-ordered_row.ensures.ok)
-    (none_added c.ordered_row.new.sheet c.rate_row.new.sheet (rate_row section plan ∷ []) same)) c.rate_row.ensures.err
+pub returns-in_err-ordered_row : goal.returns-in_err-ordered_row
+returns-in_err-ordered_row c = adds_stopped _ c.from_residual.result c.from_residual.ensures.1 (adds_none _ c.in_err-ordered_row.ensures.err)
+
+pub returns : goal.returns
+returns c =
+    let row = rate_row c.args.section.now c.args.plan.now in
+    let last = adds_one c.ordered_row.new.sheet c.rate_row.new.sheet row c.rate_row.result c.rate_row.ensures.ok c.rate_row.ensures.err in
+    then_adds c.rate_row.new.sheet (row ∷ []) c.rate_row.result (all_one c.in_ok-ordered_row.ensures.ok) last

@@ -1,21 +1,10 @@
-use Rattle.std.proofs.Common.{◌++◌}
-use Rattle.std.proofs.lemmas.Result.{on_err_weaker}
-use Rattle.capacity_report.specs.Answers.{head_rows, train_rows, critical_rows}
-use Rattle.capacity_report.proofs.Rows.{at_error}
-use Rattle.capacity_report.proofs.Joined.{first_added, then_added}
+use Rattle.row_text.proofs.Adds.{adds_stopped, first_added}
+use Rattle.answer_parts.proofs.Added.{then_adds}
+use Rattle.capacity_report.specs.Answers.{critical_rows}
 use Rattle.capacity_report.proofs.compressed.rows_with_chain.Goals as goal
 
-pub returns-in_err-rows_with_trains-clause-err : goal.returns-in_err-rows_with_trains-clause-err
-returns-in_err-rows_with_trains-clause-err c =
-    let plan = c.args.plan.now in
-    at_error c.from_residual.result
-    (first_added c.args.sheet.now c.rows_with_trains.new.sheet (head_rows c.args.section.now plan ++ train_rows plan)
-    (critical_rows plan plan.critical) c.in_err-rows_with_trains.ensures.err)
+pub returns-in_err-rows_with_trains : goal.returns-in_err-rows_with_trains
+returns-in_err-rows_with_trains c = adds_stopped _ c.from_residual.result c.from_residual.ensures.1 (first_added (critical_rows c.args.plan.now c.args.plan.now.critical) c.in_err-rows_with_trains.ensures)
 
-pub returns-clause-err : goal.returns-clause-err
-returns-clause-err c =
-    let plan = c.args.plan.now in
-    on_err_weaker c.critical_rows.result
-    (then_added c.args.sheet.now c.rows_with_trains.new.sheet c.critical_rows.new.sheet
-    (head_rows c.args.section.now plan ++ train_rows plan) (critical_rows plan plan.critical) c.in_ok-rows_with_trains.ensures.ok)
-    c.critical_rows.ensures.err
+pub returns : goal.returns
+returns c = then_adds c.critical_rows.new.sheet (critical_rows c.args.plan.now c.args.plan.now.critical) c.critical_rows.result c.in_ok-rows_with_trains.ensures c.critical_rows.ensures

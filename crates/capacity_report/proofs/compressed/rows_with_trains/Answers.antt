@@ -1,18 +1,10 @@
-use Rattle.std.proofs.lemmas.Result.{on_err_weaker}
-use Rattle.capacity_report.specs.Answers.{head_rows, train_rows}
-use Rattle.capacity_report.proofs.Rows.{at_error}
-use Rattle.capacity_report.proofs.Joined.{first_added, then_added}
+use Rattle.row_text.proofs.Adds.{adds_stopped, first_added}
+use Rattle.answer_parts.proofs.Added.{then_adds}
+use Rattle.capacity_report.specs.Answers.{train_rows}
 use Rattle.capacity_report.proofs.compressed.rows_with_trains.Goals as goal
 
-pub returns-in_err-head_rows-clause-err : goal.returns-in_err-head_rows-clause-err
-returns-in_err-head_rows-clause-err c =
-    let plan = c.args.plan.now in
-    at_error c.from_residual.result
-    (first_added c.args.sheet.now c.head_rows.new.sheet (head_rows c.args.section.now plan) (train_rows plan) c.in_err-head_rows.ensures.err)
+pub returns-in_err-head_rows : goal.returns-in_err-head_rows
+returns-in_err-head_rows c = adds_stopped _ c.from_residual.result c.from_residual.ensures.1 (first_added (train_rows c.args.plan.now) c.in_err-head_rows.ensures)
 
-pub returns-clause-err : goal.returns-clause-err
-returns-clause-err c =
-    let plan = c.args.plan.now in
-    on_err_weaker c.train_rows.result
-    (then_added c.args.sheet.now c.head_rows.new.sheet c.train_rows.new.sheet (head_rows c.args.section.now plan) (train_rows plan)
-    c.in_ok-head_rows.ensures.ok) c.train_rows.ensures.err
+pub returns : goal.returns
+returns c = then_adds c.train_rows.new.sheet (train_rows c.args.plan.now) c.train_rows.result c.in_ok-head_rows.ensures c.train_rows.ensures

@@ -1,9 +1,7 @@
-use Rattle.std.proofs.Common.{◌≡◌, ◌++◌, [], map, take}
+use Rattle.std.proofs.Common.{map, take}
+use Rattle.row_text.specs.Adds.{AddsAll}
 use Rattle.capacity_report.specs.Answers.{train_row}
 use Rattle.capacity_report.proofs.compressed.train_rows.Given as goal
 
 abbrev pub invariant-loop-placed : goal.invariant-loop-placed
-invariant-loop-placed l = record {
-  rows : l.sheet.rows ≡ l.fn.sheet.rows ++ map (train_row l.plan) (take l.placed-index l.plan.placed);
-  closed : l.sheet.row ≡ [];
-}
+invariant-loop-placed l = AddsAll l.fn.sheet l.sheet (map (train_row l.plan) (take l.placed-index l.plan.placed))

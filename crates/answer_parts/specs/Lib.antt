@@ -1,0 +1,4 @@
+pub mod Ties
+pub mod Links
+pub mod Disorder
+pub mod Rates

@@ -1,0 +1,18 @@
+use Rattle.std.proofs.Common.{subst}
+use Rattle.row_text.proofs.Adds.{adds_one}
+use Rattle.capacity_report.specs.Answers.{opposite_row, crowded_row}
+use Rattle.capacity_report.specs.Total.{IsAnswerOfSome}
+use Rattle.capacity_report.proofs.Plans.{shown_in}
+use Rattle.capacity_report.proofs.answers.rows_of.Goals as goal
+
+pub plan_rows-requires-clause-shown : goal.plan_rows-requires-clause-shown
+plan_rows-requires-clause-shown c = shown_in c.in-Ordered.plan (subst IsAnswerOfSome c.in-Ordered.is c.requires)
+
+pub returns-in-Opposite : goal.returns-in-Opposite
+returns-in-Opposite c =
+    let o = c.in-Opposite in
+    rw o.is (adds_one c.args.sheet.now c.opposite_row.new.sheet (opposite_row c.args.section.now o.first o.second o.block1 o.block2) c.opposite_row.result c.opposite_row.ensures.ok c.opposite_row.ensures.err)
+
+pub returns-in-Crowded : goal.returns-in-Crowded
+returns-in-Crowded c =
+    rw c.in-Crowded.is (adds_one c.args.sheet.now c.crowded_row.new.sheet (crowded_row c.args.section.now c.in-Crowded.count) c.crowded_row.result c.crowded_row.ensures.ok c.crowded_row.ensures.err)
