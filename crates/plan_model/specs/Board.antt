@@ -53,6 +53,7 @@ pub record CountsReading (old new : Access) : Type 0 where
   pub readings : new.readings ≡ min (old.readings + 1) (2 ^ 64 - 1)
   pub handed : new.handed ≡ old.handed
 
+-- a call that is to give a reading counts the one that it gives
 abbrev pub CountsNext : {R : Type 0} → Result (Next R) OutOfMemory → Access → Access → Type 0
 CountsNext (Ok (next.Reading r)) old new = CountsReading old new
 CountsNext (Ok (next.Idle left)) old new = KeepsCounts old new
@@ -63,5 +64,6 @@ pub record NotesTaken (taken : ℕ) (old new : Access) : Type 0 where
   pub readings : new.readings ≡ old.readings
   pub handed : new.handed ≡ taken
 
+-- a call that takes a reading back, whatever it answers
 abbrev pub CountsHanded : {A : Type 0} → ℕ → Result A OutOfMemory → Access → Access → Type 0
 CountsHanded taken result old new = MatchResult result (λ _. NotesTaken taken old new) (λ _. KeepsCounts old new)

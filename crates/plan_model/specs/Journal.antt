@@ -27,6 +27,7 @@ pub record Opening : Type 0 where
 abbrev pub no_opening : Opening
 no_opening = record { tables = no_tables; at = 0; scripts = [] }
 
+-- the opening that an act makes, if it makes one
 abbrev pub opening_of : Act → Opening
 opening_of (act.Opened tables at scripts) = record { tables = tables; at = at; scripts = scripts }
 opening_of (act.Entered number) = no_opening

@@ -23,6 +23,7 @@ actors planners (suc workers) = planners + suc workers
 abbrev pub opened : Tables → ℕ → List (List Task) → Entry
 opened tables at scripts = record { pass = 0; act = act.Opened tables at scripts }
 
+-- the entries that issue them
 abbrev pub entered : ℕ → List Entry
 entered count = map (λ number. record { pass = 0; act = act.Entered number }) (range_with_len 1 count)
 
@@ -69,7 +70,7 @@ pub record IsSession (tables : Tables) (at : ℕ) (scripts : List (List Task)) (
 
 -- ---- the one order of a session without workers
 
--- the name of the section that an entry publishes, at the edit of this number
+-- an entry publishes a section of this name at the edit of this number
 pub record IsPublicationAt (at : ℕ) (section : List ℕ) (e : Entry) : Type 0 where
   pub answer : Answer
   pub is : e.act ≡ act.Published section at answer
