@@ -2,9 +2,17 @@
 ghost use Rattle.std.specs.Prelude.{◌≡◌};
 
 use crate::{INPUT_BYTES, TASKS};
+use conflict_finder::LISTED;
+use plan_model::MEMBERS;
+use row_text::{HOUR_DIGITS, NUMBER_DIGITS};
 
-/// The limits of an input, by their numbers.
+/// The limits of an input and of what is answered, by their numbers; those of a line's items are a
+/// law of `rail_model`.
 pub fn limits()
     ensures input_bytes { INPUT_BYTES ≡ 16777216 }
     ensures tasks { TASKS ≡ 256 }
+    ensures number_digits { NUMBER_DIGITS ≡ 9 }
+    ensures hour_digits { HOUR_DIGITS ≡ 5 }
+    ensures members { MEMBERS ≡ 768 }
+    ensures listed { LISTED ≡ 10000 }
 {}

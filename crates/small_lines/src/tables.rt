@@ -28,23 +28,29 @@ fn edit_at(alloc: Global, rows: &RowList, i: usize) -> Result<Option<Edit>, OutO
     }
 }
 
-/// The tables that the rows of a text make; a row that is refused is left out.
-pub fn tables_of(alloc: Global, text: &str) -> Result<LineTables, OutOfMemory> {
+/// The tables that the rows of a text make; none where one of them spells no edit or is refused.
+pub fn tables_of(alloc: Global, text: &str) -> Result<Option<LineTables>, OutOfMemory> {
     let rows = rows(alloc, text.as_bytes())?;
     let mut tables = LineTables::new(alloc);
     for i in 0..rows.len() {
-        if let Some(edit) = edit_at(alloc, &rows, i)? {
-            let _refused = tables.apply(&edit)?;
+        let Some(edit) = edit_at(alloc, &rows, i)? else {
+            return Ok(None);
+        };
+        if tables.apply(&edit)?.is_err() {
+            return Ok(None);
         }
     }
-    Ok(tables)
+    Ok(Some(tables))
 }
 
-/// The cut of the section S of a line with these rows after its own, if there is one.
+/// The cut of the section S of a line with these rows after its own, if all rows are taken and there
+/// is one.
 pub fn cut(alloc: Global, line: &str, rows: &str) -> Result<Option<Cut>, OutOfMemory>
     ensures { IfOk result (λ cut. IfSome cut IsSoundCut) }
 {
-    let tables = tables_of(alloc, &joined(alloc, &[line, rows])?)?;
+    let Some(tables) = tables_of(alloc, &joined(alloc, &[line, rows])?)? else {
+        return Ok(None);
+    };
     let Ok(name) = Name::read(b"S") else {
         return Ok(None);
     };

@@ -56,7 +56,7 @@ fn edits_of_six_kinds(rt: HostRuntime) -> Result<(), Fail> {
 
 fn whole_line(alloc: Global) -> Result<LineTables, OutOfMemory> {
     let rows = joined(alloc, &[LINE, FIRST_RUN, REST, CONNECTED])?;
-    tables_of(alloc, &rows)
+    tables_of(alloc, &rows)?.ok_or(OutOfMemory)
 }
 
 // Makes the edit that a row spells, if it spells one.

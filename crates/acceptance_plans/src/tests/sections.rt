@@ -73,6 +73,11 @@ const CUTS: [(&str, &str); 8] = [
     ),
 ];
 
+// The tables of the line with these rows after its own; an error where one of them is refused.
+fn line_with(alloc: Global, rows: &str) -> Result<LineTables, OutOfMemory> {
+    tables_of(alloc, &joined(alloc, &[LINE, rows])?)?.ok_or(OutOfMemory)
+}
+
 // The rows of the cut of a section, if it is there.
 fn cut_told(alloc: Global, tables: &LineTables, name: &Name) -> Result<Option<Sheet>, OutOfMemory> {
     match cut_of(alloc, tables, name, 7)? {
@@ -85,7 +90,7 @@ fn cut_told(alloc: Global, tables: &LineTables, name: &Name) -> Result<Option<Sh
 fn cuts_of_a_section(rt: HostRuntime) -> Result<(), Fail> {
     let name = Name::read(b"S")?;
     for (rows, text) in CUTS {
-        let tables = tables_of(rt.alloc(), &joined(rt.alloc(), &[LINE, rows])?)?;
+        let tables = line_with(rt.alloc(), rows)?;
         let found = cut_told(rt.alloc(), &tables, &name)?;
         assert!(rt;
             found.is_some_and(|sheet: Sheet| -> bool { sheet.text() == text.as_bytes() }),
@@ -107,7 +112,7 @@ fn cut_told_among(alloc: Global, tables: &LineTables) -> Result<Option<Sheet>, O
 
 #[test]
 fn a_section_among_others(rt: HostRuntime) -> Result<(), Fail> {
-    let tables = tables_of(rt.alloc(), &joined(rt.alloc(), &[LINE, CUTS[5].0])?)?;
+    let tables = line_with(rt.alloc(), CUTS[5].0)?;
     assert!(rt; cut_told(rt.alloc(), &tables, &Name::read(b"X")?)?.is_none());
     let Some(found) = cut_told_among(rt.alloc(), &tables)? else {
         return Err(OutOfMemory.into());
