@@ -1,5 +1,5 @@
 //! The tables and the cuts that rows make.
-ghost use Rattle.std.specs.Prelude.{IfOk, IfSome};
+ghost use Rattle.std.specs.Prelude.{◌<◌, length, IfOk, IfSome};
 ghost use Rattle.plan_model.specs.Cut.{IsSoundCut};
 
 use crate::lines::joined;
