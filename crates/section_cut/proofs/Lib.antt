@@ -20,3 +20,7 @@ pub mod PlacesDiffer
 pub mod SoundCut
 pub mod Leads
 pub mod LateRuns
+pub mod Rows
+pub mod Restamped
+pub mod SameValue
+pub mod Anew

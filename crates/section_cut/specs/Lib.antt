@@ -3,3 +3,5 @@ pub mod Late
 pub mod Positions
 pub mod Members
 pub mod Bound
+pub mod Change
+pub mod Stamps

@@ -7,10 +7,15 @@
 
 mod all_stairways;
 mod connections;
+mod cut_changes;
 mod cuts;
 mod late;
 mod members;
 mod positions;
+mod same_value;
+mod stamps;
 
 pub use all_stairways::{AllStairways, stairways};
+pub use cut_changes::{CutChange, CutChanges, cut_change};
 pub use cuts::{cut_among, cut_of};
+pub use same_value::{same_cut, same_row};

@@ -1,0 +1,194 @@
+//! What an edit makes of the cuts of a line's sections.
+ghost use Rattle.std.specs.Prelude.{◌≡◌, ◌≢◌, ◌↔◌, IsTrue, IfOk, IfSome, OnOk, OnErr, Some, None, option_map};
+ghost use Rattle.rail_model.specs.Edits as edits;
+ghost use Rattle.plan_model.specs.Cut.{stamped, IsSoundCut};
+ghost use Rattle.plan_model.specs.SectionCut.{cut_of};
+ghost use Rattle.section_cut.specs.Change.{IsChange, IsCutAfter};
+
+use crate::all_stairways::{AllStairways, stairways};
+use crate::cuts::cut_among;
+use crate::same_value::same_cut;
+use crate::stamps::keep_stamps;
+use line_tables::LineTables;
+use plan_model::Cut;
+use rail_model::{Edit, Name, OutOfMemory};
+use std::alloc::Global;
+use std::marker::Model;
+
+/// What an edit makes of a section's cut.
+#[derive(Drop)]
+pub enum CutChange {
+    /// The edit doesn't touch the section: the cut keeps its value and its stamps.
+    Untouched,
+    /// The edit touches the section, whose cut is this one after it, or none where the section isn't there.
+    Touched(Option<Cut>),
+}
+
+/// The tables before and after an edit, with what is made of them once for the cuts of many sections.
+#[derive(Drop)]
+pub struct CutChanges<'a> {
+    before: &'a LineTables,
+    after: &'a LineTables,
+    stairs: AllStairways,
+}
+
+impl<'a> Model for CutChanges<'a> {
+    ghost use Rattle.std.specs.Prelude.{◌≡◌};
+    ghost use Rattle.section_cut.specs.Change.{TwoTables};
+    ghost use Rattle.rail_model.specs.Timetable.{timetable};
+
+    ghost Value = { TwoTables };
+
+    ghost view = { λ c. record { before = c.before.now; after = c.after.now } };
+
+    ghost invariant = { λ c. c.stairs ≡ timetable c.after.now };
+}
+
+impl<'a> CutChanges<'a> {
+    /// Those of tables and of the same tables after an edit.
+    pub fn of(
+        alloc: Global,
+        before: &'a LineTables,
+        after: &'a LineTables,
+        edit: &Edit,
+    ) -> Result<CutChanges<'a>, OutOfMemory>
+        requires { after.now ≡ edits.after before.now edit.now }
+        ensures { IfOk result
+            (λ changes. changes ≡ record { before = before.now; after = after.now }) }
+    {
+        let stairs = AllStairways::of(alloc, stairways(alloc, after)?)?;
+        Ok(CutChanges {
+            before,
+            after,
+            stairs,
+        })
+    }
+
+    /// What the edit, which has this number, makes of the cut of the section of a name. The section is
+    /// touched exactly where its cuts before and after the edit differ, and a cut that isn't there
+    /// differs from each that is. In the cut after it each row that is new, or whose value changed, has
+    /// the edit's number as its stamp, and each other row keeps its stamp.
+    pub fn cut_after(
+        &self,
+        alloc: Global,
+        cut: &Option<Cut>,
+        section: &Name,
+        number: u64,
+    ) -> Result<CutChange, OutOfMemory>
+        requires { cut_of self.now.before section.now ≡ option_map (stamped 0) cut.now }
+        ensures { IfOk result (IsChange
+            (cut_of self.now.before section.now) (cut_of self.now.after section.now) number cut.now) }
+    {
+        let _sound = self.before.sections();
+        match cut {
+            Some(old) => self.cut_after_one(alloc, old, section, number),
+            None => self.cut_after_none(alloc, section, number),
+        }
+    }
+
+    // The same for a section that was not there.
+    fn cut_after_none(
+        &self,
+        alloc: Global,
+        section: &Name,
+        number: u64,
+    ) -> Result<CutChange, OutOfMemory>
+        ensures { IfOk result (IsChange None (cut_of self.now.after section.now) number None) }
+    {
+        match self.cut_anew(alloc, section, number)? {
+            Some(cut) => Ok(CutChange::Touched(Some(cut))),
+            None => Ok(CutChange::Untouched),
+        }
+    }
+
+    // The same for a section that was there, with its cut.
+    fn cut_after_one(
+        &self,
+        alloc: Global,
+        old: &Cut,
+        section: &Name,
+        number: u64,
+    ) -> Result<CutChange, OutOfMemory>
+        requires { IsSoundCut old.now }
+        ensures { IfOk result (IsChange (Some (stamped 0 old.now))
+            (cut_of self.now.after section.now) number (Some old.now)) }
+    {
+        match self.cut_anew(alloc, section, number)? {
+            Some(cut) => Ok(compared(old, cut, number)),
+            None => Ok(CutChange::Touched(None)),
+        }
+    }
+
+    // The section's cut after the edit, each row with this stamp.
+    fn cut_anew(
+        &self,
+        alloc: Global,
+        section: &Name,
+        stamp: u64,
+    ) -> Result<Option<Cut>, OutOfMemory>
+        ensures same { IfOk result
+            (λ cut. cut ≡ option_map (stamped stamp) (cut_of self.now.after section.now)) }
+        ensures sound { IfOk result (λ cut. IfSome cut IsSoundCut) }
+    {
+        let Some(place) = self.after.section_number(section) else {
+            return Ok(None);
+        };
+        Ok(Some(cut_among(alloc, self.after, &self.stairs, place, stamp)?))
+    }
+}
+
+// What the edit of a number makes of a cut that is there before it and after it, where all rows of the
+// later one have its number.
+fn compared(old: &Cut, later: Cut, number: u64) -> CutChange
+    requires old_sound { IsSoundCut old.now }
+    requires sound { IsSoundCut later }
+    ensures { IsChange (Some (stamped 0 old.now)) (Some (stamped 0 later)) number (Some old.now) result }
+{
+    if same_cut(old, &later) {
+        return CutChange::Untouched;
+    }
+    CutChange::Touched(Some(restamped(old, later, number)))
+}
+
+// A cut with the stamps of its rows after the edit of a number, by the cut before it.
+fn restamped(old: &Cut, later: Cut, number: u64) -> Cut
+    requires old_sound { IsSoundCut old.now }
+    requires sound { IsSoundCut later }
+    ensures { IsCutAfter (Some (stamped 0 later)) number (Some old.now) (Some result) }
+{
+    let mut cut = later;
+    keep_stamps(&mut cut.rows, old, number);
+    cut
+}
+
+/// Makes the cut of a section that of the tables after an edit, and tells whether the edit touches the
+/// section: whether its cuts before and after the edit differ, where a cut that isn't there differs from
+/// each that is. Each row that is new, or whose value changed, gets the edit's number as its stamp, and
+/// each other row keeps its stamp. Without memory the cut stays as it was.
+pub fn cut_change(
+    alloc: Global,
+    cut: &mut Option<Cut>,
+    section: &Name,
+    before: &LineTables,
+    after: &LineTables,
+    edit: &Edit,
+    number: u64,
+) -> Result<bool, OutOfMemory>
+    requires after { after.now ≡ edits.after before.now edit.now }
+    requires cut { cut_of before.now section.now ≡ option_map (stamped 0) cut.old }
+    ensures touched { IfOk result (λ touched. IsTrue touched
+        ↔ (cut_of after.now section.now ≢ cut_of before.now section.now)) }
+    ensures cut { OnOk result
+        (IsCutAfter (cut_of after.now section.now) number cut.old cut.new) }
+    ensures kept { OnErr result (cut.new ≡ cut.old) }
+{
+    let _sound = after.sections();
+    let changes = CutChanges::of(alloc, before, after, edit)?;
+    match changes.cut_after(alloc, cut, section, number)? {
+        CutChange::Untouched => Ok(false),
+        CutChange::Touched(later) => {
+            *cut = later;
+            Ok(true)
+        }
+    }
+}
