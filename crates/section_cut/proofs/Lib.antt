@@ -24,3 +24,7 @@ pub mod Rows
 pub mod Restamped
 pub mod SameValue
 pub mod Anew
+pub mod Around
+pub mod Placed
+pub mod OneRun
+pub mod Reached

@@ -1,6 +1,6 @@
 -- The members' rows, one run after the other.
 use Rattle.std.proofs.Common.{◌≡◌, ℕ, ◌+◌, ◌<◌, Bool, true, false, cond, ltb, List, [], ◌∷◌, ◌++◌, map, length, get_or, take, Option, refl, sym, ap, ◌∙◌, arith}
-use Rattle.std.specs.Prelude.{filter, option_map}
+use Rattle.std.specs.Prelude.{filter, option_map, All}
 use Rattle.std.specs.List.{range_with_len}
 use Rattle.std.specs.Option.{option_to_list}
 use Rattle.std.proofs.lemmas.List.{length-map, map-append}
@@ -17,25 +17,32 @@ use Rattle.plan_model.specs.declared.cut.CutRow.{CutRow}
 use Rattle.plan_model.specs.SectionCut.{use_in_section, section_uses, is_member}
 use Rattle.section_cut.specs.declared.members.Member.{Member}
 use Rattle.section_cut.specs.Positions.{IsPositions, with_position, uses_in}
+use Rattle.section_cut.specs.OneRun.{uses_of_section}
 use Rattle.section_cut.specs.Members.{member_row, member_of, row_on_blocks, member_at}
 use Rattle.rail_model.proofs.Lists.{map_same}
 use Rattle.rail_model.proofs.Timetables.{used_there}
 
 module _ (tables : Tables) (section : Section) where
-  -- a run's uses of the section's blocks by the table of positions
+  -- uses of the section's blocks by the table of positions
+  pub uses_by_positions : (positions : List ℕ) → IsPositions tables section positions → (uses : List Use)
+      → All (λ (u : Use). u.block < length tables.blocks) uses
+      → uses_in positions (length section.blocks) uses ≡ uses_of_section tables section uses
+  uses_by_positions positions table uses there =
+      ap (filter (λ (u : Use). ltb u.block (length section.blocks)))
+      (map_same (with_position positions) (use_in_section tables section) uses
+      (λ k d below.
+      let u = get_or uses k d in
+      ap (λ (b : ℕ). record u { block = b }) (table.each u.block (there k d below))))
+
+  -- and those of a run
   pub uses_by_table : IsSound tables → (positions : List ℕ) → IsPositions tables section positions → (n : ℕ)
       → n < length tables.runs
       → uses_in positions (length section.blocks) (stairway (path_in tables (run_at tables n)))
       ≡ section_uses tables section (run_at tables n)
   uses_by_table sound positions table n l =
-      let uses = stairway (path_in tables (run_at tables n)) in
-      ap (filter (λ (u : Use). ltb u.block (length section.blocks)))
-      (map_same (with_position positions) (use_in_section tables section) uses
-      (λ k d below.
-      let u = get_or uses k d in
-      ap (λ (b : ℕ). record u { block = b }) (table.each u.block (used_there tables sound n l k d below))))
+      uses_by_positions positions table (stairway (path_in tables (run_at tables n))) (used_there tables sound n l)
 
-  row_listed : (stamp : ℕ) (run : Run) (b : Bool) → b ≡ is_member tables section run
+  pub row_listed : (stamp : ℕ) (run : Run) (b : Bool) → b ≡ is_member tables section run
       → map (row_on_blocks tables section stamp) (cond b (run ∷ []) [])
       ≡ option_to_list (member_row section run.name stamp (section_uses tables section run))
   row_listed stamp run true e = rw (sym e) refl

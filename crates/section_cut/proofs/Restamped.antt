@@ -15,7 +15,7 @@ use Rattle.section_cut.specs.Stamps.{AreBefore, IsReached}
 use Rattle.section_cut.proofs.Rows.{found_at, none_found}
 
 module _ (old : Cut) (number at : ℕ) (row : CutRow) (rise : NamesRise (λ r. r.name) old.rows) (reached : IsReached old.rows row.name at) where
-  new_stamp : find (λ r. is_same r.name row.name) old.rows ≡ None → IsRestamped number (Some old) (stamped_row number row)
+  pub new_stamp : find (λ r. is_same r.name row.name) old.rows ≡ None → IsRestamped number (Some old) (stamped_row number row)
   new_stamp none = inr (refl, λ e. let it : None ≡ Some (stamped_row 0 row) = subst (λ o. option_map (stamped_row 0) o ≡ Some (stamped_row 0 row)) none e in absurd (cc))
 
   -- no old row is left from this name on

@@ -21,7 +21,7 @@ found_at name (x ∷ items) (suc k) d rise within =
 
 module _ (rows : List CutRow) (name : List ℕ) (at : ℕ) (rise : NamesRise (λ r. r.name) rows) (reached : IsReached rows name at) where
   -- the row at the place of the name, if its name is another, comes after the name
-  after_there : (below : at < length rows) → ((get_or rows at no_member).name ≡ name → ⊥)
+  pub after_there : (below : at < length rows) → ((get_or rows at no_member).name ≡ name → ⊥)
       → IsBefore name (get_or rows at no_member).name
   after_there below other =
       elim (same_or_after (get_or rows at no_member).name name (reached.stops below)) [

@@ -5,3 +5,5 @@ pub mod Members
 pub mod Bound
 pub mod Change
 pub mod Stamps
+pub mod OneRun
+pub mod Reach

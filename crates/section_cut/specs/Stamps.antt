@@ -13,3 +13,7 @@ pub record AreBefore (rows : List CutRow) (name : List ℕ) (at : ℕ) : Type 0 
 pub record IsReached (rows : List CutRow) (name : List ℕ) (at : ℕ) : Type 0 where
   pub before : AreBefore rows name at
   pub stops : at < length rows → is_before (slice_index_or rows at no_member).name name ≡ false
+
+-- the row at this place has this name
+abbrev pub IsThere : List CutRow → List ℕ → ℕ → Type 0
+IsThere rows name at = (at < length rows) × ((slice_index_or rows at no_member).name ≡ name)

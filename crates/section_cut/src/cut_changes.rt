@@ -1,12 +1,15 @@
 //! What an edit makes of the cuts of a line's sections.
 ghost use Rattle.std.specs.Prelude.{◌≡◌, ◌≢◌, ◌↔◌, IsTrue, IfOk, IfSome, OnOk, OnErr, Some, None, option_map};
 ghost use Rattle.rail_model.specs.Edits as edits;
+ghost use Rattle.rail_model.specs.Timetable.{timetable};
 ghost use Rattle.plan_model.specs.Cut.{stamped, IsSoundCut};
 ghost use Rattle.plan_model.specs.SectionCut.{cut_of};
 ghost use Rattle.section_cut.specs.Change.{IsChange, IsCutAfter};
 
-use crate::all_stairways::{AllStairways, stairways};
+use crate::all_stairways::AllStairways;
 use crate::cuts::cut_among;
+use crate::one_run::cut_after_run;
+use crate::reach::{Reach, reach_of};
 use crate::same_value::same_cut;
 use crate::stamps::keep_stamps;
 use line_tables::LineTables;
@@ -29,19 +32,18 @@ pub enum CutChange {
 pub struct CutChanges<'a> {
     before: &'a LineTables,
     after: &'a LineTables,
-    stairs: AllStairways,
+    reach: Reach,
 }
 
 impl<'a> Model for CutChanges<'a> {
-    ghost use Rattle.std.specs.Prelude.{◌≡◌};
     ghost use Rattle.section_cut.specs.Change.{TwoTables};
-    ghost use Rattle.rail_model.specs.Timetable.{timetable};
+    ghost use Rattle.section_cut.specs.Reach.{IsReach};
 
     ghost Value = { TwoTables };
 
     ghost view = { λ c. record { before = c.before.now; after = c.after.now } };
 
-    ghost invariant = { λ c. c.stairs ≡ timetable c.after.now };
+    ghost invariant = { λ c. IsReach c.before.now c.after.now c.reach };
 }
 
 impl<'a> CutChanges<'a> {
@@ -56,11 +58,11 @@ impl<'a> CutChanges<'a> {
         ensures { IfOk result
             (λ changes. changes ≡ record { before = before.now; after = after.now }) }
     {
-        let stairs = AllStairways::of(alloc, stairways(alloc, after)?)?;
+        let reach = reach_of(alloc, before, after, edit)?;
         Ok(CutChanges {
             before,
             after,
-            stairs,
+            reach,
         })
     }
 
@@ -79,62 +81,76 @@ impl<'a> CutChanges<'a> {
         ensures { IfOk result (IsChange
             (cut_of self.now.before section.now) (cut_of self.now.after section.now) number cut.now) }
     {
-        let _sound = self.before.sections();
-        match cut {
-            Some(old) => self.cut_after_one(alloc, old, section, number),
-            None => self.cut_after_none(alloc, section, number),
+        match (&self.reach, cut) {
+            (Reach::Run(_), None) => Ok(CutChange::Untouched),
+            (Reach::Run(run), Some(old)) => {
+                cut_after_run(alloc, self.before, self.after, run, old, section, number)
+            }
+            (Reach::All(stairs), None) => cut_after_none(
+                alloc, self.after, stairs, section, number,
+            ),
+            (Reach::All(stairs), Some(old)) => {
+                let _sound = self.before.sections();
+                cut_after_one(alloc, self.after, stairs, old, section, number)
+            }
         }
     }
+}
 
-    // The same for a section that was not there.
-    fn cut_after_none(
-        &self,
-        alloc: Global,
-        section: &Name,
-        number: u64,
-    ) -> Result<CutChange, OutOfMemory>
-        ensures { IfOk result (IsChange None (cut_of self.now.after section.now) number None) }
-    {
-        match self.cut_anew(alloc, section, number)? {
-            Some(cut) => Ok(CutChange::Touched(Some(cut))),
-            None => Ok(CutChange::Untouched),
-        }
+// What the edit of a number makes of the cut of a section that was not there, by all stairways after it.
+fn cut_after_none(
+    alloc: Global,
+    after: &LineTables,
+    stairs: &AllStairways,
+    section: &Name,
+    number: u64,
+) -> Result<CutChange, OutOfMemory>
+    requires { stairs.now ≡ timetable after.now }
+    ensures { IfOk result (IsChange None (cut_of after.now section.now) number None) }
+{
+    match cut_anew(alloc, after, stairs, section, number)? {
+        Some(cut) => Ok(CutChange::Touched(Some(cut))),
+        None => Ok(CutChange::Untouched),
     }
+}
 
-    // The same for a section that was there, with its cut.
-    fn cut_after_one(
-        &self,
-        alloc: Global,
-        old: &Cut,
-        section: &Name,
-        number: u64,
-    ) -> Result<CutChange, OutOfMemory>
-        requires { IsSoundCut old.now }
-        ensures { IfOk result (IsChange (Some (stamped 0 old.now))
-            (cut_of self.now.after section.now) number (Some old.now)) }
-    {
-        match self.cut_anew(alloc, section, number)? {
-            Some(cut) => Ok(compared(old, cut, number)),
-            None => Ok(CutChange::Touched(None)),
-        }
+// The same for a section that was there, with its cut.
+fn cut_after_one(
+    alloc: Global,
+    after: &LineTables,
+    stairs: &AllStairways,
+    old: &Cut,
+    section: &Name,
+    number: u64,
+) -> Result<CutChange, OutOfMemory>
+    requires stairs { stairs.now ≡ timetable after.now }
+    requires sound { IsSoundCut old.now }
+    ensures { IfOk result (IsChange (Some (stamped 0 old.now))
+        (cut_of after.now section.now) number (Some old.now)) }
+{
+    match cut_anew(alloc, after, stairs, section, number)? {
+        Some(cut) => Ok(compared(old, cut, number)),
+        None => Ok(CutChange::Touched(None)),
     }
+}
 
-    // The section's cut after the edit, each row with this stamp.
-    fn cut_anew(
-        &self,
-        alloc: Global,
-        section: &Name,
-        stamp: u64,
-    ) -> Result<Option<Cut>, OutOfMemory>
-        ensures same { IfOk result
-            (λ cut. cut ≡ option_map (stamped stamp) (cut_of self.now.after section.now)) }
-        ensures sound { IfOk result (λ cut. IfSome cut IsSoundCut) }
-    {
-        let Some(place) = self.after.section_number(section) else {
-            return Ok(None);
-        };
-        Ok(Some(cut_among(alloc, self.after, &self.stairs, place, stamp)?))
-    }
+// The cut of the section of a name, if it is there, each row with this stamp.
+fn cut_anew(
+    alloc: Global,
+    tables: &LineTables,
+    stairs: &AllStairways,
+    section: &Name,
+    stamp: u64,
+) -> Result<Option<Cut>, OutOfMemory>
+    requires { stairs.now ≡ timetable tables.now }
+    ensures same { IfOk result
+        (λ cut. cut ≡ option_map (stamped stamp) (cut_of tables.now section.now)) }
+    ensures sound { IfOk result (λ cut. IfSome cut IsSoundCut) }
+{
+    let Some(place) = tables.section_number(section) else {
+        return Ok(None);
+    };
+    Ok(Some(cut_among(alloc, tables, stairs, place, stamp)?))
 }
 
 // What the edit of a number makes of a cut that is there before it and after it, where all rows of the

@@ -11,7 +11,9 @@ mod cut_changes;
 mod cuts;
 mod late;
 mod members;
+mod one_run;
 mod positions;
+mod reach;
 mod same_value;
 mod stamps;
 

@@ -85,7 +85,7 @@ fn row_at(
 }
 
 // The row of a run with these uses of the section's blocks, if it is a member.
-fn member_row(
+pub(crate) fn member_row(
     alloc: Global,
     section: &Section,
     name: Name,

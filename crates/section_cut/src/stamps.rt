@@ -28,7 +28,7 @@ pub(crate) fn keep_stamps(rows: &mut List<CutRow>, old: &Cut, number: u64)
 }
 
 // The place of the first row whose name isn't before this one, from a place on.
-fn reached(rows: &[CutRow], name: &Name, from: usize) -> usize
+pub(crate) fn reached(rows: &[CutRow], name: &Name, from: usize) -> usize
     requires { AreBefore rows.now name.now from }
     ensures { IsReached rows.now name.now result }
 {

@@ -1,0 +1,220 @@
+-- The cut of a section by tables that differ in one run and have no connections: its row alone differs.
+use Rattle.std.proofs.Common.{◌≡◌, ℕ, ◌<◌, Bool, true, false, List, [], ◌∷◌, ◌++◌, map, get_or, Option, Some, None, refl, sym, ap, ◌∙◌, subst, inl, inr, arith}
+use Rattle.std.specs.Prelude.{find, filter, option_map, option_and_then, length, All, IfSome, slice_get}
+use Rattle.std.specs.List.{filter_map, enumerate_from}
+use Rattle.std.specs.Option.{option_to_list}
+use Rattle.std.proofs.lemmas.List.{append-nil, map-append}
+use Rattle.std.proofs.lemmas.List.Elements.{filter-append}
+use Rattle.rail_model.specs.declared.items.Run.{Run}
+use Rattle.rail_model.specs.declared.items.Section.{Section}
+use Rattle.rail_model.specs.declared.items.Connection.{Connection}
+use Rattle.rail_model.specs.declared.stair.Stair.{Stair}
+use Rattle.rail_model.specs.declared.stair.Use.{Use}
+use Rattle.rail_model.specs.declared.tables.Tables.{Tables}
+use Rattle.rail_model.specs.Name.{is_same, is_before, NamesRise}
+use Rattle.plan_model.specs.declared.cut.CutRow.{CutRow}
+use Rattle.plan_model.specs.declared.cut.Cut.{Cut}
+use Rattle.plan_model.specs.Cut.{stamped_row, stamped}
+use Rattle.plan_model.specs.SectionCut.{section_uses, entry_of, is_member, binds, connection_use, row_of, section_cut}
+use Rattle.rail_model.proofs.Lists.{map_same}
+use Rattle.section_cut.specs.Members.{enters, member_row, row_on_blocks, rows_on_blocks}
+use Rattle.line_tables.proofs.Found.{find_some}
+use Rattle.rail_model.specs.Sound.{IsSound}
+use Rattle.rail_model.specs.Blocking.{stairway, stair_of}
+use Rattle.rail_model.specs.Tables.{no_run, number_of, run_at, path_in}
+use Rattle.rail_model.proofs.NameOrder.{same_name}
+use Rattle.rail_model.proofs.Timetables.{used_there}
+use Rattle.plan_model.specs.Cut.{IsSoundCut}
+use Rattle.plan_model.specs.SectionCut.{cut_of}
+use Rattle.std.proofs.lemmas.Bool.{cases_Bool}
+use Rattle.std.proofs.lemmas.Option.{slice_get-get_or, slice_get_past}
+use Rattle.std.proofs.lemmas.List.Folds.{find_at}
+use Rattle.rail_model.specs.Rules.{has_run}
+use Rattle.rail_model.proofs.Places.{number_of-missing}
+use Rattle.std.proofs.lemmas.List.{get_or_default}
+use Rattle.section_cut.specs.OneRun.{before, behind, with_one, cut_with, row_of_stair, IsOneRun}
+use Rattle.section_cut.proofs.SameValue.{sound_cut_of}
+use Rattle.section_cut.proofs.MemberRows.{row_listed}
+use Rattle.section_cut.proofs.Around.{split, filter_rows}
+
+-- without connections a row has its uses of blocks alone
+module _ (tables : Tables) (s : Section) (none : tables.connections ≡ []) where
+  bare_row : (run : Run) → row_of tables s run ≡ row_on_blocks tables s 0 run
+  bare_row run =
+      let row : List Use → CutRow = λ uses. record { name = run.name; stamp = 0; entry = entry_of tables s run; uses = section_uses tables s run ++ uses } in
+      ap (λ (cs : List Connection). row (filter_map (connection_use tables s run) (enumerate_from (length s.blocks) (filter (binds tables s) cs)))) none
+      ∙ ap (λ uses. record { name = run.name; stamp = 0; entry = entry_of tables s run; uses = uses }) (append-nil (section_uses tables s run))
+
+  pub bare_cut : section_cut tables s ≡ record { section = s; connections = []; rows = rows_on_blocks tables s 0 }
+  bare_cut =
+      let members = filter (is_member tables s) tables.runs in
+      ap (λ (cs : List Connection). record { section = s; connections = map (λ (c : Connection). c.name) (filter (binds tables s) cs); rows = map (row_of tables s) members }) none
+      ∙ ap (λ rows. record { section = s; connections = []; rows = rows })
+      (map_same (row_of tables s) (row_on_blocks tables s 0) members (λ k d l. bare_row (get_or members k d)))
+
+-- the row of a run, if it is there and a member
+abbrev pub row_for : Tables → Section → ℕ → Option Run → Option CutRow
+row_for tables s stamp found = option_and_then (λ (run : Run). member_row s run.name stamp (section_uses tables s run)) found
+
+bare_member : (s : Section) (name : List ℕ) (stamp : ℕ) (uses : List Use) (b : Bool) → b ≡ enters s uses
+    → option_map (stamped_row 0) (member_row s name stamp uses) ≡ member_row s name 0 uses
+bare_member s name stamp uses true e = rw (sym e) refl
+bare_member s name stamp uses false e = rw (sym e) refl
+
+pub bare_row_for : (tables : Tables) (s : Section) (stamp : ℕ) (found : Option Run)
+    → option_map (stamped_row 0) (row_for tables s stamp found) ≡ row_for tables s 0 found
+bare_row_for tables s stamp None = refl
+bare_row_for tables s stamp (Some run) =
+    bare_member s run.name stamp (section_uses tables s run) (enters s (section_uses tables s run)) refl
+
+rows_for : (tables : Tables) (s : Section) (found : Option Run)
+    → map (row_on_blocks tables s 0) (filter (is_member tables s) (option_to_list found)) ≡ option_to_list (row_for tables s 0 found)
+rows_for tables s None = refl
+rows_for tables s (Some run) = row_listed tables s 0 run (is_member tables s run) refl
+
+module _ (earlier later : Tables) (s : Section) (name : List ℕ) (its : Option Stair) (one : IsOneRun earlier later name its) (rise : NamesRise (λ (r : Run). r.name) later.runs) where
+  abbrev found : Option Run
+  found = find (λ (r : Run). is_same r.name name) later.runs
+
+  -- the rows of runs whose names pass a test
+  kept_rows : (q : List ℕ → Bool) → filter (λ (r : Run). q r.name) later.runs ≡ filter (λ (r : Run). q r.name) earlier.runs
+      → map (row_on_blocks later s 0) (filter (is_member later s) (filter (λ (r : Run). q r.name) later.runs))
+      ≡ filter (λ (r : CutRow). q r.name) (rows_on_blocks earlier s 0)
+  kept_rows q same =
+      ap (λ rs. map (row_on_blocks later s 0) (filter (is_member later s) rs)) same
+      ∙ sym (filter_rows (row_on_blocks later s 0) (is_member later s) (λ (r : Run). q r.name) (λ (r : CutRow). q r.name) (λ r. refl) earlier.runs)
+      ∙ ap (λ (t : Tables). filter (λ (r : CutRow). q r.name) (map (row_on_blocks t s 0) (filter (is_member t s) earlier.runs))) one.others
+
+  rows_later : rows_on_blocks later s 0 ≡ with_one (λ (r : CutRow). r.name) name (row_for later s 0 found) (rows_on_blocks earlier s 0)
+  rows_later =
+      let f = row_on_blocks later s 0 in
+      let p = is_member later s in
+      let front = before (λ (r : Run). r.name) name later.runs in
+      let back = behind (λ (r : Run). r.name) name later.runs in
+      let middle = option_to_list found in
+      ap (λ rs. map f (filter p rs)) (split (λ (r : Run). r.name) name later.runs rise)
+      ∙ ap (map f) (filter-append p front (middle ++ back)) ∙ map-append f (filter p front) (filter p (middle ++ back))
+      ∙ ap (λ rs. map f (filter p front) ++ rs) (ap (map f) (filter-append p middle back) ∙ map-append f (filter p middle) (filter p back))
+      ∙ ap (λ rs. rs ++ (map f (filter p middle) ++ map f (filter p back))) (kept_rows (λ m. is_before m name) one.front)
+      ∙ ap (λ rs. before (λ (r : CutRow). r.name) name (rows_on_blocks earlier s 0) ++ (map f (filter p middle) ++ rs)) (kept_rows (λ m. is_before name m) one.back)
+      ∙ ap (λ rs. before (λ (r : CutRow). r.name) name (rows_on_blocks earlier s 0) ++ (rs ++ behind (λ (r : CutRow). r.name) name (rows_on_blocks earlier s 0))) (rows_for later s found)
+
+  pub cut_later : section_cut later s ≡ cut_with name (row_for later s 0 found) (section_cut earlier s)
+  cut_later =
+      let none : later.connections ≡ [] = ap (λ (t : Tables). t.connections) one.others ∙ one.none in
+      bare_cut later s none
+      ∙ ap (λ rows. record { section = s; connections = []; rows = rows }) rows_later
+      ∙ sym (ap (cut_with name (row_for later s 0 found)) (bare_cut earlier s one.none))
+
+-- the run of a name that is there, and of one that isn't
+module _ (tables : Tables) (name : List ℕ) where
+  pub run_found : (n : ℕ) → n ≡ number_of (λ (r : Run). r.name) tables.runs name → n < length tables.runs
+      → find (λ (r : Run). is_same r.name name) tables.runs ≡ Some (run_at tables n)
+  run_found n number l =
+      find_at (λ (r : Run). is_same r.name name) tables.runs
+      ∙ ap (slice_get tables.runs) (sym number) ∙ slice_get-get_or tables.runs n no_run l
+
+  pub run_missing : has_run tables name ≡ false → find (λ (r : Run). is_same r.name name) tables.runs ≡ None
+  run_missing missing =
+      let past = number_of-missing (λ (r : Run). r.name) tables.runs name missing in
+      find_at (λ (r : Run). is_same r.name name) tables.runs
+      ∙ slice_get_past tables.runs (number_of (λ (r : Run). r.name) tables.runs name) (omega (arith, past))
+
+-- ---- a stored cut, with its stamps
+
+filter_mapped : {X Y : Type 0} (f : X → Y) (p : Y → Bool) (q : X → Bool) → ((x : X) → p (f x) ≡ q x) → (xs : List X)
+    → filter p (map f xs) ≡ map f (filter q xs)
+filter_mapped f p q same [] = refl
+filter_mapped f p q same (x ∷ xs) =
+    elim (cases_Bool (q x)) [
+      | inl e ↦ rw (same x, e) (ap (λ ys. f x ∷ ys) (filter_mapped f p q same xs))
+      | inr e ↦ rw (same x, e) (filter_mapped f p q same xs)
+    ]
+
+map_one : (row : Option CutRow) → map (stamped_row 0) (option_to_list row) ≡ option_to_list (option_map (stamped_row 0) row)
+map_one None = refl
+map_one (Some row) = refl
+
+pub bare_with : (n : List ℕ) (row : Option CutRow) (old : Cut)
+    → stamped 0 (cut_with n row old) ≡ cut_with n (option_map (stamped_row 0) row) (stamped 0 old)
+bare_with n row old =
+    let mark = stamped_row 0 in
+    let front = λ (r : CutRow). is_before r.name n in
+    let back = λ (r : CutRow). is_before n r.name in
+    ap (λ rows. record old { rows = rows })
+    (map-append mark (filter front old.rows) (option_to_list row ++ filter back old.rows)
+    ∙ ap (λ rs. map mark (filter front old.rows) ++ rs) (map-append mark (option_to_list row) (filter back old.rows))
+    ∙ rw (sym (filter_mapped mark front front (λ r. refl) old.rows), sym (filter_mapped mark back back (λ r. refl) old.rows), map_one row) refl)
+
+-- the section of a cut, and what its tables say of it
+located : (tables : Tables) (name : List ℕ) (old : Cut) (found : Option Section) → find (λ (s : Section). is_same s.name name) tables.sections ≡ found
+    → option_map (section_cut tables) found ≡ Some (stamped 0 old)
+    → (find (λ (s : Section). is_same s.name name) tables.sections ≡ Some old.section) × (section_cut tables old.section ≡ stamped 0 old)
+located tables name old None e is = absurd (cc)
+located tables name old (Some s) e is =
+    let same : section_cut tables s ≡ stamped 0 old = cc in
+    let own : s ≡ old.section = ap (λ (c : Cut). c.section) same in
+    (e ∙ ap Some own, subst (λ t. section_cut tables t ≡ stamped 0 old) own same)
+
+by_stair : (tables : Tables) (s : Section) (stamp : ℕ) (found : Option Run)
+    → row_of_stair tables s stamp (option_map (λ run. stair_of (path_in tables run)) found) ≡ row_for tables s stamp found
+by_stair tables s stamp None = refl
+by_stair tables s stamp (Some run) = refl
+
+name_found : (tables : Tables) (name : List ℕ) (found : Option Run) → find (λ (r : Run). is_same r.name name) tables.runs ≡ found
+    → (s : Section) (stamp : ℕ) → IfSome (row_for tables s stamp found) (λ r. (r.name ≡ name) × (r.stamp ≡ stamp))
+name_found tables name None e s stamp = tt
+name_found tables name (Some run) e s stamp =
+    let named = same_name run.name name (find_some (λ (r : Run). is_same r.name name) tables.runs run e).0 in
+    by_test (enters s (section_uses tables s run)) refl named
+  where
+    by_test : (b : Bool) → b ≡ enters s (section_uses tables s run) → run.name ≡ name
+        → IfSome (member_row s run.name stamp (section_uses tables s run)) (λ (r : CutRow). (r.name ≡ name) × (r.stamp ≡ stamp))
+    by_test true h named = rw (sym h) (named, refl)
+    by_test false h named = rw (sym h) tt
+
+uses_found : (tables : Tables) → IsSound tables → (name : List ℕ) (found : Option Run) → find (λ (r : Run). is_same r.name name) tables.runs ≡ found
+    → IfSome (option_map (λ run. stair_of (path_in tables run)) found) (λ (s : Stair). All (λ (u : Use). u.block < length tables.blocks) s.uses)
+uses_found tables sound name None e = tt
+uses_found tables sound name (Some run) e =
+    (find_some (λ (r : Run). is_same r.name name) tables.runs run e).1
+    (λ (r : Run). All (λ (u : Use). u.block < length tables.blocks) (stairway (path_in tables r)))
+    (λ k d l. subst (λ (r : Run). All (λ (u : Use). u.block < length tables.blocks) (stairway (path_in tables r))) (get_or_default tables.runs k no_run d l) (used_there tables sound k l))
+
+module _ (earlier later : Tables) (name section : List ℕ) (its : Option Stair) (old : Cut) (one : IsOneRun earlier later name its) (earlier_sound : IsSound earlier) (later_sound : IsSound later) (is : cut_of earlier section ≡ Some (stamped 0 old)) where
+  pub old_sound : IsSoundCut old
+  old_sound = sound_cut_of earlier earlier_sound section old is
+
+  -- the stair's uses are of blocks of the tables
+  pub its_uses : IfSome its (λ (s : Stair). All (λ (u : Use). u.block < length later.blocks) s.uses)
+  its_uses = subst (λ o. IfSome o (λ (s : Stair). All (λ (u : Use). u.block < length later.blocks) s.uses)) (sym one.stair)
+      (uses_found later later_sound name (find (λ (r : Run). is_same r.name name) later.runs) refl)
+
+  module _ (number : ℕ) (row : Option CutRow) (row_is : row ≡ row_of_stair later old.section number its) where
+    row_is_for : row ≡ row_for later old.section number (find (λ (r : Run). is_same r.name name) later.runs)
+    row_is_for = row_is ∙ ap (row_of_stair later old.section number) one.stair ∙ by_stair later old.section number (find (λ (r : Run). is_same r.name name) later.runs)
+
+    pub row_named : IfSome row (λ r. (r.name ≡ name) × (r.stamp ≡ number))
+    row_named = subst (λ o. IfSome o (λ (r : CutRow). (r.name ≡ name) × (r.stamp ≡ number))) (sym row_is_for)
+        (name_found later name (find (λ (r : Run). is_same r.name name) later.runs) refl old.section number)
+
+    pub cut_is : cut_of later section ≡ Some (stamped 0 (cut_with name row old))
+    cut_is =
+        let found = find (λ (r : Run). is_same r.name name) later.runs in
+        let here = located earlier section old (find (λ (s : Section). is_same s.name section) earlier.sections) refl is in
+        let there : find (λ (s : Section). is_same s.name section) later.sections ≡ Some old.section =
+        ap (λ (t : Tables). find (λ (s : Section). is_same s.name section) t.sections) one.others ∙ here.0 in
+        ap (option_map (section_cut later)) there
+        ∙ ap Some
+        (cut_later earlier later old.section name its one later_sound.runs.names
+        ∙ ap (cut_with name (row_for later old.section 0 found)) here.1
+        ∙ ap (λ r. cut_with name r (stamped 0 old)) (sym (ap (option_map (stamped_row 0)) row_is_for ∙ bare_row_for later old.section number found))
+        ∙ sym (bare_with name row old))
+
+    pub with_sound : IsSoundCut (cut_with name row old)
+    with_sound = sound_cut_of later later_sound section (cut_with name row old) cut_is
+
+pub both_known : (name : List ℕ) (number : ℕ) (row : Option CutRow) → IfSome row (λ r. (r.name ≡ name) × (r.stamp ≡ number))
+    → IfSome row (λ r. r.name ≡ name) × IfSome row (λ r. r.stamp ≡ number)
+both_known name number None both = (tt, tt)
+both_known name number (Some row) both = both

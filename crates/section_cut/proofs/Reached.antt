@@ -1,0 +1,72 @@
+-- What an edit of a run leaves of tables.
+use Rattle.std.proofs.Common.{◌≡◌, ℕ, List, [], Option, Some, refl, sym, subst}
+use Rattle.std.specs.Prelude.{find, option_map}
+use Rattle.rail_model.specs.declared.items.Run.{Run}
+use Rattle.rail_model.specs.declared.items.Item.{Item}
+use Rattle.rail_model.specs.declared.items.Item.TheVariants as item
+use Rattle.rail_model.specs.declared.edit.Kind.{Kind}
+use Rattle.rail_model.specs.declared.edit.Kind.TheVariants as kind
+use Rattle.rail_model.specs.declared.edit.Edit.{Edit}
+use Rattle.rail_model.specs.declared.edit.Edit.TheVariants as edit
+use Rattle.rail_model.specs.declared.stair.Stair.{Stair}
+use Rattle.rail_model.specs.declared.tables.Tables.{Tables}
+use Rattle.rail_model.specs.Name.{is_same}
+use Rattle.rail_model.specs.Blocking.{stair_of}
+use Rattle.rail_model.specs.Tables.{path_in}
+use Rattle.rail_model.specs.Edits.{after_put, after_change, after_drop, after}
+use Rattle.section_cut.specs.OneRun.{run_of_item, run_of_kind, run_edited, before, behind, IsOneRun}
+use Rattle.section_cut.proofs.Around.{put_front, put_back, change_front, change_back, drop_front, drop_back}
+
+-- all but the run of a name stays
+record OthersStay (earlier later : Tables) (name : List ℕ) : Type 0 where
+  same : later ≡ record earlier { runs = later.runs }
+  front : before (λ (r : Run). r.name) name later.runs ≡ before (λ (r : Run). r.name) name earlier.runs
+  back : behind (λ (r : Run). r.name) name later.runs ≡ behind (λ (r : Run). r.name) name earlier.runs
+
+module _ (tables : Tables) (name : List ℕ) where
+  by_put : (x : Item) → run_of_item x ≡ Some name → OthersStay tables (after_put tables x) name
+  by_put (item.Block b) e = absurd (cc)
+  by_put (item.Signal s) e = absurd (cc)
+  by_put (item.Route r) e = absurd (cc)
+  by_put (item.Run r) e =
+      let named : r.name ≡ name = cc in
+      subst (OthersStay tables (after_put tables (item.Run r))) named
+      (record { same = refl; front = put_front (λ (x : Run). x.name) r tables.runs; back = put_back (λ (x : Run). x.name) r tables.runs })
+  by_put (item.Section s) e = absurd (cc)
+  by_put (item.Connection c) e = absurd (cc)
+
+  by_change : (x : Item) → run_of_item x ≡ Some name → OthersStay tables (after_change tables x) name
+  by_change (item.Block b) e = absurd (cc)
+  by_change (item.Signal s) e = absurd (cc)
+  by_change (item.Route r) e = absurd (cc)
+  by_change (item.Run r) e =
+      let named : r.name ≡ name = cc in
+      subst (OthersStay tables (after_change tables (item.Run r))) named
+      (record { same = refl; front = change_front (λ (x : Run). x.name) r tables.runs; back = change_back (λ (x : Run). x.name) r tables.runs })
+  by_change (item.Section s) e = absurd (cc)
+  by_change (item.Connection c) e = absurd (cc)
+
+  by_drop : (k : Kind) (n : List ℕ) → run_of_kind k n ≡ Some name → OthersStay tables (after_drop tables k n) name
+  by_drop kind.Block n e = absurd (cc)
+  by_drop kind.Signal n e = absurd (cc)
+  by_drop kind.Route n e = absurd (cc)
+  by_drop kind.Run n e =
+      let named : n ≡ name = cc in
+      subst (OthersStay tables (after_drop tables kind.Run n)) named
+      (record { same = refl; front = drop_front (λ (x : Run). x.name) n tables.runs; back = drop_back (λ (x : Run). x.name) n tables.runs })
+  by_drop kind.Section n e = absurd (cc)
+  by_drop kind.Connection n e = absurd (cc)
+
+  others_stay : (x : Edit) → run_edited x ≡ Some name → OthersStay tables (after tables x) name
+  others_stay (edit.Put x) e = by_put x e
+  others_stay (edit.Change x) e = by_change x e
+  others_stay (edit.Drop k n) e = by_drop k n e
+
+-- an edit of a run, without connections, is one of this run alone
+pub one_run : (earlier later : Tables) (x : Edit) (name : List ℕ) (its : Option Stair) → later ≡ after earlier x → run_edited x ≡ Some name
+    → earlier.connections ≡ []
+    → its ≡ option_map (λ run. stair_of (path_in later run)) (find (λ r. is_same r.name name) later.runs)
+    → IsOneRun earlier later name its
+one_run earlier later x name its is edited none stair =
+    let stay = subst (λ (t : Tables). OthersStay earlier t name) (sym is) (others_stay earlier name x edited) in
+    record { none = none; others = stay.same; front = stay.front; back = stay.back; stair = stair }
