@@ -1,0 +1,4 @@
+pub mod Part
+pub mod Remaining
+pub mod Whole
+pub mod Along

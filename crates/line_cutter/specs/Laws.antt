@@ -1,0 +1,51 @@
+-- Laws of pieces and cuttings.
+use Rattle.std.specs.Prelude.{◌≡◌, ℕ, ◌+◌, ◌<◌, ◌≤◌, List, length, slice_index, All, AllPairs}
+use Rattle.plan_model.specs.declared.cut.Cut.{Cut}
+use Rattle.line_cutter.specs.declared.found.Stretch.{Stretch}
+use Rattle.line_cutter.specs.declared.found.Cutting.{Cutting}
+use Rattle.line_cutter.specs.Piece.{piece, IsOrderly}
+use Rattle.line_cutter.specs.Cutting.{AreOrderly, IsCutting}
+
+-- a part of an orderly piece is orderly
+abbrev pub PartIsOrderly : Type 0
+PartIsOrderly =
+    (cut : Cut) (a b c d : ℕ) → a ≤ c → d ≤ b → IsOrderly (piece cut a b) → IsOrderly (piece cut c d)
+
+-- no other ends of orderly pieces are fewer
+abbrev pub NoFewerPieces : Type 0
+NoFewerPieces =
+    (cut : Cut) (cutting : Cutting) (ends : List ℕ) → IsCutting cut cutting → AreOrderly cut 0 ends
+    → length cutting.ends ≤ length ends
+
+-- the longest orderly piece from a stretch's first block ends before its last
+pub record IsLongest (cut : Cut) (stretch : Stretch) : Type 0 where
+  pub some : stretch.first < stretch.last
+  pub orderly : IsOrderly (piece cut stretch.first stretch.last)
+  pub longest : (end : ℕ) → IsOrderly (piece cut stretch.first end) → end ≤ stretch.last
+
+-- each piece but the last is the longest orderly one from its first block
+abbrev pub EachIsLongest : Type 0
+EachIsLongest = (cut : Cut) (cutting : Cutting) → IsCutting cut cutting → All (IsLongest cut) cutting.stretches
+
+-- one of these ends lies between two neighbouring blocks of a stretch
+pub record IsCutAmong (ends : List ℕ) (stretch : Stretch) : Type 0 where
+  pub piece : ℕ
+  pub there : piece < length ends
+  pub after : stretch.first < slice_index ends piece
+  pub before : slice_index ends piece ≤ stretch.last
+
+-- whoever cuts the line into orderly pieces cuts each stretch
+abbrev pub EachNeedsACut : Type 0
+EachNeedsACut =
+    (cut : Cut) (cutting : Cutting) (ends : List ℕ) → IsCutting cut cutting → AreOrderly cut 0 ends
+    → All (IsCutAmong ends) cutting.stretches
+
+-- a stretch ends with or before the block with which any later one begins
+abbrev pub StretchesAreDisjoint : Type 0
+StretchesAreDisjoint =
+    (cut : Cut) (cutting : Cutting) → IsCutting cut cutting
+    → AllPairs (λ s t. s.last ≤ t.first) cutting.stretches
+
+-- there is one piece more than stretches
+abbrev pub OnePieceMore : Type 0
+OnePieceMore = (cut : Cut) (cutting : Cutting) → IsCutting cut cutting → length cutting.ends ≡ length cutting.stretches + 1

@@ -1,0 +1,3 @@
+pub mod Piece
+pub mod Cutting
+pub mod Laws
