@@ -12,7 +12,7 @@ use Rattle.train_order.specs.Ordering.{IsOrdering}
 use Rattle.line_cutter.specs.declared.found.Stretch.{Stretch}
 use Rattle.line_cutter.specs.Piece.{piece, IsOrderly}
 use Rattle.line_cutter.specs.Cutting.{AreOrderly, IsStretch, AreStretches}
-use Rattle.line_cutter.specs.Laws.{NoFewerPieces, IsLongest, EachIsLongest, IsCutAmong, EachNeedsACut, StretchesAreDisjoint, OnePieceMore}
+use Rattle.line_cutter.specs.Laws.{NoFewerPieces, IsLongest, EachIsLongest, IsCutAmong, EachNeedsACut, AreDisjoint, StretchesAreDisjoint, OnePieceMore}
 use Rattle.line_cutter.proofs.Whole.{part_is_orderly}
 
 -- a cut with disorder isn't orderly
@@ -84,11 +84,11 @@ module _ (cut : Cut) where
       (later ends stretches b k (omega (arith, le, x.0)) x.3 y.2)
 
   disjoint : (ends : List ℕ) (stretches : List Stretch) (a : ℕ) → AreOrderly cut a ends
-      → AreStretches cut a ends stretches → AllPairs (λ s t. s.last ≤ t.first) stretches
+      → AreStretches cut a ends stretches → AllPairs AreDisjoint stretches
   disjoint [] stretches a x y = absurd y
   disjoint (b ∷ ends) [] a x y = λ i j d before below. absurd (omega (arith, below))
   disjoint (b ∷ ends) (s ∷ stretches) a x y =
-      AllPairs-cons (λ (s : Stretch) (t : Stretch). s.last ≤ t.first) s stretches
+      AllPairs-cons AreDisjoint s stretches
       (later ends stretches b s.last (omega (arith, y.1.last)) x.3 y.2)
       (disjoint ends stretches b x.3 y.2)
 

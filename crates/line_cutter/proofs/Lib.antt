@@ -2,3 +2,6 @@ pub mod Part
 pub mod Remaining
 pub mod Whole
 pub mod Along
+pub mod SoundPiece
+pub mod Single
+pub mod Further

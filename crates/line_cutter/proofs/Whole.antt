@@ -63,7 +63,7 @@ module _ (f g : CutRow → CutRow) (p q : CutRow → Bool) (also : (r : CutRow) 
 -- ---- the part and the whole piece
 
 -- what a test finds among the first numbers
-some_below : (test : ℕ → Bool) (n : ℕ) → list_any test (range_with_len 0 n) ≡ true → (p : ℕ) × (p < n) × (test p ≡ true)
+pub some_below : (test : ℕ → Bool) (n : ℕ) → list_any test (range_with_len 0 n) ≡ true → (p : ℕ) × (p < n) × (test p ≡ true)
 some_below test n h =
     let some = Any-from_list_any test (range_with_len 0 n) h in
     let here : some.0 < n = omega (arith, some.2, length-range_with_len 0 n) in

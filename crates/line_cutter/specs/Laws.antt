@@ -40,11 +40,16 @@ EachNeedsACut =
     (cut : Cut) (cutting : Cutting) (ends : List ℕ) → IsCutting cut cutting → AreOrderly cut 0 ends
     → All (IsCutAmong ends) cutting.stretches
 
--- a stretch ends with or before the block with which any later one begins
+-- no two neighbouring blocks lie in both of two stretches: the first ends with or before the block with which the other
+-- begins
+abbrev pub AreDisjoint : Stretch → Stretch → Type 0
+AreDisjoint s t = s.last ≤ t.first
+
+-- stretches are disjoint
 abbrev pub StretchesAreDisjoint : Type 0
 StretchesAreDisjoint =
     (cut : Cut) (cutting : Cutting) → IsCutting cut cutting
-    → AllPairs (λ s t. s.last ≤ t.first) cutting.stretches
+    → AllPairs AreDisjoint cutting.stretches
 
 -- there is one piece more than stretches
 abbrev pub OnePieceMore : Type 0

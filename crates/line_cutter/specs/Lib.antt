@@ -1,3 +1,4 @@
 pub mod Piece
 pub mod Cutting
 pub mod Laws
+pub mod Search

@@ -5,9 +5,13 @@
 //! block, where these have none.
 #![tactic(auto)]
 
+mod cutting;
 mod found;
 mod laws;
+mod longest;
+mod piece;
 
+pub use cutting::cut_line;
 pub use found::{Cutting, Stretch};
 pub use laws::{
     each_is_longest, each_needs_a_cut, no_fewer_pieces, one_piece_more, part_is_orderly,

@@ -1,0 +1,6 @@
+use Rattle.std.proofs.Common.{◌-◌}
+use Rattle.plan_model.specs.Places.{block_count}
+use Rattle.line_cutter.proofs.cutting.+cut_from.Given as goal
+
+abbrev pub decreases-cut_from : goal.decreases-cut_from
+decreases-cut_from l = block_count l.cut.now - l.first

@@ -1,0 +1,66 @@
+//! The cutting of a line.
+ghost use Rattle.std.specs.Prelude.{◌≡◌, ◌+◌, ◌<◌, ◌≤◌, ℕ, All, AllPairs, IfOk, List as Items, length};
+ghost use Rattle.plan_model.specs.declared.limits.TheConstants.{MEMBERS};
+ghost use Rattle.plan_model.specs.Cut.{IsSoundCut};
+ghost use Rattle.plan_model.specs.Members.{member_count};
+ghost use Rattle.plan_model.specs.Places.{block_count};
+ghost use Rattle.line_cutter.specs.Cutting.{AreOrderly, IsCutting};
+ghost use Rattle.line_cutter.specs.Laws.{IsLongest, IsCutAmong, AreDisjoint};
+ghost use Rattle.line_cutter.specs.Search.{AreCutTo};
+
+use crate::found::{Cutting, Stretch};
+use crate::longest::longest_from;
+use plan_model::{Cut, FitCut};
+use rail_model::{List, OutOfMemory};
+use std::alloc::Global;
+
+/// The section's line, cut into the fewest orderly pieces: each but the last is the longest orderly
+/// one from its first block. A connection binds no piece.
+///
+/// The only error is want of memory.
+pub fn cut_line(alloc: Global, cut: &Cut) -> Result<Cutting, OutOfMemory>
+    requires sound { IsSoundCut cut.now }
+    requires few { member_count cut.now ≤ MEMBERS }
+    ensures cutting { IfOk result (IsCutting cut.now) }
+    ensures one_more { IfOk result (λ cutting.
+        length cutting.ends ≡ length cutting.stretches + 1) }
+    ensures longest { IfOk result (λ cutting. All (IsLongest cut.now) cutting.stretches) }
+    ensures disjoint { IfOk result (λ cutting. AllPairs AreDisjoint cutting.stretches) }
+    ensures needed { IfOk result (λ cutting. (ends : Items ℕ)
+        → AreOrderly cut.now 0 ends → All (IsCutAmong ends) cutting.stretches) }
+    ensures fewest { IfOk result (λ cutting. (ends : Items ℕ)
+        → AreOrderly cut.now 0 ends → length cutting.ends ≤ length ends) }
+{
+    let none = Cutting {
+        ends: List::new(alloc),
+        stretches: List::new(alloc),
+    };
+    cut_from(alloc, &FitCut::of(cut), 0, none)
+}
+
+// The same, where the line is cut up to a block.
+fn cut_from(
+    alloc: Global,
+    cut: &FitCut,
+    first: u32,
+    mut cutting: Cutting,
+) -> Result<Cutting, OutOfMemory>
+    requires left { first < block_count cut.now }
+    requires before { AreCutTo cut.now 0 cutting.ends cutting.stretches first }
+    ensures { IfOk result (IsCutting cut.now) }
+{
+    let found = longest_from(alloc, cut, first)?;
+    let last = found.end;
+    cutting.ends.push(last)?;
+    match found.disorder {
+        None => Ok(cutting),
+        Some(disorder) => {
+            cutting.stretches.push(Stretch {
+                first,
+                last,
+                disorder,
+            })?;
+            cut_from(alloc, cut, last, cutting)
+        }
+    }
+}
