@@ -5,3 +5,4 @@ pub mod Along
 pub mod SoundPiece
 pub mod Single
 pub mod Further
+pub mod InSection

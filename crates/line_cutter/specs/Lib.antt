@@ -1,4 +1,5 @@
 pub mod Piece
 pub mod Cutting
 pub mod Laws
+pub mod Rows
 pub mod Search

@@ -10,6 +10,7 @@ mod found;
 mod laws;
 mod longest;
 mod piece;
+mod rows;
 
 pub use cutting::cut_line;
 pub use found::{Cutting, Stretch};
@@ -17,3 +18,4 @@ pub use laws::{
     each_is_longest, each_needs_a_cut, no_fewer_pieces, one_piece_more, part_is_orderly,
     stretches_are_disjoint,
 };
+pub use rows::cutting_rows;
