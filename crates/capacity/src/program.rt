@@ -4,7 +4,7 @@ ghost use Rattle.rail_outside.specs.InCall.{source_call, sink_call};
 ghost use Rattle.capacity.specs.Call.{IsCall, EndsAsCall};
 
 use crate::sentence::explain;
-use capacity_cmd::{RowForm, Status, run_alone_telling};
+use capacity_cmd::{Status, Told, run_alone_telling};
 use rail_outside::{Sink, Source, Words};
 use std::process::{ExitCode, Termination};
 use std::thread::Threads;
@@ -38,23 +38,23 @@ pub(crate) fn end_of_call<R: AllocGlobal + Eprint + Threads + Sync, W: Words, S:
         (source_call S.left S.faults S.at_fault source.old source.new)
         (sink_call K.written K.flushed K.faults sink.old sink.new) }
 {
-    let mut told = RowForm::NONE;
+    let mut told = Told::nothing();
     let status = call(rt, words, source, sink, &mut told);
     // What can't be said on standard error is said by the exit code.
-    let _ = explain(rt, status, told);
+    let _ = explain(rt, status, told.text());
     Ended {
         code: ExitCode::from(status.number()),
     }
 }
 
-// Makes a call, and tells what a refused row is to look like. A word that isn't UTF-8 is no word of
+// Makes a call, and tells why a row is refused. A word that isn't UTF-8 is no word of
 // a command.
 fn call<R: AllocGlobal + Threads + Sync, W: Words, S: Source, K: Sink>(
     rt: &R,
     words: &W,
     source: &mut S,
     sink: &mut K,
-    told: &mut RowForm,
+    told: &mut Told,
 ) -> Status
     ensures { IsCall
         result

@@ -12,7 +12,7 @@ use crate::command::command_of;
 use crate::limit::INPUT_BYTES;
 use crate::reply::{Reply, refusal, reply_to};
 use crate::send::send;
-use crate::{Cause, Command, RowForm, Status};
+use crate::{Cause, Command, Status, Told};
 use rail_outside::{Gate, Sink, Source, Taken, take_all};
 use std::sync::Wait;
 use std::thread::Threads;
@@ -38,10 +38,10 @@ pub fn run<R: AllocGlobal + Threads + Wait + Sync, S: Source, K: Sink, G: Gate>(
         (source_call S.left S.faults S.at_fault source.old source.new)
         (sink_call K.written K.flushed K.faults sink.old sink.new) }
 {
-    run_telling(rt, words, source, sink, gate, &mut RowForm::NONE)
+    run_telling(rt, words, source, sink, gate, &mut Told::nothing())
 }
 
-/// Runs a command as `run` does, and tells what a refused row is to look like. A command that waits
+/// Runs a command as `run` does, and tells why a row is refused. A command that waits
 /// for nobody is run by a call that can't wait, and no command waits.
 pub fn run_telling<R: AllocGlobal + Threads + Wait + Sync, S: Source, K: Sink, G: Gate>(
     rt: &R,
@@ -49,7 +49,7 @@ pub fn run_telling<R: AllocGlobal + Threads + Wait + Sync, S: Source, K: Sink, G
     source: &mut S,
     sink: &mut K,
     _gate: &G,
-    told: &mut RowForm,
+    told: &mut Told,
 ) -> Status
     ensures { Answers
         (map string_bytes words.now)
@@ -75,16 +75,16 @@ pub fn run_alone<R: AllocGlobal + Threads + Sync, S: Source, K: Sink>(
         (source_call S.left S.faults S.at_fault source.old source.new)
         (sink_call K.written K.flushed K.faults sink.old sink.new) }
 {
-    run_alone_telling(rt, words, source, sink, &mut RowForm::NONE)
+    run_alone_telling(rt, words, source, sink, &mut Told::nothing())
 }
 
-/// Runs a command as `run_alone` does, and tells what a refused row is to look like.
+/// Runs a command as `run_alone` does, and tells why a row is refused.
 pub fn run_alone_telling<R: AllocGlobal + Threads + Sync, S: Source, K: Sink>(
     rt: &R,
     words: &[String],
     source: &mut S,
     sink: &mut K,
-    told: &mut RowForm,
+    told: &mut Told,
 ) -> Status
     requires { IsAlone (map string_bytes words.now) }
     ensures { Answers
@@ -96,11 +96,8 @@ pub fn run_alone_telling<R: AllocGlobal + Threads + Sync, S: Source, K: Sink>(
     let Some(command) = command_of(words) else {
         return Status::BadWords;
     };
-    match reply_from(rt, command, source) {
-        Ok(reply) => {
-            *told = reply.told;
-            send(sink, reply)
-        }
+    match reply_from(rt, command, source, told) {
+        Ok(reply) => send(sink, reply),
         Err(status) => status,
     }
 }
@@ -110,6 +107,7 @@ fn reply_from<R: AllocGlobal + Threads + Sync, S: Source>(
     rt: &R,
     command: Command,
     source: &mut S,
+    told: &mut Told,
 ) -> Result<Reply, Status>
     ensures replies { IfOk result (IsReply
         (IsEnd command (source_call S.left S.faults S.at_fault source.old source.new))) }
@@ -123,8 +121,8 @@ fn reply_from<R: AllocGlobal + Threads + Sync, S: Source>(
 {
     let alloc = rt.alloc();
     match take_all(alloc, source, INPUT_BYTES)? {
-        Ok(input) => Ok(reply_to(rt, alloc, command, input.slice())?),
-        Err(Taken::TooLong) => Ok(refusal(alloc, 0, Cause::TooLong, RowForm::NONE)?),
+        Ok(input) => Ok(reply_to(rt, alloc, command, input.slice(), told)?),
+        Err(Taken::TooLong) => Ok(refusal(alloc, 0, Cause::TooLong)?),
         Err(Taken::Failed) => Err(Status::ReadFault),
     }
 }

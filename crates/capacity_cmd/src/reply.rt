@@ -7,9 +7,9 @@ ghost use Rattle.capacity_cmd.specs.Reply.{Says, IsReply};
 
 use crate::input::tables_of_rows;
 use crate::limit::INPUT_BYTES;
+use crate::sentence::told_of;
 use crate::texts::text_of;
-use crate::told::{RowForm, row_form};
-use crate::{Cause, Command, Status};
+use crate::{Cause, Command, Status, Told};
 use line_tables::LineTables;
 use rail_model::{Form, OutOfMemory, Rule};
 use row_text::{Sheet, rows};
@@ -20,8 +20,6 @@ use std::thread::Threads;
 pub(crate) struct Reply {
     pub(crate) text: Vec<u8>,
     pub(crate) status: Status,
-    // What a refused row is to look like.
-    pub(crate) told: RowForm,
 }
 
 // The reply of a command to an input that isn't too long.
@@ -30,6 +28,7 @@ pub(crate) fn reply_to(
     alloc: Global,
     command: Command,
     input: &[u8],
+    told: &mut Told,
 ) -> Result<Reply, OutOfMemory>
     requires { length input.now ≤ INPUT_BYTES }
     ensures { IfOk result (IsReply (EndsOn command input.now)) }
@@ -41,8 +40,8 @@ pub(crate) fn reply_to(
             reply_on(rt, alloc, command, &tables)
         }
         Err(refused) => {
-            let told = row_form(&rows, refused.row);
-            refusal(alloc, refused.row, refused.cause, told)
+            *told = told_of(alloc, input, &rows, refused);
+            refusal(alloc, refused.row, refused.cause)
         }
     }
 }
@@ -60,25 +59,18 @@ fn reply_on(
         Ok(text) => Ok(Reply {
             text,
             status: Status::Done,
-            told: RowForm::NONE,
         }),
-        Err(cause) => refusal(alloc, 0, cause, RowForm::NONE),
+        Err(cause) => refusal(alloc, 0, cause),
     }
 }
 
 // The refusal of a row.
-pub(crate) fn refusal(
-    alloc: Global,
-    row: u64,
-    cause: Cause,
-    told: RowForm,
-) -> Result<Reply, OutOfMemory>
+pub(crate) fn refusal(alloc: Global, row: u64, cause: Cause) -> Result<Reply, OutOfMemory>
     ensures { IfOk result (Says (Refuses row cause)) }
 {
     Ok(Reply {
         text: refusal_text(alloc, row, cause)?,
         status: Status::Refused { row, cause },
-        told,
     })
 }
 

@@ -1,0 +1,50 @@
+//! Why a row is refused, in a sentence for people.
+use crate::form_sentence::form_sentence;
+use crate::line_number::line_of;
+use crate::refusal::Refusal;
+use crate::row_at::RowAt;
+use crate::rule_sentence::rule_sentence;
+use crate::{Cause, Told};
+use rail_model::OutOfMemory;
+use row_text::RowList;
+use std::alloc::Global;
+
+// The sentence about the row at which an input is refused. Without memory for it nothing is told.
+pub(crate) fn told_of(alloc: Global, input: &[u8], rows: &RowList, refused: Refusal) -> Told {
+    match sentence(alloc, input, rows, refused) {
+        Ok(text) => Told::of(text),
+        Err(OutOfMemory) => Told::nothing(),
+    }
+}
+
+fn sentence(
+    alloc: Global,
+    input: &[u8],
+    rows: &RowList,
+    refused: Refusal,
+) -> Result<String, OutOfMemory> {
+    let number = refused.row;
+    let row = RowAt {
+        rows,
+        version: rows.version().unwrap_or(1),
+        place: number.saturating_sub(1) as usize,
+    };
+    let why = why(alloc, &row, refused.cause)?;
+    match line_of(input, number) {
+        Some(line) if line != number => Ok(format!(in alloc;
+            "row {number}, in line {line}: {why}"
+        )?),
+        _ => Ok(format!(in alloc; "row {number}: {why}")?),
+    }
+}
+
+fn why(alloc: Global, row: &RowAt<'_>, cause: Cause) -> Result<String, OutOfMemory> {
+    match cause {
+        Cause::Form(form) => form_sentence(alloc, row, form),
+        Cause::Rule(rule) => rule_sentence(alloc, row, rule),
+        Cause::TooLong | Cause::NoSection | Cause::Script => Ok(String::from_str(
+            alloc,
+            "rows planner and ask stand in scripts of planners, which no command takes",
+        )?),
+    }
+}

@@ -1,0 +1,139 @@
+//! What stands in the tables above a row.
+use crate::row_at::RowAt;
+use line_tables::LineTables;
+use rail_model::{Edit, Kind, Name, Named, OutOfMemory, Run, Tables};
+use row_text::Line;
+use std::alloc::Global;
+
+// The tables that the rows above a row make. No rule refuses one of them.
+pub(crate) fn tables_above(alloc: Global, row: &RowAt<'_>) -> Result<Tables, OutOfMemory> {
+    let mut tables = LineTables::new(alloc);
+    for i in row.rows.first_line()..row.place {
+        if let Some(edit) = edit_at(alloc, row, i)? {
+            let _ = tables.take(edit)?;
+        }
+    }
+    tables.plain()
+}
+
+fn edit_at(alloc: Global, row: &RowAt<'_>, i: usize) -> Result<Option<Edit>, OutOfMemory> {
+    if i >= row.rows.len() {
+        return Ok(None);
+    }
+    match row.rows.line(alloc, row.version, i)? {
+        Ok(Line::Edit(edit)) => Ok(Some(edit)),
+        _ => Ok(None),
+    }
+}
+
+// Whether an item of a kind and a name is there.
+pub(crate) fn stands(tables: &Tables, kind: Kind, name: &[u8]) -> bool {
+    match kind {
+        Kind::Block => is_among(tables.blocks.slice(), name),
+        Kind::Signal => is_among(tables.signals.slice(), name),
+        Kind::Route => is_among(tables.routes.slice(), name),
+        Kind::Run => is_among(tables.runs.slice(), name),
+        Kind::Section => is_among(tables.sections.slice(), name),
+        Kind::Connection => is_among(tables.connections.slice(), name),
+    }
+}
+
+fn is_among<T: Named>(items: &[T], name: &[u8]) -> bool {
+    for item in items {
+        if item.name().bytes() == name {
+            return true;
+        }
+    }
+    false
+}
+
+// The kind of which the field at a place of a row names an item, if it names one besides the row's
+// own.
+pub(crate) fn reference_at(kind: Kind, at: usize) -> Option<Kind> {
+    match kind {
+        Kind::Signal if at == 2 => Some(Kind::Block),
+        Kind::Route if at >= 2 => Some(Kind::Signal),
+        Kind::Run if at == 2 => Some(Kind::Route),
+        Kind::Section if at >= 5 => Some(Kind::Block),
+        Kind::Connection if at == 2 || at == 3 => Some(Kind::Run),
+        _ => None,
+    }
+}
+
+// The first run over a route that has other than so many legs.
+pub(crate) fn run_off<'a>(tables: &'a Tables, route: &[u8], legs: usize) -> Option<&'a Run> {
+    for run in tables.runs.slice() {
+        if run.route.bytes() == route && run.legs.len() != legs {
+            return Some(run);
+        }
+    }
+    None
+}
+
+// The first item that uses the one of a kind and a name.
+pub(crate) fn user<'a>(tables: &'a Tables, kind: Kind, name: &[u8]) -> Option<(Kind, &'a Name)> {
+    match kind {
+        Kind::Block => match signal_of(tables, name) {
+            Some(signal) => Some((Kind::Signal, signal)),
+            None => Some((Kind::Section, section_over(tables, name)?)),
+        },
+        Kind::Signal => Some((Kind::Route, route_over(tables, name)?)),
+        Kind::Route => Some((Kind::Run, run_over(tables, name)?)),
+        Kind::Run => Some((Kind::Connection, connection_of(tables, name)?)),
+        Kind::Section | Kind::Connection => None,
+    }
+}
+
+fn signal_of<'a>(tables: &'a Tables, block: &[u8]) -> Option<&'a Name> {
+    for signal in tables.signals.slice() {
+        if signal.block.bytes() == block {
+            return Some(&signal.name);
+        }
+    }
+    None
+}
+
+fn section_over<'a>(tables: &'a Tables, block: &[u8]) -> Option<&'a Name> {
+    for section in tables.sections.slice() {
+        if lists(section.blocks.slice(), block) {
+            return Some(&section.name);
+        }
+    }
+    None
+}
+
+fn route_over<'a>(tables: &'a Tables, signal: &[u8]) -> Option<&'a Name> {
+    for route in tables.routes.slice() {
+        if lists(route.signals.slice(), signal) {
+            return Some(&route.name);
+        }
+    }
+    None
+}
+
+fn run_over<'a>(tables: &'a Tables, route: &[u8]) -> Option<&'a Name> {
+    for run in tables.runs.slice() {
+        if run.route.bytes() == route {
+            return Some(&run.name);
+        }
+    }
+    None
+}
+
+fn connection_of<'a>(tables: &'a Tables, run: &[u8]) -> Option<&'a Name> {
+    for connection in tables.connections.slice() {
+        if connection.first.bytes() == run || connection.second.bytes() == run {
+            return Some(&connection.name);
+        }
+    }
+    None
+}
+
+pub(crate) fn lists(names: &[Name], name: &[u8]) -> bool {
+    for other in names {
+        if other.bytes() == name {
+            return true;
+        }
+    }
+    false
+}
