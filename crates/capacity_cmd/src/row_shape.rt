@@ -73,12 +73,12 @@ pub(crate) struct Limits {
 // on are limits of the time between it and the field before.
 pub(crate) fn limits_at(kind: Kind, at: usize) -> Option<Limits> {
     match kind {
-        Kind::Block => within("LENGTH", 1, GREATEST_LENGTH_M),
+        Kind::Block if at == 2 => within("LENGTH", 1, GREATEST_LENGTH_M),
         Kind::Signal => signal_limits_at(at),
         Kind::Run => run_limits_at(at),
         Kind::Section => section_limits_at(at),
-        Kind::Connection => within("MINIMUM", 0, GREATEST_TIME_S),
-        Kind::Route => None,
+        Kind::Connection if at == 4 => within("MINIMUM", 0, GREATEST_TIME_S),
+        Kind::Block | Kind::Connection | Kind::Route => None,
     }
 }
 
@@ -99,6 +99,7 @@ fn signal_limits_at(at: usize) -> Option<Limits> {
 
 fn run_limits_at(at: usize) -> Option<Limits> {
     match at {
+        0 | 1 | 2 => None,
         3 => within("LENGTH", 1, GREATEST_LENGTH_M),
         4 => within("TAIL", 0, GREATEST_TIME_S),
         5 => within("the start", 0, GREATEST_START_S),

@@ -124,7 +124,7 @@ fn no_item(alloc: Global, row: &RowAt<'_>, kind: Kind, at: usize) -> Result<Stri
     let (field, noun) = (shown(alloc, name)?, noun(kind));
     let below = match row_below(row.rows, row.place, kind, name) {
         0 => String::new(alloc),
-        below => format!(in alloc; "; row {below} is below")?,
+        below => format!(in alloc; "; it stands below, in row {below}")?,
     };
     let blank = if name.trim_ascii().len() < name.len() {
         "; the blank beside it belongs to the name"

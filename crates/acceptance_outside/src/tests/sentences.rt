@@ -2,6 +2,7 @@
 use super::{WORKING, sink_of, source_of, words_of};
 use capacity_cmd::{Told, run_alone_telling};
 use rail_model::OutOfMemory;
+use small_lines::{FIRST_RUN, LINE, REST, joined};
 use std::process::Abort;
 use std::test::Fail;
 use std::thread::Threads;
@@ -161,18 +162,18 @@ const INPUTS: [(&str, &str); 34] = [
     ),
 ];
 
-// A line of eight rows.
-const TWO_BLOCKS: &str = "block,A,1000\n\
-    block,B,1000\n\
-    signal,SA,A,1000,10,5,0,5\n\
-    signal,SB,B,1000,10,5,0,5\n\
-    route,R,SA,SB\n\
-    run,T1,R,100,10,100,60,0,60\n\
-    run,T2,R,100,10,400,60,0,60\n\
-    section,S,0,3600,33,A,B\n";
-
-// Rows below that line, the number of one of them, and what is said of the rule that it breaks.
-const RULES: [(&str, u32, &str); 29] = [
+// Rows below the eight of the line of two blocks, the number of one of them, and what is said of the rule that it breaks.
+const RULES: [(&str, u32, &str); 31] = [
+    (
+        "connect,C,100000,T2,90000",
+        9,
+        "field 5, \"90000\", is out of range: MINIMUM is 0 to 86,400",
+    ),
+    (
+        "run,T3,0,0,10,100,60,0,60",
+        9,
+        "field 4, \"0\", is out of range: LENGTH is 1 to 1,000,000",
+    ),
     (
         "block,C,0",
         9,
@@ -253,7 +254,7 @@ const RULES: [(&str, u32, &str); 29] = [
     (
         "signal,SC,C,0,10,5,0,5\nblock,C,5",
         9,
-        "field 3, \"C\", is no block of the rows above; row 10 is below",
+        "field 3, \"C\", is no block of the rows above; it stands below, in row 10",
     ),
     (
         "route,R2,SA, SB",
@@ -328,7 +329,7 @@ fn a_row_that_spells_nothing_is_told(rt: HostRuntime) -> Result<(), Fail> {
 #[test]
 fn the_rule_that_a_row_breaks_is_told(rt: HostRuntime) -> Result<(), Fail> {
     for (rows, number, why) in RULES {
-        let input = format!(in rt.alloc(); "{TWO_BLOCKS}{rows}\n")?;
+        let input = joined(rt.alloc(), &[LINE, FIRST_RUN, REST, rows, "\n"])?;
         let sentence = format!(in rt.alloc(); "row {number}: {why}")?;
         assert_told(&rt, &input, &sentence)?;
     }
@@ -345,7 +346,7 @@ fn what_is_too_much_is_told(rt: HostRuntime) -> Result<(), Fail> {
         "row 1: the fields are route,NAME,SIGNAL_1,..,SIGNAL_n with n from 1 to 256; this row \
         has 259";
     assert_told(&rt, &route, fields)?;
-    let mut sections = String::from_str(rt.alloc(), TWO_BLOCKS)?;
+    let mut sections = joined(rt.alloc(), &[LINE, FIRST_RUN, REST])?;
     for n in 2..=65 {
         sections.push_str(&format!(in rt.alloc(); "section,S{n},0,1,0,A\n")?)?;
     }
