@@ -1,6 +1,7 @@
 //! A call of the program over bytes in memory, whose reads and writes may fail.
 mod faults;
 mod long_texts;
+mod notes;
 mod sentences;
 mod statuses;
 mod streams;

@@ -6,8 +6,9 @@ ghost use Rattle.capacity_cmd.specs.Outcome.{Writes, Refuses};
 ghost use Rattle.capacity_cmd.specs.Named.{cut_named, EndsOnNamed};
 ghost use Rattle.capacity_cmd.specs.Compress.{IsCompressText};
 
-use crate::Cause;
 use crate::named::cut_named;
+use crate::notes::told_of_cut;
+use crate::{Cause, Told};
 use capacity_report::{Detail, answer_rows};
 use compression::answer;
 use line_tables::LineTables;
@@ -21,13 +22,17 @@ pub(crate) fn compress_text(
     alloc: Global,
     tables: &LineTables,
     section: Option<Name>,
+    told: &mut Told,
 ) -> Result<Result<Vec<u8>, Cause>, OutOfMemory>
     ensures { IfOk result (λ made.
         let Ends = EndsOnNamed IsCompressText (cut_named tables.now section) in
         MatchResult made (λ text. Ends (Writes text.items)) (λ why. Ends (Refuses 0 why))) }
 {
     match cut_named(alloc, tables, section)? {
-        Ok(cut) => Ok(Ok(answer_text(alloc, cut)?)),
+        Ok(cut) => {
+            *told = told_of_cut(alloc, tables, &cut);
+            Ok(Ok(answer_text(alloc, cut)?))
+        }
         Err(why) => Ok(Err(why)),
     }
 }

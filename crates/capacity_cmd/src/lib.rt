@@ -4,6 +4,7 @@
 
 mod call;
 mod check;
+mod clashes;
 mod command;
 mod compress;
 mod form_sentence;
@@ -13,6 +14,7 @@ pub mod laws;
 mod limit;
 mod line_number;
 mod named;
+mod notes;
 mod probe;
 mod refusal;
 mod reply;

@@ -37,7 +37,7 @@ pub(crate) fn reply_to(
     match tables_of_rows(alloc, &rows)? {
         Ok(tables) => {
             drop(rows);
-            reply_on(rt, alloc, command, &tables)
+            reply_on(rt, alloc, command, &tables, told)
         }
         Err(refused) => {
             *told = told_of(alloc, input, &rows, refused);
@@ -52,10 +52,11 @@ fn reply_on(
     alloc: Global,
     command: Command,
     tables: &LineTables,
+    told: &mut Told,
 ) -> Result<Reply, OutOfMemory>
     ensures { IfOk result (IsReply (EndsOnTables command tables.now)) }
 {
-    match text_of(rt, alloc, command, tables)? {
+    match text_of(rt, alloc, command, tables, told)? {
         Ok(text) => Ok(Reply {
             text,
             status: Status::Done,
