@@ -119,6 +119,7 @@ on_tables command.Check tables outcome ends = in_text _ outcome ends
 on_tables (command.Compress section) tables outcome ends = on_named _ (option_and_then (cut_of tables) section) outcome ends
 on_tables command.Report tables outcome ends = in_text _ outcome ends
 on_tables (command.Headways section) tables outcome ends = on_named _ (option_and_then (cut_of tables) section) outcome ends
+on_tables (command.Cut section) tables outcome ends = on_named _ (option_and_then (cut_of tables) section) outcome ends
 
 by_content : (c : Command) (said : Result Content Refusal) (outcome : Outcome) → HasOtherRefusal said → Ends c said outcome
     → IsNotTooLong outcome

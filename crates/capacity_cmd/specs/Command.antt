@@ -14,6 +14,7 @@ command_of (word ∷ []) =
 command_of (word ∷ section ∷ []) =
     if is_same word (codes "compress") then Some (command.Compress (name_of section))
     else if is_same word (codes "headways") then Some (command.Headways (name_of section))
+    else if is_same word (codes "cut") then Some (command.Cut (name_of section))
     else None
 command_of words = None
 

@@ -13,6 +13,7 @@ use Rattle.capacity_cmd.specs.Check.{IsCheckText}
 use Rattle.capacity_cmd.specs.Compress.{IsCompressText}
 use Rattle.capacity_cmd.specs.Report.{IsReportText}
 use Rattle.capacity_cmd.specs.Headways.{IsHeadwaysText}
+use Rattle.capacity_cmd.specs.Cut.{IsCutText}
 
 -- the outcome of each command on the tables of a line
 abbrev pub EndsOnTables : Command → Tables → Outcome → Type 0
@@ -21,6 +22,7 @@ EndsOnTables command.Check tables = EndsInText (IsCheckText tables)
 EndsOnTables (command.Compress section) tables = EndsOnNamed IsCompressText (cut_named tables section)
 EndsOnTables command.Report tables = EndsInText (IsReportText tables)
 EndsOnTables (command.Headways section) tables = EndsOnNamed IsHeadwaysText (cut_named tables section)
+EndsOnTables (command.Cut section) tables = EndsOnNamed IsCutText (cut_named tables section)
 
 -- the outcome of a command on what an input says, or on its refusal
 abbrev pub Ends : Command → Result Content Refusal → Outcome → Type 0

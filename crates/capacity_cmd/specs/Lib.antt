@@ -8,6 +8,7 @@ pub mod Check
 pub mod Compress
 pub mod Report
 pub mod Headways
+pub mod Cut
 pub mod Ends
 pub mod TablesSoFar
 pub mod Reply

@@ -21,6 +21,8 @@ pub enum Command {
     Report,
     /// Writes the headways of a section's trains: the words `headways` and NAME.
     Headways(Option<Name>),
+    /// Writes the fewest orderly pieces of a section: the words `cut` and NAME.
+    Cut(Option<Name>),
 }
 
 // The command that the words spell, if they spell one.
@@ -33,6 +35,7 @@ pub(crate) fn command_of(words: &[String]) -> Option<Command>
         [word] if word.as_str() == "report" => Some(Command::Report),
         [word, section] if word.as_str() == "compress" => Some(Command::Compress(name_of(section))),
         [word, section] if word.as_str() == "headways" => Some(Command::Headways(name_of(section))),
+        [word, section] if word.as_str() == "cut" => Some(Command::Cut(name_of(section))),
         _ => None,
     }
 }

@@ -7,6 +7,7 @@ mod check;
 mod clashes;
 mod command;
 mod compress;
+mod cut;
 mod form_sentence;
 mod headways;
 mod input;

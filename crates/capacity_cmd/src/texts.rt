@@ -5,6 +5,7 @@ ghost use Rattle.capacity_cmd.specs.Ends.{EndsOnTables};
 
 use crate::check::check_text;
 use crate::compress::compress_text;
+use crate::cut::cut_text;
 use crate::headways::headways_text;
 use crate::report::report_text;
 use crate::stairs::stairs_text;
@@ -33,5 +34,6 @@ pub(crate) fn text_of(
         Command::Compress(section) => compress_text(alloc, tables, section, told),
         Command::Report => Ok(Ok(report_text(alloc, tables)?)),
         Command::Headways(section) => headways_text(rt, alloc, tables, section),
+        Command::Cut(section) => cut_text(alloc, tables, section),
     }
 }

@@ -33,3 +33,10 @@ returns-in-Headways g c =
     (λ text. EndsOnTables which c.args.tables.now (Writes text.items))
     (λ why. EndsOnTables which c.args.tables.now (Refuses 0 why))))
     (sym c.in-Headways.is) c.headways_text.ensures
+
+pub returns-in-Cut : goal.returns-in-Cut
+returns-in-Cut g c =
+    subst (λ (which : Command). IfOk c.cut_text.result (λ made. MatchResult made
+    (λ text. EndsOnTables which c.args.tables.now (Writes text.items))
+    (λ why. EndsOnTables which c.args.tables.now (Refuses 0 why))))
+    (sym c.in-Cut.is) c.cut_text.ensures
