@@ -6,8 +6,8 @@ use small_lines::{FIRST_RUN, LINE, REST, joined};
 use std::test::Fail;
 use std::thread::Threads;
 
-// Rows below the line of two blocks, the words of a call, and what is told. A run enters 15 s before
-// its start, and arrives at last 120 s after it.
+// Rows below the line of two blocks, the words of a call, and what is told. A run enters 15 s
+// before its start, and arrives at last 120 s after it.
 const NOTES: [(&str, [&str; 2], &str); 6] = [
     ("", ["compress", "S"], ""),
     (

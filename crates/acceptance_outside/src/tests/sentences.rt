@@ -157,12 +157,13 @@ const INPUTS: [(&str, &str); 34] = [
     ),
     (
         "version,2\nrun,T,R,1,1,0:01:40,0:01:40\n",
-        "row 2: from field 6, \"0:01:40\", to field 7, \"0:01:40\", it is 0 s: a running time is 1 to \
-            86,400",
+        "row 2: from field 6, \"0:01:40\", to field 7, \"0:01:40\", it is 0 s: a running time is 1 \
+            to 86,400",
     ),
 ];
 
-// Rows below the eight of the line of two blocks, the number of one of them, and what is said of the rule that it breaks.
+// Rows below the eight of the line of two blocks, the number of one of them, and what is said of the
+// rule that it breaks.
 const RULES: [(&str, u32, &str); 31] = [
     (
         "connect,C,100000,T2,90000",
