@@ -1,0 +1,144 @@
+-- What a book keeps beside its journal, after an entry that makes no edit.
+use Rattle.std.proofs.Common.{◌≡◌, ℕ, ◌+◌, ◌<◌, ◌≤◌, List, [], ◌∷◌, ◌++◌, length, Option, Some, None, Result, Ok, Err, refl, sym, ap, ◌∙◌, subst, inl, inr, arith}
+use Rattle.std.specs.Prelude.{find, unwrap_or, false, IfSome, MatchResult, OnOk, OnErr}
+use Rattle.std.specs.List.{cons_option}
+use Rattle.std.proofs.lemmas.List.{append-nil}
+use Rattle.rail_model.specs.declared.memory.OutOfMemory.{OutOfMemory}
+use Rattle.rail_model.specs.declared.tables.Tables.{Tables}
+use Rattle.rail_model.specs.Name.{is_same}
+use Rattle.plan_model.specs.declared.answer.Done.{Done}
+use Rattle.plan_model.specs.declared.journal.Entry.{Entry}
+use Rattle.plan_model.specs.declared.outcome.NotTaken.{NotTaken}
+use Rattle.plan_model.specs.declared.outcome.NotTaken.TheVariants as not_taken
+use Rattle.plan_model.specs.Journal.{Opening, Publication, opening, edit_of, issued, issues, done_by, task_of, last_number, last_publication}
+use Rattle.plan_model.specs.Changes.{Stays}
+use Rattle.plan_model.specs.Touch.{cut_at, cut_now, IsCurrent, IsLastTouching}
+use Rattle.plan_model.specs.Legal.{IsJournal, IsAnswerAt, MayBePublished}
+use Rattle.plan_model.proofs.Growing.{opening-more, issued-more, done_by-more, others_keep_tables}
+use Rattle.plan_model.proofs.Changing.{same_from, stays_within}
+use Rattle.plan_model.proofs.Legality.{legal_has_one}
+use Rattle.plan_model.proofs.Touching.{touched_since, last_is_right}
+use Rattle.plan_book.specs.declared.shelf.Published.{Published}
+use Rattle.plan_book.specs.declared.shelf.Shelf.{Shelf}
+use Rattle.plan_book.specs.Shelves.{blank, IsPublished, KnowsLast, IsShelf, IsVerdict, AreShelves}
+use Rattle.plan_book.specs.Kept.{AreDone, IsBook, IsQuiet, IsOutside, IsNotTaken}
+use Rattle.plan_book.proofs.Found.{found_name}
+use Rattle.plan_book.proofs.Others.{none, shelves-more}
+
+-- ---- what is found among shelves
+
+module _ (journal : List Entry) (first : ℕ) (shelves : List Shelf) (name : List ℕ) (are : AreShelves journal first shelves) where
+  -- what the shelf of a name says is right
+  pub shelf_found : (s : Shelf) → find (λ x. is_same x.name name) shelves ≡ Some s → IsShelf journal name s
+  shelf_found s found = subst (IsShelf journal name) (ap (λ o. unwrap_or o (blank first name)) found) (are.each name)
+
+  pub shelf_found_named : (s : Shelf) → find (λ x. is_same x.name name) shelves ≡ Some s → IsShelf journal s.name s
+  shelf_found_named s found = subst (λ n. IsShelf journal n s) (sym (found_name shelves name s found)) (shelf_found s found)
+
+  pub none_found : find (λ x. is_same x.name name) shelves ≡ None → IsShelf journal name (blank first name)
+  none_found found = subst (IsShelf journal name) (ap (λ o. unwrap_or o (blank first name)) found) (are.each name)
+
+  -- a section whose answer was worked out has a shelf
+  pub done_found : (done : Done) → first ≡ (opening journal).at → done.section ≡ name → IsAnswerAt journal done.section done.at done.answer
+      → find (λ x. is_same x.name name) shelves ≡ None → ⊥
+  done_found done first_is same is found =
+      let known = none_found found in
+      let there : cut_at journal name done.at ≡ Some is.cut = subst (λ n. cut_at journal n done.at ≡ Some is.cut) same is.there in
+      let from : first ≤ done.at = omega (arith, first_is, is.from_opening) in
+      let now : cut_now journal name ≡ cut_at journal name done.at =
+      same_from (cut_at journal name) done.at (last_number journal) is.to_last
+      (stays_within (cut_at journal name) first (last_number journal) done.at (last_number journal) known.touched.stays from (omega arith)) in
+      let both : Some is.cut ≡ None = sym there ∙ sym now ∙ known.cut.value in
+      absurd (cc)
+
+module _ (journal : List Entry) (s : Shelf) (done : Done) (is_journal : IsJournal journal) (known : IsShelf journal done.section s) (is : IsAnswerAt journal done.section done.at done.answer) where
+  untouched_from : (at : ℕ) → s.touched ≤ at → Stays (cut_at journal done.section) at (last_number journal)
+  untouched_from at from =
+      stays_within (cut_at journal done.section) s.touched (last_number journal) at (last_number journal) known.touched.stays from (omega arith)
+
+  -- a section whose last publication is before the last edit that touched it is not current
+  not_current : (o : Option Published) → KnowsLast journal done.section o → IfSome o (λ p. p.at < s.touched)
+      → IsCurrent journal done.section → ⊥
+  not_current None last before current = let both : Some current.publication ≡ None = sym current.last ∙ last in absurd (cc)
+  not_current (Some p) last before current =
+      let there : Publication = record { at = p.at; answer = last.answer } in
+      elim known.touched.changes [
+        | inl first ↦
+            omega (arith, first, before, (last_is_right journal done.section is_journal.legal there last.last).from_opening)
+        | inr touches ↦ touched_since journal done.section there s.touched last.last before known.touched.to_last touches current
+      ]
+
+  -- what a shelf says of an answer is right
+  pub verdict_is : (r : Result (Unit {0}) NotTaken) → IsVerdict s done.at r
+      → MatchResult r (λ u. MayBePublished journal done.section done.at done.answer) (IsNotTaken journal done)
+  verdict_is (Ok u) h = record {
+    done = is;
+    untouched = untouched_from done.at h.0;
+    wanted = not_current s.published known.published h.1;
+  }
+  verdict_is (Err (not_taken.Stale by)) h = (subst (IsLastTouching journal done.section) (sym h.0) known.touched, h.1)
+  verdict_is (Err (not_taken.Current at)) h =
+      let last : IsPublished journal done.section h.2.0 = subst (KnowsLast journal done.section) h.2.1 known.published in (
+        untouched_from done.at h.0,
+        (last.answer, subst (λ n. last_publication journal done.section ≡ Some (record { at = n; answer = last.answer })) h.2.2 last.last),
+        untouched_from at h.1,
+      )
+
+-- ---- tasks that are done
+
+one_task : (e : Entry) (planner : ℕ) → done_by (e ∷ []) planner ≡ cons_option (task_of planner e.act) []
+unfolding done_by
+one_task e planner = refl
+
+pub done-outside : (journal : List Entry) (e : Entry) (done : List ℕ) → 0 < length journal → IsOutside e.act
+    → AreDone journal done → AreDone (journal ++ e ∷ []) done
+done-outside journal e done some outside h = record {
+  count = h.count ∙ ap (λ (o : Opening). length o.scripts) (sym (opening-more journal (e ∷ []) some));
+  each = λ k l.
+      let none : done_by (e ∷ []) (k + 1) ≡ [] = one_task e (k + 1) ∙ rw (outside (k + 1) (omega arith)) refl in
+      h.each k l
+      ∙ ap length (sym (done_by-more journal (e ∷ []) (k + 1) ∙ rw none (append-nil (done_by journal (k + 1)))));
+}
+
+-- ---- passes
+
+one_pass : (e : Entry) → issues e.act ≡ false → issued (e ∷ []) ≡ 1
+unfolding issued
+one_pass e none = rw none refl
+
+pub issued-same : (journal : List Entry) (e : Entry) → issues e.act ≡ false → issued (journal ++ e ∷ []) ≡ issued journal
+issued-same journal e none = omega (arith, issued-more journal (e ∷ []), one_pass e none)
+
+-- ---- the book
+
+module _ (journal : List Entry) (tables : Tables) (first at passes : ℕ) (shelves : List Shelf) (done : List ℕ) (e : Entry) (held : IsBook journal tables first at passes shelves done) (is_journal : IsJournal (journal ++ e ∷ [])) where
+  some : 0 < length journal
+  some = legal_has_one journal held.is_journal.legal
+
+  -- after an entry that makes no edit, issues no pass and does no task
+  pub book-more : (later : List Shelf) → edit_of e.act ≡ None → issues e.act ≡ false → IsOutside e.act
+      → AreShelves (journal ++ e ∷ []) first later → IsBook (journal ++ e ∷ []) tables first at passes later done
+  book-more later no_edit no_pass outside are =
+      let keeps = others_keep_tables journal (e ∷ []) some (none journal e some no_edit) in
+      record {
+        is_journal = is_journal;
+        within = rw (opening-more journal (e ∷ []) some) held.within;
+        tables_are = held.tables_are ∙ sym keeps.tables;
+        first_is = held.first_is ∙ ap (λ (o : Opening). o.at) (sym (opening-more journal (e ∷ []) some));
+        at_is = held.at_is ∙ sym keeps.number;
+        passes_are = held.passes_are ∙ sym (issued-same journal e no_pass);
+        shelves_are = are;
+        done_are = done-outside journal e done some outside held.done_are;
+      }
+
+  -- and publishes nothing
+  pub book-quiet : IsQuiet e.act → IsOutside e.act → IsBook (journal ++ e ∷ []) tables first at passes shelves done
+  book-quiet quiet outside =
+      book-more shelves quiet.no_edit quiet.no_pass outside
+      (shelves-more journal e some quiet.no_edit first shelves quiet.no_publication held.shelves_are)
+
+-- what holds of a journal, and of a longer one, holds after a push of what the longer one adds
+pub after_push : (P : List Entry → Type 0) (r : Result (Unit {0}) OutOfMemory) (old longer new : List Entry)
+    → OnOk r (new ≡ longer) → OnErr r (new ≡ old) → P longer → P old → P new
+after_push P (Ok u) old longer new ok err more same = subst P (sym ok) more
+after_push P (Err e) old longer new ok err more same = subst P (sym err) same

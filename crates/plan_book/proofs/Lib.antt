@@ -1,0 +1,9 @@
+pub mod LastChanges
+pub mod Others
+pub mod Found
+pub mod Adding
+pub mod Publications
+pub mod Starting
+pub mod Widening
+pub mod Editing
+pub mod Edited

@@ -1,0 +1,44 @@
+use Rattle.std.proofs.Common.{◌+◌, ◌∙◌, ap, sym, subst, ◌++◌, ◌∷◌, []}
+use Rattle.rail_model.specs.Edits.{after}
+use Rattle.plan_model.specs.declared.journal.Act.TheVariants as act
+use Rattle.plan_model.specs.declared.journal.Entry.{Entry}
+use Rattle.plan_model.specs.Journal.{last_number, tables_of}
+use Rattle.plan_model.specs.Legal.{IsNext}
+use Rattle.plan_book.proofs.Edited.{have_cuts, book-wider, book-accepted}
+use Rattle.plan_book.proofs.book.Book.accept.Goals as goal
+
+pub changes_for-requires-clause-cuts : goal.changes_for-requires-clause-cuts
+changes_for-requires-clause-cuts c =
+    let b = c.self.inside in
+    rw c.self.invariant.tables_are (have_cuts b.journal b.first b.shelves c.self.invariant.shelves_are)
+
+pub changes_for-requires-clause-after : goal.changes_for-requires-clause-after
+changes_for-requires-clause-after c =
+    c.requires.next ∙ ap (λ t. after t c.args.edit) (ap tables_of (sym c.self.view_is) ∙ sym c.self.invariant.tables_are)
+
+pub invariant_of-self : goal.invariant_of-self
+invariant_of-self c =
+    let b = c.self.inside in
+    book-wider b.journal b.tables b.first b.at b.passes b.shelves c.changes_for.new.shelves b.done.items c.self.invariant c.changes_for.ensures.same
+
+pub invariant_of-self-in_err-push : goal.invariant_of-self-in_err-push
+invariant_of-self-in_err-push c =
+    let b = c.self.inside in
+    rw c.in_err-push.ensures.err
+    (book-wider b.journal b.tables b.first b.at b.passes b.shelves c.changes_for.new.shelves b.done.items c.self.invariant c.changes_for.ensures.same)
+
+pub invariant_of-self-2 : goal.invariant_of-self-2
+invariant_of-self-2 c =
+    let b = c.self.inside in
+    let number = c.next_number-number.result in
+    let wider = book-wider b.journal b.tables b.first b.at b.passes b.shelves c.changes_for.new.shelves b.done.items c.self.invariant c.changes_for.ensures.same in
+    let e : Entry = record { pass = c.args.who; act = act.Edited 0 number c.args.edit } in
+    let may : IsNext b.journal e =
+    subst (λ j. IsNext j e) (sym c.self.view_is)
+    (record { pass = c.requires.issued; follows = (c.next_number-number.ensures.number, c.requires.rule) }) in
+    let number_is = c.next_number-number.ensures.number ∙ ap (λ n. n + 1) (ap last_number (sym c.self.view_is) ∙ sym c.self.invariant.at_is) in
+    let next_is = c.requires.next ∙ ap (λ t. after t c.args.edit) (ap tables_of (sym c.self.view_is) ∙ sym c.self.invariant.tables_are) in
+    let same = c.in_ok-push.ensures.ok ∙ ap (λ x. b.journal ++ x ∷ []) c.edited_entry.ensures in
+    rw same
+    (book-accepted b.journal b.tables b.first b.at b.passes c.changes_for.new.shelves c.change_shelves.new.shelves c.in_ok-changes.changes b.done.items
+    c.args.who c.args.edit number c.args.next wider may number_is next_is c.in_ok-changes.ensures.made c.change_shelves.ensures)

@@ -1,0 +1,61 @@
+-- What an edit makes of what is known of sections.
+use Rattle.std.specs.Prelude.{◌≡◌, ℕ, ◌<◌, List, length, true, All, option_map, slice_index_or}
+use Rattle.rail_model.specs.declared.tables.Tables.{Tables}
+use Rattle.rail_model.specs.Name.{NamesRise}
+use Rattle.rail_model.specs.Rules.{is_named}
+use Rattle.plan_model.specs.Cut.{stamped}
+use Rattle.plan_model.specs.SectionCut.{cut_of}
+use Rattle.section_cut.specs.declared.cut_changes.CutChange.{CutChange}
+use Rattle.section_cut.specs.declared.cut_changes.CutChange.TheVariants as change
+use Rattle.section_cut.specs.Change.{IsChange}
+use Rattle.plan_book.specs.declared.shelf.Shelf.{Shelf}
+use Rattle.plan_book.specs.Shelves.{shelf_of}
+
+-- a shelf after the edit of a number: where the edit touches its section, it has the section's new cut
+abbrev pub changed : ℕ → Shelf → CutChange → Shelf
+changed number s change.Untouched = s
+changed number s (change.Touched cut) = record s { touched = number; cut = cut }
+
+-- a shelf has its section's cut by these tables
+abbrev pub HasCutOf : Tables → Shelf → Type 0
+HasCutOf tables s = cut_of tables s.name ≡ option_map (stamped 0) s.cut
+
+-- what is known of each name has its section's cut by these tables
+abbrev pub HaveCuts : Tables → ℕ → List Shelf → Type 0
+HaveCuts tables first shelves =
+    (name : List ℕ) → cut_of tables name ≡ option_map (stamped 0) (shelf_of first shelves name).cut
+
+-- what the edit of a number, between two tables, makes of the cut of a shelf's section
+abbrev pub IsChangeOf : Tables → Tables → ℕ → Shelf → CutChange → Type 0
+IsChangeOf before after number s c = IsChange (cut_of before s.name) (cut_of after s.name) number s.cut c
+
+-- what it makes of the cut of each shelf
+pub record AreChanges (before after : Tables) (number : ℕ) (shelves : List Shelf) (changes : List CutChange) : Type 0 where
+  pub count : length changes ≡ length shelves
+  pub each : (k : ℕ) (s : Shelf) (c : CutChange) → k < length shelves
+      → IsChangeOf before after number (slice_index_or shelves k s) (slice_index_or changes k c)
+
+-- each shelf is changed
+pub record AreChanged (number : ℕ) (shelves : List Shelf) (changes : List CutChange) (later : List Shelf) : Type 0 where
+  pub count : length later ≡ length shelves
+  pub each : (k : ℕ) (s : Shelf) (c : CutChange) → k < length shelves
+      → slice_index_or later k s ≡ changed number (slice_index_or shelves k s) (slice_index_or changes k c)
+
+-- shelves of more names, which stand in the order of names, and say what was known without them
+pub record Widens (first : ℕ) (old new : List Shelf) : Type 0 where
+  pub rise : NamesRise (λ s. s.name) new
+  pub known : (name : List ℕ) → shelf_of first new name ≡ shelf_of first old name
+
+-- each section of the tables has a shelf
+abbrev pub HaveAll : Tables → List Shelf → Type 0
+HaveAll tables shelves = All (λ x. is_named (λ (s : Shelf). s.name) shelves x.name ≡ true) tables.sections
+
+-- shelves keep their names
+abbrev pub Keeps : List Shelf → List Shelf → Type 0
+Keeps old new = (name : List ℕ) → is_named (λ (s : Shelf). s.name) old name ≡ true
+    → is_named (λ (s : Shelf). s.name) new name ≡ true
+
+-- each section of the later tables has a shelf, and this is what the edit makes of the cuts
+pub record WillChange (before after : Tables) (number : ℕ) (shelves : List Shelf) (changes : List CutChange) : Type 0 where
+  pub all : HaveAll after shelves
+  pub made : AreChanges before after number shelves changes

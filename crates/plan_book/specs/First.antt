@@ -1,0 +1,21 @@
+-- What a book knows of sections when it is started.
+use Rattle.std.specs.Prelude.{◌≡◌, ℕ, List, map, None, Some, IfSome, All}
+use Rattle.rail_model.specs.declared.items.Section.{Section}
+use Rattle.rail_model.specs.declared.tables.Tables.{Tables}
+use Rattle.plan_model.specs.Cut.{stamped, IsSoundCut}
+use Rattle.plan_model.specs.SectionCut.{section_cut}
+use Rattle.plan_book.specs.declared.shelf.Shelf.{Shelf}
+
+-- the shelf of a section that no edit touched since the one of a number: each row of its cut has this number
+abbrev pub first_shelf : Tables → ℕ → Section → Shelf
+first_shelf tables at section = record {
+  name = section.name;
+  touched = at;
+  published = None;
+  cut = Some (stamped at (section_cut tables section));
+}
+
+-- each section of the tables has its shelf, in their order, with a sound cut
+pub record AreFirst (tables : Tables) (at : ℕ) (shelves : List Shelf) : Type 0 where
+  pub same : shelves ≡ map (first_shelf tables at) tables.sections
+  pub sound : All (λ s. IfSome s.cut IsSoundCut) shelves

@@ -1,0 +1,4 @@
+pub mod Shelves
+pub mod First
+pub mod Kept
+pub mod Changes

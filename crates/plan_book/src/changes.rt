@@ -1,0 +1,125 @@
+//! What an edit makes of what a book knows of sections.
+ghost use Rattle.std.specs.Prelude.{◌≡◌, ◌<◌, ◌≤◌, All, IfOk, OnOk, length};
+ghost use Rattle.rail_model.specs.Edits as edits;
+ghost use Rattle.rail_model.specs.Name.{NamesRise};
+ghost use Rattle.plan_book.specs.Changes.{changed, HasCutOf, HaveCuts, WillChange, AreChanges, AreChanged, Widens, HaveAll};
+
+use crate::shelf::{Shelf, place_of};
+use line_tables::LineTables;
+use rail_model::{Edit, List, Name, OutOfMemory};
+use section_cut::{CutChange, CutChanges};
+use std::alloc::Global;
+use std::mem;
+
+/// What the edit of a number makes of the cut of each section. A shelf is put in for each section of the
+/// later tables that has none; what is known of sections stays, also without memory.
+pub(crate) fn changes_for(
+    alloc: Global,
+    shelves: &mut List<Shelf>,
+    first: u64,
+    before: &LineTables,
+    after: &LineTables,
+    edit: &Edit,
+    number: u64,
+) -> Result<List<CutChange>, OutOfMemory>
+    requires rise { NamesRise (λ s. s.name) shelves.old }
+    requires cuts { HaveCuts before.now first shelves.old }
+    requires after { after.now ≡ edits.after before.now edit.now }
+    ensures same { Widens first shelves.old shelves.new }
+    ensures made { IfOk result (WillChange before.now after.now number shelves.new) }
+{
+    add_missing(shelves, after, first)?;
+    let changes = changes_of(alloc, shelves.slice(), before, after, edit, number)?;
+    Ok(changes)
+}
+
+// Puts a shelf in for each section of the tables that has none. What is known of sections stays, also
+// without memory.
+fn add_missing(
+    shelves: &mut List<Shelf>,
+    tables: &LineTables,
+    first: u64,
+) -> Result<(), OutOfMemory>
+    requires { NamesRise (λ s. s.name) shelves.old }
+    ensures same { Widens first shelves.old shelves.new }
+    ensures all { OnOk result (HaveAll tables.now shelves.new) }
+{
+    for number in 0..tables.sections() {
+        add_shelf(shelves, &tables.section(number).name, first)?;
+    }
+    Ok(())
+}
+
+ghost use Rattle.std.specs.Prelude.{true};
+ghost use Rattle.rail_model.specs.Rules.{is_named};
+
+// Puts a shelf in for the section of a name, if it has none.
+fn add_shelf(shelves: &mut List<Shelf>, name: &Name, first: u64) -> Result<(), OutOfMemory>
+    requires { NamesRise (λ s. s.name) shelves.old }
+    ensures same { Widens first shelves.old shelves.new }
+    ensures there { OnOk result (is_named (λ s. s.name) shelves.new name.now ≡ true) }
+    ensures kept { Keeps shelves.old shelves.new }
+{
+    if let Err(place) = place_of(shelves.slice(), name) {
+        shelves.insert(place, blank(name, first))?;
+    }
+    Ok(())
+}
+
+ghost use Rattle.plan_book.specs.Shelves as shelving;
+ghost use Rattle.plan_book.specs.Changes.{Keeps};
+
+// The shelf of a section that isn't there.
+fn blank(name: &Name, first: u64) -> Shelf
+    ensures { result ≡ shelving.blank first name.now }
+{
+    Shelf {
+        name: *name,
+        touched: first,
+        published: None,
+        cut: None,
+    }
+}
+
+// What the edit of a number makes of the cut of each shelf's section.
+fn changes_of(
+    alloc: Global,
+    shelves: &[Shelf],
+    before: &LineTables,
+    after: &LineTables,
+    edit: &Edit,
+    number: u64,
+) -> Result<List<CutChange>, OutOfMemory>
+    requires after { after.now ≡ edits.after before.now edit.now }
+    requires cuts { All (HasCutOf before.now) shelves.now }
+    ensures { IfOk result (AreChanges before.now after.now number shelves.now) }
+{
+    let made = CutChanges::of(alloc, before, after, edit)?;
+    let mut changes = List::new(alloc);
+    for shelf in shelves {
+        changes.push(made.cut_after(alloc, &shelf.cut, &shelf.name, number)?)?;
+    }
+    Ok(changes)
+}
+
+/// Changes each shelf by what the edit of a number made of its section's cut.
+pub(crate) fn change_shelves(shelves: &mut List<Shelf>, changes: List<CutChange>, number: u64)
+    requires { length changes ≡ length shelves.old }
+    ensures { AreChanged number shelves.old changes shelves.new }
+{
+    let mut changes = changes.into_vec();
+    for place in 0..changes.len() {
+        let change = mem::replace(&mut changes[place], CutChange::Untouched);
+        change_shelf(shelves.get_mut(place), change, number);
+    }
+}
+
+// Changes a shelf.
+fn change_shelf(shelf: &mut Shelf, change: CutChange, number: u64)
+    ensures { shelf.new ≡ changed number shelf.old change }
+{
+    if let CutChange::Touched(cut) = change {
+        shelf.touched = number;
+        shelf.cut = cut;
+    }
+}

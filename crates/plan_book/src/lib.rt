@@ -1,0 +1,13 @@
+//! The book of a timetable: tables, scripts and published answers, with the journal of all that was done
+//! and asked.
+//!
+//! Whatever calls come, the journal is legal, each planner keeps to its script, and each answer is the one
+//! that the journal gives.
+#![tactic(auto)]
+
+mod book;
+mod changes;
+mod first;
+mod shelf;
+
+pub use book::{Book, FIRST_NUMBER, PLANNERS, TASKS};
