@@ -152,7 +152,7 @@ book-wider journal tables first at passes old new done held wider =
       done_are = held.done_are;
     }
 
-now_is : (journal : List Entry) (name : List ℕ) → cut_now journal name ≡ cut_of (tables_of journal) name
+pub now_is : (journal : List Entry) (name : List ℕ) → cut_now journal name ≡ cut_of (tables_of journal) name
 unfolding cut_at
 now_is journal name = rw (tables_at-past journal (last_number journal) (omega arith)) refl
 

@@ -7,3 +7,7 @@ pub mod Starting
 pub mod Widening
 pub mod Editing
 pub mod Edited
+pub mod Latest
+pub mod Sections
+pub mod Left
+pub mod Entering

@@ -2,3 +2,5 @@ pub mod Shelves
 pub mod First
 pub mod Kept
 pub mod Changes
+pub mod Entries
+pub mod Reading

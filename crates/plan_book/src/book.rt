@@ -32,18 +32,18 @@ pub const FIRST_NUMBER: u64 = 16_777_216;
 /// A timetable that planners edit and ask, and whose sections' answers are published. Contracts see its
 /// journal. The journal is legal, and each planner keeps to its script.
 pub struct Book {
-    alloc: Global,
-    journal: List<Entry>,
+    pub(crate) alloc: Global,
+    pub(crate) journal: List<Entry>,
     // The tables after all edits, the number of the last edit before the book was started and that of the
     // last one, and how many passes are issued.
-    tables: LineTables,
-    first: u64,
-    at: u64,
-    passes: u32,
+    pub(crate) tables: LineTables,
+    pub(crate) first: u64,
+    pub(crate) at: u64,
+    pub(crate) passes: u32,
     // In the order of names.
-    shelves: List<Shelf>,
+    pub(crate) shelves: List<Shelf>,
     // How many tasks each planner has done.
-    done: Vec<usize>,
+    pub(crate) done: Vec<usize>,
 }
 
 // Dropping a book is one call for whoever holds it.

@@ -8,6 +8,8 @@
 mod book;
 mod changes;
 mod first;
+mod kept;
+mod reading;
 mod shelf;
 
 pub use book::{Book, FIRST_NUMBER, PLANNERS, TASKS};
