@@ -1,9 +1,8 @@
 -- What a book keeps beside its journal, after an entry that makes no edit.
-use Rattle.std.proofs.Common.{◌≡◌, ℕ, ◌+◌, ◌<◌, ◌≤◌, List, [], ◌∷◌, ◌++◌, length, Option, Some, None, Result, Ok, Err, refl, sym, ap, ◌∙◌, subst, inl, inr, arith}
-use Rattle.std.specs.Prelude.{find, unwrap_or, false, IfSome, MatchResult, OnOk, OnErr}
+use Rattle.std.proofs.Common.{eqb, if◌then◌else◌, length-append, ◌≡◌, ℕ, ◌+◌, ◌<◌, ◌≤◌, List, [], ◌∷◌, ◌++◌, length, Option, Some, None, Result, Ok, Err, refl, sym, ap, ◌∙◌, subst, inl, inr, arith}
+use Rattle.std.specs.Prelude.{is_some, find, unwrap_or, false, IfSome, MatchResult}
 use Rattle.std.specs.List.{cons_option}
 use Rattle.std.proofs.lemmas.List.{append-nil}
-use Rattle.rail_model.specs.declared.memory.OutOfMemory.{OutOfMemory}
 use Rattle.rail_model.specs.declared.tables.Tables.{Tables}
 use Rattle.rail_model.specs.Name.{is_same}
 use Rattle.plan_model.specs.declared.answer.Done.{Done}
@@ -21,7 +20,8 @@ use Rattle.plan_model.proofs.Touching.{touched_since, last_is_right}
 use Rattle.plan_book.specs.declared.shelf.Published.{Published}
 use Rattle.plan_book.specs.declared.shelf.Shelf.{Shelf}
 use Rattle.plan_book.specs.Shelves.{blank, IsPublished, KnowsLast, IsShelf, IsVerdict, AreShelves}
-use Rattle.plan_book.specs.Kept.{AreDone, IsBook, IsQuiet, IsOutside, IsNotTaken}
+use Rattle.plan_model.specs.declared.scripts.Task.{Task}
+use Rattle.plan_book.specs.Kept.{IsBy, IsCounted, AreDone, IsBook, IsQuiet, IsOutside, IsNotTaken}
 use Rattle.plan_book.proofs.Found.{found_name}
 use Rattle.plan_book.proofs.Others.{none, shelves-more}
 
@@ -100,6 +100,22 @@ done-outside journal e done some outside h = record {
       ∙ ap length (sym (done_by-more journal (e ∷ []) (k + 1) ∙ rw none (append-nil (done_by journal (k + 1)))));
 }
 
+option_count : (o : Option Task) → length (cons_option o []) ≡ (if is_some o then 1 else 0)
+option_count None = refl
+option_count (Some t) = refl
+
+pub done-by : (journal : List Entry) (e : Entry) (planner : ℕ) (done later : List ℕ) → 0 < length journal → IsBy planner e.act
+    → AreDone journal done → IsCounted planner done later → AreDone (journal ++ e ∷ []) later
+done-by journal e planner done later some by h counted = record {
+  count = counted.count ∙ h.count ∙ ap (λ (o : Opening). length o.scripts) (sym (opening-more journal (e ∷ []) some));
+  each = λ k l.
+      let within : k < length done = omega (arith, l, counted.count) in
+      let one : length (done_by (e ∷ []) (k + 1)) ≡ (if eqb planner (k + 1) then 1 else 0) =
+      ap length (one_task e (k + 1)) ∙ option_count (task_of (k + 1) e.act) ∙ ap (λ b. if b then 1 else 0) (by (k + 1) (omega arith)) in
+      let whole = ap length (done_by-more journal (e ∷ []) (k + 1)) ∙ length-append (done_by journal (k + 1)) (done_by (e ∷ []) (k + 1)) in
+      omega (arith, counted.each k within, h.each k within, one, whole);
+}
+
 -- ---- passes
 
 one_pass : (e : Entry) → issues e.act ≡ false → issued (e ∷ []) ≡ 1
@@ -115,10 +131,11 @@ module _ (journal : List Entry) (tables : Tables) (first at passes : ℕ) (shelv
   some : 0 < length journal
   some = legal_has_one journal held.is_journal.legal
 
-  -- after an entry that makes no edit, issues no pass and does no task
-  pub book-more : (later : List Shelf) → edit_of e.act ≡ None → issues e.act ≡ false → IsOutside e.act
-      → AreShelves (journal ++ e ∷ []) first later → IsBook (journal ++ e ∷ []) tables first at passes later done
-  book-more later no_edit no_pass outside are =
+  -- after an entry that makes no edit and issues no pass
+  pub book-more : (later : List Shelf) (counts : List ℕ) → edit_of e.act ≡ None → issues e.act ≡ false
+      → AreDone (journal ++ e ∷ []) counts → AreShelves (journal ++ e ∷ []) first later
+      → IsBook (journal ++ e ∷ []) tables first at passes later counts
+  book-more later counts no_edit no_pass tasks are =
       let keeps = others_keep_tables journal (e ∷ []) some (none journal e some no_edit) in
       record {
         is_journal = is_journal;
@@ -128,17 +145,12 @@ module _ (journal : List Entry) (tables : Tables) (first at passes : ℕ) (shelv
         at_is = held.at_is ∙ sym keeps.number;
         passes_are = held.passes_are ∙ sym (issued-same journal e no_pass);
         shelves_are = are;
-        done_are = done-outside journal e done some outside held.done_are;
+        done_are = tasks;
       }
 
   -- and publishes nothing
-  pub book-quiet : IsQuiet e.act → IsOutside e.act → IsBook (journal ++ e ∷ []) tables first at passes shelves done
-  book-quiet quiet outside =
-      book-more shelves quiet.no_edit quiet.no_pass outside
+  pub book-quiet : (planner : ℕ) (counts : List ℕ) → IsQuiet e.act → IsBy planner e.act → IsCounted planner done counts
+      → IsBook (journal ++ e ∷ []) tables first at passes shelves counts
+  book-quiet planner counts quiet by counted =
+      book-more shelves counts quiet.no_edit quiet.no_pass (done-by journal e planner done counts some by held.done_are counted)
       (shelves-more journal e some quiet.no_edit first shelves quiet.no_publication held.shelves_are)
-
--- what holds of a journal, and of a longer one, holds after a push of what the longer one adds
-pub after_push : (P : List Entry → Type 0) (r : Result (Unit {0}) OutOfMemory) (old longer new : List Entry)
-    → OnOk r (new ≡ longer) → OnErr r (new ≡ old) → P longer → P old → P new
-after_push P (Ok u) old longer new ok err more same = subst P (sym ok) more
-after_push P (Err e) old longer new ok err more same = subst P (sym err) same

@@ -1,8 +1,8 @@
 -- What a book keeps beside its journal, after an edit.
-use Rattle.std.proofs.Common.{◌≡◌, ℕ, suc, ◌+◌, ◌<◌, ◌≤◌, eqb, if◌then◌else◌, List, [], ◌∷◌, ◌++◌, length, get_or, Option, Some, None, Ok, refl, sym, ap, ◌∙◌, subst, inl, inr, arith}
+use Rattle.std.proofs.Common.{◌≡◌, ℕ, suc, ◌+◌, ◌<◌, ◌≤◌, eqb, List, [], ◌∷◌, ◌++◌, length, get_or, Option, Some, None, Ok, refl, sym, ap, ◌∙◌, subst, inl, inr, arith}
 use Rattle.std.specs.Prelude.{◌⊎◌, find, unwrap_or, option_map, All, IfSome, true, false}
 use Rattle.std.specs.List.{cons_option}
-use Rattle.std.proofs.lemmas.Bool.{cases_Bool, eqb-true}
+use Rattle.std.proofs.lemmas.Bool.{cases_Bool}
 use Rattle.rail_model.specs.declared.items.Section.{Section}
 use Rattle.rail_model.specs.declared.edit.Edit.{Edit}
 use Rattle.rail_model.specs.declared.tables.Tables.{Tables}
@@ -14,11 +14,9 @@ use Rattle.plan_model.specs.declared.journal.Entry.{Entry}
 use Rattle.plan_model.specs.Cut.{stamped}
 use Rattle.plan_model.specs.SectionCut.{section_cut, cut_of}
 use Rattle.plan_model.specs.Journal.{Opening, opening, edit_of, edits, last_number, tables_of, issues, publication_of}
-use Rattle.plan_model.specs.declared.scripts.Task.{Task}
 use Rattle.plan_model.specs.declared.scripts.Task.TheVariants as task
 use Rattle.plan_model.specs.declared.journal.Act.TheVariants as act
 use Rattle.plan_model.specs.Legal.{IsNext, IsJournal}
-use Rattle.plan_model.proofs.Working.{calls_leave_journals}
 use Rattle.plan_model.specs.Touch.{cut_at, cut_now}
 use Rattle.plan_model.proofs.Growing.{opening-more, tables_at-past}
 use Rattle.plan_model.proofs.Legality.{legal_has_one}
@@ -29,11 +27,12 @@ use Rattle.section_cut.proofs.Rows.{found_at}
 use Rattle.plan_book.specs.declared.shelf.Shelf.{Shelf}
 use Rattle.plan_book.specs.Shelves.{blank, shelf_of, IsShelf, AreShelves}
 use Rattle.plan_book.specs.Changes.{WillChange, HaveCuts, changed, AreChanges, AreChanged, Widens, HaveAll, HasCutOf}
-use Rattle.plan_book.specs.Kept.{IsBook, AreDone}
+use Rattle.plan_book.specs.Kept.{MayDo, IsCounted, IsBook, AreDone}
 use Rattle.plan_book.proofs.Found.{found_name}
 use Rattle.plan_book.proofs.Starting.{found_of_all}
 use Rattle.plan_book.proofs.Publications.{names_rise_too}
-use Rattle.plan_book.proofs.Adding.{shelf_found, none_found, done-outside, issued-same}
+use Rattle.plan_book.proofs.NextTasks.{some_if, journal_edited}
+use Rattle.plan_book.proofs.Adding.{shelf_found, none_found, done-by, issued-same}
 use Rattle.plan_book.proofs.Editing.{last_number-edited, tables_of-edited, cut_then, shelf-edited}
 
 changed_name : (number : ℕ) (s : Shelf) (c : CutChange) → (changed number s c).name ≡ s.name
@@ -193,13 +192,13 @@ unfolding last_number
 from_opening journal = omega arith
 
 -- the book after an edit
-pub book-edited : (journal : List Entry) (tables : Tables) (first at passes : ℕ) (shelves later : List Shelf) (changes : List CutChange) (done : List ℕ)
+pub book-edited : (journal : List Entry) (tables : Tables) (first at passes : ℕ) (shelves later : List Shelf) (changes : List CutChange) (done counts : List ℕ)
     (e : Entry) (edit : Edit) → IsBook journal tables first at passes shelves done → IsJournal (journal ++ e ∷ [])
-    → edit_of e.act ≡ Some edit → ((name : List ℕ) → publication_of name e.act ≡ None) → issues e.act ≡ false → AreDone (journal ++ e ∷ []) done
+    → edit_of e.act ≡ Some edit → ((name : List ℕ) → publication_of name e.act ≡ None) → issues e.act ≡ false → AreDone (journal ++ e ∷ []) counts
     → HaveAll (after tables edit) shelves → AreChanges tables (after tables edit) (at + 1) shelves changes
     → AreChanged (at + 1) shelves changes later
-    → IsBook (journal ++ e ∷ []) (after tables edit) first (at + 1) passes later done
-book-edited journal tables first at passes shelves later changes done e edit held is_journal is quiet no_pass tasks all made new =
+    → IsBook (journal ++ e ∷ []) (after tables edit) first (at + 1) passes later counts
+book-edited journal tables first at passes shelves later changes done counts e edit held is_journal is quiet no_pass tasks all made new =
     let some = legal_has_one journal held.is_journal.legal in
     record {
       is_journal = is_journal;
@@ -214,29 +213,22 @@ book-edited journal tables first at passes shelves later changes done e edit hel
       done_are = tasks;
     }
 
--- an act outside the scripts does no task
-outside : (t : Task) (planner : ℕ) → 1 ≤ planner → (if eqb 0 planner then Some t else None) ≡ None
-outside t planner from =
-    elim (cases_Bool (eqb 0 planner)) [
-      | inl same ↦ absurd (omega (arith, eqb-true 0 planner same, from))
-      | inr other ↦ rw other refl
-    ]
-
--- the book after an edit outside the scripts that no rule refuses
-pub book-accepted : (journal : List Entry) (tables : Tables) (first at passes : ℕ) (shelves later : List Shelf) (changes : List CutChange) (done : List ℕ)
-    (who : ℕ) (edit : Edit) (number : ℕ) (next : Tables) → IsBook journal tables first at passes shelves done
-    → IsNext journal (record { pass = who; act = act.Edited 0 number edit }) → number ≡ at + 1 → next ≡ after tables edit
-    → WillChange tables next number shelves changes → AreChanged number shelves changes later
-    → IsBook (journal ++ record { pass = who; act = act.Edited 0 number edit } ∷ []) next first number passes later done
-book-accepted journal tables first at passes shelves later changes done who edit number next held may number_is next_is will new =
-    let e : Entry = record { pass = who; act = act.Edited 0 number edit } in
+-- the book after an edit by a planner, or outside the scripts, that no rule refuses
+pub book-accepted : (journal : List Entry) (tables : Tables) (first at passes : ℕ) (shelves later : List Shelf) (changes : List CutChange)
+    (done counts : List ℕ) (who planner : ℕ) (edit : Edit) (number : ℕ) (next : Tables) → IsBook journal tables first at passes shelves done
+    → IsNext journal (record { pass = who; act = act.Edited planner number edit }) → MayDo journal planner (task.Edit edit)
+    → number ≡ at + 1 → next ≡ after tables edit
+    → WillChange tables next number shelves changes → AreChanged number shelves changes later → IsCounted planner done counts
+    → IsBook (journal ++ record { pass = who; act = act.Edited planner number edit } ∷ []) next first number passes later counts
+book-accepted journal tables first at passes shelves later changes done counts who planner edit number next held may may_do number_is next_is will new counted =
+    let e : Entry = record { pass = who; act = act.Edited planner number edit } in
     let longer = journal ++ e ∷ [] in
     let is_journal : IsJournal longer =
-    (calls_leave_journals journal longer held.is_journal).edit who edit (Ok number) (record { next = may; is = refl }) in
-    let tasks = done-outside journal e done (legal_has_one journal held.is_journal.legal) (outside (task.Edit edit)) held.done_are in
+    journal_edited who planner edit (Ok number) journal longer held.is_journal may_do (record { next = may; is = refl }) in
+    let tasks = done-by journal e planner done counts (legal_has_one journal held.is_journal.legal) (λ p from. some_if (eqb planner p) (task.Edit edit)) held.done_are counted in
     let made = subst (λ n. AreChanges tables (after tables edit) n shelves changes) number_is
     (subst (λ t. AreChanges tables t number shelves changes) next_is will.made) in
-    subst (λ n. IsBook longer next first n passes later done) (sym number_is)
-    (subst (λ t. IsBook longer t first (at + 1) passes later done) (sym next_is)
-    (book-edited journal tables first at passes shelves later changes done e edit held is_journal refl (λ name. refl) refl tasks
+    subst (λ n. IsBook longer next first n passes later counts) (sym number_is)
+    (subst (λ t. IsBook longer t first (at + 1) passes later counts) (sym next_is)
+    (book-edited journal tables first at passes shelves later changes done counts e edit held is_journal refl (λ name. refl) refl tasks
     (subst (λ t. HaveAll t shelves) next_is will.all) made (subst (λ n. AreChanged n shelves changes later) number_is new)))

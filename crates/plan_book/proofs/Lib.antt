@@ -11,3 +11,4 @@ pub mod Latest
 pub mod Sections
 pub mod Left
 pub mod Entering
+pub mod NextTasks

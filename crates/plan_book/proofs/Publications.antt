@@ -24,7 +24,7 @@ use Rattle.plan_book.specs.Shelves.{blank, shelf_of, IsPublished, IsShelf, IsPla
 use Rattle.plan_book.specs.Kept.{IsBook}
 use Rattle.plan_book.proofs.Found.{found_at, found_name}
 use Rattle.plan_book.proofs.Others.{new_there, shelf-more, shelf-published}
-use Rattle.plan_book.proofs.Adding.{shelf_found, book-more}
+use Rattle.plan_book.proofs.Adding.{done-outside, shelf_found, book-more}
 
 -- shelves of the same names stand in the order of names, too
 pub names_rise_too : (xs ys : List Shelf) → length ys ≡ length xs
@@ -111,5 +111,6 @@ book-published journal tables first at passes shelves done who name number answe
     let done_act : Done = record { section = name; at = number; answer = answer } in
     let is_journal : IsJournal after =
     (calls_leave_journals journal after held.is_journal).publish who done_act (Ok tt) (record { next = next; is = refl }) in
-    book-more journal tables first at passes shelves done e held is_journal _ refl refl (λ planner from. refl)
+    book-more journal tables first at passes shelves done e held is_journal _ done refl refl
+    (done-outside journal e done (legal_has_one journal held.is_journal.legal) (λ planner from. refl) held.done_are)
     (shelves-published journal e name number answer refl first place shelves s (legal_has_one journal held.is_journal.legal) held.shelves_are there at_place)

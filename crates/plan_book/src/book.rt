@@ -9,11 +9,13 @@ ghost use Rattle.plan_model.specs.Outcome.{AddsEntry, EditsTo, AsksTo, Publishes
 ghost use Rattle.rail_model.specs.Rules.{rule_of};
 ghost use Rattle.rail_model.specs.Edits as edits;
 ghost use Rattle.plan_model.specs.declared.journal.Act.TheVariants as acts;
-ghost use Rattle.plan_book.specs.Kept.{IsQuiet, IsOutside, IsAnswered, IsNotTaken};
+ghost use Rattle.plan_model.specs.declared.scripts.Task.TheVariants as tasks;
+ghost use Rattle.plan_book.specs.Kept.{IsQuiet, IsBy, MayDo, IsAnswered, IsNotTaken};
 
 use crate::changes::{change_shelves, changes_for};
 use crate::first::first_shelves;
 use crate::shelf::{Published, Shelf, asked_of, place_of, shelf_of, verdict_of};
+use crate::tasks::count_task;
 use line_tables::LineTables;
 use plan_model::{Act, Asked, Done, Entry, NotTaken, Reply, Scripts};
 use rail_model::{Edit, List, Name, OutOfMemory, Rule};
@@ -140,12 +142,27 @@ impl Book {
         requires { who < issued self.old }
         ensures { Gives (AsksTo who 0 section) result self.old self.new }
     {
+        self.ask_by(who, 0, section)
+    }
+
+    // Asks for a section as a planner, or outside the scripts as planner 0.
+    pub(crate) fn ask_by(
+        &mut self,
+        who: u32,
+        planner: u32,
+        section: Name,
+    ) -> Result<Asked, OutOfMemory>
+        requires issued { who < issued self.old }
+        requires may { MayDo self.old planner (tasks.Ask section) }
+        ensures { Gives (AsksTo who planner section) result self.old self.new }
+    {
         let asked = self.answer_of(&section)?;
         let reply = replied(&asked);
         self.add(
             who,
+            planner,
             Act::Asked {
-                planner: 0,
+                planner,
                 section,
                 reply,
             },
@@ -164,15 +181,18 @@ impl Book {
         }
     }
 
-    // Adds an entry outside the scripts that makes no edit, publishes nothing and issues no pass.
-    fn add(&mut self, who: u32, act: Act) -> Result<(), OutOfMemory>
+    // Adds an entry of a planner, or of planner 0, that makes no edit, publishes nothing and issues no pass.
+    fn add(&mut self, who: u32, planner: u32, act: Act) -> Result<(), OutOfMemory>
         requires quiet { IsQuiet act }
-        requires outside { IsOutside act }
+        requires by { IsBy planner act }
+        requires planner { planner ≤ length (opening self.old).scripts }
         requires is_journal { IsJournal (self.old ++ record { pass = who; act = act } ∷ []) }
         ensures ok { OnOk result (self.new ≡ self.old ++ record { pass = who; act = act } ∷ []) }
         ensures err { OnErr result (self.new ≡ self.old) }
     {
-        self.journal.push(Entry { pass: who, act })
+        self.journal.push(Entry { pass: who, act })?;
+        count_task(&mut self.done, planner);
+        Ok(())
     }
 
     /// Makes an edit outside the scripts, by a pass, and gives its number; or says by which rule it is
@@ -182,11 +202,25 @@ impl Book {
         requires { who < issued self.old }
         ensures { Gives (EditsTo who 0 edit) result self.old self.new }
     {
+        self.edit_by(who, 0, edit)
+    }
+
+    // Makes an edit as a planner, or outside the scripts as planner 0.
+    pub(crate) fn edit_by(
+        &mut self,
+        who: u32,
+        planner: u32,
+        edit: Edit,
+    ) -> Result<Result<u64, Rule>, OutOfMemory>
+        requires issued { who < issued self.old }
+        requires may { MayDo self.old planner (tasks.Edit edit) }
+        ensures { Gives (EditsTo who planner edit) result self.old self.new }
+    {
         let mut next = self.next_tables()?;
         match next.apply(&edit)? {
-            Ok(()) => Ok(Ok(self.accept(who, edit, next)?)),
+            Ok(()) => Ok(Ok(self.accept(who, planner, edit, next)?)),
             Err(rule) => {
-                self.refuse(who, edit, rule)?;
+                self.refuse(who, planner, edit, rule)?;
                 Ok(Err(rule))
             }
         }
@@ -200,17 +234,19 @@ impl Book {
     }
 
     // Adds an edit that a rule refuses.
-    fn refuse(&mut self, who: u32, edit: Edit, rule: Rule) -> Result<(), OutOfMemory>
+    fn refuse(&mut self, who: u32, planner: u32, edit: Edit, rule: Rule) -> Result<(), OutOfMemory>
         requires issued { who < issued self.old }
+        requires may { MayDo self.old planner (tasks.Edit edit) }
         requires rule { rule_of (tables_of self.old) edit ≡ Some rule }
-        ensures { Gives (λ found u after. AddsEntry who (acts.Refused 0 rule edit) found after)
+        ensures { Gives (λ found u after. AddsEntry who (acts.Refused planner rule edit) found after)
             result self.old self.new }
     {
         let _journal = self.journal();
         self.add(
             who,
+            planner,
             Act::Refused {
-                planner: 0,
+                planner,
                 rule,
                 edit,
             },
@@ -219,11 +255,18 @@ impl Book {
     }
 
     // Makes an edit that no rule refuses, after which the tables are these, and gives its number.
-    fn accept(&mut self, who: u32, edit: Edit, next: LineTables) -> Result<u64, OutOfMemory>
+    fn accept(
+        &mut self,
+        who: u32,
+        planner: u32,
+        edit: Edit,
+        next: LineTables,
+    ) -> Result<u64, OutOfMemory>
         requires issued { who < issued self.old }
+        requires may { MayDo self.old planner (tasks.Edit edit) }
         requires rule { rule_of (tables_of self.old) edit ≡ None }
         requires next { next ≡ edits.after (tables_of self.old) edit }
-        ensures { Gives (λ found number after. AddsEntry who (acts.Edited 0 number edit) found after)
+        ensures { Gives (λ found number after. AddsEntry who (acts.Edited planner number edit) found after)
             result self.old self.new }
     {
         let number = self.next_number();
@@ -236,7 +279,8 @@ impl Book {
             &edit,
             number,
         )?;
-        self.journal.push(edited_entry(who, number, edit))?;
+        self.journal.push(edited_entry(who, planner, number, edit))?;
+        count_task(&mut self.done, planner);
         change_shelves(&mut self.shelves, changes, number);
         self.at = number;
         self.tables = next;
@@ -337,11 +381,11 @@ fn replied(asked: &Asked) -> Reply
 }
 
 // The entry of an edit that is made.
-fn edited_entry(who: u32, number: u64, edit: Edit) -> Entry
-    ensures { result ≡ record { pass = who; act = acts.Edited 0 number edit } }
+fn edited_entry(who: u32, planner: u32, number: u64, edit: Edit) -> Entry
+    ensures { result ≡ record { pass = who; act = acts.Edited planner number edit } }
 {
     let act = Act::Edited {
-        planner: 0,
+        planner,
         at: number,
         edit,
     };

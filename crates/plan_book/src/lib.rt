@@ -11,5 +11,6 @@ mod first;
 mod kept;
 mod reading;
 mod shelf;
+mod tasks;
 
 pub use book::{Book, FIRST_NUMBER, PLANNERS, TASKS};

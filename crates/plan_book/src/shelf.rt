@@ -88,7 +88,7 @@ fn answer_at(journal: &[Entry], place: usize) -> &Answer
 pub(crate) fn verdict_of(shelf: &Shelf, at: u64) -> Result<(), NotTaken>
     ensures { IsVerdict shelf.now at result }
 {
-    if at < shelf.touched {
+    if shelf.touched > at {
         return Err(NotTaken::Stale { by: shelf.touched });
     }
     match shelf.published {
