@@ -1,5 +1,5 @@
 -- What a book keeps beside its journal, after an entry that makes no edit.
-use Rattle.std.proofs.Common.{eqb, if◌then◌else◌, length-append, ◌≡◌, ℕ, ◌+◌, ◌<◌, ◌≤◌, List, [], ◌∷◌, ◌++◌, length, Option, Some, None, Result, Ok, Err, refl, sym, ap, ◌∙◌, subst, inl, inr, arith}
+use Rattle.std.proofs.Common.{eqb, if◌then◌else◌, length-append, ◌≡◌, ℕ, ◌+◌, ◌<◌, ◌≤◌, List, [], ◌∷◌, ◌++◌, length, Option, Some, None, Result, Ok, Err, refl, sym, ap, ◌∙◌, subst, arith}
 use Rattle.std.specs.Prelude.{is_some, find, unwrap_or, false, IfSome, MatchResult}
 use Rattle.std.specs.List.{cons_option}
 use Rattle.std.proofs.lemmas.List.{append-nil}
@@ -9,20 +9,19 @@ use Rattle.plan_model.specs.declared.answer.Done.{Done}
 use Rattle.plan_model.specs.declared.journal.Entry.{Entry}
 use Rattle.plan_model.specs.declared.outcome.NotTaken.{NotTaken}
 use Rattle.plan_model.specs.declared.outcome.NotTaken.TheVariants as not_taken
-use Rattle.plan_model.specs.Journal.{Opening, Publication, opening, edit_of, issued, issues, done_by, task_of, last_number, last_publication}
+use Rattle.plan_model.specs.Journal.{Opening, opening, edit_of, issued, issues, done_by, task_of, last_number, last_publication}
 use Rattle.plan_model.specs.Changes.{Stays}
 use Rattle.plan_model.specs.Touch.{cut_at, cut_now, IsCurrent, IsLastTouching}
 use Rattle.plan_model.specs.Legal.{IsJournal, IsAnswerAt, MayBePublished}
 use Rattle.plan_model.proofs.Growing.{opening-more, issued-more, done_by-more, others_keep_tables}
 use Rattle.plan_model.proofs.Changing.{same_from, stays_within}
 use Rattle.plan_model.proofs.Legality.{legal_has_one}
-use Rattle.plan_model.proofs.Touching.{touched_since, last_is_right}
-use Rattle.plan_book.specs.declared.shelf.Published.{Published}
 use Rattle.plan_book.specs.declared.shelf.Shelf.{Shelf}
 use Rattle.plan_book.specs.Shelves.{blank, IsPublished, KnowsLast, IsShelf, IsVerdict, AreShelves}
 use Rattle.plan_model.specs.declared.scripts.Task.{Task}
 use Rattle.plan_book.specs.Kept.{IsBy, IsCounted, AreDone, IsBook, IsQuiet, IsOutside, IsNotTaken}
 use Rattle.plan_book.proofs.Found.{found_name}
+use Rattle.plan_book.proofs.Latest.{current_has_latest}
 use Rattle.plan_book.proofs.Others.{none, shelves-more}
 
 -- ---- what is found among shelves
@@ -57,16 +56,11 @@ module _ (journal : List Entry) (s : Shelf) (done : Done) (is_journal : IsJourna
       stays_within (cut_at journal done.section) s.touched (last_number journal) at (last_number journal) known.touched.stays from (omega arith)
 
   -- a section whose last publication is before the last edit that touched it is not current
-  not_current : (o : Option Published) → KnowsLast journal done.section o → IfSome o (λ p. p.at < s.touched)
-      → IsCurrent journal done.section → ⊥
-  not_current None last before current = let both : Some current.publication ≡ None = sym current.last ∙ last in absurd (cc)
-  not_current (Some p) last before current =
-      let there : Publication = record { at = p.at; answer = last.answer } in
-      elim known.touched.changes [
-        | inl first ↦
-            omega (arith, first, before, (last_is_right journal done.section is_journal.legal there last.last).from_opening)
-        | inr touches ↦ touched_since journal done.section there s.touched last.last before known.touched.to_last touches current
-      ]
+  not_current : IfSome s.published (λ p. p.at < s.touched) → IsCurrent journal done.section → ⊥
+  not_current before current =
+      let latest = current_has_latest journal done.section s is_journal known current in
+      let early : latest.last.at < s.touched = subst (λ o. IfSome o (λ p. p.at < s.touched)) latest.published before in
+      omega (arith, early, latest.since)
 
   -- what a shelf says of an answer is right
   pub verdict_is : (r : Result (Unit {0}) NotTaken) → IsVerdict s done.at r
@@ -74,7 +68,7 @@ module _ (journal : List Entry) (s : Shelf) (done : Done) (is_journal : IsJourna
   verdict_is (Ok u) h = record {
     done = is;
     untouched = untouched_from done.at h.0;
-    wanted = not_current s.published known.published h.1;
+    wanted = not_current h.1;
   }
   verdict_is (Err (not_taken.Stale by)) h = (subst (IsLastTouching journal done.section) (sym h.0) known.touched, h.1)
   verdict_is (Err (not_taken.Current at)) h =

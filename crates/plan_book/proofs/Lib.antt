@@ -12,3 +12,4 @@ pub mod Sections
 pub mod Left
 pub mod Entering
 pub mod NextTasks
+pub mod ByOne

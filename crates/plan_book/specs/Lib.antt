@@ -4,3 +4,4 @@ pub mod Kept
 pub mod Changes
 pub mod Entries
 pub mod Reading
+pub mod Alone

@@ -5,6 +5,7 @@
 //! that the journal gives.
 #![tactic(auto)]
 
+mod alone;
 mod book;
 mod changes;
 mod first;
@@ -13,4 +14,5 @@ mod reading;
 mod shelf;
 mod tasks;
 
+pub use alone::Alone;
 pub use book::{Book, FIRST_NUMBER, PLANNERS, TASKS};
