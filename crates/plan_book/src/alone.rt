@@ -8,9 +8,9 @@ use plan_model::{Asked, Board, Done, Next, NotTaken, Reading, Stepped};
 use rail_model::{Edit, Name, OutOfMemory, Rule};
 use std::sync::Wait;
 
-/// The access of a pass to a book that nobody else adds to: what it has seen is the whole journal. It
-/// counts the readings that it was given, and notes how many uses were taken of the last that it handed
-/// back.
+/// The access of a pass to a book that nobody else adds to: what it has seen is the whole journal.
+/// It counts the readings that it was given, and notes how many uses were taken of the last that it
+/// handed back.
 #[derive(Drop)]
 pub struct Alone<'a> {
     book: &'a mut Book,

@@ -1,11 +1,13 @@
 //! Books.
-ghost use Rattle.std.specs.Prelude.{◌≡◌, ◌+◌, ◌≤◌, ◌<◌, ◌++◌, ◌∷◌, [], length, sum_by, None, Some, IfOk, OnOk, OnErr, MatchResult};
+ghost use Rattle.std.specs.Prelude.{◌≡◌, ◌+◌, ◌≤◌, ◌<◌, ◌++◌, ◌∷◌, [], length, sum_by, None, Some};
+ghost use Rattle.std.specs.Prelude.{IfOk, OnOk, OnErr, MatchResult};
 ghost use Rattle.plan_model.specs.Journal.{opening, last_number, tables_of, issued, tasks_left};
 ghost use Rattle.plan_model.specs.Legal.{IsJournal, IsNext, MayBePublished};
 ghost use Rattle.rail_model.specs.Sound.{IsSound};
 ghost use Rattle.plan_model.specs.Session.{opened};
 ghost use Rattle.plan_model.specs.Board.{Gives};
-ghost use Rattle.plan_model.specs.Outcome.{AddsEntry, EditsTo, AsksTo, PublishesTo, IsDone, reply_of};
+ghost use Rattle.plan_model.specs.Outcome.{AddsEntry, EditsTo, AsksTo, PublishesTo, IsDone};
+ghost use Rattle.plan_model.specs.Outcome.{reply_of};
 ghost use Rattle.rail_model.specs.Rules.{rule_of};
 ghost use Rattle.rail_model.specs.Edits as edits;
 ghost use Rattle.plan_model.specs.declared.journal.Act.TheVariants as acts;
@@ -31,13 +33,13 @@ pub const TASKS: usize = 256;
 /// The greatest number of the last edit before a book is started.
 pub const FIRST_NUMBER: u64 = 16_777_216;
 
-/// A timetable that planners edit and ask, and whose sections' answers are published. Contracts see its
-/// journal. The journal is legal, and each planner keeps to its script.
+/// A timetable that planners edit and ask, and whose sections' answers are published. Contracts see
+/// its journal. The journal is legal, and each planner keeps to its script.
 pub struct Book {
     pub(crate) alloc: Global,
     pub(crate) journal: List<Entry>,
-    // The tables after all edits, the number of the last edit before the book was started and that of the
-    // last one, and how many passes are issued.
+    // The tables after all edits, the number of the last edit before the book was started and that
+    // of the last one, and how many passes are issued.
     pub(crate) tables: LineTables,
     pub(crate) first: u64,
     pub(crate) at: u64,
@@ -73,12 +75,13 @@ impl Model for Book {
 
     ghost view = { λ b. b.journal };
 
-    ghost invariant = { λ b. IsBook b.journal b.tables b.first b.at b.passes b.shelves b.done.items };
+    ghost invariant = { λ b.
+        IsBook b.journal b.tables b.first b.at b.passes b.shelves b.done.items };
 }
 
 impl Book {
-    /// A book of these tables and scripts, whose last edit had the number `at`. Its journal is opened by
-    /// pass 0, and the next edit gets the number after `at`.
+    /// A book of these tables and scripts, whose last edit had the number `at`. Its journal is
+    /// opened by pass 0, and the next edit gets the number after `at`.
     pub fn start(
         alloc: Global,
         tables: LineTables,
@@ -105,7 +108,8 @@ impl Book {
         })
     }
 
-    /// The journal: what was done to the timetable, and what was asked and answered of it, in order.
+    /// The journal: what was done to the timetable, and what was asked and answered of it, in
+    /// order.
     pub fn journal(&self) -> &List<Entry>
         ensures same { result.now ≡ self.now }
         ensures is_journal { IsJournal self.now }
@@ -134,10 +138,10 @@ impl Book {
         self.done.len() as u32
     }
 
-    /// Asks for a section outside the scripts, by a pass. `Ready` gives the answer that was published last
-    /// and that no later edit touches, `Stale` the edit that touched the section last, `NotYet` comes where
-    /// none was published, and `Unknown` where the section isn't there. Each reply adds its entry. Without
-    /// memory the book stays as it was.
+    /// Asks for a section outside the scripts, by a pass. `Ready` gives the answer that was
+    /// published last and that no later edit touches, `Stale` the edit that touched the section
+    /// last, `NotYet` comes where none was published, and `Unknown` where the section isn't there.
+    /// Each reply adds its entry. Without memory the book stays as it was.
     pub fn ask(&mut self, who: u32, section: Name) -> Result<Asked, OutOfMemory>
         requires { who < issued self.old }
         ensures { Gives (AsksTo who 0 section) result self.old self.new }
@@ -181,7 +185,8 @@ impl Book {
         }
     }
 
-    // Adds an entry of a planner, or of planner 0, that makes no edit, publishes nothing and issues no pass.
+    // Adds an entry of a planner, or of planner 0, that makes no edit, publishes nothing and issues
+    // no pass.
     fn add(&mut self, who: u32, planner: u32, act: Act) -> Result<(), OutOfMemory>
         requires quiet { IsQuiet act }
         requires by { IsBy planner act }
@@ -195,9 +200,9 @@ impl Book {
         Ok(())
     }
 
-    /// Makes an edit outside the scripts, by a pass, and gives its number; or says by which rule it is
-    /// refused, the first that refuses it, and leaves the tables. Each adds its entry. Without memory the
-    /// book stays as it was.
+    /// Makes an edit outside the scripts, by a pass, and gives its number; or says by which rule it
+    /// is refused, the first that refuses it, and leaves the tables. Each adds its entry. Without
+    /// memory the book stays as it was.
     pub fn edit(&mut self, who: u32, edit: Edit) -> Result<Result<u64, Rule>, OutOfMemory>
         requires { who < issued self.old }
         ensures { Gives (EditsTo who 0 edit) result self.old self.new }
@@ -238,7 +243,8 @@ impl Book {
         requires issued { who < issued self.old }
         requires may { MayDo self.old planner (tasks.Edit edit) }
         requires rule { rule_of (tables_of self.old) edit ≡ Some rule }
-        ensures { Gives (λ found u after. AddsEntry who (acts.Refused planner rule edit) found after)
+        ensures { Gives
+            (λ found u after. AddsEntry who (acts.Refused planner rule edit) found after)
             result self.old self.new }
     {
         let _journal = self.journal();
@@ -266,7 +272,8 @@ impl Book {
         requires may { MayDo self.old planner (tasks.Edit edit) }
         requires rule { rule_of (tables_of self.old) edit ≡ None }
         requires next { next ≡ edits.after (tables_of self.old) edit }
-        ensures { Gives (λ found number after. AddsEntry who (acts.Edited planner number edit) found after)
+        ensures { Gives
+            (λ found number after. AddsEntry who (acts.Edited planner number edit) found after)
             result self.old self.new }
     {
         let number = self.next_number();
@@ -297,10 +304,10 @@ impl Book {
         self.at + 1
     }
 
-    /// Publishes an answer by a pass. `Stale` comes exactly where a later edit touches the section, and
-    /// names the last one; `Current` exactly where none does and the section is current, since its
-    /// publication at the edit of this number. With either nothing is added, and the answer is dropped.
-    /// Without memory the book stays as it was.
+    /// Publishes an answer by a pass. `Stale` comes exactly where a later edit touches the section,
+    /// and names the last one; `Current` exactly where none does and the section is current, since
+    /// its publication at the edit of this number. With either nothing is added, and the answer is
+    /// dropped. Without memory the book stays as it was.
     pub fn publish(&mut self, who: u32, done: Done) -> Result<Result<(), NotTaken>, OutOfMemory>
         requires issued { who < issued self.old }
         requires done { IsDone self.old done }

@@ -2,7 +2,8 @@
 ghost use Rattle.std.specs.Prelude.{◌≡◌, ◌<◌, ◌≤◌, All, IfOk, OnOk, length};
 ghost use Rattle.rail_model.specs.Edits as edits;
 ghost use Rattle.rail_model.specs.Name.{NamesRise};
-ghost use Rattle.plan_book.specs.Changes.{changed, HasCutOf, HaveCuts, WillChange, AreChanges, AreChanged, Widens, HaveAll};
+ghost use Rattle.plan_book.specs.Changes.{changed, HasCutOf, HaveCuts, WillChange, AreChanges};
+ghost use Rattle.plan_book.specs.Changes.{AreChanged, Widens, HaveAll};
 
 use crate::shelf::{Shelf, place_of};
 use line_tables::LineTables;
@@ -11,8 +12,8 @@ use section_cut::{CutChange, CutChanges};
 use std::alloc::Global;
 use std::mem;
 
-/// What the edit of a number makes of the cut of each section. A shelf is put in for each section of the
-/// later tables that has none; what is known of sections stays, also without memory.
+/// What the edit of a number makes of the cut of each section. A shelf is put in for each section
+/// of the later tables that has none; what is known of sections stays, also without memory.
 pub(crate) fn changes_for(
     alloc: Global,
     shelves: &mut List<Shelf>,
@@ -33,8 +34,8 @@ pub(crate) fn changes_for(
     Ok(changes)
 }
 
-// Puts a shelf in for each section of the tables that has none. What is known of sections stays, also
-// without memory.
+// Puts a shelf in for each section of the tables that has none. What is known of sections stays,
+// also without memory.
 fn add_missing(
     shelves: &mut List<Shelf>,
     tables: &LineTables,

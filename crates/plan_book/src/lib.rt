@@ -1,8 +1,8 @@
-//! The book of a timetable: tables, scripts and published answers, with the journal of all that was done
-//! and asked.
+//! The book of a timetable: tables, scripts and published answers, with the journal of all that was
+//! done and asked.
 //!
-//! Whatever calls come, the journal is legal, each planner keeps to its script, and each answer is the one
-//! that the journal gives.
+//! Whatever calls come, the journal is legal, each planner keeps to its script, and each answer is
+//! the one that the journal gives.
 #![tactic(auto)]
 
 mod alone;

@@ -14,9 +14,9 @@ use plan_model::{Act, Entry, Next, Reading, Scripts};
 use rail_model::OutOfMemory;
 
 impl Book {
-    /// Reads the first section by name that is not current, of those whose number leaves the rest `share`
-    /// on division by `of`. `Idle` comes exactly where all of these are current, and tells how many tasks
-    /// are left. Nothing is added.
+    /// Reads the first section by name that is not current, of those whose number leaves the rest
+    /// `share` on division by `of`. `Idle` comes exactly where all of these are current, and tells
+    /// how many tasks are left. Nothing is added.
     pub fn read_next(&self, share: u32, of: u32) -> Result<Next<Reading>, OutOfMemory>
         requires { share < of }
         ensures { IfOk result (λ next. ReadsTo (λ r. r) share of self.now next self.now) }
@@ -37,7 +37,8 @@ impl Book {
     // The number of the first section of a share that is not current.
     fn next_open(&self, share: u32, of: u32) -> Option<u32>
         requires { share < of }
-        ensures { MatchOption result (ShareIsCurrent share of self.now) (IsNextOpen share of self.now) }
+        ensures { MatchOption result
+            (ShareIsCurrent share of self.now) (IsNextOpen share of self.now) }
     {
         for number in 0..self.tables().sections() {
             if number % of == share && !self.is_current(number) {

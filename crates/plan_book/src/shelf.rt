@@ -10,16 +10,16 @@ use plan_model::{Act, Answer, Asked, Cut, Entry, NotTaken};
 use rail_model::{Name, OutOfMemory};
 use std::alloc::Global;
 
-/// Where a section's last publication stands: the number of the edit that it speaks of, and the place of
-/// its entry in the journal.
+/// Where a section's last publication stands: the number of the edit that it speaks of, and the
+/// place of its entry in the journal.
 #[derive(Clone, Copy)]
 pub(crate) struct Published {
     pub(crate) at: u64,
     pub(crate) entry: usize,
 }
 
-/// What is known of the section of a name: the last edit that touched it, its last publication, and its
-/// cut, with a stamp on each row. There is no cut where the section isn't there.
+/// What is known of the section of a name: the last edit that touched it, its last publication, and
+/// its cut, with a stamp on each row. There is no cut where the section isn't there.
 #[derive(Drop)]
 pub(crate) struct Shelf {
     pub(crate) name: Name,
@@ -84,7 +84,8 @@ fn answer_at(journal: &[Entry], place: usize) -> &Answer
     }
 }
 
-/// Whether an answer of the section of a shelf may be published, which is that of the edit of a number.
+/// Whether an answer of the section of a shelf may be published, which is that of the edit of a
+/// number.
 pub(crate) fn verdict_of(shelf: &Shelf, at: u64) -> Result<(), NotTaken>
     ensures { IsVerdict shelf.now at result }
 {

@@ -12,9 +12,9 @@ use plan_model::{Stepped, Task};
 use rail_model::{Edit, OutOfMemory};
 
 impl Book {
-    /// Does the next task of a planner's script, as an edit or a question of that planner, by a pass.
-    /// `Ended` comes exactly where none is left, and then nothing is added. Without memory the book stays
-    /// as it was.
+    /// Does the next task of a planner's script, as an edit or a question of that planner, by a
+    /// pass. `Ended` comes exactly where none is left, and then nothing is added. Without memory
+    /// the book stays as it was.
     pub fn step(&mut self, who: u32, planner: u32) -> Result<Stepped, OutOfMemory>
         requires issued { who < issued self.old }
         requires planner { IsPlanner self.old planner }
@@ -70,7 +70,8 @@ impl Book {
 /// Counts one task more of a planner; none of planner 0.
 pub(crate) fn count_task(done: &mut Vec<usize>, planner: u32)
     requires there { planner ≤ length done.old.items }
-    requires room { (k : ℕ) → k < length done.old.items → slice_index_or done.old.items k 0 < 2 ^ 63 }
+    requires room { (k : ℕ) → k < length done.old.items
+        → slice_index_or done.old.items k 0 < 2 ^ 63 }
     ensures { IsCounted planner done.old.items done.new.items }
 {
     if planner > 0 {
