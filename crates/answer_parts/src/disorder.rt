@@ -34,8 +34,9 @@ pub fn opposite_row<'a>(
     ])
 }
 
-/// Adds the rows of a ring: `ring,SECTION,LINKS` and its links. A row that is open is dropped
-/// first. It takes memory.
+/// Adds the rows of a ring: `ring,SECTION,LINKS`, with the number of its links, and then the links.
+/// A row that is open is dropped first. It takes memory; where that runs out, only a prefix of the
+/// rows is added, and the next row may be open.
 pub fn ring_rows(sheet: &mut Sheet, section: &Name, links: &[Link]) -> Result<(), OutOfMemory>
     ensures { Adds result sheet.old sheet.new (rows.ring_rows section.now links.now) }
 {

@@ -8,7 +8,8 @@ use rail_model::OutOfMemory;
 use row_text::{Field, Sheet};
 
 /// Adds the rows of some links, in their order: `link,TRAIN,PLACE,NEXT`. A row that is open is
-/// dropped first. It takes memory.
+/// dropped first. It takes memory; where that runs out, only a prefix of the rows is added, and the
+/// next row may be open.
 pub fn link_rows(sheet: &mut Sheet, links: &[Link]) -> Result<(), OutOfMemory>
     ensures { Adds result sheet.old sheet.new (map rows.link_row links.now) }
 {

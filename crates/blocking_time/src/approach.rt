@@ -19,7 +19,8 @@ pub fn no_stop_yet() -> Mark
     }
 }
 
-/// The last stop after a block with this mark at its end.
+/// The last stop once a block is passed: its end, which has this mark, where the train stops there,
+/// and else the stop before.
 #[inline]
 pub fn stop_after(stop: Mark, mark: Mark, hop: &Hop) -> Mark
     ensures { result ≡ (if nat_lt 0 hop.now.dwell_s then mark else stop) }
@@ -43,8 +44,8 @@ pub fn last_stop(path: &Path, k: usize) -> Mark
     stop
 }
 
-/// The later of the moment at which the head comes to a point and, where the last stop isn't before the
-/// point, the departure from that stop.
+/// The later of the moment at which the head comes to a point and, where the last stop isn't before
+/// the point, the departure from that stop: seconds from the timetable's origin.
 #[inline]
 pub fn after_stop(reached_s: u64, point_m: u64, stop: Mark) -> u64
     ensures { result
@@ -57,9 +58,9 @@ pub fn after_stop(reached_s: u64, point_m: u64, stop: Mark) -> u64
     }
 }
 
-/// The approach moment of the k-th block, from 1, at which Pachl's approach time begins: when the head
-/// comes to the approach point or, later, leaves its last stop beyond it. Seconds from the timetable's
-/// origin, rounded down.
+/// The approach moment of the k-th block, from 1, at which Pachl's approach time begins: when the
+/// head comes to the approach point or, later, leaves its last stop beyond it. Seconds from the
+/// timetable's origin, rounded down.
 pub fn approach_moment(path: &Path, k: u32) -> i64
     requires fits { Fits path.now }
     requires some { 1 ≤ k }

@@ -28,7 +28,7 @@ pub fn marks(alloc: Global, path: &Path) -> Result<Vec<Mark>, OutOfMemory>
     Ok(marks)
 }
 
-/// The mark of the end of the k-th block, at 0 of the path's start.
+/// The mark of the end of the k-th block; for k = 0 that of the path's start.
 #[inline]
 pub fn mark_in(path: &Path, marks: &[Mark], k: usize) -> Mark
     requires fits { Fits path.now }
@@ -89,8 +89,8 @@ fn blocks_to(path: &Path, marks: &[Mark], k: usize, metres: u64) -> usize
     blocks_before(path, marks, k + NEAR, path.hops.len() - 1, metres)
 }
 
-// How many end before a place up to the end of the block beyond the k-th one: mostly it lies in that
-// block or in one of those just before it.
+// How many end before a place up to the end of the block beyond the k-th one: mostly it lies in
+// that block or in one of those just before it.
 #[inline]
 fn blocks_back(path: &Path, marks: &[Mark], k: usize, metres: u64) -> usize
     requires fits { Fits path.now }

@@ -37,7 +37,7 @@ pub fn use_at(moments: Moments, hop: &Hop) -> Use
     }
 }
 
-/// The six parts of that use: form, watch, approach, running, clearing, release.
+/// The six parts of that use, in seconds: form, watch, approach, running, clearing, release.
 pub fn parts_at(moments: Moments, hop: &Hop) -> [i64; 6]
     requires bounded { AreBounded moments }
     requires within { IsHopWithin hop.now }
@@ -57,7 +57,8 @@ pub fn parts_at(moments: Moments, hop: &Hop) -> [i64; 6]
     ]
 }
 
-/// Where the head stands when the rear has cleared a block and its overlap.
+/// Where the head stands when the rear has cleared a block and its overlap: metres from the path's
+/// start.
 #[inline]
 pub fn clearing_place(mark: Mark, hop: &Hop, length_m: u32) -> u64
     requires { IsMarkWithin mark }
@@ -66,7 +67,8 @@ pub fn clearing_place(mark: Mark, hop: &Hop, length_m: u32) -> u64
     mark.place_m + u64::from(hop.overlap_m) + u64::from(length_m)
 }
 
-/// When the end of the path is clear: the tail after the last arrival, since the run ends without a dwell.
+/// When the end of the path is clear: the tail after the last arrival, since the run ends without a
+/// dwell.
 #[inline]
 pub fn tail_end(path: &Path, last: Mark) -> u64
     requires bounded { IsMarkWithin last }
@@ -77,8 +79,8 @@ pub fn tail_end(path: &Path, last: Mark) -> u64
     last.departure_s + u64::from(path.tail_s)
 }
 
-/// The clearing moment of the k-th block, from 1: when the head comes to the clearing place, rounded up
-/// or, where the path ends before it, the tail after the last arrival.
+/// The clearing moment of the k-th block, from 1: when the head comes to the clearing place,
+/// rounded up or, where the path ends before it, the tail after the last arrival.
 pub fn clearing_seconds(path: &Path, k: usize) -> u64
     requires fits { Fits path.now }
     requires some { 1 ≤ k }
@@ -113,8 +115,8 @@ pub fn moments_at(path: &Path, k: usize) -> Moments
     }
 }
 
-/// The six parts of the run's blocking of the k-th block, from 1, in seconds: Pachl's route formation,
-/// signal watching, approach, running (here with the dwell), clearing and release.
+/// The six parts of the run's blocking of the k-th block, from 1, in seconds: Pachl's route
+/// formation, signal watching, approach, running (here with the dwell), clearing and release.
 pub fn parts(path: &Path, k: u32) -> [i64; 6]
     requires fits { Fits path.now }
     requires some { 1 ≤ k }

@@ -19,7 +19,7 @@ pub const GREATEST_DEPARTURE_S: u64 = 44_841_600;
 /// Seconds: no moment at a place of a path is later, the clearing of its end included.
 pub const GREATEST_REACH_S: u64 = 44_928_000;
 
-/// The end of a block.
+/// The end of a block, or the start of the path.
 #[derive(Clone, Copy)]
 pub struct Mark {
     /// Metres from the path's start.
@@ -127,7 +127,8 @@ pub fn moment_down_in(mark: Mark, hop: &Hop, metres: u64) -> u64
 }
 
 /// When the head reaches a place: seconds from the timetable's origin, rounded up. The place is in
-/// metres from the path's start. At place 0 that is the start, and at the end of a block the arrival.
+/// metres from the path's start. At place 0 that is the start, and at the end of a block the
+/// arrival.
 pub fn reach(path: &Path, metres: u64) -> i64
     requires fits { Fits path.now }
     requires on_path { metres ≤ place path.now (hop_count path.now) }

@@ -15,7 +15,7 @@ use Rattle.plan_model.specs.Answer.{placed_at, entries_of, IsCompressed}
 use Rattle.plan_model.proofs.Planned.{none_is_later}
 use Rattle.plan_model.proofs.Closing.{occupancy_is_to_closing}
 use Rattle.plan_model.proofs.Reaching.{occupancy_reaches_closing}
-use Rattle.train_placing.proofs.Laid.{same_entries}
+use Rattle.plan_model.proofs.Unique.{entries_are}
 use Rattle.compression.specs.Promise.{HasNoneLater, ReachesToClosing, ReachesEachClosing}
 
 pub none_later : (cut : Cut) (plan : Plan) → IsSoundCut cut → IsCompressed cut plan → HasNoneLater cut plan
@@ -31,7 +31,7 @@ none_later cut plan sound (entries, least, same) free keeps =
 pub reaches_to_closing : (cut : Cut) (plan : Plan) → IsSoundCut cut → IsCompressed cut plan
     → ReachesToClosing cut plan
 reaches_to_closing cut plan sound (entries, least, same) c entry opens closing =
-    let e = same_entries cut entries plan least.schedule.count same in
+    let e = entries_are cut entries plan least.schedule.count same in
     ap (λ (p : Plan). pos p.occupancy) same
     ∙ occupancy_is_to_closing cut entries c entry sound least.schedule opens
     (subst (λ es. IsClosingEntry cut es c entry) e closing)
@@ -39,7 +39,7 @@ reaches_to_closing cut plan sound (entries, least, same) c entry opens closing =
 
 pub reaches_each_closing : (cut : Cut) (plan : Plan) → IsCompressed cut plan → ReachesEachClosing cut plan
 reaches_each_closing cut plan (entries, least, same) c entry closing =
-    let e = same_entries cut entries plan least.schedule.count same in
+    let e = entries_are cut entries plan least.schedule.count same in
     let at = occupancy_reaches_closing cut entries c entry (subst (λ es. IsClosingEntry cut es c entry) e closing) in
     subst (λ n. (entry -ℤ entry_at (entries_of plan) c) ≤ℤ pos n) (sym (ap (λ (p : Plan). p.occupancy) same))
     (subst (λ es. (entry -ℤ entry_at es c) ≤ℤ pos (occupancy cut entries)) (sym e) at)

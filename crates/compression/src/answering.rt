@@ -22,8 +22,9 @@ use train_placing::{place_in_window, plan_of_placed};
 /// each that no other precedes is taken out, again and again; else it is the compressed timetable,
 /// in which no train enters later than in any timetable that keeps running times, dwell times,
 /// connections and the given order, lets no two trains use a place at one time, and lets no train
-/// enter before the window. It takes nothing of a crowded cut and else the whole cut, once, also
-/// where memory runs out.
+/// enter before the window. Where the planned timetable is free of conflict and keeps its
+/// connections, no train enters later than planned. It takes nothing of a crowded cut and else the
+/// whole cut, once, also where memory runs out.
 pub fn answer<R: Rows>(alloc: Global, reading: &mut R) -> Result<Answer, OutOfMemory>
     ensures answer { IfOk result (λ answer. IsAnswer (R.shown reading.old).cut answer) }
     ensures reading { IsTaken (R.shown reading.old) (R.shown reading.new) }

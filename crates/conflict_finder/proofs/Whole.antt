@@ -19,7 +19,7 @@ use Rattle.conflict_finder.specs.declared.ranked.Ranked.{Ranked}
 use Rattle.conflict_finder.specs.declared.visits.Visit.{Visit}
 use Rattle.rail_model.specs.Timetable.{IsTimetable, no_stair}
 use Rattle.conflict_finder.specs.Runs.{no_ranked, ranked_at, visit_of, uses_of, all_visits, key_of, key_cmp}
-use Rattle.conflict_finder.specs.Sweep.{ComesBefore, IsSwept, meets, conflict_of, no_visit, conflicts_at, found}
+use Rattle.conflict_finder.specs.Sweep.{ComesBefore, IsSwept, meets, conflict_of, no_visit, conflicts_at, all_conflicts}
 use Rattle.rail_model.proofs.Lists.{AllPairs-map}
 use Rattle.conflict_finder.proofs.Lists.{upto, upto_is, from_upto, in_upto, AllPairs-upto, in_map, from_map, before_stop}
 use Rattle.conflict_finder.proofs.Ranks.{AreRanked}
@@ -204,10 +204,10 @@ module _ (stairs : List Stair) (runs : List Ranked) (t : IsTimetable stairs) (ra
         makes_conflict m.k n.k m.u n.u m.within n.within (not_empty b n) c g,
       ))
 
-  whole_is : found runs visits ≡ upto (conflicts_at runs visits) (length visits)
+  whole_is : all_conflicts runs visits ≡ upto (conflicts_at runs visits) (length visits)
   whole_is = sym (upto_is (conflicts_at runs visits) (length visits))
 
-  pub from_found : (c : whole.Conflict) → Contains (found runs visits) c → IsConflict stairs c
+  pub from_found : (c : whole.Conflict) → Contains (all_conflicts runs visits) c → IsConflict stairs c
   unfolding at met
   from_found c h =
       let r = from_upto (conflicts_at runs visits) (length visits) c (rw whole_is at h) in
@@ -278,7 +278,7 @@ module _ (stairs : List Stair) (runs : List Ranked) (t : IsTimetable stairs) (ra
     to = sym m.to j;
   }
 
-  in_found_by : (c : whole.Conflict) (k q : ℕ) (u v : Use) → k < length runs → q < length runs → Contains (stair_of k).uses u → Contains (stair_of q).uses v → Makes (stair_of k) u (stair_of q) v c → Contains (found runs visits) c
+  in_found_by : (c : whole.Conflict) (k q : ℕ) (u v : Use) → k < length runs → q < length runs → Contains (stair_of k).uses u → Contains (stair_of q).uses v → Makes (stair_of k) u (stair_of q) v c → Contains (all_conflicts runs visits) c
   unfolding at met stair_of
   in_found_by c k q u v lk lq used other_used m =
       let a = visit_of k u in
@@ -293,7 +293,7 @@ module _ (stairs : List Stair) (runs : List Ranked) (t : IsTimetable stairs) (ra
       let is : conflict_of runs (at visits swept s.0) (at visits swept e.0) ≡ c = rw (at_s, at_e) (is_of c k q u v lk lq m) in
       rw whole_is (in_upto (conflicts_at runs visits) (length visits) s.0 c s.1 (subst (Contains (conflicts_at runs visits s.0)) is here))
 
-  pub in_found : (c : whole.Conflict) → IsConflict stairs c → Contains (found runs visits) c
+  pub in_found : (c : whole.Conflict) → IsConflict stairs c → Contains (all_conflicts runs visits) c
   in_found c h =
       let m : Makes h.0 h.1 h.2 h.3 c = h.6 in
       let one = number h.0 h.4.0 in
@@ -359,7 +359,7 @@ module _ (stairs : List Stair) (runs : List Ranked) (t : IsTimetable stairs) (ra
       ] in
       subst (λ x. IsListedBefore x d) (sym (m.2 no_visit)) (subst (λ y. IsListedBefore (conflict_of runs a (get_or (met visits swept i) m.0 no_visit)) y) (sym (n.2 no_visit)) as_listed)
 
-  pub all_found : AreConflicts stairs (found runs visits)
+  pub all_found : AreConflicts stairs (all_conflicts runs visits)
   all_found = record {
     each = λ c. (from_found c, in_found c);
     order = rw whole_is (AllPairs-upto (conflicts_at runs visits) IsListedBefore (length visits) piece_in_order pieces_in_order);

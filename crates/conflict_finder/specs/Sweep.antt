@@ -46,5 +46,6 @@ conflicts_at runs visits i =
 abbrev pub conflicts_upto : List Ranked → List Visit → ℕ → List whole.Conflict
 conflicts_upto runs visits n = flat_map (conflicts_at runs visits) (range_with_len 0 n)
 
-abbrev pub found : List Ranked → List Visit → List whole.Conflict
-found runs visits = conflicts_upto runs visits (length visits)
+-- what the whole sweep finds: the conflicts of all visits
+abbrev pub all_conflicts : List Ranked → List Visit → List whole.Conflict
+all_conflicts runs visits = conflicts_upto runs visits (length visits)

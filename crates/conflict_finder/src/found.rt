@@ -23,7 +23,8 @@ pub struct Conflict {
 /// The conflicts of a timetable.
 #[derive(Drop)]
 pub struct Conflicts {
-    /// The first of them, by block, then by the first run's start and name, then by the second's.
+    /// The first of them, at most `LISTED`: by block, then by the first run's start and name, then
+    /// by the second's.
     pub list: List<Conflict>,
     /// How many more there are.
     pub more: u64,

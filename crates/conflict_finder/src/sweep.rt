@@ -32,10 +32,10 @@ fn sweep(alloc: Global, runs: &[Ranked], by_block: &[Vec<Visit>]) -> Result<Conf
     requires there { All (λ b. b.run < length runs.now) (one_after_another by_block.now) }
     requires order { swept.IsSwept (one_after_another by_block.now) }
     requires blocks { AreByBlock by_block.now }
-    ensures list { IfOk result (λ found. found.list ≡
-        map as_listed (take LISTED (swept.found runs.now (one_after_another by_block.now)))) }
+    ensures list { IfOk result (λ found. found.list ≡ map as_listed
+        (take LISTED (swept.all_conflicts runs.now (one_after_another by_block.now)))) }
     ensures more { IfOk result (λ found. found.more ≡
-        length (swept.found runs.now (one_after_another by_block.now)) - LISTED) }
+        length (swept.all_conflicts runs.now (one_after_another by_block.now)) - LISTED) }
 {
     let mut list = List::new(alloc);
     let mut count: u64 = 0;
@@ -59,8 +59,9 @@ fn sweep_block(
     requires there { All (λ b. b.run < length runs.now) visits.now }
     requires order { swept.IsSwept visits.now }
     ensures list { OnOk result (list.new ≡ list.old ++
-        map as_listed (take (LISTED - length list.old) (swept.found runs.now visits.now))) }
-    ensures count { IfOk result (λ count. count ≡ length (swept.found runs.now visits.now)) }
+        map as_listed (take (LISTED - length list.old) (swept.all_conflicts runs.now visits.now))) }
+    ensures count { IfOk result
+        (λ count. count ≡ length (swept.all_conflicts runs.now visits.now)) }
     ensures most { IfOk result (λ count. count ≤ length visits.now * (RUNS * PATH_HOPS)) }
 {
     let mut count: u64 = 0;

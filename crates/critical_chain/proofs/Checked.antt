@@ -1,27 +1,23 @@
 -- A plan that is what its entries make of a cut is the compressed timetable where they are a schedule, and each train
 -- without a touch enters at the window's start.
-use Rattle.std.proofs.Common.{◌≡◌, ℕ, List, [], length, map, inl, inr, refl, sym, ap, subst, ◌∙◌, arith}
-use Rattle.std.specs.Prelude.{ℤ, pos, unwrap_or}
+use Rattle.std.proofs.Common.{◌≡◌, ℕ, List, [], inl, inr, refl, sym, ap, subst, ◌∙◌}
+use Rattle.std.specs.Prelude.{ℤ, unwrap_or}
 use Rattle.std.specs.Ordering.{int_eq}
 use Rattle.std.proofs.lemmas.Bool.{cases_Bool}
 use Rattle.std.proofs.lemmas.Bool.Decides.{Decides-int_eq}
-use Rattle.std.proofs.lemmas.List.{ext_get_or}
-use Rattle.std.proofs.lemmas.List.FromFn.{length-map-range_with_len, get_or-map-range_with_len}
-use Rattle.std.proofs.lemmas.Simd.{map-map}
 use Rattle.plan_model.specs.declared.cut.Cut.{Cut}
 use Rattle.plan_model.specs.declared.answer.Tie.{Tie}
 use Rattle.plan_model.specs.declared.answer.Tie.TheVariants.{Start, After}
-use Rattle.plan_model.specs.declared.answer.Placed.{Placed}
 use Rattle.plan_model.specs.declared.answer.Plan.{Plan}
-use Rattle.plan_model.specs.Members.{member_count, members}
 use Rattle.plan_model.specs.Cut.{IsSoundCut}
 use Rattle.plan_model.specs.Disorder.{remaining}
 use Rattle.plan_model.specs.Schedule.{window_start, window_floor, entry_at, IsLeast}
 use Rattle.plan_model.specs.Tie.{tie_of, touch}
 use Rattle.plan_model.specs.Laws.{IsTied}
-use Rattle.plan_model.specs.Answer.{placed_at, plan_of, IsCompressed}
+use Rattle.plan_model.specs.Answer.{plan_of, IsCompressed}
 use Rattle.plan_model.proofs.Tied.{tied_is_least}
 use Rattle.plan_model.proofs.LeastTied.{least_is_tied}
+use Rattle.plan_model.proofs.Unique.{entries_are}
 use Rattle.critical_chain.specs.Checked.{entries_of, IsChecked, CheckedIsCompressed}
 use Rattle.critical_chain.proofs.Ties.{bound, touched_by}
 use Rattle.critical_chain.proofs.First.{touched}
@@ -48,16 +44,6 @@ module _ (cut : Cut) (entries : List ℤ) (j : ℕ) where
               absurd (cc)
         ]
       ]
-
-entries_are : (cut : Cut) (entries : List ℤ) (plan : Plan) → length entries ≡ member_count cut
-    → plan ≡ plan_of cut entries → entries_of plan ≡ entries
-entries_are cut entries plan count same =
-    let n = member_count cut in
-    let long = length-map-range_with_len (entry_at entries) 0 n in
-    ap entries_of same
-    ∙ map-map (λ (p : Placed). p.entry) (placed_at cut entries) (members cut)
-    ∙ ext_get_or (pos 0) (map (entry_at entries) (members cut)) entries (long ∙ sym count)
-    (λ i l. get_or-map-range_with_len (entry_at entries) 0 n i i (pos 0) (omega (arith, l, long)) (omega arith))
 
 compressed : (cut : Cut) (plan : Plan) → remaining cut ≡ [] → IsChecked cut plan → IsCompressed cut plan
 compressed cut plan none checked =

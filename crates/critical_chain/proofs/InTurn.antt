@@ -2,9 +2,10 @@
 -- round.
 use Rattle.std.proofs.Common.{◌≡◌, ℕ, zero, suc, ◌+◌, ◌<◌, List, length, get_or, inl, inr, ap, subst, arith}
 use Rattle.std.specs.Prelude.{ℤ, ◌+ℤ◌, ◌-ℤ◌, ◌≤ℤ◌, ◌<ℤ◌}
+use Rattle.std.specs.Int.Signed.{<ℤ-≤ℤ_trans}
 use Rattle.std.proofs.lemmas.Bool.{cases_eq}
 use Rattle.std.proofs.lemmas.Int.{ints}
-use Rattle.rail_model.proofs.Numbers.{le_from_lt, lt_not_same}
+use Rattle.rail_model.proofs.Numbers.{le_from_lt, lt_not_same, lt_through}
 use Rattle.plan_model.specs.declared.cut.Cut.{Cut}
 use Rattle.plan_model.specs.declared.answer.Placed.{Placed}
 use Rattle.plan_model.specs.Members.{member, use_at}
@@ -18,9 +19,6 @@ use Rattle.critical_chain.specs.Parts.{tie_in, Follows, KeepsPlace, FollowInTurn
 
 moved_time : (s f e y : ℤ) → s <ℤ f → (s -ℤ e +ℤ y) <ℤ (f -ℤ e +ℤ y)
 moved_time s f e y h = omega (arith, ints)
-
-through : (a b c d : ℤ) → a ≤ℤ b → b <ℤ c → c ≤ℤ d → a <ℤ d
-through a b c d p q r = omega (arith, ints)
 
 module _ (cut : Cut) (entries : List ℤ) (placed : List Placed) (place : ℕ) (sound : IsSoundCut cut) (some : List Visit)
     (are : AreInTurn cut place some) where
@@ -58,12 +56,12 @@ module _ (cut : Cut) (entries : List ℤ) (placed : List Placed) (place : ℕ) (
     later k (suc l) lt ll =
         elim (cases_eq (k + 1) l) [
           | inl e ↦
-              through (until k) (from l) (until l) (from (suc l)) (next k l e (omega (arith, ll)))
-              (lasts l (omega (arith, ll))) (next l (suc l) (omega arith) ll)
+              lt_through (until k) (from l) (from (suc l)) (next k l e (omega (arith, ll)))
+              (<ℤ-≤ℤ_trans (lasts l (omega (arith, ll))) (next l (suc l) (omega arith) ll))
           | inr ne ↦
-              through (until k) (from l) (until l) (from (suc l))
-              (le_from_lt _ _ (later k l (omega (arith, lt, ne)) (omega (arith, ll)))) (lasts l (omega (arith, ll)))
-              (next l (suc l) (omega arith) ll)
+              lt_through (until k) (from l) (from (suc l))
+              (le_from_lt _ _ (later k l (omega (arith, lt, ne)) (omega (arith, ll))))
+              (<ℤ-≤ℤ_trans (lasts l (omega (arith, ll))) (next l (suc l) (omega arith) ll))
         ]
 
     abbrev FollowsAt : ℕ → ℕ → Type 0

@@ -1,11 +1,12 @@
 -- The first member that ends its use of a block last, visit after visit.
 use Rattle.std.proofs.Common.{◌≡◌, ◌⊎◌, ℕ, true, false, List, [], ◌∷◌, inl, inr, refl, sym, ap, subst, ◌∙◌, arith}
 use Rattle.std.specs.Prelude.{ℤ, ◌≤ℤ◌, ◌<ℤ◌, int_lt, ◌==◌, Option, None, Some, find, filter, fold}
+use Rattle.std.specs.Int.Signed.{≤ℤ_refl, <ℤ-≤ℤ_trans}
 use Rattle.std.specs.Ordering.{int_eq}
 use Rattle.std.proofs.lemmas.Bool.{cases_Bool, eqb-true, or_cases, false_from_ne_true}
 use Rattle.std.proofs.lemmas.Bool.Decides.{Decides-int_eq}
 use Rattle.std.proofs.lemmas.Int.{ints}
-use Rattle.rail_model.proofs.Numbers.{le_both_ways, le_from_lt, le_from_not_lt, lt_from_test}
+use Rattle.rail_model.proofs.Numbers.{le_both_ways, le_from_lt, le_from_not_lt, lt_from_test, lt_through}
 use Rattle.plan_model.specs.declared.cut.Cut.{Cut}
 use Rattle.plan_model.specs.Members.{member, member_count, members, uses_place}
 use Rattle.plan_model.specs.Schedule.{end_by}
@@ -14,20 +15,11 @@ use Rattle.plan_model.proofs.MemberTests.{has}
 use Rattle.plan_model.proofs.Greatest.{above_each, greatest_within}
 use Rattle.critical_chain.specs.declared.last.Latest.{Latest}
 use Rattle.critical_chain.specs.Parts.{later, member_of, latest_upto}
-use Rattle.critical_chain.proofs.Ties.{found}
+use Rattle.train_order.proofs.Find.{found}
 
 not_same : (a b : ℤ) → a <ℤ b → int_eq a b ≡ false
 not_same a b h =
     false_from_ne_true (int_eq a b) (λ t. let e = (Decides-int_eq a b).0 t in omega (arith, ints, h, e))
-
-before_too : (a b c : ℤ) → a ≤ℤ b → b <ℤ c → a <ℤ c
-before_too a b c p q = omega (arith, ints)
-
-then_after : (a b c : ℤ) → a <ℤ b → b ≤ℤ c → a <ℤ c
-then_after a b c p q = omega (arith, ints)
-
-itself : (a : ℤ) → a ≤ℤ a
-itself a = omega (arith, ints)
 
 module _ (cut : Cut) (entries : List ℤ) (block : ℕ) where
   abbrev ends : ℕ → ℤ
@@ -71,8 +63,8 @@ module _ (cut : Cut) (entries : List ℤ) (block : ℕ) where
       let same : int_eq (ends k) (ends k) ≡ true = (Decides-int_eq (ends k) (ends k)).1 refl in (
         record { member = k; until = ends k },
         is,
-        itself (ends k),
-        rw u (record { most = more k some (ends k) (itself (ends k)) none; first = rw same refl }),
+        ≤ℤ_refl (ends k),
+        rw u (record { most = more k some (ends k) (≤ℤ_refl (ends k)) none; first = rw same refl }),
       )
   taken k some u (inr (l, is, after, latest)) =
       let other : int_eq (ends k) l.until ≡ false = not_same (ends k) l.until after in (
@@ -105,7 +97,7 @@ module _ (cut : Cut) (entries : List ℤ) (block : ℕ) where
         | inl u ↦ elim (cases_Bool (int_lt a.until (ends k))) [
           | inl t ↦
               let r = taken k some u (left some (record { member = k; until = ends k })) in
-              let after = then_after a.until (ends k) r.0.until (lt_from_test a.until (ends k) t) r.2 in
+              let after = <ℤ-≤ℤ_trans (lt_from_test a.until (ends k) t) r.2 in
               inr (
                 r.0,
                 with_user (Some a) k some u ∙ ap (λ o. fold step o (using some)) (takes a k (ends k) t) ∙ r.1,
@@ -121,13 +113,13 @@ module _ (cut : Cut) (entries : List ℤ) (block : ℕ) where
                       rw u (more k some a.until before none),
                     )
                 | inr (l, is, after, latest) ↦
-                    let other : int_eq (ends k) l.until ≡ false = not_same (ends k) l.until (before_too (ends k) a.until l.until before after) in
+                    let other : int_eq (ends k) l.until ≡ false = not_same (ends k) l.until (lt_through (ends k) a.until l.until before after) in
                     inr (
                       l,
                       with_user (Some a) k some u ∙ ap (λ o. fold step o (using some)) (leaves a k (ends k) t) ∙ is,
                       after,
                       rw u (record {
-                        most = more k some l.until (le_from_lt (ends k) l.until (before_too (ends k) a.until l.until before after)) latest.most;
+                        most = more k some l.until (le_from_lt (ends k) l.until (lt_through (ends k) a.until l.until before after)) latest.most;
                         first = rw other latest.first;
                       }),
                     )

@@ -1,7 +1,7 @@
 -- A train that precedes another is taken out in an earlier round.
 use Rattle.std.proofs.Common.{◌≡◌, ℕ, zero, suc, ◌<◌, true, false, List, inl, inr, subst, arith}
 use Rattle.std.specs.List.{list_any}
-use Rattle.std.proofs.lemmas.Bool.{cases_Bool, both_ways}
+use Rattle.std.proofs.lemmas.Bool.{cases_Bool, both_ways, false_from_ne_true}
 use Rattle.plan_model.specs.declared.cut.Cut.{Cut}
 use Rattle.plan_model.specs.Members.{member_count, members}
 use Rattle.plan_model.specs.Precedence.{precedes_somewhere}
@@ -9,16 +9,13 @@ use Rattle.plan_model.specs.Disorder.{preceded, after_rounds}
 use Rattle.plan_model.proofs.MemberTests.{has, has-range, has_any, has-filter, filter-has}
 
 module _ (cut : Cut) where
+  pub still_there : (n : ℕ) (some : List ℕ) (i : ℕ) → has (after_rounds cut n some) i ≡ true → has some i ≡ true
+  still_there zero some i h = h
+  still_there (suc n) some i h =
+      (filter-has (λ j. list_any (λ k. precedes_somewhere cut k j) some) some i (still_there n (preceded cut some) i h)).0
+
   none_comes_back : (n : ℕ) (some : List ℕ) (i : ℕ) → has some i ≡ false → has (after_rounds cut n some) i ≡ false
-  none_comes_back zero some i out = out
-  none_comes_back (suc n) some i out =
-      none_comes_back n (preceded cut some) i
-      (elim (cases_Bool (has (preceded cut some) i)) [
-        | inr left ↦ left
-        | inl still ↦
-            absurd (both_ways _ out
-            (filter-has (λ j. list_any (λ k. precedes_somewhere cut k j) some) some i still).0)
-      ])
+  none_comes_back n some i out = false_from_ne_true _ (λ h. both_ways _ out (still_there n some i h))
 
   module _ (i j : ℕ) (before : precedes_somewhere cut i j ≡ true) where
     -- where a train goes in a round, those that precede it are gone

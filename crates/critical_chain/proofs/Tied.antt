@@ -3,7 +3,7 @@ use Rattle.std.proofs.Common.{◌≡◌, ℕ, zero, suc, ◌+◌, ◌<◌, ◌�
 use Rattle.std.specs.Prelude.{◌≢◌, nat_lt, ℤ, Some, find, filter, not, unwrap_or, option_map, option_and_then}
 use Rattle.std.specs.List.{list_any, range_with_len}
 use Rattle.std.specs.Ordering.{int_eq}
-use Rattle.std.proofs.lemmas.Bool.{cases_Bool, cases_eq, and_parts, and_cases, or_parts, or_from, eqb-true, eq-eqb, ltb-false, ltb-true, both_ways, false_from_ne_true}
+use Rattle.std.proofs.lemmas.Bool.{cases_Bool, cases_eq, and_parts, and_cases, or_parts, or_from, eqb-true, eq-eqb, ltb-false, ltb-true, both_ways, false_from_ne_true, not-true}
 use Rattle.std.proofs.lemmas.Bool.Decides.{Decides-int_eq}
 use Rattle.std.proofs.lemmas.Option.{same_Some}
 use Rattle.std.proofs.lemmas.List.Folds.{Any-from_list_any}
@@ -22,6 +22,7 @@ use Rattle.plan_model.proofs.FirstByName.{first_is, one_passes}
 use Rattle.plan_model.proofs.Uses.{place_there}
 use Rattle.critical_chain.specs.Parts.{IsWithin, HasTie, comes_first}
 use Rattle.critical_chain.proofs.Ties.{bound, touch_at}
+use Rattle.train_order.proofs.Find.{first_found}
 use Rattle.train_order.proofs.Users.{user_there, users}
 
 -- a train's tie names a member and a place, if it names any
@@ -40,23 +41,6 @@ none_before test a (suc n) i k e le l =
         | inr ne ↦ none_before test (a + 1) n i k (rw t at e) (omega arith) l
       ]
     ]
-
--- the least number of a range that passes a test is found
-find_least : (test : ℕ → Bool) (a n i : ℕ) → a ≤ i → i < a + n → test i ≡ true
-    → ((k : ℕ) → test k ≡ true → i < k + 1) → find test (range_with_len a n) ≡ Some i
-find_least test a zero i le l t least = absurd (omega arith)
-find_least test a (suc n) i le l t least =
-    elim (cases_Bool (test a)) [
-      | inl e ↦ let is : a ≡ i = omega (arith, least a e) in rw e (ap Some is)
-      | inr e ↦ elim (cases_eq a i) [
-        | inl is ↦ absurd (both_ways (test a) e (ap test is ∙ t))
-        | inr ne ↦ rw e (find_least test (a + 1) n i (omega arith) (omega arith) t least)
-      ]
-    ]
-
-not_true : (x : Bool) → not x ≡ true → x ≡ false
-not_true true h = absurd (cc)
-not_true false h = refl
 
 module _ (cut : Cut) (entries : List ℤ) (sound : IsSoundCut cut) where
   -- one that touches is a member, precedes, and ends as the other starts
@@ -94,12 +78,13 @@ module _ (cut : Cut) (entries : List ℤ) (sound : IsSoundCut cut) where
         (λ e. h.later ((Decides-int_eq (entry_at entries j) (window_start cut)).0 e)) in
         let in_places = has-range (place_count cut) p h.pair.place_there in
         let member_is : touching_member cut entries j ≡ Some i =
-        find_least (λ k. list_any (touches cut entries k j) (places cut)) 0 (member_count cut) i (omega arith)
-        (omega (arith, h.pair.train_there)) (has_any (touches cut entries i j) (places cut) p in_places h.touch)
-        (λ k t.
+        first_found (λ k. list_any (touches cut entries k j) (places cut)) 0 (member_count cut) i (omega arith)
+        (omega (arith, h.pair.train_there))
+        (λ k from l. false_from_ne_true _ (λ t.
         let at = Any-from_list_any (touches cut entries k j) (places cut) t in
         let le = ltb-false k i (or_parts (nat_lt k i) _ (first k at.1 at.4)).0 in
-        omega (arith, le)) in
+        omega (arith, le, l)))
+        (has_any (touches cut entries i j) (places cut) p in_places h.touch) in
         let place_is : touching_place cut entries i j ≡ Some p =
         first_is cut sound (filter (touches cut entries i j) (places cut)) p
         (λ q t. (let l = in_range 0 (place_count cut) q (filter-has (touches cut entries i j) (places cut) q t).0 in
@@ -151,7 +136,7 @@ module _ (cut : Cut) (entries : List ℤ) (sound : IsSoundCut cut) where
         let both = and_parts (i == k) (is_before (place_name cut place) (place_name cut p)) b in
         let touched : touches cut entries k j place ≡ true = subst (λ m. touches cut entries m j place ≡ true) (eqb-true i k both.0) t in
         both_ways (is_before (place_name cut place) (place_name cut p))
-        (not_true (is_before (place_name cut place) (place_name cut p))
+        (not-true (is_before (place_name cut place) (place_name cut p))
         (one_passes (λ c. not (is_before (place_name cut c) (place_name cut p)))
         (filter (touches cut entries k j) (places cut)) place at.first
         (has-filter (touches cut entries k j) (places cut) place in_places touched))) both.1) in

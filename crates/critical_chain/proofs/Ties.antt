@@ -1,9 +1,9 @@
 -- The tie of a train names a train that precedes it, and a place.
-use Rattle.std.proofs.Common.{◌≡◌, ℕ, ◌<◌, Bool, true, List, [], ◌∷◌, inl, inr, ap, subst, arith}
-use Rattle.std.specs.Prelude.{ℤ, ◌==◌, not, Option, None, Some, find, filter, unwrap_or, option_map, option_and_then}
+use Rattle.std.proofs.Common.{◌≡◌, ℕ, ◌<◌, true, List, inl, inr, ap, subst, arith}
+use Rattle.std.specs.Prelude.{ℤ, not, Option, None, Some, filter, unwrap_or, option_map, option_and_then}
 use Rattle.std.specs.List.{list_any, list_all}
 use Rattle.std.specs.Ordering.{int_eq}
-use Rattle.std.proofs.lemmas.Bool.{cases_Bool, and_parts, or_left, or_right, eq-eqb}
+use Rattle.std.proofs.lemmas.Bool.{cases_Bool, and_parts}
 use Rattle.std.proofs.lemmas.Option.{none-some, same_Some}
 use Rattle.rail_model.specs.Name.{is_before}
 use Rattle.plan_model.specs.declared.cut.Cut.{Cut}
@@ -15,19 +15,7 @@ use Rattle.plan_model.specs.Precedence.{precedes, precedes_somewhere}
 use Rattle.plan_model.specs.Schedule.{window_start, entry_at}
 use Rattle.plan_model.specs.Tie.{touches, touch, touching_member, touching_place, tie_of}
 use Rattle.plan_model.proofs.MemberTests.{has, has_any, filter-has, in_range}
-
--- what a search finds is among some, and passes
-pub found : (test : ℕ → Bool) (some : List ℕ) (x : ℕ) → find test some ≡ Some x → (has some x ≡ true) × (test x ≡ true)
-found test [] x e = absurd (none-some x e)
-found test (k ∷ some) x e =
-    elim (cases_Bool (test k)) [
-      | inl p ↦
-          let is : k ≡ x = same_Some k x (rw p at e) in
-          (or_left (k == x) (has some x) (eq-eqb k x is), subst (λ m. test m ≡ true) is p)
-      | inr n ↦
-          let rest = found test some x (rw n at e) in
-          (or_right (k == x) (has some x) rest.0, rest.1)
-    ]
+pub use Rattle.train_order.proofs.Find.{found}
 
 not_start : (o : Option Tie) (i b : ℕ) → unwrap_or o Start ≡ After i b → o ≡ Some (After i b)
 not_start None i b e = absurd (cc)

@@ -7,7 +7,7 @@ pub fn chain_is_unique()
     ensures { ChainIsUnique }
 {}
 
-/// The links behind a train of a compressed timetable by its tie, and so on, are its chain.
+/// The links that are found behind a train of a compressed timetable, tie after tie, are its chain.
 pub fn chain_is_of()
     ensures { ChainIsOf }
 {}

@@ -11,7 +11,7 @@ use std::alloc::Global;
 /// of the plan: each is the tie of its `next`. There is none where that train itself enters at the
 /// window's start.
 ///
-/// The plan is the compressed timetable of a sound cut.
+/// The plan is the compressed timetable of a sound cut whose trains have an order.
 pub fn chain(alloc: Global, plan: &Plan, train: u32) -> Result<List<Link>, OutOfMemory>
     requires plan { IsPlan plan.now }
     requires there { train < length plan.now.placed }

@@ -1,12 +1,14 @@
 -- The use of a place among a row's uses.
-use Rattle.std.proofs.Common.{◌≡◌, ℕ, zero, suc, ◌<◌, List, [], ◌∷◌, length, get_or, inl, inr, refl, arith}
+use Rattle.std.proofs.Common.{◌≡◌, ℕ, ◌<◌, List, [], ◌∷◌, length, get_or, inl, inr, refl, ap}
 use Rattle.std.specs.Prelude.{◌==◌, ℤ, ◌-ℤ◌, None, Some, find, unwrap_or, if◌then◌else◌, option_map}
 use Rattle.std.specs.List.{list_any}
-use Rattle.std.proofs.lemmas.Bool.{cases_Bool, eq-eqb, ne_eqb}
+use Rattle.std.proofs.lemmas.Bool.{cases_Bool}
+use Rattle.std.proofs.lemmas.List.{get_or_default}
 use Rattle.rail_model.specs.declared.stair.Use.{Use}
 use Rattle.plan_model.specs.declared.cut.CutRow.{CutRow}
 use Rattle.plan_model.specs.Cut.{AreOfOtherPlaces}
 use Rattle.plan_model.specs.Members.{uses_place, use_at, no_use}
+use Rattle.plan_model.proofs.UseFound.{found_at}
 use Rattle.headway_table.specs.Walk.{end_in}
 
 abbrev pub at : List Use → ℕ → Use
@@ -15,11 +17,9 @@ at uses p = unwrap_or (find (λ u. u.block == p) uses) no_use
 -- where the places differ, each use is found by its place
 pub at_own : (uses : List Use) → AreOfOtherPlaces uses → (i : ℕ) (d : Use) → i < length uses
     → at uses (get_or uses i d).block ≡ get_or uses i d
-at_own [] differ i d l = absurd (omega (arith, l))
-at_own (v ∷ uses) differ zero d l = rw (eq-eqb v.block v.block refl) refl
-at_own (v ∷ uses) differ (suc i) d l =
-    rw (ne_eqb v.block (get_or uses i d).block (differ 0 (suc i) d (omega arith) l))
-    (at_own uses (λ k j e lt m. differ (suc k) (suc j) e (omega (arith, lt)) (omega (arith, m))) i d (omega (arith, l)))
+at_own uses differ i d l =
+    let same = get_or_default uses i d no_use l in
+    rw same (ap (λ o. unwrap_or o no_use) (found_at (get_or uses i no_use).block uses i differ l refl))
 
 -- the end that is found at a place is that of the use of the place
 ends_is : (entry : ℤ) (uses : List Use) (p : ℕ)

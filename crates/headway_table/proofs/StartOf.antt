@@ -1,14 +1,14 @@
 -- The starts of a train's uses, by place.
-use Rattle.std.proofs.Common.{◌≡◌, ℕ, suc, false, List, [], ◌∷◌, inl, inr, refl, ap, sym, ◌∙◌, arith}
+use Rattle.std.proofs.Common.{◌≡◌, ℕ, suc, false, List, [], ◌∷◌, inl, inr, refl, arith}
 use Rattle.std.specs.Prelude.{◌==◌, ℤ, ◌-ℤ◌, fold, if◌then◌else◌}
 use Rattle.std.specs.List.{All, list_any}
-use Rattle.std.proofs.lemmas.Bool.{cases_Bool, eqb-true, or_parts, false_from_ne_true}
+use Rattle.std.proofs.lemmas.Bool.{cases_Bool, eqb-true, or_parts}
 use Rattle.std.proofs.lemmas.Int.{ints}
-use Rattle.std.proofs.lemmas.List.Folds.{Any-from_list_any}
 use Rattle.rail_model.specs.declared.stair.Use.{Use}
 use Rattle.plan_model.specs.declared.cut.CutRow.{CutRow}
 use Rattle.plan_model.specs.Cut.{IsMoment, IsUsable, AreOfOtherPlaces}
 use Rattle.plan_model.specs.Members.{uses_place, use_at}
+use Rattle.plan_model.proofs.UseFound.{no_other}
 use Rattle.headway_table.specs.declared.starts.TheConstants.{FREE}
 use Rattle.headway_table.specs.Starts.{with_use_start, start_in, IsStart}
 use Rattle.headway_table.proofs.Found.{at}
@@ -21,22 +21,13 @@ untouched entry p start (u ∷ uses) h =
     let parts = or_parts (u.block == p) (list_any (λ (v : Use). v.block == p) uses) h in
     rw parts.0 (untouched entry p start uses parts.1)
 
-others : (u : Use) (uses : List Use) (p : ℕ) → AreOfOtherPlaces (u ∷ uses) → u.block ≡ p
-    → list_any (λ v. v.block == p) uses ≡ false
-others u uses p differ e =
-    false_from_ne_true (list_any (λ (v : Use). v.block == p) uses) (λ h.
-    let some = Any-from_list_any (λ (v : Use). v.block == p) uses h in
-    let is : some.1.block ≡ p = eqb-true some.1.block p some.4 in
-    differ 0 (suc some.0) some.1 (omega arith) (omega (arith, some.2))
-    (e ∙ sym is ∙ ap (λ (v : Use). v.block) (sym some.3)))
-
 starts_are : (entry : ℤ) (p : ℕ) (uses : List Use) → AreOfOtherPlaces uses
     → fold (with_use_start entry p) FREE uses
     ≡ (if list_any (λ u. u.block == p) uses then (at uses p).start -ℤ entry else FREE)
 starts_are entry p [] differ = refl
 starts_are entry p (u ∷ uses) differ =
     elim (cases_Bool (u.block == p)) [
-      | inl e ↦ rw e (untouched entry p _ uses (others u uses p differ (eqb-true u.block p e)))
+      | inl e ↦ rw e (untouched entry p _ uses (no_other u uses p differ (eqb-true u.block p e)))
       | inr e ↦
           rw e (starts_are entry p uses (λ i j d lt l. differ (suc i) (suc j) d (omega (arith, lt)) (omega (arith, l))))
     ]

@@ -1,11 +1,11 @@
 -- The walk along the uses of the train that follows gives the headway.
 use Rattle.std.proofs.Common.{◌≡◌, ℕ, suc, ◌<◌, true, false, List, [], ◌∷◌, length, map, get_or, inl, inr, refl, ap, sym, ◌∙◌, arith}
-use Rattle.std.specs.Prelude.{◌==◌, ℤ, ◌-ℤ◌, ◌≤ℤ◌, Option, None, Some, filter, fold}
+use Rattle.std.specs.Prelude.{◌==◌, ℤ, ◌-ℤ◌, Option, None, Some, filter, fold}
 use Rattle.std.specs.Int.{int_max}
 use Rattle.std.specs.List.{list_any}
 use Rattle.std.proofs.lemmas.Bool.{cases_Bool, eq-eqb, or_left}
-use Rattle.std.proofs.lemmas.Int.{ints}
 use Rattle.rail_model.specs.declared.stair.Use.{Use}
+use Rattle.rail_model.proofs.Numbers.{le_both_ways}
 use Rattle.plan_model.specs.declared.cut.CutRow.{CutRow}
 use Rattle.plan_model.specs.Cut.{AreOfOtherPlaces}
 use Rattle.plan_model.specs.Members.{uses_place, use_at}
@@ -18,9 +18,6 @@ use Rattle.headway_table.proofs.Found.{at_own, end_is}
 
 -- ---- the greatest of what some places give depends on which they are alone
 
-antisym : (a b : ℤ) → a ≤ℤ b → b ≤ℤ a → a ≡ b
-antisym a b h k = omega (arith, ints, h, k)
-
 pub same_greatest : (f : ℕ → ℤ) (some other : List ℕ) → ((i : ℕ) → has some i ≡ true → has other i ≡ true)
     → ((i : ℕ) → has other i ≡ true → has some i ≡ true)
     → greatest_of (map f some) ≡ greatest_of (map f other)
@@ -32,7 +29,7 @@ same_greatest f (k ∷ some) [] to from =
 same_greatest f (k ∷ some) (m ∷ other) to from =
     let k_there = or_left (k == k) (has some k) (eq-eqb k k refl) in
     let m_there = or_left (m == m) (has other m) (eq-eqb m m refl) in
-    ap Some (antisym (greatest (map f (k ∷ some))) (greatest (map f (m ∷ other)))
+    ap Some (le_both_ways (greatest (map f (k ∷ some))) (greatest (map f (m ∷ other)))
     (greatest_within f (greatest (map f (m ∷ other))) (k ∷ some) k k_there
     (λ i h. above_each f (m ∷ other) i (to i h)))
     (greatest_within f (greatest (map f (k ∷ some))) (m ∷ other) m m_there

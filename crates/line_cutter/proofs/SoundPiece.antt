@@ -8,6 +8,7 @@ use Rattle.std.proofs.lemmas.Bool.{cases_Bool, lt-ltb, not_from_true}
 use Rattle.std.proofs.lemmas.List.{append-nil, length-append, length-map, length-take, length-drop, get_or-take, get_or-drop, get_or_append_left}
 use Rattle.std.proofs.lemmas.List.Elements.{All-map, All-cons, All-tail, All-filter, filter_passes, All-head}
 use Rattle.std.proofs.lemmas.List.Kept.{AllPairs-filter}
+use Rattle.std.proofs.lemmas.List.Sums.{length-filter, count_by-le-length}
 use Rattle.rail_model.specs.declared.stair.Use.{Use}
 use Rattle.rail_model.specs.declared.limits.TheConstants.{GREATEST_MOMENT_S, PATH_HOPS}
 use Rattle.rail_model.specs.Name.{IsBefore}
@@ -18,6 +19,7 @@ use Rattle.plan_model.specs.declared.cut.Cut.{Cut}
 use Rattle.plan_model.specs.Places.{block_count, place_count, place_names}
 use Rattle.plan_model.specs.Members.{member_count}
 use Rattle.plan_model.specs.Cut.{least, is_block, block_uses, connection_uses, IsSoundUse, IsSoundRow, IsSoundCut}
+use Rattle.plan_model.proofs.Sound.{least_most}
 use Rattle.line_cutter.specs.Piece.{is_within, moved_use, piece_uses, uses_piece, piece_row, piece}
 use Rattle.line_cutter.proofs.Part.{from_within}
 
@@ -42,10 +44,7 @@ fewer_pass p q also (x ∷ xs) =
     ]
 
 pub few_pass : {X : Type 0} (p : X → Bool) (xs : List X) → length (filter p xs) ≤ length xs
-few_pass p [] = omega arith
-few_pass p (x ∷ xs) =
-    let rest = few_pass p xs in
-    elim (cases_Bool (p x)) [ inl e ↦ rw e (omega (arith, rest)) | inr e ↦ rw e (omega (arith, rest)) ]
+few_pass p xs = omega (arith, length-filter p xs, count_by-le-length p xs)
 
 kept_also : {X : Type 0} (P : X → Type 0) (p q : X → Bool) → ((x : X) → p x ≡ true → q x ≡ true) → (xs : List X)
     → All P (filter q xs) → All P (filter p xs)
@@ -76,14 +75,6 @@ least_from (u ∷ uses) z some each =
           (λ k d l. each (suc k) d (omega (arith, l))) in
           subst (λ x. z ≤ℤ x) at.2 (all at.0 (fold int_min u.start starts) at.1)
     ]
-
-least_to : (uses : List Use) (z : ℤ) → 0 < length uses → All (λ (u : Use). u.start ≤ℤ z) uses
-    → least (map (λ (u : Use). u.start) uses) ≤ℤ z
-least_to [] z some each = absurd (omega (arith, some))
-least_to (u ∷ uses) z some each =
-    let first : u.start ≤ℤ z = each 0 u (omega arith) in
-    let rest = (fold-int_min_bounds u.start (map (λ (u : Use). u.start) uses) _ refl).0 in
-    omega (arith, ints, first, rest)
 
 -- the least is no later than any
 least_first : (uses : List Use) → All (λ (u : Use). least (map (λ (u : Use). u.start) uses) ≤ℤ u.start) uses
@@ -186,7 +177,7 @@ module _ (cut : Cut) (sound : IsSoundCut cut) (a b : ℕ) (some : a < b) (within
           least_from (piece_uses a b row) (pos cut.section.from_s) some_use
           (λ k d l. let late = starts_late k d l in omega (arith, ints, late, is.from_window));
       to_window =
-          let most = least_to (piece_uses a b row) GREATEST_MOMENT_S some_use (λ k d l. (each_moved k d l).starts.before) in
+          let most = least_most (piece_uses a b row) GREATEST_MOMENT_S some_use (λ k d l. (each_moved k d l).starts.before) in
           omega (arith, ints, most);
     }
 

@@ -1,23 +1,23 @@
 -- A part of an orderly piece is orderly: what remained in the part would be preceded in the whole piece, too.
-use Rattle.std.proofs.Common.{◌≡◌, ℕ, zero, suc, ◌+◌, ◌-◌, ◌<◌, ◌≤◌, Bool, true, List, [], ◌∷◌, map, length, get_or, inl, inr, refl, sym, subst, ◌∙◌, arith, length-append}
+use Rattle.std.proofs.Common.{◌≡◌, ℕ, zero, suc, ◌+◌, ◌-◌, ◌<◌, ◌≤◌, Bool, true, List, [], ◌∷◌, map, length, get_or, inl, inr, refl, sym, ap, subst, ◌∙◌, arith, length-append}
 use Rattle.std.specs.Prelude.{filter, take, drop}
 use Rattle.std.specs.List.{list_any, range_with_len}
 use Rattle.std.proofs.lemmas.Bool.{cases_Bool, and_parts, or_left, eq-eqb}
 use Rattle.std.proofs.lemmas.List.{length-take, length-drop}
-use Rattle.std.proofs.lemmas.List.Folds.{Any-from_list_any}
-use Rattle.std.proofs.lemmas.List.FromFn.{length-range_with_len, get_or-range_with_len}
 use Rattle.plan_model.specs.declared.cut.CutRow.{CutRow}
 use Rattle.plan_model.specs.declared.cut.Cut.{Cut}
 use Rattle.plan_model.specs.Places.{place_count, places}
 use Rattle.plan_model.specs.Members.{member, member_count, no_member, uses_place}
 use Rattle.plan_model.specs.Precedence.{precedes, precedes_somewhere}
 use Rattle.plan_model.specs.Disorder.{remaining}
-use Rattle.plan_model.proofs.MemberTests.{has, has-range, has_any}
+use Rattle.plan_model.proofs.MemberTests.{has, has-range, has_any, in_range}
+use Rattle.plan_model.proofs.Preceded.{remain}
+use Rattle.train_order.proofs.Find.{find_some}
 use Rattle.critical_chain.proofs.Opposite.{ordered_is_not_opposite}
 use Rattle.line_cutter.specs.Piece.{piece, piece_row, uses_piece}
 use Rattle.line_cutter.specs.Laws.{PartIsOrderly}
 use Rattle.line_cutter.proofs.Part.{same_precedence, used_within, wider}
-use Rattle.line_cutter.proofs.Remaining.{remaining_there, remaining_preceded, none_closed}
+use Rattle.line_cutter.proofs.Remaining.{remaining_there, remaining_preceded}
 
 -- ---- rows that both of two lists are made from
 
@@ -65,10 +65,8 @@ module _ (f g : CutRow → CutRow) (p q : CutRow → Bool) (also : (r : CutRow) 
 -- what a test finds among the first numbers
 pub some_below : (test : ℕ → Bool) (n : ℕ) → list_any test (range_with_len 0 n) ≡ true → (p : ℕ) × (p < n) × (test p ≡ true)
 some_below test n h =
-    let some = Any-from_list_any test (range_with_len 0 n) h in
-    let here : some.0 < n = omega (arith, some.2, length-range_with_len 0 n) in
-    let at : get_or (range_with_len 0 n) some.0 some.1 ≡ some.0 = get_or-range_with_len 0 n some.0 some.1 here ∙ omega arith in
-    (some.0, here, subst (λ k. test k ≡ true) (sym some.3 ∙ at) some.4)
+    let some = find_some test (range_with_len 0 n) h in
+    (some.0, omega (arith, in_range 0 n some.0 some.2), some.3)
 
 place_in_piece : (cut : Cut) (a b : ℕ) → place_count (piece cut a b) ≡ length (take b cut.section.blocks) - a
 place_in_piece cut a b =
@@ -128,7 +126,9 @@ module _ (cut : Cut) (a b c d : ℕ) (from : a ≤ c) (to : d ≤ b) where
   none_left none (k ∷ left) e =
       let first : has (k ∷ left) k ≡ true = or_left _ _ (eq-eqb k k refl) in
       let some = stays k (rw e first) in
-      absurd (none_closed (piece cut a b) (λ j. Stays cut a b c d j) (λ j s. s.there) stays_preceded none some.0 some.1)
+      let remains = remain (piece cut a b) (λ j. Stays cut a b c d j) (λ j s. s.there) stays_preceded some.0 some.1 in
+      let gone = ap (λ all. has all some.0) none in
+      absurd (cc)
 
 pub part_is_orderly : PartIsOrderly
 part_is_orderly cut a b c d from to orderly =

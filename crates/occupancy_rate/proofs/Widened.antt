@@ -3,10 +3,9 @@ use Rattle.std.proofs.Common.{◌≡◌, ℕ, suc, ◌<◌, Bool, true, false, L
 use Rattle.std.specs.Prelude.{◌==◌, ℤ, ◌+ℤ◌, ◌-ℤ◌, Option, None, Some, slice_index_or, slice_set, if◌then◌else◌, fold, find, filter, unwrap_or}
 use Rattle.std.specs.Int.{int_min, int_max}
 use Rattle.std.specs.List.{list_any, range_with_len}
-use Rattle.std.proofs.lemmas.Bool.{cases_Bool, cases_eq, eq-eqb, eqb-true, ne_eqb, or_parts, or_left, or_right, false_from_ne_true}
+use Rattle.std.proofs.lemmas.Bool.{cases_Bool, cases_eq, eq-eqb, eqb-true, ne_eqb, or_parts, or_left, or_right}
 use Rattle.std.proofs.lemmas.Grind.{get_or-set_at}
 use Rattle.std.proofs.lemmas.List.{get_or-set_other}
-use Rattle.std.proofs.lemmas.List.Folds.{Any-from_list_any}
 use Rattle.std.proofs.lemmas.List.Sums.{fold-append}
 use Rattle.rail_model.proofs.Lists.{range_more}
 use Rattle.rail_model.specs.declared.stair.Use.{Use}
@@ -18,6 +17,7 @@ use Rattle.plan_model.specs.Schedule.{entry_at, start_at, end_at, start_by, end_
 use Rattle.plan_model.specs.Occupancy.{greatest}
 use Rattle.plan_model.proofs.MemberTests.{has, in_range}
 use Rattle.plan_model.proofs.Sound.{differ}
+use Rattle.plan_model.proofs.UseFound.{no_other}
 use Rattle.occupancy_rate.specs.declared.spans.Span.{Span}
 use Rattle.occupancy_rate.specs.Spans.{widened, with_use, with_row, span_upto, span_of}
 
@@ -44,16 +44,6 @@ untouched planned entry b span (u ∷ uses) h =
     let parts = or_parts (u.block == b) (list_any (λ (v : Use). v.block == b) uses) h in
     rw parts.0 (untouched planned entry b span uses parts.1)
 
-others : (u : Use) (uses : List Use) (b : ℕ) → AreOfOtherPlaces (u ∷ uses) → u.block ≡ b
-    → list_any (λ v. v.block == b) uses ≡ false
-others u uses b differ e =
-    false_from_ne_true (list_any (λ (v : Use). v.block == b) uses)
-    (λ h.
-    let at = Any-from_list_any (λ (v : Use). v.block == b) uses h in
-    let is : at.1.block ≡ b = eqb-true at.1.block b at.4 in
-    differ 0 (suc at.0) at.1 (omega arith) (omega (arith, at.2))
-    (e ∙ sym is ∙ ap (λ (v : Use). v.block) (sym at.3)))
-
 uses_step : (planned entry : ℤ) (b : ℕ) (span : Option Span) (uses : List Use) → AreOfOtherPlaces uses
     → fold (with_use planned entry b) span uses
     ≡ (if list_any (λ u. u.block == b) uses
@@ -63,7 +53,7 @@ uses_step : (planned entry : ℤ) (b : ℕ) (span : Option Span) (uses : List Us
 uses_step planned entry b span [] differ = refl
 uses_step planned entry b span (u ∷ uses) differ =
     elim (cases_Bool (u.block == b)) [
-      | inl e ↦ rw e (untouched planned entry b _ uses (others u uses b differ (eqb-true u.block b e)))
+      | inl e ↦ rw e (untouched planned entry b _ uses (no_other u uses b differ (eqb-true u.block b e)))
       | inr e ↦
           rw e (uses_step planned entry b span uses
           (λ i j d lt l. differ (suc i) (suc j) d (omega (arith, lt)) (omega (arith, l))))

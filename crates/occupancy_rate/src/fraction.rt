@@ -85,8 +85,8 @@ fn greatest_divisor(a: u128, b: u128) -> u128
     x
 }
 
-/// The capacity consumption: the occupancy time with the additional time rate, in per cent, over a
-/// window of so many seconds. The occupancy time rate is the same with a rate of 0.
+/// The capacity consumption: the occupancy time, in seconds, with the additional time rate, in per
+/// cent of it, over a window of so many seconds. With a rate of 0 it is the occupancy time rate.
 pub fn consumption(occupancy: u64, add_percent: u32, period_s: u32) -> Fraction
     requires { 0 < period_s }
     ensures same { result ≡ rates.consumption occupancy add_percent period_s }

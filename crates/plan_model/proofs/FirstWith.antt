@@ -12,17 +12,17 @@ use Rattle.plan_model.proofs.FirstByName.{first_is}
 
 -- ---- one place more
 
-among_both : (some : List ℕ) (p q : ℕ) → is_among (some ++ p ∷ []) q ≡ true → (is_among some q ≡ true) ⊎ (p ≡ q)
+pub among_both : (some : List ℕ) (p q : ℕ) → is_among (some ++ p ∷ []) q ≡ true → (is_among some q ≡ true) ⊎ (p ≡ q)
 among_both some p q h =
     elim (or_cases (is_among some q) ((p == q) || false) (sym (list_any-append (λ k. k == q) some (p ∷ [])) ∙ h)) [
       | inl e ↦ inl e
       | inr e ↦ elim (or_cases (p == q) false e) [ inl f ↦ inr (eqb-true p q f) | inr f ↦ absurd (cc) ]
     ]
 
-among_old : (some : List ℕ) (p q : ℕ) → is_among some q ≡ true → is_among (some ++ p ∷ []) q ≡ true
+pub among_old : (some : List ℕ) (p q : ℕ) → is_among some q ≡ true → is_among (some ++ p ∷ []) q ≡ true
 among_old some p q h = list_any-append (λ k. k == q) some (p ∷ []) ∙ or_left (is_among some q) _ h
 
-among_new : (some : List ℕ) (p : ℕ) → is_among (some ++ p ∷ []) p ≡ true
+pub among_new : (some : List ℕ) (p : ℕ) → is_among (some ++ p ∷ []) p ≡ true
 among_new some p =
     list_any-append (λ k. k == p) some (p ∷ [])
     ∙ or_right (is_among some p) _ (or_left (p == p) false (eq-eqb p p refl))

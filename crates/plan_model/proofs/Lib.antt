@@ -34,3 +34,5 @@ pub mod Sound
 pub mod UseFound
 pub mod FirstWith
 pub mod Preceded
+pub mod Unstamped
+pub mod Readings

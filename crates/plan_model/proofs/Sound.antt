@@ -13,7 +13,8 @@ use Rattle.plan_model.specs.Places.{block_count, place_count}
 use Rattle.plan_model.specs.Members.{member, member_count, no_member, uses_place, use_of, use_at, no_use}
 use Rattle.plan_model.specs.Cut.{least, is_block, block_uses, IsMoment, IsBounded, IsSoundUse, IsSoundRow, IsSoundCut, IsUsable, AreOfOtherPlaces, AreBlocksFirst, MembersAreUsable}
 
-least_most : (uses : List Use) (z : ℤ) → 0 < length uses → All (λ (u : Use). u.start ≤ℤ z) uses
+-- the least start of some uses that start by a moment
+pub least_most : (uses : List Use) (z : ℤ) → 0 < length uses → All (λ (u : Use). u.start ≤ℤ z) uses
     → least (map (λ (u : Use). u.start) uses) ≤ℤ z
 least_most [] z some each = absurd (omega (arith, some))
 least_most (u ∷ uses) z some each =

@@ -117,7 +117,7 @@ current_stays journal more section some legal current stays =
 abbrev LastIsRight : List ℕ → List Entry → Type 0
 LastIsRight section journal = (p : Publication) → last_publication journal section ≡ Some p → IsAnswerAt journal section p.at p.answer
 
-answer_longer : (journal more : List Entry) (section : List ℕ) (at : ℕ) (answer : Answer) → 0 < length journal
+pub answer_longer : (journal more : List Entry) (section : List ℕ) (at : ℕ) (answer : Answer) → 0 < length journal
     → IsAnswerAt journal section at answer → IsAnswerAt (journal ++ more) section at answer
 answer_longer journal more section at answer some h = record {
   from_opening = rw (opening-more journal more some) h.from_opening;

@@ -1,15 +1,18 @@
 -- A cut has at most one least schedule and one answer.
-use Rattle.std.proofs.Common.{◌≡◌, ◌<◌, sym, ap, ◌∙◌, arith}
-use Rattle.std.specs.Prelude.{pos, Option, Some, None}
+use Rattle.std.proofs.Common.{◌≡◌, ◌<◌, List, length, map, sym, ap, ◌∙◌, arith}
+use Rattle.std.specs.Prelude.{ℤ, pos, Option, Some, None}
 use Rattle.std.proofs.lemmas.List.{ext_get_or}
+use Rattle.std.proofs.lemmas.List.FromFn.{length-map-range_with_len, get_or-map-range_with_len}
+use Rattle.std.proofs.lemmas.Simd.{map-map}
 use Rattle.plan_model.specs.declared.cut.Cut.{Cut}
+use Rattle.plan_model.specs.declared.answer.Placed.{Placed}
 use Rattle.plan_model.specs.declared.answer.Plan.{Plan}
 use Rattle.plan_model.specs.declared.answer.Answer.{Answer}
 use Rattle.plan_model.specs.declared.answer.Answer.TheVariants as answer
-use Rattle.plan_model.specs.Members.{member_count}
+use Rattle.plan_model.specs.Members.{member_count, members}
 use Rattle.plan_model.specs.Disorder.{Opposite}
 use Rattle.plan_model.specs.Schedule.{entry_at, window_floor}
-use Rattle.plan_model.specs.Answer.{plan_of, IsCompressed}
+use Rattle.plan_model.specs.Answer.{placed_at, plan_of, entries_of, IsCompressed}
 use Rattle.plan_model.specs.Laws.{LeastIsUnique, AnswerIsUnique}
 use Rattle.rail_model.proofs.Numbers.{le_both_ways}
 
@@ -20,6 +23,17 @@ least_is_unique cut floor entries other p q =
     let here : i < member_count cut = omega (arith, l, p.schedule.count) in
     le_both_ways (entry_at entries i) (entry_at other i) (p.least other q.schedule i here)
     (q.least entries p.schedule i here))
+
+-- a plan of some entries has these entries
+pub entries_are : (cut : Cut) (entries : List ℤ) (plan : Plan) → length entries ≡ member_count cut
+    → plan ≡ plan_of cut entries → entries_of plan ≡ entries
+entries_are cut entries plan count same =
+    let n = member_count cut in
+    let long = length-map-range_with_len (entry_at entries) 0 n in
+    ap entries_of same
+    ∙ map-map (λ (p : Placed). p.entry) (placed_at cut entries) (members cut)
+    ∙ ext_get_or (pos 0) (map (entry_at entries) (members cut)) entries (long ∙ sym count)
+    (λ i l. get_or-map-range_with_len (entry_at entries) 0 n i i (pos 0) (omega (arith, l, long)) (omega arith))
 
 plan_is_unique : (cut : Cut) (plan other : Plan) → IsCompressed cut plan → IsCompressed cut other → plan ≡ other
 plan_is_unique cut plan other p q =

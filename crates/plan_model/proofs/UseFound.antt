@@ -1,15 +1,27 @@
 -- The use of a place among uses of different places, those of blocks first.
 use Rattle.std.proofs.Common.{◌≡◌, ◌≢◌, ℕ, zero, suc, ◌-◌, ◌<◌, ◌≤◌, Bool, true, false, not, ◌==◌, List, [], ◌∷◌, length, get_or, inl, inr, refl, sym, ap, ◌∙◌, arith, length-append}
 use Rattle.std.specs.Prelude.{Some, None, filter, find, nat_lt}
-use Rattle.std.proofs.lemmas.Bool.{cases_lt, eq-eqb, ne_eqb, lt-ltb, ltb-true, both_ways, not-true}
+use Rattle.std.specs.List.{list_any}
+use Rattle.std.proofs.lemmas.Bool.{cases_lt, eq-eqb, eqb-true, ne_eqb, lt-ltb, ltb-true, both_ways, not-true, false_from_ne_true}
 use Rattle.std.proofs.lemmas.List.{get_or_append_left, get_or-append_right}
 use Rattle.std.proofs.lemmas.List.Elements.{filter_passes}
+use Rattle.std.proofs.lemmas.List.Folds.{Any-from_list_any}
 use Rattle.rail_model.specs.declared.stair.Use.{Use}
 use Rattle.plan_model.specs.Members.{no_use}
 use Rattle.plan_model.specs.Cut.{AreOfOtherPlaces, AreBlocksFirst}
 
 pub differ_tail : (u : Use) (uses : List Use) → AreOfOtherPlaces (u ∷ uses) → AreOfOtherPlaces uses
 differ_tail u uses h = λ i j d l m. h (suc i) (suc j) d (omega (arith, l)) (omega (arith, m))
+
+-- a place that the first of them uses is used by none of the others
+pub no_other : (u : Use) (uses : List Use) (place : ℕ) → AreOfOtherPlaces (u ∷ uses) → u.block ≡ place
+    → list_any (λ v. v.block == place) uses ≡ false
+no_other u uses place differ e =
+    false_from_ne_true (list_any (λ (v : Use). v.block == place) uses) (λ h.
+    let some = Any-from_list_any (λ (v : Use). v.block == place) uses h in
+    let is : some.1.block ≡ place = eqb-true some.1.block place some.4 in
+    differ 0 (suc some.0) some.1 (omega arith) (omega (arith, some.2))
+    (e ∙ sym is ∙ ap (λ (v : Use). v.block) (sym some.3)))
 
 -- one of a place is found as the use of it
 pub found_at : (place : ℕ) (uses : List Use) (k : ℕ) → AreOfOtherPlaces uses → k < length uses

@@ -1,5 +1,5 @@
 -- Disorder: members whose order differs from place to place, so that they have no order in time.
-use Rattle.std.specs.Prelude.{◌≡◌, ℕ, zero, suc, ◌+◌, ◌-◌, ◌<◌, Bool, true, ◌&&◌, ◌==◌, nat_le, List, [], ◌∷◌, ◌++◌, length, map, filter, find, take, drop, reverse, zip, Option, option_map, unwrap_or, slice_index}
+use Rattle.std.specs.Prelude.{◌≡◌, ℕ, zero, suc, ◌+◌, ◌-◌, ◌<◌, Bool, true, ◌&&◌, ◌==◌, nat_le, if◌then◌else◌, List, [], ◌∷◌, ◌++◌, map, filter, find, take, drop, reverse, zip, Option, option_map, unwrap_or, slice_index}
 use Rattle.std.specs.List.{list_any, list_all, flat_map, range_with_len, position_or_len}
 use Rattle.plan_model.specs.declared.cut.Cut.{Cut}
 use Rattle.plan_model.specs.declared.answer.Link.{Link}
@@ -80,35 +80,23 @@ PrecededRemain =
 abbrev pub predecessor : Cut → ℕ → ℕ
 predecessor cut j = unwrap_or (find (λ i. precedes_somewhere cut i j) (remaining cut)) j
 
--- the first n trains of the walk from member j, each time to the predecessor
-abbrev pub walk_from : Cut → ℕ → ℕ → List ℕ
-walk_from cut zero j = []
-walk_from cut (suc n) j = j ∷ walk_from cut n (predecessor cut j)
-
--- the walk from the least remaining member, so long that a train comes a second time
-abbrev pub walk : Cut → List ℕ
-walk cut = walk_from cut (member_count cut + 1) (slice_index (remaining cut) 0)
-
--- the train at a step of a walk came before
-abbrev pub came_before : List ℕ → ℕ → Bool
-came_before walk k = list_any (λ m. m == slice_index walk k) (take k walk)
-
--- the first step at which a train comes a second time
-abbrev pub return_step : List ℕ → ℕ
-return_step walk = position_or_len (came_before walk) (range_with_len 0 (length walk))
-
--- the trains from its first visit on
-abbrev pub circuit : List ℕ → List ℕ
-circuit walk =
-    let k = return_step walk in drop (position_or_len (λ m. m == slice_index walk k) walk) (take k walk)
+-- a walk back from member j, after those that were walked: to the predecessor each time, until a train comes a second
+-- time, at most n times. Its circuit is what was walked from that train's first visit on
+abbrev pub circuit : Cut → ℕ → List ℕ → ℕ → List ℕ
+circuit cut zero walked j = walked
+circuit cut (suc n) walked j =
+    if is_among walked j then drop (position_or_len (λ m. m == j) walked) walked
+    else circuit cut n (walked ++ j ∷ []) (predecessor cut j)
 
 -- a ring, told from its least train on
 abbrev pub from_least : List ℕ → List ℕ
 from_least ring = let k = position_or_len (λ m. list_all (nat_le m) ring) ring in drop k ring ++ take k ring
 
--- the ring in the direction of precedence
+-- the ring in the direction of precedence: the circuit of the walk back from the least remaining member, which is so long
+-- that a train comes a second time
 abbrev pub ring_members : Cut → List ℕ
-ring_members cut = from_least (reverse (circuit (walk cut)))
+ring_members cut =
+    from_least (reverse (circuit cut (member_count cut + 1) [] (slice_index (remaining cut) 0)))
 
 -- one member precedes the next, at the first place by name where it does
 abbrev pub link_of : Cut → ℕ × ℕ → Link

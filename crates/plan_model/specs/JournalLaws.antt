@@ -16,7 +16,8 @@ use Rattle.plan_model.specs.Journal.{edits, last_number, tables_at, tables_of, i
 use Rattle.plan_model.specs.Changes.{Stays}
 use Rattle.plan_model.specs.Touch.{cut_at, cut_now, IsCurrent, IsReading}
 use Rattle.plan_model.specs.Legal.{IsNext, IsLegal, IsJournal}
-use Rattle.plan_model.specs.Outcome.{AddsEntry, EditsTo, AsksTo, IsPlanner, StepsTo, IsDone, PublishesTo}
+use Rattle.plan_model.specs.Reading.{Shown}
+use Rattle.plan_model.specs.Outcome.{AddsEntry, EditsTo, AsksTo, IsPlanner, StepsTo, IsNextReading, IsAnswerOf, IsDone, PublishesTo}
 
 -- ---- beginnings of journals
 
@@ -140,3 +141,13 @@ pub record LeavesJournal (found after : List Entry) : Type 0 where
 
 abbrev pub CallsLeaveJournals : Type 0
 CallsLeaveJournals = (found after : List Entry) → IsJournal found → LeavesJournal found after
+
+-- the answer of the next reading of a journal is one that may be published
+abbrev pub ReadingMayBePublished : Type 0
+ReadingMayBePublished =
+    (share of : ℕ) (journal : List Entry) (shown : Shown) (done : Done)
+    → IsNextReading share of journal shown → IsAnswerOf shown done → IsDone journal done
+
+-- an answer that may be published of a journal is that of its section also in a longer one
+abbrev pub DoneStays : Type 0
+DoneStays = (journal more : List Entry) (done : Done) → 0 < length journal → IsDone journal done → IsDone (journal ++ more) done

@@ -19,6 +19,7 @@ use Rattle.plan_model.specs.declared.outcome.Next.{Next}
 use Rattle.plan_model.specs.declared.outcome.Next.TheVariants as next
 use Rattle.plan_model.specs.declared.outcome.NotTaken.{NotTaken}
 use Rattle.plan_model.specs.declared.outcome.NotTaken.TheVariants as not_taken
+use Rattle.plan_model.specs.Answer.{IsAnswer}
 use Rattle.plan_model.specs.Reading.{Shown}
 use Rattle.plan_model.specs.Journal.{opening, last_number, tables_of, last_publication, left_of, tasks_left}
 use Rattle.plan_model.specs.Touch.{IsUntouchedSince, IsLastTouching, IsCurrent, IsReading}
@@ -110,6 +111,12 @@ ReadsTo shown share of found (next.Idle left) after =
     (after ≡ found) × ShareIsCurrent share of found × (left ≡ tasks_left found)
 
 -- ---- publications
+
+-- this is the answer of what a reading shows
+pub record IsAnswerOf (shown : Shown) (done : Done) : Type 0 where
+  pub section : done.section ≡ shown.cut.section.name
+  pub at : done.at ≡ shown.at
+  pub answer : IsAnswer shown.cut done.answer
 
 -- an answer was worked out from the section's cut after the edit that it names
 abbrev pub IsDone : List Entry → Done → Type 0

@@ -4,7 +4,14 @@ use Rattle.std.specs.Borrow.{Fml, RattleType, MutBor}
 use Rattle.std.specs.Io.BufRead.{Rests}
 use Rattle.rail_model.specs.declared.stair.Use.{Use}
 use Rattle.plan_model.specs.declared.cut.Cut.{Cut}
+use Rattle.plan_model.specs.declared.reading.Held.{Held}
+use Rattle.plan_model.specs.declared.reading.Held.TheVariants as held
 use Rattle.plan_model.specs.Members.{member}
+
+-- the cut that a reading holds, as its own or shared with others
+abbrev pub held_cut : Held → Cut
+held_cut (held.Own cut) = cut
+held_cut (held.Shared cut) = cut
 
 -- what a reading shows: a cut, the number of the last edit before it was read, and how many uses were taken of it
 pub record Shown : Type 0 where

@@ -6,7 +6,8 @@ use rail_model::{List, Name};
 pub enum Tie {
     /// It enters at the window's start.
     Start,
-    /// It touches a train that precedes it.
+    /// It touches a train that precedes it: of several the first by name, at the first place by
+    /// name.
     After {
         /// That train's position among the plan's trains.
         train: u32,
@@ -43,7 +44,8 @@ pub struct Plan {
     pub occupancy: u64,
     /// The position of the busiest block, the first by name of several, if there is a train.
     pub busiest: Option<u32>,
-    /// The position of the critical train, if there is a train.
+    /// The position of the critical train, if there is a train: the first by name of those that end
+    /// their use of the busiest block last.
     pub critical: Option<u32>,
 }
 
@@ -102,18 +104,18 @@ impl Disorder {
 pub enum Answer {
     /// The compressed timetable.
     Ordered(Plan),
-    /// Two trains, each of which precedes the other at some place.
+    /// Two trains, each of which precedes the other at some place: the least such pair by names.
     Opposite {
         first: Name,
         second: Name,
-        /// Where the first precedes the second.
+        /// The first place by name at which the first precedes the second.
         block1: Name,
-        /// Where the second precedes the first.
+        /// The first place by name at which the second precedes the first.
         block2: Name,
     },
     /// Trains of which each precedes the next, and the last the first.
     Ring(List<Link>),
-    /// More members than are compressed.
+    /// The cut has more members than are compressed: `count` of them.
     Crowded {
         count: u32,
     },

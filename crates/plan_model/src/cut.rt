@@ -7,7 +7,7 @@ pub struct CutRow {
     /// The run's.
     pub name: Name,
     /// The number of the last edit at which the row became new or changed its value, or of the
-    /// opening.
+    /// opening; 0 in a cut that is made of tables alone.
     pub stamp: u64,
     /// The least start of the run's uses of the section's blocks: seconds from the timetable's
     /// origin.

@@ -48,7 +48,7 @@ pub enum Act {
         section: Name,
         reply: Reply,
     },
-    /// The answer of a section was published; it is that of the edit of the number `at`.
+    /// The answer of a section was published: that of its cut after the edit of the number `at`.
     Published {
         section: Name,
         at: u64,

@@ -4,6 +4,7 @@ ghost use Rattle.plan_model.specs.JournalLaws.{NextIsLegal, LongerIssuesNoFewer,
 ghost use Rattle.plan_model.specs.JournalLaws.{LongerAgrees, OthersKeepTables, CurrentStays};
 ghost use Rattle.plan_model.specs.JournalLaws.{CurrentIsAnswered, StampTellsRow, NoneIsLeft};
 ghost use Rattle.plan_model.specs.JournalLaws.{CallsEndInOneWay, CallsLeaveJournals};
+ghost use Rattle.plan_model.specs.JournalLaws.{ReadingMayBePublished, DoneStays};
 
 /// Each beginning of a legal journal, with an entry at least, is legal.
 pub fn beginning_is_legal()
@@ -75,4 +76,14 @@ pub fn calls_end_in_one_way()
 /// After each call on a journal in which planners keep to their scripts it is such a journal again.
 pub fn calls_leave_journals()
     ensures { CallsLeaveJournals }
+{}
+
+/// The answer that is worked out from the next reading of a journal is one that may be published.
+pub fn reading_may_be_published()
+    ensures { ReadingMayBePublished }
+{}
+
+/// An answer that may be published of a journal is that of its section also in a longer one.
+pub fn done_stays()
+    ensures { DoneStays }
 {}

@@ -55,7 +55,8 @@ pub fn occupancy_reaches_closing()
     ensures { OccupancyReachesClosing }
 {}
 
-/// A rate is a reduced fraction.
+/// The reduced fraction of two numbers, the second above 0, has their value, and no number but 1
+/// divides both its parts.
 pub fn fraction_is_reduced()
     ensures { FractionIsReduced }
 {}

@@ -20,6 +20,7 @@ mod outcome;
 mod reading;
 mod rows;
 mod scripts;
+mod shared_cut;
 
 pub use answer::{Answer, Disorder, Done, Link, Placed, Plan, Tie};
 pub use board::Board;
@@ -28,8 +29,9 @@ pub use fit_cut::{FitCut, SoundCut, shift, use_of};
 pub use journal::{Act, Entry, Reply};
 pub use journal_laws::{
     beginning_is_journal, beginning_is_legal, calls_end_in_one_way, calls_leave_journals,
-    current_is_answered, current_stays, each_is_next, longer_agrees, longer_issues_no_fewer,
-    next_is_legal, none_is_left, others_keep_tables, stamp_tells_row, tables_are_sound,
+    current_is_answered, current_stays, done_stays, each_is_next, longer_agrees,
+    longer_issues_no_fewer, next_is_legal, none_is_left, others_keep_tables,
+    reading_may_be_published, stamp_tells_row, tables_are_sound,
 };
 pub use laws::{
     answer_is_unique, comes_before_is_tested, conflict_is_overlap, fraction_is_reduced,
@@ -42,3 +44,4 @@ pub use outcome::{Asked, Next, NotTaken, Stepped};
 pub use reading::Reading;
 pub use rows::Rows;
 pub use scripts::{Scripts, Task};
+pub use shared_cut::SharedCut;

@@ -32,7 +32,7 @@ pub enum Stepped {
 /// What is to be answered next.
 #[derive(Drop)]
 pub enum Next<R> {
-    /// A section that is not current.
+    /// A reading of a section: of those of the share that are not current, the first by name.
     Reading(R),
     /// Every section of the share is current. So many tasks are left in all scripts.
     Idle { left: u64 },
@@ -41,7 +41,7 @@ pub enum Next<R> {
 /// Why an answer is not published.
 #[derive(Clone, Copy)]
 pub enum NotTaken {
-    /// A later edit touches the section, the last one by this number.
+    /// A later edit touches the section; the last one that does has this number.
     Stale { by: u64 },
     /// The section is current since its publication at the edit of this number.
     Current { at: u64 },

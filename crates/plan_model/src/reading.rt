@@ -2,28 +2,50 @@
 ghost use Rattle.std.specs.Prelude.{◌≡◌, ◌<◌, length};
 ghost use Rattle.std.specs.Borrow.{sem};
 
-use crate::{Cut, CutRow, Rows};
+use crate::{Cut, CutRow, Rows, SharedCut};
 use rail_model::{List, Name, Section, Use};
 use std::marker::Model;
 
 /// A sound cut that is read, with the number of the last edit before it was read. It counts the
-/// uses that are taken of it, up to 2^64 - 1.
+/// uses that are taken of it, up to 2^64 - 1. The cut is the reading's own, or one that is shared
+/// with others, who can't change it meanwhile.
 #[derive(Drop)]
 pub struct Reading {
-    cut: Cut,
+    held: Held,
     at: u64,
     taken: u64,
 }
 
+// How a reading holds its cut.
+#[derive(Drop)]
+pub(crate) enum Held {
+    Own(Cut),
+    Shared(SharedCut),
+}
+
+impl Held {
+    ghost use Rattle.plan_model.specs.Reading.{held_cut};
+
+    // The cut.
+    pub(crate) fn cut(&self) -> &Cut
+        ensures { result.now ≡ held_cut self.now }
+    {
+        match self {
+            Held::Own(cut) => cut,
+            Held::Shared(cut) => cut.cut(),
+        }
+    }
+}
+
 impl Model for Reading {
     ghost use Rattle.plan_model.specs.Cut.{IsSoundCut};
-    ghost use Rattle.plan_model.specs.Reading.{Shown};
+    ghost use Rattle.plan_model.specs.Reading.{Shown, held_cut};
 
     ghost Value = { Shown };
 
-    ghost view = { λ r. record { cut = r.cut; at = r.at; taken = r.taken } };
+    ghost view = { λ r. record { cut = held_cut r.held; at = r.at; taken = r.taken } };
 
-    ghost invariant = { λ r. IsSoundCut r.cut };
+    ghost invariant = { λ r. IsSoundCut (held_cut r.held) };
 }
 
 impl Reading {
@@ -37,21 +59,37 @@ impl Reading {
         requires { IsSoundCut cut }
         ensures { result ≡ record { cut = cut; at = at; taken = 0 } }
     {
-        Reading { cut, at, taken: 0 }
+        Reading {
+            held: Held::Own(cut),
+            at,
+            taken: 0,
+        }
+    }
+
+    /// A reading of a cut that others share, of which nothing is taken.
+    pub fn shared(cut: SharedCut, at: u64) -> Reading
+        ensures { result ≡ record { cut = cut; at = at; taken = 0 } }
+    {
+        let _sound = cut.cut();
+        Reading {
+            held: Held::Shared(cut),
+            at,
+            taken: 0,
+        }
     }
 
     /// The cut's section.
     pub fn section(&self) -> &Section
         ensures { result.now ≡ self.now.cut.section }
     {
-        &self.cut.section
+        &self.held.cut().section
     }
 
     /// The names of the cut's connections.
     pub fn connections(&self) -> &List<Name>
         ensures { result.now ≡ self.now.cut.connections }
     {
-        &self.cut.connections
+        &self.held.cut().connections
     }
 
     /// The number of the last edit before the cut was read.
@@ -73,7 +111,7 @@ impl Reading {
         ensures count { result ≡ member_count self.now.cut }
         ensures sound { IsSoundCut self.now.cut }
     {
-        self.cut.rows.len() as u32
+        self.held.cut().rows.len() as u32
     }
 
     /// The name of row `i`.
@@ -81,7 +119,7 @@ impl Reading {
         requires { i < member_count self.now.cut }
         ensures { result ≡ (member self.now.cut i).name }
     {
-        self.cut.rows.slice()[i as usize].name
+        self.held.cut().rows.slice()[i as usize].name
     }
 
     /// The stamp of row `i`.
@@ -89,7 +127,7 @@ impl Reading {
         requires { i < member_count self.now.cut }
         ensures { result ≡ (member self.now.cut i).stamp }
     {
-        self.cut.rows.slice()[i as usize].stamp
+        self.held.cut().rows.slice()[i as usize].stamp
     }
 
     /// Takes the uses of row `i`, in their order.
@@ -99,7 +137,7 @@ impl Reading {
             (length (uses_of self.old i))) }
         ensures uses { result.now ≡ uses_of self.old i }
     {
-        let uses = self.cut.rows.slice()[i as usize].uses.slice();
+        let uses = self.held.cut().rows.slice()[i as usize].uses.slice();
         self.taken = self.taken.saturating_add(uses.len() as u64);
         uses
     }
@@ -110,8 +148,8 @@ impl Reading {
         ensures cut { result.now ≡ self.old.cut }
         ensures sound { IsSoundCut self.old.cut }
     {
-        self.taken = raised_by_all(self.taken, self.cut.rows.slice());
-        &self.cut
+        self.taken = raised_by_all(self.taken, self.held.cut().rows.slice());
+        self.held.cut()
     }
 }
 

@@ -26,10 +26,11 @@ pub enum Edit {
 /// Why an edit is refused.
 #[derive(Clone, Copy, Debug, PartialEq, Eq)]
 pub enum Rule {
-    /// A number, or the length of a list, is outside its limit.
+    /// A number, or the length of a list, is outside its limit; or a run ends with a dwell, or a
+    /// window is empty.
     Range,
-    /// The name is there, or a block and a connection would share it; or an item names something twice: a
-    /// route or a section a block, also after a change of a signal, or a connection a run.
+    /// The name is there, or a block and a connection would share it; or an item names something
+    /// twice: a route or a section a block, also after a change of a signal, or a connection a run.
     Twice,
     /// A name isn't there.
     Unknown,

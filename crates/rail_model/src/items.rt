@@ -21,7 +21,7 @@ pub struct Signal {
     pub watch_s: u32,
     /// How long the interlocking takes to form the route: seconds.
     pub form_s: u32,
-    /// How far past the block's end the train's rear must be: metres.
+    /// How far past the block's end the train's rear must be before the block is clear: metres.
     pub overlap_m: u32,
     /// How long the interlocking takes to release the block: seconds.
     pub release_s: u32,
@@ -73,8 +73,8 @@ pub struct Section {
     pub blocks: List<Name>,
 }
 
-/// Two runs of which the second starts no earlier than a time after the first run's last arrival: rolling
-/// stock that turns, or passengers who change trains.
+/// Two runs of which the second is to start no earlier than a time after the first run's last
+/// arrival: rolling stock that turns, or passengers who change trains.
 #[derive(Clone, Copy)]
 pub struct Connection {
     /// No block has it.

@@ -1,7 +1,8 @@
-//! What a planner's files speak of: names, lists, the items of a line, the tables that hold them, and
-//! the paths and stairways of runs.
+//! What a planner's files speak of: names, lists, the items of a line, the tables that hold them,
+//! and the paths and stairways of runs.
 //!
-//! The definitions of motion, blocking time, conflict and edits stand in `specs/`, for all crates above.
+//! The definitions of motion, blocking time, conflict and edits stand in `specs/`, for all crates
+//! above.
 #![tactic(auto)]
 
 mod copies;

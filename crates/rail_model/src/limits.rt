@@ -27,7 +27,8 @@ pub const GREATEST_LENGTH_M: u32 = 1_000_000;
 /// Seconds: the greatest start of a run and of a window.
 pub const GREATEST_START_S: u32 = 604_800;
 
-/// Seconds: the greatest running time, dwell and tail, time of a signal and minimum of a connection.
+/// Seconds: the greatest running time, dwell and tail, time of a signal and minimum of a
+/// connection.
 pub const GREATEST_TIME_S: u32 = 86_400;
 
 /// Seconds: the greatest end of a window.

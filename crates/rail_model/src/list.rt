@@ -104,7 +104,7 @@ impl<T> List<T> {
         &mut self.items[i]
     }
 
-    /// Takes out the last item.
+    /// Takes out the last item, if there is one.
     pub fn pop(&mut self) -> Option<T>
         ensures some { IsSome result ↔ (0 < length self.old) }
         ensures items { self.old ≡ self.new ++ option_to_list result }
@@ -112,7 +112,8 @@ impl<T> List<T> {
         self.items.pop()
     }
 
-    /// Puts an item at `i`; those from `i` on stand one place further. Without memory the list stays as it was.
+    /// Puts an item at `i`; those from `i` on stand one place further. Without memory the list
+    /// stays as it was.
     pub fn insert(&mut self, i: usize, item: T) -> Result<(), OutOfMemory>
     where
         T: Drop,

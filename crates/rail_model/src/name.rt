@@ -49,7 +49,7 @@ impl Name {
     ghost use Rattle.std.specs.Result.{result_ok};
     ghost use Rattle.rail_model.specs.Name.{name_of};
 
-    /// The name with these bytes.
+    /// The name with these bytes. `BadName` comes exactly where they are no name.
     pub fn read(bytes: &[u8]) -> Result<Name, BadName>
         ensures named { IsOk result ↔ IsName bytes.now }
         ensures same { IfOk result (λ name. name ≡ bytes.now) }

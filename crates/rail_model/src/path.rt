@@ -1,7 +1,8 @@
 //! Paths of runs, with all that their blocks and signals say of them.
 use crate::{List, Name};
 
-/// One block of a run's path, with all that the block, its entry signal and the run's leg say of it.
+/// One block of a run's path, with all that the block, its entry signal and the run's leg say of
+/// it.
 #[derive(Clone, Copy)]
 pub struct Hop {
     /// The block's number.
@@ -19,7 +20,8 @@ pub struct Hop {
     pub dwell_s: u32,
 }
 
-/// A run with its route's signals and blocks looked up: one hop for each signal, in the route's order.
+/// A run with its route's signals and blocks looked up: one hop for each signal, in the route's
+/// order.
 #[derive(Drop)]
 pub struct Path {
     pub run: Name,

@@ -8,7 +8,8 @@ use crate::{
     GREATEST_WINDOW_END_S, Item, Leg, PATH_HOPS, Route, Run, Section, Signal,
 };
 
-/// Whether all numbers of an item, and the length of its list, are within the limits.
+/// Whether all numbers of an item, and the length of its list, are within the limits; a run ends
+/// without a dwell, and a window is not empty.
 pub fn is_within(item: &Item) -> bool
     ensures { result ≡ within.is_within item.now }
 {

@@ -1,12 +1,13 @@
 //! Blocking times and stairways.
 use crate::{List, Name};
 
-/// A run's blocking of one block, which is Pachl's blocking time: the half-open interval from `start` to
-/// `end`, in seconds from the timetable's origin.
+/// A run's blocking of one block, which is Pachl's blocking time, or in a cut its use of a
+/// connection: the half-open interval from `start` to `end`, in seconds from the timetable's
+/// origin.
 #[derive(Clone, Copy)]
 pub struct Use {
-    /// In a stairway the block's number; in a cut a place among its places: the section's blocks, then
-    /// connections.
+    /// In a stairway the block's number; in a cut a place among its places: the section's blocks,
+    /// then connections.
     pub block: u32,
     pub start: i64,
     pub end: i64,

@@ -1,7 +1,7 @@
 -- The row that spells a line spells it again.
 use Rattle.std.proofs.Common.{◌≡◌, ℕ, suc, ◌+◌, ◌-◌, ◌%◌, ◌<◌, ◌≤◌, Bool, true, false, ◌==◌, nat_lt, nat_le, List, [], ◌∷◌, length, map, Result, Ok, Some, refl, sym, ap, ◌∙◌, subst, inl, inr, arith}
 use Rattle.std.specs.List.{list_all}
-use Rattle.std.proofs.lemmas.Bool.{cases_Bool, and_parts, leb-true, le-ltb, false≢true}
+use Rattle.std.proofs.lemmas.Bool.{cases_Bool, and_parts, leb-true, le-ltb, false≢true, lt-ltb}
 use Rattle.rail_model.specs.declared.form.Form.{Form}
 use Rattle.rail_model.specs.declared.form.Form.TheVariants as form
 use Rattle.rail_model.specs.declared.edit.Kind.{Kind}
@@ -21,7 +21,7 @@ use Rattle.row_text.specs.Lines.{read_each, legs_of, differences, falls, run_leg
 use Rattle.row_text.specs.Spelling.{leg_times, sums, run_times, time_text, kind_of_item, item_fields, row_in, has_clock_times, has_times_in, IsSpelled}
 use Rattle.std.proofs.lemmas.List.{length-map}
 use Rattle.row_text.specs.Words.{Shape}
-use Rattle.row_text.proofs.Numbers.{lt_true, number_in-decimal, rate_in-decimal, time_in-text}
+use Rattle.row_text.proofs.Numbers.{number_in-decimal, rate_in-decimal, time_in-text}
 use Rattle.row_text.proofs.Says.{Says, Each, Makes, read_from-makes, bind-ok}
 
 -- the times of legs are those that they were made of, where the last leg has no dwell time
@@ -179,7 +179,7 @@ item-again version (item.Connection c) first is clock = rw (is.0, is.1, is.2, nu
 allows-more : (shape : Shape) (fields more : ℕ) → fields ≡ length shape.sorts + more + 1 → may_follow shape.more more ≡ true → allows shape fields ≡ true
 allows-more shape fields more count few =
     let rest : fields - length shape.sorts - 1 ≡ more = omega arith in
-    rw (lt_true (length shape.sorts) fields (omega arith), rest, few) refl
+    rw (lt-ltb (length shape.sorts) fields (omega arith), rest, few) refl
 
 item-allows : (version : ℕ) (x : Item) (first : List ℕ) → IsItem x → ((version == 2) ≡ true → has_clock_times x ≡ true) → allows (kind_shape (kind_of_item x)) (length (first ∷ item_fields version x)) ≡ true
 item-allows version (item.Block b) first is clock = refl

@@ -2,7 +2,8 @@
 use Rattle.std.proofs.Common.{◌≡◌, ℕ, ◌+◌, ◌-◌, ◌*◌, ◌/◌, ◌%◌, ◌^◌, ◌<◌, ◌≤◌, Bool, true, false, ◌&&◌, ◌==◌, nat_lt, nat_le, List, [], ◌∷◌, ◌++◌, length, take, get_or, Some, None, Ok, decimal, slice_range, refl, ap, ◌∙◌, inl, inr, arith}
 use Rattle.std.specs.List.{list_all}
 use Rattle.std.specs.Char.{is_ascii_digit}
-use Rattle.std.proofs.lemmas.Bool.{cases_Bool}
+use Rattle.std.proofs.Math.Bool.{and-false}
+use Rattle.std.proofs.lemmas.Bool.{cases_Bool, lt-ltb, le-leb}
 use Rattle.std.proofs.lemmas.Bool.Decides.{nat_tests}
 use Rattle.std.proofs.Math.Seq.{take-append_seam, drop-append-add}
 use Rattle.std.proofs.lemmas.List.{length-append, get_or-append-add}
@@ -12,12 +13,6 @@ use Rattle.std.proofs.lemmas.List.Sums.{fold-append}
 use Rattle.std.proofs.lemmas.Fmt.{decimal_by_steps, length-decimal-le, decimal_nonempty, decimal_step}
 use Rattle.row_text.specs.Sorts.{value_of, number_of, number_in, rate_in, has_clock_form, clock_of, time_in}
 use Rattle.row_text.specs.Spelling.{two_digits, hours_text, clock_text, time_text}
-
-pub lt_true : (a b : ℕ) → a < b → nat_lt a b ≡ true
-lt_true a b h = grind (arith, nat_tests)
-
-le_true : (a b : ℕ) → a ≤ b → nat_le a b ≡ true
-le_true a b h = grind (arith, nat_tests)
 
 is_digit : (d : ℕ) → d < 10 → is_ascii_digit (48 + d) ≡ true
 is_digit d lt = grind (arith, nat_tests)
@@ -42,7 +37,7 @@ decimal_digits n small = decimal_by_steps (λ n digits. (list_all is_ascii_digit
 -- digits are a number where there are one to nine
 number_of-digits : (digits : List ℕ) (n : ℕ) → 0 < length digits → length digits ≤ 9 → list_all is_ascii_digit digits ≡ true → value_of digits ≡ n → number_of digits ≡ Some n
 number_of-digits digits n some few all value =
-    rw (lt_true 0 (length digits) some, le_true (length digits) 9 few, all, value) refl
+    rw (lt-ltb 0 (length digits) some, le-leb (length digits) 9 few, all, value) refl
 
 -- a number of at most nine digits is read from its text
 pub number_of-decimal : (n : ℕ) → n < 1000000000 → number_of (decimal n) ≡ Some n
@@ -95,7 +90,7 @@ parts hours m n s t some few =
     let first : get_or (hours ++ tail) (length (hours ++ tail) - 6) 0 ≡ 58 = rw (start, get_or-append-add hours tail 0 0) refl in
     let second : get_or (hours ++ tail) (length (hours ++ tail) - 3) 0 ≡ 58 = rw (middle, get_or-append-add hours tail 3 0) refl in
     record {
-      form = rw (first, second, le_true 7 (length (hours ++ tail)) (omega (arith, size)), le_true (length (hours ++ tail)) 11 (omega (arith, size))) refl;
+      form = rw (first, second, le-leb 7 (length (hours ++ tail)) (omega (arith, size)), le-leb (length (hours ++ tail)) 11 (omega (arith, size))) refl;
       digits = omega (arith, size);
       hours_part = take-append_seam hours tail;
       minutes_part = rw (two_more 1 3 refl, drop-append-add hours tail 1) refl;
@@ -105,7 +100,7 @@ parts hours m n s t some few =
 clock_of-parts : (field hours minutes seconds : List ℕ) (h m s : ℕ) → Parts field hours minutes seconds → number_of hours ≡ Some h → number_of minutes ≡ Some m → number_of seconds ≡ Some s → m < 60 → s < 60
     → clock_of field ≡ Some (h * 3600 + m * 60 + s)
 clock_of-parts field hours minutes seconds h m s p is_h is_m is_s few_m few_s =
-    rw (p.form, p.digits, p.hours_part, p.minutes_part, p.seconds_part, is_h, is_m, is_s, lt_true m 60 few_m, lt_true s 60 few_s) refl
+    rw (p.form, p.digits, p.hours_part, p.minutes_part, p.seconds_part, is_h, is_m, is_s, lt-ltb m 60 few_m, lt-ltb s 60 few_s) refl
 
 clock_text-tail : (seconds : ℕ) → clock_text seconds ≡ hours_text (seconds / 3600) ++ ((58 ∷ two_digits (seconds / 60 % 60)) ++ (58 ∷ two_digits (seconds % 60)))
 clock_text-tail seconds = append_assoc (hours_text (seconds / 3600)) (58 ∷ two_digits (seconds / 60 % 60)) (58 ∷ two_digits (seconds % 60))
@@ -120,16 +115,12 @@ clock_of-text seconds few =
     let sum : seconds / 3600 * 3600 + m * 60 + s ≡ seconds = omega arith in
     rw clock_text-tail (clock_of-parts _ _ _ _ (seconds / 3600) m s p of_hours.0 (two_digits-number m (omega arith)) (two_digits-number s (omega arith)) (omega arith) (omega arith) ∙ ap Some sum)
 
-and_false : (b : Bool) → (b && false) ≡ false
-and_false true = refl
-and_false false = refl
-
 -- and is no number
 number_of-clock : (seconds : ℕ) → number_of (clock_text seconds) ≡ None
 number_of-clock seconds =
     let tail : List ℕ = (58 ∷ two_digits (seconds / 60 % 60)) ++ (58 ∷ two_digits (seconds % 60)) in
-    let other : list_all is_ascii_digit (hours_text (seconds / 3600) ++ tail) ≡ false = list_all-append is_ascii_digit (hours_text (seconds / 3600)) tail ∙ and_false _ in
-    rw (clock_text-tail, other, and_false) refl
+    let other : list_all is_ascii_digit (hours_text (seconds / 3600) ++ tail) ≡ false = list_all-append is_ascii_digit (hours_text (seconds / 3600)) tail ∙ and-false _ in
+    rw (clock_text-tail, other, and-false) refl
 
 -- a time is read from its text in each version
 pub time_in-text : (version seconds : ℕ) → seconds < 1000000000 → ((version == 2) ≡ true → seconds ≤ 359999999) → time_in version (time_text version seconds) ≡ Ok seconds

@@ -8,10 +8,11 @@ use Rattle.std.proofs.lemmas.Bool.Decides.{nat_tests}
 use Rattle.csv.specs.Writing.{default_writer, needs_byte, needs_quotes, field_text}
 use Rattle.std.proofs.Common.{◌+◌, ◌++◌, ◌||◌, ◌==◌, not, map, take, length, get_or}
 use Rattle.std.proofs.lemmas.List.{take_more, map-append}
+use Rattle.std.proofs.Math.Bool.{or-true}
 use Rattle.row_text.specs.Put.{separator, more_text}
 use Rattle.row_text.specs.SheetRows.{has_fields}
 use Rattle.row_text.proofs.Numbers.{decimal_digits}
-use Rattle.row_text.proofs.SheetRows.{more_text-push, has_fields-append, or_true}
+use Rattle.row_text.proofs.SheetRows.{more_text-push, has_fields-append}
 
 digit-plain : (b : ℕ) → is_ascii_digit b ≡ true → needs_byte default_writer b ≡ false
 digit-plain b digit = grind (arith, nat_tests)
@@ -43,7 +44,7 @@ pub more_text-numbers : (has_field : Bool) (numbers : List ℤ) (i : ℕ) (d : �
 more_text-numbers has_field numbers i d lt fits = rw (take_more numbers i d lt, map-append, more_text-push, field_text-signed_decimal (get_or numbers i d) fits) refl
 
 pub has_fields-numbers : (has_field : Bool) (numbers : List ℤ) (i : ℕ) (d : ℤ) → i < length numbers → (has_field || has_fields (map signed_decimal (take (i + 1) numbers))) ≡ true
-has_fields-numbers has_field numbers i d lt = rw (take_more numbers i d lt, map-append, has_fields-append, or_true, or_true) refl
+has_fields-numbers has_field numbers i d lt = rw (take_more numbers i d lt, map-append, has_fields-append, or-true, or-true) refl
 
 -- there is a field for each number
 pub has_fields-map : (numbers : List ℤ) → has_fields (map signed_decimal numbers) ≡ not (length numbers == 0)

@@ -1,6 +1,7 @@
 -- The bytes of a sheet and the rows that they are the text of.
 use Rattle.std.proofs.Common.{◌≡◌, ℕ, zero, suc, ◌+◌, ◌<◌, ◌≤◌, Bool, true, false, ◌==◌, ◌||◌, List, [], ◌∷◌, ◌++◌, length, None, IsTrue, if◌then◌else◌, subst, refl, sym, ap, ◌∙◌, append_assoc, arith, rules}
 use Rattle.std.specs.List.{list_all}
+use Rattle.std.proofs.Math.Bool.{or-false, or-true}
 use Rattle.std.proofs.lemmas.Bool.{and_parts, false≢true, ne_eqb}
 use Rattle.std.proofs.lemmas.List.{append-nil, length-append}
 use Rattle.csv.specs.Machine.{next_record}
@@ -14,14 +15,6 @@ use Rattle.row_text.specs.Put.{separator, more_text}
 use Rattle.row_text.specs.SheetRows.{SheetRows, text_of_row, text_of_rows, has_fields}
 use Rattle.row_text.specs.Sheet.{ended_text, open_text, ended_row, first_row, sheet_rows}
 use Rattle.row_text.specs.SheetText.{HoldsRows, IsSheet}
-
-or_false : (b : Bool) → (b || false) ≡ b
-or_false true = refl
-or_false false = refl
-
-pub or_true : (b : Bool) → (b || true) ≡ true
-or_true true = refl
-or_true false = refl
 
 pub IsTrue-true : {b : Bool} → IsTrue b → b ≡ true
 IsTrue-true h = search rules
@@ -102,8 +95,8 @@ more_text-body has_field [] some = absurd (false≢true some)
 more_text-body has_field (first ∷ more) some = rw (more_text-fields more) refl
 
 pub more_text-push : (has_field : Bool) (more : Row) (text : List ℕ) → more_text has_field (more ++ text ∷ []) ≡ more_text has_field more ++ (separator (has_field || has_fields more) ++ field_text default_writer text)
-more_text-push has_field [] text = rw (or_false has_field, append-nil (field_text default_writer text)) refl
-more_text-push has_field (first ∷ more) text = rw (or_true has_field, more_text-push true more text) (simp append_assoc)
+more_text-push has_field [] text = rw (or-false has_field, append-nil (field_text default_writer text)) refl
+more_text-push has_field (first ∷ more) text = rw (or-true has_field, more_text-push true more text) (simp append_assoc)
 
 pub has_fields-some : (row : Row) → 0 < length row → has_fields row ≡ true
 has_fields-some [] some = absurd (omega arith)

@@ -13,13 +13,7 @@ use Rattle.row_text.specs.declared.word.Word.TheVariants as word
 use Rattle.std.specs.Option.{option_or}
 use Rattle.rail_model.specs.declared.edit.Kind.{Kind}
 use Rattle.row_text.specs.Words.{kind_text, kinds, word_text, word_of}
-
-find-map : {X Y : Type 0} (f : X → Y) (test : Y → Bool) (xs : List X) → find test (map f xs) ≡ option_map f (find (λ x. test (f x)) xs)
-find-map f test [] = refl
-find-map f test (x ∷ xs) = elim (cases_Bool (test (f x))) [
-  | inl found ↦ rw found refl
-  | inr other ↦ rw other (find-map f test xs)
-]
+use Rattle.rail_model.proofs.Lists.{find-map}
 
 find-none : {X : Type 0} (test : X → Bool) (xs : List X) → ((x : X) → test x ≡ false) → find test xs ≡ None
 find-none test [] none = refl

@@ -16,7 +16,8 @@ use rail_model::{
 };
 use std::alloc::Global;
 
-/// The row that spells a line in version 1 of the rows.
+/// The row that spells a line in version 1 of the rows: where any row spells the line, reading this
+/// one gives it again.
 pub fn spell(alloc: Global, line: &Line) -> Result<Fields, OutOfMemory>
     ensures row { IfOk result (λ row. row ≡ spelling.row_in 1 line.now) }
     ensures again { spelling.IsSpelled line.now
@@ -26,7 +27,8 @@ pub fn spell(alloc: Global, line: &Line) -> Result<Fields, OutOfMemory>
 }
 
 /// The row that spells a line in a version of the rows, 1 or 2. In version 2 the times of runs and
-/// sections are times of day, none above 359,999,999 s: `has_times_in` is the test.
+/// sections are times of day, none above 359,999,999 s: `has_times_in` is the test. Where any row
+/// spells the line, reading this one gives it again.
 pub fn spell_in(alloc: Global, version: u32, line: &Line) -> Result<Fields, OutOfMemory>
     requires { IsTrue (spelling.has_times_in version line.now) }
     ensures row { IfOk result (λ row. row ≡ spelling.row_in version line.now) }

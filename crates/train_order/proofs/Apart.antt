@@ -1,9 +1,9 @@
 -- Numbers of which none stands twice, in whatever order they are put.
-use Rattle.std.proofs.Common.{◌≡◌, ◌≢◌, ℕ, ◌<◌, Bool, ◌==◌, List, length, get_or, inl, inr, sym, ◌∙◌, arith}
+use Rattle.std.proofs.Common.{◌≡◌, ◌≢◌, ℕ, ◌<◌, Bool, ◌==◌, List, length, get_or, inl, inr, sym, arith}
 use Rattle.std.specs.Prelude.{filter, AllPairs}
 use Rattle.std.specs.List.{range_with_len, All}
 use Rattle.std.specs.List.Sorted.{IsPermutation}
-use Rattle.std.proofs.lemmas.Bool.{cases_order, cases_eq, eq-eqb, ne_eqb, both_ways}
+use Rattle.std.proofs.lemmas.Bool.{cases_order, eq-eqb, both_ways}
 use Rattle.std.proofs.lemmas.Bool.Decides.{Decides-eqb}
 use Rattle.std.proofs.lemmas.List.FromFn.{length-range_with_len, get_or-range_with_len}
 use Rattle.std.proofs.lemmas.List.Elements.{All-from_get_or}
@@ -11,6 +11,7 @@ use Rattle.std.proofs.lemmas.List.Sorted.{All-permutation}
 use Rattle.std.proofs.lemmas.List.Kept.{AllPairs-filter}
 use Rattle.std.proofs.lemmas.Map.Keys.{IsDistinct-IsPermutation, apart_from_distinct}
 use Rattle.std.proofs.lemmas.Map.Made.{IsDistinct-from_AllPairs}
+use Rattle.rail_model.proofs.Numbers.{eqb-sym}
 use Rattle.plan_model.specs.declared.cut.Cut.{Cut}
 use Rattle.plan_model.specs.Members.{member_count, members}
 
@@ -32,19 +33,12 @@ range_differs n i j d l lj e =
 pub passing_differ : (test : ℕ → Bool) (n : ℕ) → Differ (filter test (range_with_len 0 n))
 passing_differ test n = AllPairs-filter (λ i j. i ≢ j) test (range_with_len 0 n) (range_differs n)
 
-flips : (i j : ℕ) → (i == j) ≡ (j == i)
-flips i j =
-    elim (cases_eq i j) [
-      | inl e ↦ eq-eqb i j e ∙ sym (eq-eqb j i (sym e))
-      | inr ne ↦ ne_eqb i j ne ∙ sym (ne_eqb j i (λ e. ne (sym e)))
-    ]
-
 module _ (some other : List ℕ) (differ : Differ some) (same : IsPermutation some other) where
   pub not_twice : (k l : ℕ) → k < l → l < length other → get_or other k 0 ≡ get_or other l 0 → ⊥
   not_twice k l lt ll e =
       both_ways _
       (apart_from_distinct (λ i j. i == j) other k l 0
-      (IsDistinct-IsPermutation (λ i j. i == j) flips some other same (IsDistinct-from_AllPairs Decides-eqb some differ)) lt ll)
+      (IsDistinct-IsPermutation (λ i j. i == j) eqb-sym some other same (IsDistinct-from_AllPairs Decides-eqb some differ)) lt ll)
       (eq-eqb _ _ e)
 
   pub one_place : (k l : ℕ) → k < length other → l < length other → get_or other k 0 ≡ get_or other l 0 → k ≡ l

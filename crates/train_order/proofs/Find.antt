@@ -1,12 +1,60 @@
--- What a search finds in ranges, and in lists that are gathered over them.
-use Rattle.std.proofs.Common.{◌≡◌, ℕ, zero, suc, ◌+◌, ◌<◌, ◌≤◌, Bool, true, false, List, [], ◌∷◌, length, take, drop, get_or, map, inl, inr, refl, sym, ap, subst, ◌∙◌, arith}
-use Rattle.std.specs.Prelude.{Some, None, find, option_map}
+-- What a search finds: in any list, in ranges, and in lists that are gathered over them.
+use Rattle.std.proofs.Common.{◌≡◌, ℕ, zero, suc, ◌+◌, ◌<◌, ◌≤◌, Bool, true, false, ◌==◌, List, [], ◌∷◌, length, take, drop, get_or, inl, inr, refl, sym, ap, subst, ◌∙◌, arith}
+use Rattle.std.specs.Prelude.{Some, None, find}
 use Rattle.std.specs.Option.{option_or}
-use Rattle.std.specs.List.{flat_map, range_with_len}
-use Rattle.std.proofs.lemmas.Bool.{cases_Bool, cases_eq}
+use Rattle.std.specs.List.{flat_map, list_any, range_with_len, All}
+use Rattle.std.proofs.lemmas.Bool.{cases_Bool, cases_eq, eq-eqb, or_left, or_right}
+use Rattle.std.proofs.lemmas.List.Elements.{All-head, All-tail}
 use Rattle.std.proofs.lemmas.List.{take_more, take-append-drop}
-use Rattle.std.proofs.lemmas.List.Folds.{find-append}
-use Rattle.train_order.proofs.Ranges.{flat_more}
+use Rattle.std.proofs.lemmas.List.Folds.{find-append, list_any_at}
+use Rattle.rail_model.proofs.Lists.{flat_map-range_more}
+use Rattle.plan_model.specs.Places.{is_among}
+
+-- ---- in any list
+
+-- tests that agree find the same
+pub find_agree : {X : Type 0} (p q : X → Bool) (xs : List X) → All (λ x. p x ≡ q x) xs → find p xs ≡ find q xs
+find_agree p q [] h = refl
+find_agree p q (x ∷ xs) h =
+    let here : p x ≡ q x = All-head (λ x. p x ≡ q x) x xs h in
+    let rest = find_agree p q xs (All-tail (λ x. p x ≡ q x) x xs h) in
+    elim (cases_Bool (q x)) [
+      | inl e ↦ let f : p x ≡ true = here ∙ e in rw (e, f) refl
+      | inr e ↦ let f : p x ≡ false = here ∙ e in rw (e, f) rest
+    ]
+
+-- what is found passes, and what holds of all holds of it
+pub find_holds : {X : Type 0} (p : X → Bool) (P : X → Type 0) (xs : List X) (y : X) → All P xs → find p xs ≡ Some y
+    → (p y ≡ true) × P y
+find_holds p P [] y h e = absurd (cc)
+find_holds {X} p P (x ∷ xs) y h e =
+    elim (cases_Bool (p x)) [
+      | inl t ↦
+          let is : x ≡ y = (let g : Some x ≡ Some y = rw t at e in cc) in
+          subst (λ (z : X). (p z ≡ true) × P z) is (t, All-head P x xs h)
+      | inr f ↦ find_holds p P xs y (All-tail P x xs h) (rw f at e)
+    ]
+
+-- what is found is one of some, and passes
+pub found : (test : ℕ → Bool) (some : List ℕ) (x : ℕ) → find test some ≡ Some x
+    → (is_among some x ≡ true) × (test x ≡ true)
+found test some x e =
+    let r = find_holds test (λ i. is_among some i ≡ true) some x (λ k d l. list_any_at _ some k d l (eq-eqb _ _ refl)) e in
+    (r.1, r.0)
+
+-- where one passes, one is found
+pub find_some : (test : ℕ → Bool) (some : List ℕ) → list_any test some ≡ true
+    → (i : ℕ) × (find test some ≡ Some i) × (is_among some i ≡ true) × (test i ≡ true)
+find_some test [] h = absurd (cc)
+find_some test (k ∷ some) h =
+    elim (cases_Bool (test k)) [
+      | inl e ↦ (k, rw e refl, or_left (k == k) (is_among some k) (eq-eqb k k refl), e)
+      | inr e ↦
+          let r = find_some test some (rw e at h) in
+          (r.0, rw e r.1, or_right (k == r.0) (is_among some r.0) r.2, r.3)
+    ]
+
+-- ---- in a range
 
 pub none_found : (test : ℕ → Bool) (a n : ℕ) → ((k : ℕ) → a ≤ k → k < a + n → test k ≡ false)
     → find test (range_with_len a n) ≡ None
@@ -26,16 +74,10 @@ first_found test a (suc n) x l m none t =
           rw here (first_found test (a + 1) n x (omega (arith, apart)) (omega arith) (λ k lk mk. none k (omega arith) mk) t)
     ]
 
-pub find_map : {X Y : Type 0} (test : Y → Bool) (f : X → Y) (xs : List X)
-    → find test (map f xs) ≡ option_map f (find (λ x. test (f x)) xs)
-find_map test f [] = refl
-find_map test f (x ∷ xs) =
-    elim (cases_Bool (test (f x))) [ inl e ↦ rw e refl | inr e ↦ rw e (find_map test f xs) ]
-
 module _ {X : Type 0} (test : X → Bool) (f : ℕ → List X) where
   both : (n : ℕ) → find test (flat_map f (range_with_len 0 (n + 1)))
       ≡ option_or (find test (flat_map f (range_with_len 0 n))) (find test (f n))
-  both n = ap (find test) (flat_more f n) ∙ find-append test (flat_map f (range_with_len 0 n)) (f n)
+  both n = ap (find test) (flat_map-range_more f n) ∙ find-append test (flat_map f (range_with_len 0 n)) (f n)
 
   pub none_yet : (n : ℕ) → find test (flat_map f (range_with_len 0 n)) ≡ None → find test (f n) ≡ None
       → find test (flat_map f (range_with_len 0 (n + 1))) ≡ None

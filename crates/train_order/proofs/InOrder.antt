@@ -30,7 +30,7 @@ use Rattle.train_order.proofs.Apart.{range_differs, not_twice, below}
 use Rattle.train_order.proofs.Before.{key_cmp_total, earlier_is, never_itself, not_later}
 use Rattle.train_order.proofs.Users.{users, somewhere}
 use Rattle.train_order.proofs.Opposed.{none_opposite}
-use Rattle.train_order.proofs.Rounds.{some_passes}
+use Rattle.train_order.proofs.Find.{find_some}
 
 module _ (cut : Cut) (positions : List ℕ) (once : IsPermutation (members cut) positions) where
   abbrev n : ℕ
@@ -54,7 +54,7 @@ module _ (cut : Cut) (positions : List ℕ) (once : IsPermutation (members cut) 
     -- a member stands before those that it precedes
     before : (i j : ℕ) (li : i < n) (lj : j < n) → precedes_somewhere cut i j ≡ true → (stands i li).at < (stands j lj).at
     before i j li lj h =
-        let some = some_passes (precedes (member cut i) (member cut j)) (places cut) h in
+        let some = find_some (precedes (member cut i) (member cut j)) (places cut) h in
         let place = some.0 in
         let a = stands i li in
         let b = stands j lj in
@@ -63,13 +63,13 @@ module _ (cut : Cut) (positions : List ℕ) (once : IsPermutation (members cut) 
           | inr ge ↦ absurd (elim (cases_eq a.at b.at) [
             | inl e ↦
                 let same : j ≡ i = sym b.is ∙ ap (λ k. get_or positions k 0) (sym e) ∙ a.is in
-                not_itself sound i place li (subst (λ m. precedes (member cut i) (member cut m) place ≡ true) same some.2)
+                not_itself sound i place li (subst (λ m. precedes (member cut i) (member cut m) place ≡ true) same some.3)
             | inr ne ↦
                 let never : precedes (member cut i) (member cut j) place ≡ false =
                 subst (λ m. precedes (member cut m) (member cut j) place ≡ false) a.is
                 (subst (λ m. precedes (member cut (get_or positions a.at 0)) (member cut m) place ≡ false) b.is
                 (kept b.at a.at place (omega arith) a.within)) in
-                both_ways _ never some.2
+                both_ways _ never some.3
           ])
         ]
 
@@ -95,9 +95,9 @@ module _ (cut : Cut) (positions : List ℕ) (once : IsPermutation (members cut) 
     round m some left = record {
       gone = λ j l lm. false_from_ne_true _ (λ h.
           let here = filter-has (λ k. list_any (λ i. precedes_somewhere cut i k) some) some j h in
-          let one = some_passes (λ i. precedes_somewhere cut i j) some here.1 in
-          let li = left.below one.0 one.1 in
-          both_ways _ (left.gone one.0 li (omega (arith, before one.0 j li l one.2, lm))) one.1);
+          let one = find_some (λ i. precedes_somewhere cut i j) some here.1 in
+          let li = left.below one.0 one.2 in
+          both_ways _ (left.gone one.0 li (omega (arith, before one.0 j li l one.3, lm))) one.2);
       below = λ j h. left.below j (filter-has (λ k. list_any (λ i. precedes_somewhere cut i k) some) some j h).0;
     }
 

@@ -20,7 +20,7 @@ use Rattle.train_order.proofs.Among.{among_passing, passing_among}
 use Rattle.train_order.proofs.Before.{names, less_test}
 use Rattle.train_order.proofs.FirstPlace.{among_within}
 use Rattle.train_order.proofs.Gathered.{any_found}
-use Rattle.train_order.proofs.Rounds.{some_passes}
+use Rattle.train_order.proofs.Find.{find_some}
 
 -- ---- the places of some uses
 
@@ -98,8 +98,8 @@ module _ (cut : Cut) (sound : IsSoundCut cut) (i j : ℕ) (li : i < member_count
   linked : (answer : Option ℕ) → precedes_somewhere cut i j ≡ true → AnswersFirst cut firsts answer
       → IsLinked cut i j answer
   linked None h none =
-      let one = some_passes (precedes (member cut i) (member cut j)) (places cut) h in
-      absurd (both_ways (is_among firsts one.0) (ap (λ ps. is_among ps one.0) none) (same_places one.0 ∙ one.2))
+      let one = find_some (precedes (member cut i) (member cut j)) (places cut) h in
+      absurd (both_ways (is_among firsts one.0) (ap (λ ps. is_among ps one.0) none) (same_places one.0 ∙ one.3))
   linked (Some b) h first =
       let test : ℕ → Bool = precedes (member cut i) (member cut j) in
       let least : first_by_name cut (places_of_precedence cut i j) ≡ Some b =

@@ -1,10 +1,11 @@
 -- The first opposite pair by the sets is the least opposite pair of the cut.
-use Rattle.std.proofs.Common.{◌≡◌, ℕ, zero, suc, ◌+◌, ◌-◌, ◌<◌, Bool, true, false, ◌&&◌, List, [], ◌∷◌, length, map, inl, inr, refl, sym, ap, subst, ◌∙◌, arith}
+use Rattle.std.proofs.Common.{◌≡◌, ℕ, zero, suc, ◌+◌, ◌-◌, ◌<◌, true, false, ◌&&◌, List, length, map, sym, ap, subst, ◌∙◌, arith}
 use Rattle.std.specs.Prelude.{Some, None, find}
 use Rattle.std.specs.List.{flat_map, range_with_len, All}
-use Rattle.std.proofs.lemmas.Bool.{cases_Bool, and_parts, false_from_ne_true}
-use Rattle.std.proofs.lemmas.List.Elements.{All-nil, All-head, All-tail, All-append, All-map, All-from_get_or}
+use Rattle.std.proofs.lemmas.Bool.{and_parts, false_from_ne_true}
+use Rattle.std.proofs.lemmas.List.Elements.{All-nil, All-append, All-map, All-weaker, All-from_get_or}
 use Rattle.std.proofs.lemmas.List.FromFn.{length-range_with_len, get_or-range_with_len}
+use Rattle.rail_model.proofs.Lists.{find_none, flat_map-range_more}
 use Rattle.plan_model.specs.declared.cut.Cut.{Cut}
 use Rattle.plan_model.specs.Members.{member_count}
 use Rattle.plan_model.specs.Precedence.{precedes_somewhere}
@@ -13,40 +14,13 @@ use Rattle.train_order.specs.declared.member_set.MemberSet.{MemberSet}
 use Rattle.train_order.specs.Sets.{relates, ArePreceded}
 use Rattle.train_order.specs.Opposite.{oppose, first_opposed}
 use Rattle.train_order.specs.Ordering.{AreOpposed}
-use Rattle.train_order.proofs.Ranges.{flat_more}
-
-find_agree : {X : Type 0} (p q : X → Bool) (xs : List X) → All (λ x. p x ≡ q x) xs → find p xs ≡ find q xs
-find_agree p q [] h = refl
-find_agree p q (x ∷ xs) h =
-    let here : p x ≡ q x = All-head (λ x. p x ≡ q x) x xs h in
-    let rest = find_agree p q xs (All-tail (λ x. p x ≡ q x) x xs h) in
-    elim (cases_Bool (q x)) [
-      | inl e ↦ let f : p x ≡ true = here ∙ e in rw (e, f) refl
-      | inr e ↦ let f : p x ≡ false = here ∙ e in rw (e, f) rest
-    ]
-
-find_none : {X : Type 0} (p : X → Bool) (xs : List X) → All (λ x. p x ≡ false) xs → find p xs ≡ None
-find_none p [] h = refl
-find_none p (x ∷ xs) h =
-    let f : p x ≡ false = All-head (λ x. p x ≡ false) x xs h in
-    rw f (find_none p xs (All-tail (λ x. p x ≡ false) x xs h))
-
-find_holds : {X : Type 0} (p : X → Bool) (P : X → Type 0) (xs : List X) (y : X) → All P xs → find p xs ≡ Some y
-    → (p y ≡ true) × P y
-find_holds p P [] y h e = absurd (cc)
-find_holds {X} p P (x ∷ xs) y h e =
-    elim (cases_Bool (p x)) [
-      | inl t ↦
-          let is : x ≡ y = (let g : Some x ≡ Some y = rw t at e in cc) in
-          subst (λ (z : X). (p z ≡ true) × P z) is (t, All-head P x xs h)
-      | inr f ↦ find_holds p P xs y (All-tail P x xs h) (rw f at e)
-    ]
+use Rattle.train_order.proofs.Find.{find_agree, find_holds}
 
 all_flat : {X : Type 0} (P : X → Type 0) (f : ℕ → List X) (n : ℕ) → ((i : ℕ) → i < n → All P (f i)) → All P (flat_map f (range_with_len 0 n))
 all_flat P f zero h = All-nil P
 all_flat P f (suc n) h =
     subst (λ m. All P (flat_map f (range_with_len 0 m))) (let e : n + 1 ≡ suc n = omega arith in e)
-    (subst (λ xs. All P xs) (sym (flat_more f n)) (All-append P (flat_map f (range_with_len 0 n)) (f n) (all_flat P f n (λ i l. h i (omega arith))) (h n (omega arith))))
+    (subst (λ xs. All P xs) (sym (flat_map-range_more f n)) (All-append P (flat_map f (range_with_len 0 n)) (f n) (all_flat P f n (λ i l. h i (omega arith))) (h n (omega arith))))
 
 -- the lesser of two numbers first, both below n
 abbrev AreBelow : ℕ → ℕ × ℕ → Type 0
@@ -61,9 +35,6 @@ pairs_below n =
     let is = get_or-range_with_len (i + 1) (n - (i + 1)) k 0 lk' in
     (omega (arith, is), omega (arith, lk', is)))))
 
-all_by : {X : Type 0} (P Q : X → Type 0) (xs : List X) → ((x : X) → P x → Q x) → All P xs → All Q xs
-all_by P Q xs f h k d l = f _ (h k d l)
-
 pub first_below : (sets : List MemberSet) (i j : ℕ) → Some (i, j) ≡ first_opposed sets → (i < j) × (j < length sets)
 first_below sets i j e =
     (find_holds (λ (p : ℕ × ℕ). oppose sets p.0 p.1) (AreBelow (length sets)) (pairs (length sets)) (i, j) (pairs_below (length sets)) (sym e)).1
@@ -77,18 +48,18 @@ module _ (cut : Cut) where
       → opposite_pair cut ≡ None
   none_opposite never =
       find_none (λ (p : ℕ × ℕ). are_opposite cut p.0 p.1) (pairs n)
-      (all_by (AreBelow n) (λ (p : ℕ × ℕ). are_opposite cut p.0 p.1 ≡ false) (pairs n) (λ p below. false_from_ne_true _ (λ t.
+      (All-weaker (AreBelow n) (λ (p : ℕ × ℕ). are_opposite cut p.0 p.1 ≡ false) (λ p below. false_from_ne_true _ (λ t.
       let parts = and_parts (precedes_somewhere cut p.0 p.1) (precedes_somewhere cut p.1 p.0) t in
-      never p.0 p.1 (omega (arith, below.0, below.1)) below.1 parts.0 parts.1)) (pairs_below n))
+      never p.0 p.1 (omega (arith, below.0, below.1)) below.1 parts.0 parts.1)) (pairs n) (pairs_below n))
 
   module _ (sets : List MemberSet) (told : ArePreceded cut sets) where
     pub pair_is : opposite_pair cut ≡ first_opposed sets
     pair_is =
         find_agree (λ (p : ℕ × ℕ). are_opposite cut p.0 p.1) (λ (p : ℕ × ℕ). oppose sets p.0 p.1) (pairs n)
-        (all_by (AreBelow n) (λ (p : ℕ × ℕ). are_opposite cut p.0 p.1 ≡ oppose sets p.0 p.1) (pairs n) (λ p below.
+        (All-weaker (AreBelow n) (λ (p : ℕ × ℕ). are_opposite cut p.0 p.1 ≡ oppose sets p.0 p.1) (λ p below.
         let there : p.0 < n = omega (arith, below.0, below.1) in
         ap (λ b. b && precedes_somewhere cut p.1 p.0) (sym (told.each p.0 p.1 there below.1))
-        ∙ ap (λ b. relates sets p.0 p.1 && b) (sym (told.each p.1 p.0 below.1 there))) (pairs_below n))
+        ∙ ap (λ b. relates sets p.0 p.1 && b) (sym (told.each p.1 p.0 below.1 there))) (pairs n) (pairs_below n))
         ∙ ap (λ m. find (λ (p : ℕ × ℕ). oppose sets p.0 p.1) (pairs m)) (sym told.count)
 
     pub are_opposed : (i j : ℕ) → Some (i, j) ≡ first_opposed sets → AreOpposed cut i j

@@ -1,38 +1,21 @@
 -- Ranges that grow by one, and what is gathered over them.
-use Rattle.std.proofs.Common.{◌≡◌, ℕ, zero, suc, ◌+◌, ◌<◌, ◌≤◌, Bool, true, false, cond, ◌||◌, List, [], ◌∷◌, ◌++◌, length, map, length-append, inl, inr, refl, sym, ap, ◌∙◌, arith}
+use Rattle.std.proofs.Common.{◌≡◌, ℕ, zero, suc, ◌+◌, ◌<◌, ◌≤◌, Bool, true, false, cond, ◌||◌, [], ◌∷◌, ◌++◌, length, length-append, inl, inr, refl, ap, ◌∙◌, arith}
 use Rattle.std.specs.Prelude.{filter}
-use Rattle.std.specs.List.{list_any, flat_map, range_with_len}
+use Rattle.std.specs.List.{list_any, range_with_len}
+use Rattle.std.proofs.Math.Bool.{or-false}
 use Rattle.std.proofs.lemmas.Bool.{cases_Bool, cases_lt}
 use Rattle.std.proofs.lemmas.List.{append-nil}
-use Rattle.std.proofs.lemmas.List.Concat.{flat_map-append}
 use Rattle.std.proofs.lemmas.List.Elements.{filter-append}
 use Rattle.std.proofs.lemmas.List.Folds.{list_any-append}
-use Rattle.std.proofs.lemmas.List.FromFn.{map-range_with_len_more, length-range_with_len}
+use Rattle.std.proofs.lemmas.List.FromFn.{length-range_with_len}
 use Rattle.std.proofs.lemmas.List.Sums.{length-filter, count_by-le-length}
-
-map_same : (xs : List ℕ) → map (λ k. k) xs ≡ xs
-map_same [] = refl
-map_same (x ∷ xs) = ap (λ ys. x ∷ ys) (map_same xs)
-
-pub range_more : (a n j : ℕ) → a + n ≡ j → range_with_len a (n + 1) ≡ range_with_len a n ++ j ∷ []
-range_more a n j e =
-    sym (map_same (range_with_len a (n + 1))) ∙ map-range_with_len_more (λ k. k) a n j e
-    ∙ ap (λ xs. xs ++ j ∷ []) (map_same (range_with_len a n))
-
-pub flat_more : {X : Type 0} (f : ℕ → List X) (n : ℕ)
-    → flat_map f (range_with_len 0 (n + 1)) ≡ flat_map f (range_with_len 0 n) ++ f n
-flat_more f n =
-    ap (flat_map f) (range_more 0 n n (omega arith)) ∙ flat_map-append f (range_with_len 0 n) (n ∷ [])
-    ∙ ap (λ ys. flat_map f (range_with_len 0 n) ++ ys) (append-nil (f n))
-
-or_none : (b : Bool) → (b || false) ≡ b
-or_none b = elim (cases_Bool b) [ inl e ↦ rw e refl | inr e ↦ rw e refl ]
+use Rattle.rail_model.proofs.Lists.{range_more}
 
 pub any_more : (test : ℕ → Bool) (n : ℕ)
     → list_any test (range_with_len 0 (n + 1)) ≡ (list_any test (range_with_len 0 n) || test n)
 any_more test n =
     ap (list_any test) (range_more 0 n n (omega arith)) ∙ list_any-append test (range_with_len 0 n) (n ∷ [])
-    ∙ ap (λ b. list_any test (range_with_len 0 n) || b) (or_none (test n))
+    ∙ ap (λ b. list_any test (range_with_len 0 n) || b) (or-false (test n))
 
 -- those that pass a test
 pub passing_more : (test : ℕ → Bool) (n : ℕ)

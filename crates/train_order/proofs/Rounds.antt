@@ -1,9 +1,9 @@
 -- The members that are not taken up are those that remain after all rounds.
-use Rattle.std.proofs.Common.{◌≡◌, ◌≢◌, ℕ, zero, suc, ◌+◌, ◌<◌, Bool, true, false, not, ◌&&◌, ◌==◌, List, [], ◌∷◌, ◌++◌, length, get_or, inl, inr, refl, sym, ap, subst, ◌∙◌, arith}
+use Rattle.std.proofs.Common.{◌≡◌, ◌≢◌, ℕ, zero, suc, ◌+◌, ◌<◌, Bool, true, false, not, ◌&&◌, List, [], ◌∷◌, ◌++◌, length, get_or, inl, inr, refl, sym, ap, subst, ◌∙◌, arith}
 use Rattle.std.specs.Prelude.{filter}
 use Rattle.std.specs.List.{list_any, range_with_len}
 use Rattle.std.specs.List.Sorted.{IsPermutation}
-use Rattle.std.proofs.lemmas.Bool.{or_cases, or_left, or_right, eq-eqb, cases_Bool, cases_order, both_ways, false_from_ne_true, not_from_true, not_from_false}
+use Rattle.std.proofs.lemmas.Bool.{cases_Bool, cases_order, both_ways, false_from_ne_true, not_from_true, not_from_false}
 use Rattle.std.proofs.lemmas.List.{append-nil}
 use Rattle.plan_model.specs.declared.cut.Cut.{Cut}
 use Rattle.plan_model.specs.Members.{member_count, members}
@@ -14,19 +14,10 @@ use Rattle.train_order.specs.declared.member_set.MemberSet.{MemberSet}
 use Rattle.train_order.specs.Ordering.{StandsBefore, IsOrder}
 use Rattle.train_order.specs.Sets.{relates, ArePreceded}
 use Rattle.train_order.specs.Taking.{is_among, AreTakenUp}
+use Rattle.train_order.proofs.Find.{find_some}
 use Rattle.train_order.proofs.Among.{stands_at, first_among, among_first, among_passing, passing_among, not_before}
 use Rattle.train_order.proofs.Waiting.{same_passing}
 use Rattle.train_order.proofs.Whole.{twice, all_pass, left_of, all_there, whole_length}
-
--- one of some passes a test
-pub some_passes : (test : ℕ → Bool) (some : List ℕ) → list_any test some ≡ true
-    → (i : ℕ) × (is_among some i ≡ true) × (test i ≡ true)
-some_passes test [] h = absurd (cc)
-some_passes test (k ∷ some) h =
-    elim (or_cases (test k) (list_any test some) h) [
-      | inl e ↦ (k, or_left (k == k) (is_among some k) (eq-eqb k k refl), e)
-      | inr e ↦ let r = some_passes test some e in (r.0, or_right (k == r.0) (is_among some r.0) r.1, r.2)
-    ]
 
 module _ (cut : Cut) (sets : List MemberSet) (told : ArePreceded cut sets) (taken : List ℕ) (up : AreTakenUp sets taken) where
   abbrev n : ℕ
@@ -57,13 +48,13 @@ module _ (cut : Cut) (sets : List MemberSet) (told : ArePreceded cut sets) (take
   gone_then m some left k l lk h =
       let j = get_or taken k 0 in
       let here = filter-has (is_preceded some) some j h in
-      let one = some_passes (λ i. precedes_somewhere cut i j) some here.1 in
+      let one = find_some (λ i. precedes_somewhere cut i j) some here.1 in
       let i = one.0 in
-      let li : i < n = left.below i one.1 in
+      let li : i < n = left.below i one.2 in
       let lj : j < n = left.below j here.0 in
-      let related : relates sets i j ≡ true = told.each i j li lj ∙ one.2 in
+      let related : relates sets i j ≡ true = told.each i j li lj ∙ one.3 in
       let before = first_among taken k i (omega arith) (up.sound.after k i lk (omega (arith, li, told.count)) related) in
-      both_ways (is_among some i) (subst (λ x. is_among some x ≡ false) before.2 (left.gone before.0 (omega (arith, before.1)) (omega (arith, before.1)))) one.1
+      both_ways (is_among some i) (subst (λ x. is_among some x ≡ false) before.2 (left.gone before.0 (omega (arith, before.1)) (omega (arith, before.1)))) one.2
 
   kept_then : (m : ℕ) (some : List ℕ) → IsLeft m some → (j : ℕ) → j < n → is_among taken j ≡ false
       → is_among (preceded cut some) j ≡ true

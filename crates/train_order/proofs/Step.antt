@@ -2,6 +2,7 @@
 use Rattle.std.proofs.Common.{◌≡◌, ℕ, ◌+◌, ◌-◌, ◌<◌, ◌≤◌, Bool, true, false, cond, ◌&&◌, ◌||◌, ◌==◌, List, [], ◌∷◌, ◌++◌, length, take, get_or, inl, inr, refl, sym, ap, subst, ◌∙◌, arith, tests, length-append}
 use Rattle.std.specs.Prelude.{filter, slice_index}
 use Rattle.std.specs.List.{range_with_len, All}
+use Rattle.std.proofs.Math.Bool.{and-true}
 use Rattle.std.proofs.lemmas.Bool.{cases_Bool, cases_lt, and_parts, eqb-true, eq-eqb, ne_eqb, both_ways, false_from_ne_true}
 use Rattle.std.proofs.lemmas.Bool.Decides.{nat_tests}
 use Rattle.std.proofs.lemmas.List.{take-append-le, take_more, take_all, get_or_append_left, get_or-append_right}
@@ -27,13 +28,10 @@ module _ (sets : List MemberSet) where
   module _ (waits taken : List ℕ) (long : length waits ≡ n)
       (counted : (j : ℕ) → j < n → slice_index waits j ≡ length (filter (λ i. relates sets i j) (range_with_len 0 n)))
       (free : taken ≡ filter (λ j. slice_index waits j == 0) (range_with_len 0 n)) where
-    and_yes : (b : Bool) → (b && true) ≡ b
-    and_yes b = elim (cases_Bool b) [ inl e ↦ rw e refl | inr e ↦ rw e refl ]
-
     none_taken : (j : ℕ) → j < n → slice_index waits j ≡ waiting sets [] j
     none_taken j l =
         counted j l
-        ∙ ap length (same_passing (λ i. relates sets i j && true) (λ i. relates sets i j) 0 n (λ i li mi. sym (and_yes (relates sets i j))))
+        ∙ ap length (same_passing (λ i. relates sets i j && true) (λ i. relates sets i j) 0 n (λ i li mi. sym (and-true (relates sets i j))))
 
     free_is : (j : ℕ) → j < n → is_among taken j ≡ (slice_index waits j == 0)
     free_is j l =

@@ -1,45 +1,25 @@
 -- The walk to the first member that comes a second time.
-use Rattle.std.proofs.Common.{◌≡◌, ℕ, zero, suc, ◌+◌, ◌-◌, ◌<◌, ◌≤◌, Bool, true, false, not, ◌==◌, List, [], ◌∷◌, ◌++◌, length, take, drop, get_or, inl, inr, refl, sym, ap, subst, ◌∙◌, arith, length-append}
-use Rattle.std.specs.Prelude.{Some, find, unwrap_or}
-use Rattle.std.specs.List.{list_any, range_with_len, position_or_len, All}
-use Rattle.std.proofs.lemmas.Bool.{cases_Bool, cases_eq, or_cases, or_left, or_right, eqb-true, eq-eqb, ne_eqb, both_ways, false_from_ne_true}
+use Rattle.std.proofs.Common.{◌≡◌, ℕ, zero, suc, ◌+◌, ◌-◌, ◌<◌, ◌≤◌, true, false, not, ◌==◌, List, [], ◌∷◌, ◌++◌, length, take, drop, get_or, inl, inr, refl, sym, ap, subst, ◌∙◌, arith, length-append}
+use Rattle.std.specs.Prelude.{find, unwrap_or}
+use Rattle.std.specs.List.{position_or_len, All}
+use Rattle.std.proofs.lemmas.Bool.{cases_eq, or_cases, eqb-true, eq-eqb, ne_eqb, both_ways, false_from_ne_true}
 use Rattle.std.proofs.lemmas.List.Elements.{All-from_get_or}
-use Rattle.std.proofs.lemmas.List.{take_all, ext_get_or, get_or-take, length-take-le, get_or_append_left, get_or-append_right}
-use Rattle.std.proofs.lemmas.List.FromFn.{length-range_with_len, get_or-range_with_len}
+use Rattle.std.proofs.lemmas.List.{take_more, take_all, get_or-take, length-take-le, get_or_append_left, get_or-append_right}
+use Rattle.std.proofs.lemmas.List.Folds.{list_any_at}
 use Rattle.std.proofs.lemmas.List.Sums.{position_or_len_is, passes_at_first, fails_before_first, prefix_len-le-length}
 use Rattle.plan_model.specs.declared.cut.Cut.{Cut}
 use Rattle.plan_model.specs.Members.{member_count}
 use Rattle.plan_model.specs.Precedence.{precedes_somewhere}
-use Rattle.plan_model.specs.Disorder.{remaining, predecessor, walk_from, walk, came_before, return_step, circuit}
+use Rattle.plan_model.specs.Disorder.{remaining, predecessor, circuit}
 use Rattle.train_order.specs.declared.member_set.MemberSet.{MemberSet}
 use Rattle.train_order.specs.Sets.{relates, ArePreceded}
 use Rattle.train_order.specs.Taking.{is_among}
 use Rattle.train_order.specs.Walk.{step, steps, ArePrecededWithin, IsWalk, IsRound}
+use Rattle.train_order.proofs.Find.{find_agree, find_some}
 use Rattle.train_order.proofs.Among.{among_at, stands_at, distinct_both, not_before}
 use Rattle.train_order.proofs.Whole.{whole_length}
 
 -- ---- searches
-
-pub find_some : (test : ℕ → Bool) (some : List ℕ) → list_any test some ≡ true
-    → (i : ℕ) × (find test some ≡ Some i) × (is_among some i ≡ true) × (test i ≡ true)
-find_some test [] h = absurd (cc)
-find_some test (k ∷ some) h =
-    elim (cases_Bool (test k)) [
-      | inl e ↦ (k, rw e refl, or_left (k == k) (is_among some k) (eq-eqb k k refl), e)
-      | inr e ↦
-          let r = find_some test some (rw e at h) in
-          (r.0, rw e r.1, or_right (k == r.0) (is_among some r.0) r.2, r.3)
-    ]
-
-find_agree : (p q : ℕ → Bool) (some : List ℕ) → ((i : ℕ) → is_among some i ≡ true → p i ≡ q i) → find p some ≡ find q some
-find_agree p q [] h = refl
-find_agree p q (k ∷ some) h =
-    let here : p k ≡ q k = h k (or_left (k == k) (is_among some k) (eq-eqb k k refl)) in
-    let rest = find_agree p q some (λ i m. h i (or_right (k == i) (is_among some i) m)) in
-    elim (cases_Bool (q k)) [
-      | inl e ↦ let f : p k ≡ true = here ∙ e in rw (e, f) refl
-      | inr e ↦ let f : p k ≡ false = here ∙ e in rw (e, f) rest
-    ]
 
 -- where a member comes first in a walk, or that it doesn't
 pub place_within : (walk : List ℕ) (m : ℕ) → position_or_len (λ k. k == m) walk ≤ length walk
@@ -119,88 +99,58 @@ module _ (cut : Cut) (sets : List MemberSet) (left : List ℕ) (told : ArePreced
   step_is : (j : ℕ) → is_among left j ≡ true → predecessor cut j ≡ step sets left j
   step_is j h =
       ap (λ rs. unwrap_or (find (λ i. precedes_somewhere cut i j) rs) j) (sym remains)
-      ∙ ap (λ o. unwrap_or o j) (find_agree (λ i. precedes_somewhere cut i j) (λ i. relates sets i j) left (λ i m.
-      sym (told.each i j (omega (arith, preceded.there i m, told.count)) (omega (arith, preceded.there j h, told.count)))))
-
-  steps_front : (k j : ℕ) → steps sets left k (step sets left j) ≡ steps sets left (suc k) j
-  steps_front zero j = refl
-  steps_front (suc k) j = ap (step sets left) (steps_front k j)
-
-  walk_length : (m j : ℕ) → length (walk_from cut m j) ≡ m
-  walk_length zero j = refl
-  walk_length (suc m) j = ap suc (walk_length m (predecessor cut j))
-
-  walk_at : (m k j : ℕ) → is_among left j ≡ true → k < m → get_or (walk_from cut m j) k 0 ≡ steps sets left k j
-  walk_at zero k j h l = absurd (omega arith)
-  walk_at (suc m) zero j h l = refl
-  walk_at (suc m) (suc k) j h l =
-      ap (λ i. get_or (walk_from cut m i) k 0) (step_is j h)
-      ∙ walk_at m k (step sets left j) (step_in sets left preceded j h).0 (omega arith)
-      ∙ steps_front k j
+      ∙ ap (λ o. unwrap_or o j) (find_agree (λ i. precedes_somewhere cut i j) (λ i. relates sets i j) left (λ k d l.
+      let there = preceded.there (get_or left k d) (list_any_at _ left k d l (eq-eqb _ _ refl)) in
+      sym (told.each (get_or left k d) j (omega (arith, there, told.count)) (omega (arith, preceded.there j h, told.count)))))
 
   module _ (some : 0 < length left) (walked : List ℕ) (from : ℕ) (round : IsRound sets left walked from) where
-    abbrev whole : List ℕ
-    whole = walk cut
-
     abbrev last : ℕ
     last = length walked
 
-    first_is : get_or (remaining cut) 0 0 ≡ get_or left 0 0
-    first_is = ap (λ rs. get_or rs 0 0) (sym remains)
+    abbrev at : ℕ → ℕ
+    at k = steps sets left k (get_or left 0 0)
 
-    long : length whole ≡ member_count cut + 1
-    long = walk_length (member_count cut + 1) (get_or (remaining cut) 0 0)
+    is_at : (k : ℕ) → k < last → at k ≡ get_or walked k 0
+    is_at k l = sym (round.is_walk.each k l)
 
-    short : last < length whole
-    short = omega (arith, long, walk_short sets left preceded walked (get_or walked from 0) round.is_walk, told.count)
-
-    at_step : (k : ℕ) → k < length whole → get_or whole k 0 ≡ steps sets left k (get_or left 0 0)
-    at_step k l =
-        ap (λ j. get_or (walk_from cut (member_count cut + 1) j) k 0) first_is
-        ∙ walk_at (member_count cut + 1) k (get_or left 0 0) (among_at left 0 _ some refl) (omega (arith, l, long))
-
-    same_at : (k : ℕ) → k < last → get_or whole k 0 ≡ get_or walked k 0
-    same_at k l = at_step k (omega (arith, short)) ∙ sym (round.is_walk.each k l)
-
-    back_at : get_or whole last 0 ≡ get_or walked from 0
-    back_at = at_step last short ∙ sym round.is_walk.after_is
-
-    first_part : (k : ℕ) → k ≤ last → take k whole ≡ take k walked
-    first_part k l =
-        let a : length (take k whole) ≡ k = length-take-le k whole (omega (arith, short)) in
-        let b : length (take k walked) ≡ k = length-take-le k walked l in
-        ext_get_or 0 (take k whole) (take k walked) (a ∙ sym b) (λ i li.
-        let lk : i < k = omega (arith, li, a) in
-        get_or-take k whole i 0 lk ∙ same_at i (omega arith) ∙ sym (get_or-take k walked i 0 lk))
-
-    not_yet : (k : ℕ) → k < last → came_before whole k ≡ false
-    not_yet k l =
-        ap (λ x. is_among (take k whole) x) (same_at k l) ∙ ap (λ xs. is_among xs (get_or walked k 0)) (first_part k (omega arith))
-        ∙ not_before walked k round.is_walk.once l
-
-    now_back : came_before whole last ≡ true
-    now_back =
-        ap (λ x. is_among (take last whole) x) back_at
-        ∙ among_at (take last whole) from (get_or walked from 0) (omega (arith, length-take-le last whole (omega (arith, short)), round.came))
-        (get_or-take last whole from 0 round.came ∙ same_at from round.came)
-
-    returns_at : return_step whole ≡ last
-    returns_at =
-        position_or_len_is (came_before whole) (range_with_len 0 (length whole)) last 0
-        (omega (arith, length-range_with_len 0 (length whole), short))
-        (λ k l. ap (came_before whole) (get_or-range_with_len 0 (length whole) k 0 (omega (arith, l, short)) ∙ (let z : 0 + k ≡ k = omega arith in z)) ∙ not_yet k l)
-        (λ l. ap (came_before whole) (get_or-range_with_len 0 (length whole) last 0 short ∙ (let z : 0 + last ≡ last = omega arith in z)) ∙ now_back)
-
-    came_at : position_or_len (λ m. m == get_or whole last 0) whole ≡ from
+    came_at : position_or_len (λ m. m == get_or walked from 0) walked ≡ from
     came_at =
-        position_or_len_is (λ m. m == get_or whole last 0) whole from 0 (omega (arith, short, round.came))
+        position_or_len_is (λ m. m == get_or walked from 0) walked from 0 (omega (arith, round.came))
         (λ k l. ne_eqb _ _ (λ e. both_ways _ (not_before walked from round.is_walk.once round.came)
         (among_at (take from walked) k (get_or walked from 0) (omega (arith, l, length-take-le from walked (omega (arith, round.came))))
-        (get_or-take from walked k 0 l ∙ sym (same_at k (omega (arith, l, round.came))) ∙ e ∙ back_at))))
-        (λ l. eq-eqb _ _ (same_at from round.came ∙ sym back_at))
+        (get_or-take from walked k 0 l ∙ e))))
+        (λ l. eq-eqb _ _ refl)
 
-    pub circuit_is : circuit whole ≡ drop from walked
+    -- at the end the walk comes back
+    back : (n : ℕ) → circuit cut (suc n) walked (get_or walked from 0) ≡ drop from walked
+    back n =
+        let t : is_among walked (get_or walked from 0) ≡ true = among_at walked from _ round.came refl in
+        rw t (ap (λ a. drop a walked) came_at)
+
+    -- before that it goes on
+    further : (n k : ℕ) → k < last
+        → circuit cut (suc n) (take k walked) (at k) ≡ circuit cut n (take (suc k) walked) (at (suc k))
+    further n k l =
+        let fresh : is_among (take k walked) (at k) ≡ false =
+        ap (is_among (take k walked)) (is_at k l) ∙ not_before walked k round.is_walk.once l in
+        let more : take k walked ++ at k ∷ [] ≡ take (suc k) walked =
+        ap (λ m. take k walked ++ m ∷ []) (is_at k l) ∙ sym (take_more walked k 0 l)
+        ∙ ap (λ m. take m walked) (let e : k + 1 ≡ suc k = omega arith in e) in
+        rw fresh (ap (λ w. circuit cut n w (predecessor cut (at k))) more
+        ∙ ap (circuit cut n (take (suc k) walked)) (step_is (at k) (ap (is_among left) (is_at k l) ∙ round.is_walk.within k l)))
+
+    all_round : (n k : ℕ) → k ≤ last → last < n + k → circuit cut n (take k walked) (at k) ≡ drop from walked
+    all_round zero k le l = absurd (omega (arith, le, l))
+    all_round (suc n) k le l =
+        elim (cases_eq k last) [
+          | inr ne ↦ further n k (omega (arith, le, ne)) ∙ all_round n (suc k) (omega (arith, le, ne)) (omega (arith, l))
+          | inl e ↦
+              ap (λ w. circuit cut (suc n) w (at k)) (take_all k walked (omega (arith, e)))
+              ∙ ap (circuit cut (suc n) walked) (ap at e ∙ sym round.is_walk.after_is) ∙ back n
+        ]
+
+    pub circuit_is : circuit cut (member_count cut + 1) [] (get_or (remaining cut) 0 0) ≡ drop from walked
     circuit_is =
-        ap (λ k. drop (position_or_len (λ m. m == get_or whole k 0) whole) (take k whole)) returns_at
-        ∙ ap (λ a. drop a (take last whole)) came_at
-        ∙ ap (drop from) (first_part last (omega arith) ∙ take_all last walked (omega arith))
+        ap (λ rs. circuit cut (member_count cut + 1) [] (get_or rs 0 0)) (sym remains)
+        ∙ all_round (member_count cut + 1) 0 (omega arith)
+        (omega (arith, walk_short sets left preceded walked (get_or walked from 0) round.is_walk, told.count))

@@ -21,7 +21,7 @@ pub struct Visit {
     pub member: u32,
 }
 
-/// Puts the visits of a place in front of `room`, in the order of precedence, and says how many
+/// Puts the visits of a place at the front of `room`, in the order of precedence, and says how many
 /// there are. It takes no memory.
 pub fn visits_at(cut: &SoundCut, place: u32, room: &mut [Visit]) -> usize
     requires { member_count cut.now ≤ length room.old }

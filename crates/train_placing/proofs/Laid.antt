@@ -5,7 +5,6 @@ use Rattle.std.specs.List.{range_with_len}
 use Rattle.std.proofs.lemmas.Int.{ints}
 use Rattle.std.proofs.lemmas.List.{ext_get_or, get_or_default}
 use Rattle.std.proofs.lemmas.List.FromFn.{length-map-range_with_len, get_or-map-range_with_len}
-use Rattle.std.proofs.lemmas.Simd.{map-map}
 use Rattle.plan_model.specs.declared.limits.TheConstants.{MEMBERS}
 use Rattle.plan_model.specs.declared.cut.Cut.{Cut}
 use Rattle.plan_model.specs.declared.answer.Tie.{Tie}
@@ -17,7 +16,8 @@ use Rattle.plan_model.specs.Cut.{IsBounded, IsSoundCut}
 use Rattle.plan_model.specs.Disorder.{remaining}
 use Rattle.plan_model.specs.Schedule.{window_floor, entry_at}
 use Rattle.plan_model.specs.Occupancy.{occupancy, busiest}
-use Rattle.plan_model.specs.Answer.{placed_at, plan_of, entries_of, IsCompressed}
+use Rattle.plan_model.specs.Answer.{placed_at, plan_of, IsCompressed}
+use Rattle.plan_model.proofs.Unique.{entries_are}
 use Rattle.train_order.specs.Ordering.{IsOrder}
 use Rattle.train_placing.specs.declared.last.Last.{Last}
 use Rattle.train_placing.specs.Laid.{placed_with, critical_of, AreBounded, HasBoundedTimes}
@@ -25,21 +25,6 @@ use Rattle.train_placing.specs.Placing.{IsFloor, ArePlaced}
 use Rattle.train_order.proofs.Next.{is_there, count}
 use Rattle.train_placing.proofs.Moments.{entry_within, start_within, end_within}
 use Rattle.train_placing.proofs.Whole.{least, tie_is, busiest_there, critical_is}
-
--- ---- the entries of a plan
-
-entries_are : (cut : Cut) (entries : List ℤ) → length entries ≡ member_count cut
-    → entries_of (plan_of cut entries) ≡ entries
-entries_are cut entries count =
-    let n = member_count cut in
-    let long = length-map-range_with_len (entry_at entries) 0 n in
-    map-map (λ (p : Placed). p.entry) (placed_at cut entries) (members cut)
-    ∙ ext_get_or (pos 0) (map (entry_at entries) (members cut)) entries (long ∙ sym count)
-    (λ i l. get_or-map-range_with_len (entry_at entries) 0 n i i (pos 0) (omega (arith, l, long)) (omega arith))
-
-pub same_entries : (cut : Cut) (entries : List ℤ) (plan : Plan) → length entries ≡ member_count cut
-    → plan ≡ plan_of cut entries → entries_of plan ≡ entries
-same_entries cut entries plan count same = ap entries_of same ∙ entries_are cut entries count
 
 -- ---- the plan
 
@@ -49,7 +34,7 @@ module _ (cut : Cut) (order : List ℕ) (entries : List ℤ) (ties : List Tie) (
   floors : (i : ℕ) → i < member_count cut → IsFloor (window_floor cut i)
   floors i l = record { after = omega (arith, ints); before = omega (arith, ints, sound.window_start) }
 
-  few_placed : length order ≤ 768
+  few_placed : length order ≤ MEMBERS
   few_placed = omega (arith, few, count cut order is)
 
   bounded : AreBounded cut entries
@@ -118,4 +103,4 @@ module _ (cut : Cut) (order : List ℕ) (entries : List ℤ) (ties : List Tie) (
 
   pub bounded_times : (plan : Plan) → plan ≡ plan_of cut entries → HasBoundedTimes cut plan
   bounded_times plan same =
-      subst (AreBounded cut) (sym (same_entries cut entries plan placed.entries_count same)) bounded
+      subst (AreBounded cut) (sym (entries_are cut entries plan placed.entries_count same)) bounded

@@ -3,6 +3,7 @@ use Rattle.std.proofs.Common.{◌≡◌, ℕ, ◌+◌, ◌<◌, ◌≤◌, true,
 use Rattle.std.specs.Prelude.{ℤ, ◌+ℤ◌, ◌-ℤ◌, ◌≤ℤ◌, Option, None, Some, slice_index_or, All}
 use Rattle.std.proofs.lemmas.Int.{ints}
 use Rattle.std.proofs.lemmas.List.{get_or_default}
+use Rattle.plan_model.specs.declared.limits.TheConstants.{MEMBERS}
 use Rattle.plan_model.specs.declared.cut.Cut.{Cut}
 use Rattle.plan_model.specs.declared.answer.Tie.{Tie}
 use Rattle.plan_model.specs.Places.{place_count}
@@ -60,7 +61,7 @@ module _ (cut : Cut) (floor : ℕ → ℤ) (some : List ℕ) (entries : List ℤ
 pub near_floor : (t : ℤ) → IsFloor t → IsNear t
 near_floor t h = record { after = omega (arith, ints, h.after); before = omega (arith, ints, h.before) }
 
-near_until : (n : ℕ) (end e y u w : ℤ) → n ≤ 768 → u ≡ (end -ℤ e +ℤ y) → IsMoment end → IsMoment e → IsFloor w
+near_until : (n : ℕ) (end e y u w : ℤ) → n ≤ MEMBERS → u ≡ (end -ℤ e +ℤ y) → IsMoment end → IsMoment e → IsFloor w
     → w ≤ℤ y → y ≤ℤ latest n → IsNear u
 near_until n end e y u w few h a b z v l = record {
   after = omega (arith, ints, h, a.after, b.before, z.after, v);
@@ -69,7 +70,7 @@ near_until n end e y u w few h a b z v l = record {
 
 module _ (cut : Cut) (floor : ℕ → ℤ) (some : List ℕ) (entries : List ℤ) (ties : List Tie) (last : List (Option Last))
     (sound : IsSoundCut cut) (floors : (i : ℕ) → i < member_count cut → IsFloor (floor i))
-    (placed : ArePlaced cut floor some entries ties last) (few : length some ≤ 768) where
+    (placed : ArePlaced cut floor some entries ties last) (few : length some ≤ MEMBERS) where
   near_last : (p : ℕ) (o : Option Last) → IsLeft cut entries some p o → IsNearLast o
   near_last p None left = tt
   near_last p (Some l) left =
@@ -113,13 +114,13 @@ entry_bounded cut last j floor sound lj from count near =
 
 -- ---- all times
 
-bounded_entry : (n : ℕ) (y w : ℤ) → n ≤ 768 → IsFloor w → w ≤ℤ y → y ≤ℤ latest n → IsBounded y
+bounded_entry : (n : ℕ) (y w : ℤ) → n ≤ MEMBERS → IsFloor w → w ≤ℤ y → y ≤ℤ latest n → IsBounded y
 bounded_entry n y w few z v l = record {
   after = omega (arith, ints, z.after, v);
   before = omega (arith, ints, few, l);
 }
 
-bounded_time : (n : ℕ) (t e y w : ℤ) → n ≤ 768 → IsMoment t → IsMoment e → IsFloor w → w ≤ℤ y → y ≤ℤ latest n
+bounded_time : (n : ℕ) (t e y w : ℤ) → n ≤ MEMBERS → IsMoment t → IsMoment e → IsFloor w → w ≤ℤ y → y ≤ℤ latest n
     → IsBounded (t -ℤ e +ℤ y)
 bounded_time n t e y w few a b z v l = record {
   after = omega (arith, ints, a.after, b.before, z.after, v);
@@ -128,7 +129,7 @@ bounded_time n t e y w few a b z v l = record {
 
 module _ (cut : Cut) (floor : ℕ → ℤ) (some : List ℕ) (entries : List ℤ) (ties : List Tie) (last : List (Option Last))
     (sound : IsSoundCut cut) (floors : (i : ℕ) → i < member_count cut → IsFloor (floor i))
-    (placed : ArePlaced cut floor some entries ties last) (few : length some ≤ 768) (i : ℕ)
+    (placed : ArePlaced cut floor some entries ties last) (few : length some ≤ MEMBERS) (i : ℕ)
     (among : is_among some i ≡ true) where
   l : i < member_count cut
   l = placed.there i among

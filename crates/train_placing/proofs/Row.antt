@@ -1,18 +1,17 @@
 -- What a row's uses ask of the last uses of its places, and what they leave there.
-use Rattle.std.proofs.Common.{◌≡◌, ℕ, suc, ◌⊎◌, Bool, true, false, List, [], ◌∷◌, inl, inr, ◌∙◌, refl, sym, ap, subst, arith}
+use Rattle.std.proofs.Common.{◌≡◌, ℕ, ◌⊎◌, Bool, true, false, List, [], ◌∷◌, inl, inr, ◌∙◌, refl, sym, ap, subst, arith}
 use Rattle.std.specs.Prelude.{◌==◌, ℤ, ◌+ℤ◌, ◌-ℤ◌, ◌≤ℤ◌, int_lt, Option, None, Some, slice_index_or, if◌then◌else◌, fold, find, unwrap_or}
 use Rattle.std.specs.Int.{int_max}
 use Rattle.std.specs.List.{list_any}
 use Rattle.std.proofs.lemmas.Bool.{cases_Bool, eq-eqb, eqb-true, or_parts, or_left, or_right, both_ways, false_from_ne_true}
 use Rattle.std.proofs.lemmas.Int.{ints}
-use Rattle.std.proofs.lemmas.List.Folds.{Any-from_list_any}
 use Rattle.rail_model.specs.declared.stair.Use.{Use}
 use Rattle.plan_model.specs.declared.cut.CutRow.{CutRow}
 use Rattle.plan_model.specs.declared.cut.Cut.{Cut}
 use Rattle.plan_model.specs.Cut.{IsSoundRow, AreOfOtherPlaces}
 use Rattle.plan_model.specs.Members.{uses_place, no_use}
 use Rattle.plan_model.specs.Schedule.{end_at}
-use Rattle.plan_model.proofs.UseFound.{differ_tail}
+use Rattle.plan_model.proofs.UseFound.{differ_tail, no_other}
 use Rattle.train_placing.specs.declared.last.Last.{Last}
 use Rattle.train_placing.specs.Last.{after, after_use, with_use, with_row}
 
@@ -29,10 +28,7 @@ pub other_place : (u : Use) (uses : List Use) (p : ℕ) → AreOfOtherPlaces (u 
     → (u.block == p) ≡ false
 other_place u uses p differ h =
     false_from_ne_true (u.block == p) (λ e.
-    let some = Any-from_list_any (λ (v : Use). v.block == p) uses h in
-    let is : some.1.block ≡ p = eqb-true some.1.block p some.4 in
-    differ 0 (suc some.0) some.1 (omega arith) (omega (arith, some.2))
-    (eqb-true u.block p e ∙ sym is ∙ ap (λ (v : Use). v.block) (sym some.3)))
+    both_ways (is_used uses p) (no_other u uses p differ (eqb-true u.block p e)) h)
 
 -- the use that is found is of the place
 pub block_found : (uses : List Use) (p : ℕ) → is_used uses p ≡ true → (at uses p).block ≡ p

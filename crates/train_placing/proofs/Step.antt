@@ -2,7 +2,7 @@
 use Rattle.std.proofs.Common.{◌≡◌, ℕ, ◌+◌, ◌<◌, ◌⊎◌, true, false, ◌==◌, ◌&&◌, List, [], ◌∷◌, ◌++◌, length, inl, inr, refl, sym, ap, subst, ◌∙◌, arith, length-append}
 use Rattle.std.specs.Prelude.{◌≢◌, ℤ, pos, ◌+ℤ◌, ◌-ℤ◌, ◌≤ℤ◌, ◌<ℤ◌, IsTrue, Option, None, Some, slice_index_or}
 use Rattle.std.specs.Ordering.{int_eq}
-use Rattle.std.proofs.lemmas.Bool.{cases_Bool, cases_eq, or_cases, or_parts, or_left, or_right, and_parts, and_from, eqb-true, eq-eqb, both_ways}
+use Rattle.std.proofs.lemmas.Bool.{cases_Bool, cases_eq, or_parts, and_parts, and_from, both_ways}
 use Rattle.std.proofs.lemmas.Bool.Decides.{Decides-int_eq}
 use Rattle.std.proofs.lemmas.Int.{ints}
 use Rattle.std.proofs.lemmas.List.{length-set, get_or-set_same, get_or-set_other}
@@ -23,6 +23,7 @@ use Rattle.plan_model.proofs.Order.{one_precedes}
 use Rattle.train_order.specs.Laws.{ComesNext}
 use Rattle.train_order.proofs.Users.{user_there, users}
 use Rattle.plan_model.specs.Places.{is_among}
+use Rattle.plan_model.proofs.FirstWith.{among_both, among_new, among_old}
 use Rattle.train_placing.specs.declared.last.Last.{Last}
 use Rattle.train_placing.specs.declared.tie.Touch.{Touch}
 use Rattle.train_placing.specs.Touch.{tie, tie_of, touch_of, first_touch}
@@ -50,22 +51,7 @@ asks_for x u r h = omega (arith, ints)
 
 more_among : (some : List ℕ) (j i : ℕ) → is_among (some ++ j ∷ []) i ≡ true → (is_among some i ≡ true) ⊎ (i ≡ j)
 more_among some j i h =
-    elim (or_cases (is_among some i) (is_among (j ∷ []) i) (sym (list_any-append (λ k. k == i) some (j ∷ [])) ∙ h)) [
-      | inl e ↦ inl e
-      | inr e ↦ elim (or_cases (j == i) false e) [
-        | inl s ↦ inr (sym (eqb-true j i s))
-        | inr n ↦ absurd (cc)
-      ]
-    ]
-
-still_among : (some : List ℕ) (j i : ℕ) → is_among some i ≡ true → is_among (some ++ j ∷ []) i ≡ true
-still_among some j i h =
-    list_any-append (λ k. k == i) some (j ∷ []) ∙ or_left (is_among some i) (is_among (j ∷ []) i) h
-
-last_among : (some : List ℕ) (j : ℕ) → is_among (some ++ j ∷ []) j ≡ true
-last_among some j =
-    list_any-append (λ k. k == j) some (j ∷ [])
-    ∙ or_right (is_among some j) (is_among (j ∷ []) j) (or_left (j == j) false (eq-eqb j j refl))
+    elim (among_both some j i h) [ inl e ↦ inl e | inr e ↦ inr (sym e) ]
 
 module _ (cut : Cut) (floor : ℕ → ℤ) (some : List ℕ) (j : ℕ) (entries : List ℤ) (ties : List Tie) (last : List (Option Last))
     (entries' : List ℤ) (ties' : List Tie) (last' : List (Option Last)) (sound : IsSoundCut cut)
@@ -360,7 +346,7 @@ module _ (cut : Cut) (floor : ℕ → ℤ) (some : List ℕ) (j : ℕ) (entries 
   now_last : (p : ℕ) → uses_place row p ≡ true
       → IsLast cut entries' (some ++ j ∷ []) p (record { until = end_at row x p; train = j })
   now_last p used = record {
-    there = last_among some j;
+    there = among_new some j;
     uses = used;
     until = sym (end_j p);
     others = λ i h user ne.
@@ -370,7 +356,7 @@ module _ (cut : Cut) (floor : ℕ → ℤ) (some : List ℕ) (j : ℕ) (entries 
   still_last : (p : ℕ) (l : Last) → uses_place row p ≡ false → IsLast cut entries some p l
       → IsLast cut entries' (some ++ j ∷ []) p l
   still_last p l unused left = record {
-    there = still_among some j l.train left.there;
+    there = among_old some j l.train left.there;
     uses = left.uses;
     until = left.until ∙ sym (same_end l.train p left.there);
     others = λ i h user ne.
@@ -435,7 +421,7 @@ module _ (cut : Cut) (floor : ℕ → ℤ) (some : List ℕ) (j : ℕ) (entries 
   unplaced i h = (
     (or_parts (is_among some i) (is_among (j ∷ []) i) (sym (list_any-append (λ k. k == i) some (j ∷ [])) ∙ h)).0,
     at_other i (λ e. both_ways (is_among (some ++ j ∷ []) i) h
-        (subst (λ m. is_among (some ++ j ∷ []) m ≡ true) (sym e) (last_among some j))),
+        (subst (λ m. is_among (some ++ j ∷ []) m ≡ true) (sym e) (among_new some j))),
   )
 
   pub placed_next : ArePlaced cut floor (some ++ j ∷ []) entries' ties' last'
@@ -453,9 +439,9 @@ module _ (cut : Cut) (floor : ℕ → ℤ) (some : List ℕ) (j : ℕ) (entries 
     order = order;
     closed = λ i k p l h pr.
         elim (more_among some j k h) [
-          | inl a ↦ still_among some j i (placed.closed i k p l a pr)
+          | inl a ↦ among_old some j i (placed.closed i k p l a pr)
           | inr e ↦
-              still_among some j i
+              among_old some j i
               (next.before i p (subst (λ m. precedes (member cut i) (member cut m) p ≡ true) e pr))
         ];
     tied = tied;

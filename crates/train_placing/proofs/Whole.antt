@@ -1,14 +1,15 @@
 -- No train is placed, and all are: then they are the least schedule, with its ties and its critical train.
-use Rattle.std.proofs.Common.{◌≡◌, ℕ, zero, suc, ◌+◌, ◌<◌, ◌≤◌, Bool, true, false, List, [], ◌∷◌, length, map, replicate, inl, inr, refl, sym, ap, subst, ◌∙◌, arith, length-append}
-use Rattle.std.specs.Prelude.{◌≢◌, ℤ, ◌+ℤ◌, ◌-ℤ◌, ◌≤ℤ◌, ◌<ℤ◌, ◌==◌, Option, None, Some, find, filter, option_map, option_and_then, unwrap_or, slice_index_or}
-use Rattle.std.specs.List.{list_any, range_with_len}
+use Rattle.std.proofs.Common.{◌≡◌, ℕ, ◌<◌, true, false, List, [], length, map, replicate, inl, inr, refl, sym, ap, subst, ◌∙◌, arith, length-append}
+use Rattle.std.specs.Prelude.{◌≢◌, ℤ, ◌+ℤ◌, ◌-ℤ◌, ◌≤ℤ◌, ◌<ℤ◌, ◌==◌, Option, None, Some, filter, option_map, option_and_then, unwrap_or, slice_index_or}
+use Rattle.std.specs.List.{list_any}
 use Rattle.std.specs.Ordering.{int_eq}
-use Rattle.std.proofs.lemmas.Bool.{cases_Bool, cases_eq, eq-eqb, or_left, or_right, both_ways, false_from_ne_true}
+use Rattle.std.proofs.lemmas.Bool.{cases_eq, both_ways, false_from_ne_true}
 use Rattle.std.proofs.lemmas.Bool.Decides.{Decides-int_eq}
 use Rattle.std.proofs.lemmas.Int.{ints}
 use Rattle.std.proofs.lemmas.List.{length-replicate, get_or-replicate, ext_get_or}
 use Rattle.std.proofs.lemmas.List.FromFn.{length-map-range_with_len, get_or-map-range_with_len}
 use Rattle.std.proofs.lemmas.List.Folds.{Any-from_list_any}
+use Rattle.rail_model.proofs.Numbers.{le_both_ways, le_from_lt, le_from_same, lt_not_same}
 use Rattle.plan_model.specs.declared.cut.Cut.{Cut}
 use Rattle.plan_model.specs.declared.answer.Tie.{Tie}
 use Rattle.plan_model.specs.declared.answer.Tie.TheVariants.{Start, After}
@@ -30,6 +31,7 @@ use Rattle.train_order.specs.Ordering.{IsOrder}
 use Rattle.train_placing.specs.declared.last.Last.{Last}
 use Rattle.train_placing.specs.Laid.{train_of, critical_of}
 use Rattle.train_placing.specs.Placing.{IsLast, IsLeft, IsTie, ArePlaced}
+use Rattle.train_order.proofs.Find.{first_found, found}
 use Rattle.train_order.proofs.Next.{is_there}
 
 -- ---- none
@@ -53,46 +55,11 @@ none_placed cut floor entries ties last e t l = record {
       subst (IsLeft cut entries [] p) (sym free) (λ i h. absurd (cc));
 }
 
--- ---- searches
-
--- the least number of a range that passes a test is found
-find_least : (test : ℕ → Bool) (a n i : ℕ) → a ≤ i → i < a + n → test i ≡ true
-    → ((k : ℕ) → test k ≡ true → i < k + 1) → find test (range_with_len a n) ≡ Some i
-find_least test a zero i le l t least = absurd (omega arith)
-find_least test a (suc n) i le l t least =
-    elim (cases_Bool (test a)) [
-      | inl e ↦ let is : a ≡ i = omega (arith, least a e) in rw e (ap Some is)
-      | inr e ↦ elim (cases_eq a i) [
-        | inl is ↦ absurd (both_ways (test a) e (ap test is ∙ t))
-        | inr ne ↦ rw e (find_least test (a + 1) n i (omega arith) (omega arith) t least)
-      ]
-    ]
-
--- what is found stands in the list
-find_in : (test : ℕ → Bool) (some : List ℕ) (i : ℕ) → find test some ≡ Some i → has some i ≡ true
-find_in test [] i h = absurd (cc)
-find_in test (k ∷ some) i h =
-    elim (cases_Bool (test k)) [
-      | inl e ↦ let s : Some k ≡ Some i = rw e at h in let is : k ≡ i = cc in or_left (k == i) (has some i)
-          (eq-eqb k i is)
-      | inr e ↦ or_right (k == i) (has some i) (find_in test some i (rw e at h))
-    ]
-
-both : (a b : ℤ) → a ≤ℤ b → b ≤ℤ a → a ≡ b
-both a b p q = omega (arith, ints)
+-- ---- moments
 
 -- one that has left by the last one's start has ended before it
 ends_first : (b s f e y : ℤ) → b ≤ℤ (s -ℤ e +ℤ y) → s <ℤ f → b <ℤ (f -ℤ e +ℤ y)
 ends_first b s f e y h l = omega (arith, ints)
-
-no_later : (a b : ℤ) → a <ℤ b → a ≤ℤ b
-no_later a b h = omega (arith, ints)
-
-same_no_later : (a b : ℤ) → a ≡ b → a ≤ℤ b
-same_no_later a b h = omega (arith, ints)
-
-not_same : (a b : ℤ) → a <ℤ b → a ≡ b → ⊥
-not_same a b h e = omega (arith, ints)
 
 -- ---- all
 
@@ -133,9 +100,11 @@ module _ (cut : Cut) (floor : ℕ → ℤ) (order : List ℕ) (entries : List �
       (λ e. f.later ((Decides-int_eq (entry_at entries j) (floor j)).0 e)) in
       let in_places = has-range (place_count cut) p f.place_there in
       let first : touching_member cut entries j ≡ Some i =
-      find_least (λ k. list_any (touches cut entries k j) (places cut)) 0 (member_count cut) i (omega arith)
-      (omega (arith, f.there)) (has_any (touches cut entries i j) (places cut) p in_places f.touch)
-      (λ k h. let at = Any-from_list_any (touches cut entries k j) (places cut) h in f.first k at.1 at.4) in
+      first_found (λ k. list_any (touches cut entries k j) (places cut)) 0 (member_count cut) i (omega arith)
+      (omega (arith, f.there))
+      (λ k from l. false_from_ne_true _ (λ h.
+      let at = Any-from_list_any (touches cut entries k j) (places cut) h in omega (arith, f.first k at.1 at.4, l)))
+      (has_any (touches cut entries i j) (places cut) p in_places f.touch) in
       let place : touching_place cut entries i j ≡ Some p =
       first_is cut sound (filter (touches cut entries i j) (places cut)) p
       (λ q h. (let l = in_range 0 (place_count cut) q (filter-has (touches cut entries i j)
@@ -178,14 +147,14 @@ module _ (cut : Cut) (floor : ℕ → ℤ) (order : List ℕ) (entries : List �
     no_later_end i h =
         elim (cases_eq i l.train) [
           | inl e ↦
-              same_no_later (end_by cut entries i b) (end_by cut entries l.train b) (ap
+              le_from_same (end_by cut entries i b) (end_by cut entries l.train b) (ap
               (λ k. end_by cut entries k b) e)
-          | inr ne ↦ no_later (end_by cut entries i b) (end_by cut entries l.train b) (earlier i h ne)
+          | inr ne ↦ le_from_lt (end_by cut entries i b) (end_by cut entries l.train b) (earlier i h ne)
         ]
 
     its_end : last_end cut entries b ≡ end_by cut entries l.train b
     its_end =
-        both (last_end cut entries b) (end_by cut entries l.train b)
+        le_both_ways (last_end cut entries b) (end_by cut entries l.train b)
         (greatest_within (λ i. end_by cut entries i b) (end_by cut entries l.train b) (users cut b) l.train
         (is_user cut l.train b there left.uses) no_later_end)
         (above_each (λ i. end_by cut entries i b) (users cut b) l.train (is_user cut l.train b there left.uses))
@@ -199,7 +168,7 @@ module _ (cut : Cut) (floor : ℕ → ℤ) (order : List ℕ) (entries : List �
         elim (cases_eq i l.train) [
           | inl same ↦ same
           | inr ne ↦
-              absurd (not_same (end_by cut entries i b) (end_by cut entries l.train b) (earlier i h ne)
+              absurd (lt_not_same (end_by cut entries i b) (end_by cut entries l.train b) (earlier i h ne)
               ((Decides-int_eq (end_by cut entries i b) (last_end cut entries b)).0 e ∙ its_end))
         ])
 
@@ -208,7 +177,7 @@ module _ (cut : Cut) (floor : ℕ → ℤ) (order : List ℕ) (entries : List �
       → (b < block_count cut) × (list_any (λ i. uses_place (member cut i) b) (members cut) ≡ true)
   used b h =
       let kept = λ (c : ℕ). time_kept cut entries c == occupancy cut entries in
-      let at = filter-has kept (used_blocks cut) b (find_in _ (filter kept (used_blocks cut)) b h) in
+      let at = filter-has kept (used_blocks cut) b (found _ (filter kept (used_blocks cut)) b h).0 in
       let there = filter-has (λ c. list_any (λ i. uses_place (member cut i) c) (members cut)) (blocks cut) b at.0 in
       (omega (arith, in_range 0 (block_count cut) b there.0), there.1)
 

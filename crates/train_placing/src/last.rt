@@ -11,7 +11,7 @@ use rail_model::Use;
 /// The last use of a place so far.
 #[derive(Clone, Copy)]
 pub struct Last {
-    /// Until when: seconds.
+    /// Until when: seconds from the timetable's origin.
     pub until: i64,
     /// By which train: its position among the cut's members.
     pub train: u32,

@@ -20,7 +20,7 @@ use std::alloc::Global;
 /// What is known of a cut's trains that are placed.
 #[derive(Drop)]
 pub struct Placing {
-    /// By the trains' positions: when each enters, in seconds.
+    /// By the trains' positions: when each enters, in seconds from the timetable's origin.
     pub entries: Vec<i64>,
     /// By the trains' positions: why each enters no earlier. `Start` says that it enters at its
     /// floor.
@@ -31,7 +31,8 @@ pub struct Placing {
 
 /// All trains, placed in this order, none before its floor: the least schedule from the floors.
 ///
-/// There is a floor for each train, in seconds, by the trains' positions.
+/// There is a floor for each train, by the trains' positions: seconds from the timetable's origin,
+/// at most 100,000,000 from it.
 pub fn place_all(
     alloc: Global,
     cut: &FitCut,

@@ -7,6 +7,7 @@ use mathlib.Core.Option as maybe
 use lib.ListN.{get_elem?}
 use prog.Atomic.{either}
 use Rattle.std.proofs.lemmas.List.Elements.{All-append, All-weaker, All-contains}
+use Rattle.std.proofs.lemmas.Bool.{false_from_ne_true}
 use Rattle.atomic_table.specs.Table.{State, Act, rest, keeps, takes, gives, Valid, carried_after, step, Allows}
 use Rattle.atomic_table.specs.Table.{stepped, opening, Final, Seen}
 use Rattle.atomic_table.proofs.Lists.{set_else}
@@ -21,10 +22,6 @@ use Rattle.turn_desk.proofs.Lookups.{at_same, at_changed, at_only, all_set}
 use Rattle.turn_desk.proofs.Growing.{goes_nowhere, goes_on-adds}
 use Rattle.turn_desk.proofs.Fitting.{knows_the_word, dated_step, owned_less, owned_new, grown, below_more, fits_moved}
 use Rattle.turn_desk.proofs.Fitting.{fits_won, fits_fresh}
-
-not_true : (b : Bool) → (b ≡ true → ⊥) → b ≡ false
-not_true true h = absurd (h refl)
-not_true false h = refl
 
 module _ {V : Type 0} where
   abbrev value_or : V → Option V → V
@@ -276,7 +273,7 @@ module _ {V E : Type 0} (entries : V → List E) (pass_of : E → ℕ) (issued_b
           home = home;
           is = refl;
           nobody = all_set s.views id w (λ j u. u.holds ≡ false) refl
-              (λ j u ne e. not_true u.holds (λ both. ne (t.alone j u e both ∙ h.1)));
+              (λ j u ne e. false_from_ne_true u.holds (λ both. ne (t.alone j u e both ∙ h.1)));
         };
         each = all_set s.views id w (λ j u. Fit log' u) (fits_given r.log log' v moment seen le all f)
             (λ j u ne e. fits_grown r.log log' number u (λ o. ne (r.owned_once j id u v number e at o (inl own))) a

@@ -66,8 +66,8 @@ impl<V: Kept> Desk<V> {
     }
 
     /// One try to take the turn, which does not wait. What the value's list has beyond the pass's
-    /// seen part are entries of others, and the list is legal. `Busy` comes exactly where the turn was taken at the pass's
-    /// one step: the word was 1 then, and nothing but counts has changed.
+    /// seen part are entries of others, and the list is legal. `Busy` comes exactly where the turn
+    /// was taken at the pass's one step: the word was 1 then, and nothing but counts has changed.
     pub fn try_take(&self, pass: &mut Pass<V>) -> Result<Turn<V>, Busy>
         requires { IsReady self.now pass.old }
         ensures goes_on { IfOk result
@@ -192,8 +192,11 @@ impl<V: Kept> Desk<V> {
         turn.into_value()
     }
 
-    /// Takes the last turn, and keeps its value: a `take` and then a `shut`. What the value's list
+    /// Takes the last turn, and gives its value: a `take` and then a `shut`. What the value's list
     /// has beyond the pass's seen part are entries of others, and the list is legal.
+    ///
+    /// No clause says that one turn was taken, nor that the value is just what the turn found: who
+    /// must know it calls the two, since `shut` gives the turn's value as it is.
     pub fn close<R: Wait>(self, rt: &R, pass: Pass<V>) -> V
         requires { IsReady self pass }
         ensures goes_on { GoesOn V.pass_of pass.numbers pass.seen (V.entries result) }

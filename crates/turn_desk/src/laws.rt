@@ -1,5 +1,5 @@
-//! Laws for those who keep facts about what passes have seen. That a fact of all entries of a number
-//! is kept as the journal goes on is the lemmas of `proofs/Facts.antt`.
+//! Laws for those who keep facts about what passes have seen. That a fact of all entries of a
+//! number is kept as the journal goes on is the lemmas of `proofs/Facts.antt`.
 ghost use Rattle.std.specs.Prelude.{ℕ, List};
 ghost use Rattle.turn_desk.specs.Known.{TableId};
 ghost use Rattle.turn_desk.specs.Laws.{LeavingGoesOn, GoingOnAddsUp};

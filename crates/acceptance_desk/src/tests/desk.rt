@@ -205,6 +205,23 @@ fn who_has_the_turn_has_the_value(rt: HostRuntime) -> Result<(), Fail> {
     Ok(())
 }
 
+// Pass 0 closes the desk while another pass has not left into it, and has put a number that pass 0
+// has not seen. The value has what was put, and nothing more: no clause of `close` says that it
+// adds no entry in the name of a pass that has not left.
+#[test]
+fn closing_adds_no_entry(rt: HostRuntime) -> Result<(), Fail> {
+    let (desk, mut main, others) = started(&rt, rt.alloc(), 1)?;
+    let Some(mut pass) = one_of(&desk, others) else {
+        panic!(rt; "there is a pass")
+    };
+    put(&rt, &desk, &mut main, 7, 0)?;
+    put(&rt, &desk, &mut pass, 9, 0)?;
+    let notes = desk.close(&rt, main);
+    let put_once = (notes.times(0, 7), notes.times(1, 9));
+    assert_eq!(rt; (notes.notes.len(), put_once), (4, (1, 1)));
+    Ok(())
+}
+
 #[test]
 fn each_number_of_many_passes_stands_once(rt: HostRuntime) -> Result<(), Fail> {
     let (desk, mut main, others) = started(&rt, rt.alloc(), 6)?;

@@ -17,7 +17,7 @@ use Rattle.conflict_finder.specs.declared.visits.Visit.{Visit}
 use Rattle.rail_model.specs.Timetable.{IsTimetable}
 use Rattle.conflict_finder.specs.Runs.{runs_of, all_visits}
 use Rattle.conflict_finder.specs.ByBlock.{one_after_another, AreByBlock, AreSorted}
-use Rattle.conflict_finder.specs.Sweep.{IsSwept, found}
+use Rattle.conflict_finder.specs.Sweep.{IsSwept, all_conflicts}
 use Rattle.conflict_finder.proofs.Ranks.{AreRanked, ranked_by}
 use Rattle.conflict_finder.proofs.Order.{swept, few, runs_there}
 use Rattle.conflict_finder.proofs.Whole.{all_found}
@@ -33,7 +33,7 @@ record IsReady (stairs : List Stair) (runs : List Ranked) (visits : List Visit) 
   few : length visits ≤ RUNS * PATH_HOPS
   there : All (λ b. b.run < length runs) visits
   order : IsSwept visits
-  conflicts : AreConflicts stairs (found runs visits)
+  conflicts : AreConflicts stairs (all_conflicts runs visits)
 
 ready : (stairs seen : List Stair) (runs read : List Ranked) (by_block : List (Vec Visit Global)) → IsTimetable stairs → AreRanked stairs runs → seen ≡ stairs → read ≡ runs → IsPermutation (all_visits seen read) (one_after_another by_block) → AreByBlock by_block → AreSorted by_block → IsReady stairs runs (one_after_another by_block)
 ready stairs seen runs read by_block t ranked here this permuted blocks sorted =
@@ -73,10 +73,10 @@ pub sweep-requires-clause-order : goal.sweep-requires-clause-order
 sweep-requires-clause-order c = rw c.deref-3.ensures.value (at_sweep c).order
 
 -- what the sweep gives are the conflicts
-found_by : (stairs : List Stair) (runs read : List Ranked) (visits seen : List Visit) → IsReady stairs runs visits → read ≡ runs → seen ≡ visits → (r : Result Conflicts OutOfMemory) → IfOk r (λ f. f.list ≡ map as_listed (take LISTED (found read seen))) → IfOk r (λ f. f.more ≡ length (found read seen) - LISTED) → IfOk r (IsFound stairs)
+found_by : (stairs : List Stair) (runs read : List Ranked) (visits seen : List Visit) → IsReady stairs runs visits → read ≡ runs → seen ≡ visits → (r : Result Conflicts OutOfMemory) → IfOk r (λ f. f.list ≡ map as_listed (take LISTED (all_conflicts read seen))) → IfOk r (λ f. f.more ≡ length (all_conflicts read seen) - LISTED) → IfOk r (IsFound stairs)
 found_by stairs runs read visits seen w same swept (Ok f) l m =
     record {
-      all = found read seen;
+      all = all_conflicts read seen;
       are = rw (same, swept) w.conflicts;
       list = l;
       more = m;

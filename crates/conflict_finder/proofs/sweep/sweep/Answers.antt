@@ -6,7 +6,7 @@ use Rattle.std.proofs.lemmas.List.{take_all}
 use Rattle.conflict_finder.specs.declared.visits.Visit.{Visit}
 use Rattle.conflict_finder.specs.declared.found.TheConstants.{LISTED}
 use Rattle.conflict_finder.specs.ByBlock.{one_after_another}
-use Rattle.conflict_finder.specs.Sweep.{IsSwept, ComesBefore, found}
+use Rattle.conflict_finder.specs.Sweep.{IsSwept, ComesBefore, all_conflicts}
 use Rattle.conflict_finder.proofs.Laid.{next_block}
 use Rattle.conflict_finder.proofs.Room.{listed_most, listed_more, listed_some, listed_count_is}
 use Rattle.conflict_finder.proofs.BlockByBlock.{each_all, each_pairs, each_few, found_more}
@@ -18,7 +18,7 @@ is_block c = c.deref.ensures.value ∙ ap (λ (v : Vec Visit Global). v.items) c
 
 pub sweep_block-requires-clause-room : goal.sweep_block-requires-clause-room
 sweep_block-requires-clause-room c =
-    rw c.loop-visits.invariant.list (listed_most (found c.args.runs.now (one_after_another (take c.loop-visits.visits-index c.args.by_block.now))))
+    rw c.loop-visits.invariant.list (listed_most (all_conflicts c.args.runs.now (one_after_another (take c.loop-visits.visits-index c.args.by_block.now))))
 
 pub sweep_block-requires-clause-most : goal.sweep_block-requires-clause-most
 sweep_block-requires-clause-most c =
@@ -47,27 +47,27 @@ loop-visits-preserved c =
     let i = c.loop-visits.visits-index in
     let d = c.visits-item.result in
     let seen = c.deref.result.now in
-    let so_far = found runs (one_after_another (take i by_block)) in
+    let so_far = all_conflicts runs (one_after_another (take i by_block)) in
     let is : seen ≡ (get_or by_block i d).items = c.deref.ensures.value ∙ ap (λ (v : Vec Visit Global). v.items) c.visits-item.is in
-    let more : found runs (one_after_another (take (i + 1) by_block)) ≡ so_far ++ found runs seen =
-    found_more by_block d c.requires.blocks runs i c.loop-visits-test.true ∙ ap (λ s. so_far ++ found runs s) (sym is) in
-    let count : length (found runs (one_after_another (take (i + 1) by_block))) ≡ length so_far + length (found runs seen) = ap length more ∙ length-append so_far (found runs seen) in
+    let more : all_conflicts runs (one_after_another (take (i + 1) by_block)) ≡ so_far ++ all_conflicts runs seen =
+    found_more by_block d c.requires.blocks runs i c.loop-visits-test.true ∙ ap (λ s. so_far ++ all_conflicts runs s) (sym is) in
+    let count : length (all_conflicts runs (one_after_another (take (i + 1) by_block))) ≡ length so_far + length (all_conflicts runs seen) = ap length more ∙ length-append so_far (all_conflicts runs seen) in
     let long : length (one_after_another (take (i + 1) by_block)) ≡ length (one_after_another (take i by_block)) + length seen =
     ap length (next_block (λ (v : Vec Visit Global). v.items) by_block i d c.loop-visits-test.true) ∙ length-append (one_after_another (take i by_block)) (get_or by_block i d).items
     ∙ ap (λ s. length (one_after_another (take i by_block)) + length s) (sym is) in
     record {
-      list = c.in_ok-count.ensures.list ∙ rw (c.loop-visits.invariant.list, more) (listed_more so_far (found runs seen));
+      list = c.in_ok-count.ensures.list ∙ rw (c.loop-visits.invariant.list, more) (listed_more so_far (all_conflicts runs seen));
       count = omega (arith, c.loop-visits.invariant.count, c.in_ok-count.ensures.count, count);
       most = omega (arith, c.loop-visits.invariant.most, c.in_ok-count.ensures.most, long);
     }
 
 pub overflow_sub-more : goal.overflow_sub-more
 overflow_sub-more c =
-    omega (arith, c.len.ensures.count, ap length c.loop-visits.invariant.list, c.loop-visits.invariant.count, listed_some (found c.args.runs.now (one_after_another (take c.loop-visits.visits-index c.args.by_block.now))))
+    omega (arith, c.len.ensures.count, ap length c.loop-visits.invariant.list, c.loop-visits.invariant.count, listed_some (all_conflicts c.args.runs.now (one_after_another (take c.loop-visits.visits-index c.args.by_block.now))))
 
 pub returns-clause-more : goal.returns-clause-more
 returns-clause-more c =
     let by_block = c.args.by_block.now in
-    let all = found c.args.runs.now (one_after_another (take c.loop-visits.visits-index by_block)) in
+    let all = all_conflicts c.args.runs.now (one_after_another (take c.loop-visits.visits-index by_block)) in
     let last = take_all c.loop-visits.visits-index by_block (omega (arith, c.loop-visits-test.false)) in
-    rw (c.len.ensures.count, c.loop-visits.invariant.list, c.loop-visits.invariant.count) (listed_count_is all ∙ ap (λ s. length (found c.args.runs.now (one_after_another s)) - LISTED) last)
+    rw (c.len.ensures.count, c.loop-visits.invariant.list, c.loop-visits.invariant.count) (listed_count_is all ∙ ap (λ s. length (all_conflicts c.args.runs.now (one_after_another s)) - LISTED) last)

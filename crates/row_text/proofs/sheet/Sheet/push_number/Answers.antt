@@ -2,10 +2,11 @@ use Rattle.std.proofs.Common.{◌++◌, ◌∷◌, [], length, w64, true, sym, a
 use Rattle.std.specs.Fmt.{signed_decimal}
 use Rattle.std.proofs.lemmas.Int.{to_z-of_z}
 use Rattle.std.proofs.lemmas.List.{append-nil}
+use Rattle.std.proofs.Math.Bool.{or-true}
 use Rattle.row_text.specs.Sheet.{sheet_rows}
 use Rattle.row_text.specs.SheetText.{HoldsRows}
 use Rattle.row_text.proofs.PlainFields.{field_text-signed_decimal}
-use Rattle.row_text.proofs.SheetRows.{or_true, sheet_rows-is, IsSheet-from}
+use Rattle.row_text.proofs.SheetRows.{sheet_rows-is, IsSheet-from}
 use Rattle.row_text.proofs.SheetSteps.{with_bytes, pushed_in}
 use Rattle.row_text.proofs.sheet.Sheet.push_number.Goals as goal
 
@@ -14,7 +15,7 @@ holds c =
     let put = c.put_signed-self-inside.ensures in
     let room = c.in_ok-make_room.ensures in
     pushed_in c.self.inside c.make_room.new.text c.deref_mut.result.now c.put_signed-self-inside.new.text c.put_signed-self-inside.result true (signed_decimal c.args.number ∷ []) c.self.invariant
-    c.deref_mut.ensures.value room.kept c.put_signed-self-inside.auto.text (sym (or_true c.self.inside.has_field)) (rw (field_text-signed_decimal c.args.number c.ranges.number, append-nil) (rw (to_z-of_z w64 c.args.number c.ranges.number) at put.written)) put.more (omega (arith, put.within, room.ok, ap length c.deref_mut.ensures.value))
+    c.deref_mut.ensures.value room.kept c.put_signed-self-inside.auto.text (sym (or-true c.self.inside.has_field)) (rw (field_text-signed_decimal c.args.number c.ranges.number, append-nil) (rw (to_z-of_z w64 c.args.number c.ranges.number) at put.written)) put.more (omega (arith, put.within, room.ok, ap length c.deref_mut.ensures.value))
 
 pub invariant_of-self-2 : goal.invariant_of-self-2
 invariant_of-self-2 c = IsSheet-from _ _ _ (holds c)

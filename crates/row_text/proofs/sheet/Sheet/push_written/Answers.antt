@@ -1,8 +1,9 @@
 use Rattle.std.proofs.Common.{◌++◌, ◌||◌, length, true, sym, ap, ◌∙◌, arith}
 use Rattle.std.proofs.lemmas.List.{length-append}
+use Rattle.std.proofs.Math.Bool.{or-true}
 use Rattle.row_text.specs.Sheet.{sheet_rows}
 use Rattle.row_text.specs.SheetText.{HoldsRows}
-use Rattle.row_text.proofs.SheetRows.{or_true, has_fields-some, more_text-body, sheet_rows-is, IsSheet-from}
+use Rattle.row_text.proofs.SheetRows.{has_fields-some, more_text-body, sheet_rows-is, IsSheet-from}
 use Rattle.row_text.proofs.SheetSteps.{with_bytes, pushed_in}
 use Rattle.row_text.proofs.sheet.Sheet.push_written.Goals as goal
 
@@ -11,7 +12,7 @@ holds c =
     let put = c.put_text-self-inside.ensures in
     let room = c.in_ok-make_room.ensures in
     pushed_in c.self.inside c.make_room.new.text c.deref_mut.result.now c.put_text-self-inside.new.text c.put_text-self-inside.result true c.args.fields.now c.self.invariant
-    c.deref_mut.ensures.value room.kept c.put_text-self-inside.auto.text (sym (ap (λ some. c.self.inside.has_field || some) (has_fields-some c.args.fields.now c.text-text.ensures.some) ∙ or_true c.self.inside.has_field)) (rw (more_text-body c.self.inside.has_field c.args.fields.now (has_fields-some c.args.fields.now c.text-text.ensures.some), ← c.text-text.ensures.text) put.written) put.more (omega (arith, put.within, room.ok, ap length c.deref_mut.ensures.value))
+    c.deref_mut.ensures.value room.kept c.put_text-self-inside.auto.text (sym (ap (λ some. c.self.inside.has_field || some) (has_fields-some c.args.fields.now c.text-text.ensures.some) ∙ or-true c.self.inside.has_field)) (rw (more_text-body c.self.inside.has_field c.args.fields.now (has_fields-some c.args.fields.now c.text-text.ensures.some), ← c.text-text.ensures.text) put.written) put.more (omega (arith, put.within, room.ok, ap length c.deref_mut.ensures.value))
 
 pub invariant_of-self-2 : goal.invariant_of-self-2
 invariant_of-self-2 c = IsSheet-from _ _ _ (holds c)
