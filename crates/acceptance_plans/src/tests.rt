@@ -1,5 +1,6 @@
 //! What the tests of sections share.
 mod answers;
+mod changes;
 mod cuts;
 mod orders;
 mod rates;

@@ -1,6 +1,6 @@
 -- A section's cut that is made anew, each row with the number of an edit.
 use Rattle.std.proofs.Common.{◌≡◌, ℕ, List, get_or, Option, Some, None, refl, sym, ap, ◌∙◌, subst, inr}
-use Rattle.std.specs.Prelude.{find, filter, All, option_map}
+use Rattle.std.specs.Prelude.{find, filter, All, IfSome, option_map}
 use Rattle.std.proofs.lemmas.Simd.{map-map}
 use Rattle.std.proofs.lemmas.List.Elements.{All-map}
 use Rattle.rail_model.specs.declared.items.Section.{Section}
@@ -10,7 +10,8 @@ use Rattle.plan_model.specs.declared.cut.CutRow.{CutRow}
 use Rattle.plan_model.specs.declared.cut.Cut.{Cut}
 use Rattle.plan_model.specs.Cut.{stamped_row, stamped, IsSoundCut}
 use Rattle.plan_model.specs.SectionCut.{is_member, row_of, section_cut, cut_of}
-use Rattle.section_cut.specs.Change.{IsCutAfter}
+use Rattle.section_cut.specs.declared.cut_changes.CutChange.{CutChange}
+use Rattle.section_cut.specs.Change.{IsCutAfter, IsChange}
 
 -- of two stamps the later stays
 stamped_twice : (first later : ℕ) (cut : Cut) → stamped later (stamped first cut) ≡ stamped later cut
@@ -28,30 +29,39 @@ by_section tables (Some s) =
 bare : (tables : Tables) (name : List ℕ) → option_map (stamped 0) (cut_of tables name) ≡ cut_of tables name
 bare tables name = by_section tables (find (λ s. is_same s.name name) tables.sections)
 
-value_is : (number : ℕ) (value : Option Cut) (cut : Cut) → option_map (stamped 0) value ≡ value
-    → Some cut ≡ option_map (stamped number) value → value ≡ Some (stamped 0 cut)
-value_is number None cut bare_value is = absurd (cc)
-value_is number (Some v) cut bare_value is =
-    let same : cut ≡ stamped number v = cc in
-    sym bare_value ∙ ap Some (sym (stamped_twice number 0 v) ∙ ap (stamped 0) (sym same))
+-- each row of a cut that is made with a stamp has it
+pub stamps_are : (number : ℕ) (value cut : Option Cut) → cut ≡ option_map (stamped number) value
+    → IfSome cut (λ c. All (λ r. r.stamp ≡ number) c.rows)
+stamps_are number value cut is = subst (λ o. IfSome o (λ c. All (λ r. r.stamp ≡ number) c.rows)) (sym is) (by_value value)
+  where
+    by_value : (value : Option Cut) → IfSome (option_map (stamped number) value) (λ c. All (λ r. r.stamp ≡ number) c.rows)
+    by_value None = tt
+    by_value (Some v) = All-map (λ (r : CutRow). r.stamp ≡ number) (stamped_row number) v.rows (λ k d below. refl)
 
-stamps_are : (number : ℕ) (value : Option Cut) (cut : Cut) → Some cut ≡ option_map (stamped number) value
-    → All (λ r. r.stamp ≡ number) cut.rows
-stamps_are number None cut is = absurd (cc)
-stamps_are number (Some v) cut is =
-    let same : cut ≡ stamped number v = cc in
-    subst (λ (c : Cut). All (λ r. r.stamp ≡ number) c.rows) (sym same)
-    (All-map (λ (r : CutRow). r.stamp ≡ number) (stamped_row number) v.rows (λ k d below. refl))
+-- the cut of a section that wasn't there
+pub first_cut : (number : ℕ) (cut : Cut) → All (λ r. r.stamp ≡ number) cut.rows → IsSoundCut cut
+    → IsCutAfter (Some (stamped 0 cut)) number None (Some cut)
+first_cut number cut stamps sound = record {
+  same = refl;
+  stamps = λ k d below. inr (stamps k d below, λ e. let it : None ≡ Some (stamped_row 0 (get_or cut.rows k d)) = e in absurd (cc));
+  sound = sound;
+}
 
-module _ (tables : Tables) (name : List ℕ) (number : ℕ) (cut : Cut) (is : Some cut ≡ option_map (stamped number) (cut_of tables name)) where
-  pub value_anew : cut_of tables name ≡ Some (stamped 0 cut)
-  value_anew = value_is number (cut_of tables name) cut (bare tables name) is
+twice : (first : ℕ) (value : Option Cut) → option_map (stamped 0) (option_map (stamped first) value) ≡ option_map (stamped 0) value
+twice first None = refl
+twice first (Some v) = ap Some (stamped_twice first 0 v)
 
-  -- the cut of a section that wasn't there
-  pub first_cut : IsSoundCut cut → IsCutAfter (cut_of tables name) number None (Some cut)
-  first_cut sound = record {
-    same = value_anew;
-    stamps = λ k d below.
-        inr (stamps_are number (cut_of tables name) cut is k d below, λ e. let it : None ≡ Some (stamped_row 0 (get_or cut.rows k d)) = e in absurd (cc));
-    sound = sound;
-  }
+-- the cut by tables with one stamp for all rows has the value of the cut by tables
+pub value_of : (tables : Tables) (name : List ℕ) (stamp : ℕ) (cut : Option Cut) → cut ≡ option_map (stamped stamp) (cut_of tables name)
+    → cut_of tables name ≡ option_map (stamped 0) cut
+value_of tables name stamp cut is =
+    sym (ap (option_map (stamped 0)) is ∙ twice stamp (cut_of tables name) ∙ bare tables name)
+
+-- what an edit makes of a cut, by the cut after it that is made anew
+pub change_is : (earlier later : Tables) (name : List ℕ) (number : ℕ) (cut anew : Option Cut) (change : CutChange)
+    → cut_of earlier name ≡ option_map (stamped 0) cut → anew ≡ option_map (stamped number) (cut_of later name)
+    → IsChange (option_map (stamped 0) cut) (option_map (stamped 0) anew) number cut change
+    → IsChange (cut_of earlier name) (cut_of later name) number cut change
+change_is earlier later name number cut anew change was is it =
+    subst (λ v. IsChange v (cut_of later name) number cut change) (sym was)
+    (subst (λ v. IsChange (option_map (stamped 0) cut) v number cut change) (sym (value_of later name number anew is)) it)

@@ -1,9 +1,12 @@
 -- A list whose names rise, around the item of a name.
 use Rattle.std.proofs.Common.{◌≡◌, ◌⊎◌, ℕ, suc, Bool, true, false, not, List, [], ◌∷◌, map, get_or, None, refl, sym, ap, ◌∙◌, subst, inl, inr, arith}
-use Rattle.std.specs.Prelude.{find, filter, All}
+use Rattle.std.specs.Prelude.{find, filter, All, unwrap_or}
 use Rattle.std.proofs.lemmas.Bool.{cases_Bool}
 use Rattle.std.proofs.lemmas.List.{append-nil}
 use Rattle.std.proofs.lemmas.List.Elements.{filter-append}
+use Rattle.std.proofs.lemmas.List.Folds.{find_at}
+use Rattle.std.proofs.lemmas.Option.{unwrap_or-slice_get}
+use Rattle.rail_model.specs.Tables.{number_of}
 use Rattle.rail_model.specs.Name.{IsBefore, is_before, is_same, NamesRise}
 use Rattle.rail_model.specs.Edits.{with_item, with_changed, without}
 use Rattle.rail_model.proofs.NameOrder.{same_name, is_same-from, is_same-before, is_same-after, is_before-from, is_before-back, is_before-itself, same_or_after, IsBefore-trans, IsBefore-from}
@@ -42,6 +45,18 @@ filter_within p q within (x ∷ xs) =
       | inr e ↦ elim (cases_Bool (p x)) [
         | inl h ↦ let both : true ≡ false = sym (within x h) ∙ e in absurd (cc)
         | inr h ↦ rw (e, h) (filter_within p q within xs)
+      ]
+    ]
+
+-- the first that passes the one test, where what passes it passes the other
+pub find_within : {X : Type 0} (p q : X → Bool) → ((x : X) → p x ≡ true → q x ≡ true) → (xs : List X) → find p (filter q xs) ≡ find p xs
+find_within p q within [] = refl
+find_within p q within (x ∷ xs) =
+    elim (cases_Bool (p x)) [
+      | inl h ↦ rw (within x h, h) refl
+      | inr h ↦ elim (cases_Bool (q x)) [
+        | inl e ↦ rw (e, h) (find_within p q within xs)
+        | inr e ↦ rw (e, h) (find_within p q within xs)
       ]
     ]
 
@@ -150,3 +165,32 @@ module _ {X : Type 0} (name : X → List ℕ) where
   drop_back n items =
       filter_within (λ y. is_before n (name y)) (λ y. not (is_same (name y) n))
       (λ y h. ap not (is_same-after n (name y) (IsBefore-from n (name y) h))) items
+
+  -- an item of another name is found as before
+  module _ (n : List ℕ) (earlier later : List X) (front : before name n later ≡ before name n earlier) (back : behind name n later ≡ behind name n earlier) where
+    pub found_still : (m : List ℕ) → (n ≡ m → ⊥) → find (λ x. is_same (name x) m) later ≡ find (λ x. is_same (name x) m) earlier
+    found_still m other =
+        let named : (x : X) → is_same (name x) m ≡ true → m ≡ name x = λ x h. sym (same_name (name x) m h) in
+        let p = λ (x : X). is_same (name x) m in
+        let is_front = λ (x : X). is_before (name x) n in
+        let is_back = λ (x : X). is_before n (name x) in
+        elim (cases_Bool (is_before m n)) [
+          | inl first ↦
+              let within : (x : X) → p x ≡ true → is_front x ≡ true = λ x h. subst (λ k. is_before k n ≡ true) (named x h) first in
+              sym (find_within p is_front within later) ∙ ap (find p) front ∙ find_within p is_front within earlier
+          | inr not_first ↦ elim (same_or_after m n not_first) [
+            | inl e ↦ absurd (other (sym e))
+            | inr last ↦
+                let within : (x : X) → p x ≡ true → is_back x ≡ true =
+                λ x h. subst (λ k. is_before n k ≡ true) (named x h) (is_before-from n m last) in
+                sym (find_within p is_back within later) ∙ ap (find p) back ∙ find_within p is_back within earlier
+          ]
+        ]
+
+    -- and stands by its name
+    pub named_still : (d : X) (m : List ℕ) → (n ≡ m → ⊥) → get_or later (number_of name later m) d ≡ get_or earlier (number_of name earlier m) d
+    named_still d m other =
+        let p = λ (x : X). is_same (name x) m in
+        sym (unwrap_or-slice_get later (number_of name later m) d)
+        ∙ ap (λ o. unwrap_or o d) (sym (find_at p later) ∙ found_still m other ∙ find_at p earlier)
+        ∙ unwrap_or-slice_get earlier (number_of name earlier m) d

@@ -25,6 +25,11 @@ pub mod Restamped
 pub mod SameValue
 pub mod Anew
 pub mod Around
+pub mod Numberless
 pub mod Placed
 pub mod OneRun
+pub mod Standing
 pub mod Reached
+pub mod NoRun
+pub mod ReachedRuns
+pub mod KeptBlocks

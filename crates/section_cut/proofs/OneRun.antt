@@ -56,7 +56,7 @@ module _ (tables : Tables) (s : Section) (none : tables.connections ≡ []) wher
 abbrev pub row_for : Tables → Section → ℕ → Option Run → Option CutRow
 row_for tables s stamp found = option_and_then (λ (run : Run). member_row s run.name stamp (section_uses tables s run)) found
 
-bare_member : (s : Section) (name : List ℕ) (stamp : ℕ) (uses : List Use) (b : Bool) → b ≡ enters s uses
+pub bare_member : (s : Section) (name : List ℕ) (stamp : ℕ) (uses : List Use) (b : Bool) → b ≡ enters s uses
     → option_map (stamped_row 0) (member_row s name stamp uses) ≡ member_row s name 0 uses
 bare_member s name stamp uses true e = rw (sym e) refl
 bare_member s name stamp uses false e = rw (sym e) refl
@@ -147,7 +147,7 @@ bare_with n row old =
     ∙ rw (sym (filter_mapped mark front front (λ r. refl) old.rows), sym (filter_mapped mark back back (λ r. refl) old.rows), map_one row) refl)
 
 -- the section of a cut, and what its tables say of it
-located : (tables : Tables) (name : List ℕ) (old : Cut) (found : Option Section) → find (λ (s : Section). is_same s.name name) tables.sections ≡ found
+pub located : (tables : Tables) (name : List ℕ) (old : Cut) (found : Option Section) → find (λ (s : Section). is_same s.name name) tables.sections ≡ found
     → option_map (section_cut tables) found ≡ Some (stamped 0 old)
     → (find (λ (s : Section). is_same s.name name) tables.sections ≡ Some old.section) × (section_cut tables old.section ≡ stamped 0 old)
 located tables name old None e is = absurd (cc)

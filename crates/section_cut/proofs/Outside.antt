@@ -1,6 +1,6 @@
 -- Uses that start before a section's window, or after it, are no member's.
 use Rattle.std.proofs.Common.{◌≡◌, ℕ, ◌<◌, true, false, ltb, List, map, length, All, inl, inr, arith}
-use Rattle.std.specs.Prelude.{ℤ, pos, ◌<ℤ◌, ◌≤ℤ◌, int_lt, int_le, nat_lt, ◌&&◌}
+use Rattle.std.specs.Prelude.{ℤ, pos, ◌<ℤ◌, ◌≤ℤ◌, int_lt, int_le, nat_lt, ◌&&◌, filter}
 use Rattle.std.proofs.lemmas.Int.{ints}
 use Rattle.std.proofs.lemmas.Bool.{and_parts, cases_Bool, ltb-true}
 use Rattle.std.proofs.lemmas.List.{length-map}
@@ -9,21 +9,27 @@ use Rattle.rail_model.specs.declared.items.Section.{Section}
 use Rattle.rail_model.specs.declared.stair.Use.{Use}
 use Rattle.plan_model.specs.Cut.{least}
 use Rattle.section_cut.specs.Starts.{StartsOutside}
-use Rattle.section_cut.specs.Positions.{with_position, uses_in}
 use Rattle.section_cut.specs.Members.{enters}
 use Rattle.section_cut.proofs.BlockUses.{least_holds}
 
-module _ (section : Section) (positions : List ℕ) (blocks : ℕ) (uses : List Use) where
+-- the uses with their blocks by some position, and those of them that are in the section
+module _ (section : Section) (position : ℕ → ℕ) (blocks : ℕ) (uses : List Use) where
+  abbrev placed : Use → Use
+  placed u = record u { block = position u.block }
+
+  abbrev inside : List Use
+  inside = filter (λ u. ltb u.block blocks) (map placed uses)
+
   abbrev starts : List ℤ
-  starts = map (λ (u : Use). u.start) (uses_in positions blocks uses)
+  starts = map (λ (u : Use). u.start) inside
 
   -- what holds of all starts holds of the least of those in the section
-  entry_holds : (P : ℤ → Type 0) → 0 < length (uses_in positions blocks uses) → All (λ (u : Use). P u.start) uses → P (least starts)
+  entry_holds : (P : ℤ → Type 0) → 0 < length inside → All (λ (u : Use). P u.start) uses → P (least starts)
   entry_holds P some each =
       let From : Use → Type 0 = λ u. P u.start in
-      least_holds P starts (omega (arith, some, length-map (uses_in positions blocks uses) (λ (u : Use). u.start)))
-      (All-map P (λ (u : Use). u.start) (uses_in positions blocks uses)
-      (All-filter (λ (u : Use). ltb u.block blocks) From (map (with_position positions) uses) (All-map From (with_position positions) uses each)))
+      least_holds P starts (omega (arith, some, length-map inside (λ (u : Use). u.start)))
+      (All-map P (λ (u : Use). u.start) inside
+      (All-filter (λ (u : Use). ltb u.block blocks) From (map placed uses) (All-map From placed uses each)))
 
   from_before : (entry : ℤ) → int_le (pos section.from_s) entry ≡ true → entry <ℤ pos section.from_s → ⊥
   from_before entry h before = grind (arith, ints)
@@ -31,13 +37,13 @@ module _ (section : Section) (positions : List ℕ) (blocks : ℕ) (uses : List 
   after_to : (entry : ℤ) → int_lt entry (pos section.to_s) ≡ true → pos section.to_s ≤ℤ entry → ⊥
   after_to entry h after = grind (arith, ints)
 
-  pub outside_not_entered : StartsOutside section uses → enters section (uses_in positions blocks uses) ≡ false
-  outside_not_entered outside = elim (cases_Bool (enters section (uses_in positions blocks uses))) [
+  pub outside_not_entered : StartsOutside section uses → enters section inside ≡ false
+  outside_not_entered outside = elim (cases_Bool (enters section inside)) [
     | inl enters ↦
         let entry = least starts in
-        let outer = and_parts (nat_lt 0 (length (uses_in positions blocks uses)) && int_le (pos section.from_s) entry) (int_lt entry (pos section.to_s)) enters in
-        let inner = and_parts (nat_lt 0 (length (uses_in positions blocks uses))) (int_le (pos section.from_s) entry) outer.0 in
-        let some = ltb-true 0 (length (uses_in positions blocks uses)) inner.0 in
+        let outer = and_parts (nat_lt 0 (length inside) && int_le (pos section.from_s) entry) (int_lt entry (pos section.to_s)) enters in
+        let inner = and_parts (nat_lt 0 (length inside)) (int_le (pos section.from_s) entry) outer.0 in
+        let some = ltb-true 0 (length inside) inner.0 in
         elim outside [
           | inl before ↦ absurd (from_before entry inner.1 (entry_holds (λ t. t <ℤ pos section.from_s) some before))
           | inr after ↦ absurd (after_to entry outer.1 (entry_holds (λ t. pos section.to_s ≤ℤ t) some after))

@@ -1,7 +1,9 @@
 -- What an edit of a run leaves of tables.
-use Rattle.std.proofs.Common.{◌≡◌, ℕ, List, [], Option, Some, refl, sym, subst}
+use Rattle.std.proofs.Common.{◌≡◌, ℕ, List, [], Option, Some, refl, sym, ap, ◌∙◌, subst}
 use Rattle.std.specs.Prelude.{find, option_map}
 use Rattle.rail_model.specs.declared.items.Run.{Run}
+use Rattle.rail_model.specs.declared.items.Section.{Section}
+use Rattle.plan_model.specs.SectionCut.{section_cut, cut_of}
 use Rattle.rail_model.specs.declared.items.Item.{Item}
 use Rattle.rail_model.specs.declared.items.Item.TheVariants as item
 use Rattle.rail_model.specs.declared.edit.Kind.{Kind}
@@ -15,7 +17,8 @@ use Rattle.rail_model.specs.Blocking.{stair_of}
 use Rattle.rail_model.specs.Tables.{path_in}
 use Rattle.rail_model.specs.Edits.{after_put, after_change, after_drop, after}
 use Rattle.section_cut.specs.OneRun.{run_of_item, run_of_kind, run_edited, before, behind, IsOneRun}
-use Rattle.section_cut.proofs.Around.{put_front, put_back, change_front, change_back, drop_front, drop_back}
+use Rattle.section_cut.specs.Reach.{section_of_item, section_of_kind, section_edited, IsOneSection}
+use Rattle.section_cut.proofs.Around.{found_still, put_front, put_back, change_front, change_back, drop_front, drop_back}
 
 -- all but the run of a name stays
 record OthersStay (earlier later : Tables) (name : List ℕ) : Type 0 where
@@ -70,3 +73,56 @@ pub one_run : (earlier later : Tables) (x : Edit) (name : List ℕ) (its : Optio
 one_run earlier later x name its is edited none stair =
     let stay = subst (λ (t : Tables). OthersStay earlier t name) (sym is) (others_stay earlier name x edited) in
     record { none = none; others = stay.same; front = stay.front; back = stay.back; stair = stair }
+
+-- ---- an edit of a section
+
+module _ (tables : Tables) (name : List ℕ) where
+  section_put : (x : Item) → section_of_item x ≡ Some name → IsOneSection tables (after_put tables x) name
+  section_put (item.Block b) e = absurd (cc)
+  section_put (item.Signal s) e = absurd (cc)
+  section_put (item.Route r) e = absurd (cc)
+  section_put (item.Run r) e = absurd (cc)
+  section_put (item.Section s) e =
+      let named : s.name ≡ name = cc in
+      subst (IsOneSection tables (after_put tables (item.Section s))) named
+      (record { others = refl; front = put_front (λ (x : Section). x.name) s tables.sections; back = put_back (λ (x : Section). x.name) s tables.sections })
+  section_put (item.Connection c) e = absurd (cc)
+
+  section_changed : (x : Item) → section_of_item x ≡ Some name → IsOneSection tables (after_change tables x) name
+  section_changed (item.Block b) e = absurd (cc)
+  section_changed (item.Signal s) e = absurd (cc)
+  section_changed (item.Route r) e = absurd (cc)
+  section_changed (item.Run r) e = absurd (cc)
+  section_changed (item.Section s) e =
+      let named : s.name ≡ name = cc in
+      subst (IsOneSection tables (after_change tables (item.Section s))) named
+      (record { others = refl; front = change_front (λ (x : Section). x.name) s tables.sections; back = change_back (λ (x : Section). x.name) s tables.sections })
+  section_changed (item.Connection c) e = absurd (cc)
+
+  section_dropped : (k : Kind) (n : List ℕ) → section_of_kind k n ≡ Some name → IsOneSection tables (after_drop tables k n) name
+  section_dropped kind.Block n e = absurd (cc)
+  section_dropped kind.Signal n e = absurd (cc)
+  section_dropped kind.Route n e = absurd (cc)
+  section_dropped kind.Run n e = absurd (cc)
+  section_dropped kind.Section n e =
+      let named : n ≡ name = cc in
+      subst (IsOneSection tables (after_drop tables kind.Section n)) named
+      (record { others = refl; front = drop_front (λ (x : Section). x.name) n tables.sections; back = drop_back (λ (x : Section). x.name) n tables.sections })
+  section_dropped kind.Connection n e = absurd (cc)
+
+  section_after : (x : Edit) → section_edited x ≡ Some name → IsOneSection tables (after tables x) name
+  section_after (edit.Put x) e = section_put x e
+  section_after (edit.Change x) e = section_changed x e
+  section_after (edit.Drop k n) e = section_dropped k n e
+
+pub one_section : (earlier later : Tables) (x : Edit) (name : List ℕ) → later ≡ after earlier x → section_edited x ≡ Some name
+    → IsOneSection earlier later name
+one_section earlier later x name is edited =
+    subst (λ (t : Tables). IsOneSection earlier t name) (sym is) (section_after earlier name x edited)
+
+-- a section of another name is the same after it, and so is its cut
+pub others_untouched : (earlier later : Tables) (edited name : List ℕ) → IsOneSection earlier later edited → (edited ≡ name → ⊥)
+    → cut_of later name ≡ cut_of earlier name
+others_untouched earlier later edited name one other =
+    ap (λ (t : Tables). option_map (section_cut t) (find (λ (s : Section). is_same s.name name) later.sections)) one.others
+    ∙ ap (option_map (section_cut earlier)) (found_still (λ (s : Section). s.name) edited earlier.sections later.sections one.front one.back name other)

@@ -1,11 +1,12 @@
 -- Rows whose names rise: the row of a name.
 use Rattle.std.proofs.Common.{◌≡◌, ℕ, zero, suc, ◌<◌, List, [], ◌∷◌, length, get_or, Some, None, refl, inl, inr, arith}
 use Rattle.std.specs.Prelude.{find}
+use Rattle.std.specs.List.Sorted.{IsPartitionedBy}
 use Rattle.std.proofs.lemmas.Bool.{cases_order}
 use Rattle.std.proofs.lemmas.List.{get_or_default}
-use Rattle.rail_model.specs.Name.{is_same, IsBefore, NamesRise}
+use Rattle.rail_model.specs.Name.{is_same, is_before, IsBefore, NamesRise}
 use Rattle.rail_model.proofs.Lists.{find_none}
-use Rattle.rail_model.proofs.NameOrder.{is_same-from, is_same-before, is_same-after, same_or_after, IsBefore-trans}
+use Rattle.rail_model.proofs.NameOrder.{is_same-from, is_same-before, is_same-after, same_or_after, is_before-from, IsBefore-from, IsBefore-trans}
 use Rattle.plan_model.specs.declared.cut.CutRow.{CutRow}
 use Rattle.plan_model.specs.Members.{no_member}
 use Rattle.section_cut.specs.Stamps.{IsReached}
@@ -49,3 +50,15 @@ module _ (rows : List CutRow) (name : List ℕ) (at : ℕ) (rise : NamesRise (λ
               (after_there below (other below)) (rise at k no_member late within))
         ]
       ]))
+
+-- rows with names before a name come before those without
+pub rows_partitioned : (rows : List CutRow) (name : List ℕ) → NamesRise (λ r. r.name) rows → IsPartitionedBy (λ r. is_before r.name name) rows
+rows_partitioned rows name rise i j d le l passes =
+    let last = IsBefore-from (get_or rows j d).name name passes in
+    elim (cases_order i j) [
+      | inl e ↦ rw e passes
+      | inr o ↦ elim o [
+        | inl lt ↦ is_before-from (get_or rows i d).name name (IsBefore-trans (get_or rows i d).name (get_or rows j d).name name (rise i j d lt l) last)
+        | inr gt ↦ absurd (omega (arith, le, gt))
+      ]
+    ]

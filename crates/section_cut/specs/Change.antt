@@ -1,9 +1,10 @@
 -- What an edit makes of a section's cut: whether it touches the section, and the stamps of the cut's rows.
-use Rattle.std.specs.Prelude.{◌≡◌, ◌≢◌, ◌⊎◌, ℕ, Option, Some, option_map, IfSome, All}
+use Rattle.std.specs.Prelude.{◌≡◌, ◌≢◌, ◌⊎◌, ℕ, List, Option, Some, option_map, IfSome, All}
 use Rattle.rail_model.specs.declared.tables.Tables.{Tables}
 use Rattle.plan_model.specs.declared.cut.CutRow.{CutRow}
 use Rattle.plan_model.specs.declared.cut.Cut.{Cut}
 use Rattle.plan_model.specs.Cut.{stamped_row, stamped, IsSoundCut}
+use Rattle.plan_model.specs.SectionCut.{cut_of}
 use Rattle.plan_model.specs.Touch.{row_named}
 use Rattle.section_cut.specs.declared.cut_changes.CutChange.{CutChange}
 use Rattle.section_cut.specs.declared.cut_changes.CutChange.TheVariants as change
@@ -32,3 +33,9 @@ IsChange before after number old (change.Touched cut) = (after ≢ before) × Is
 pub record TwoTables : Type 0 where
   pub before : Tables
   pub after : Tables
+
+-- a cut that is made by tables, with any stamp, has the value of the section's cut by these tables
+abbrev pub MadeCutsHaveTheirValue : Type 0
+MadeCutsHaveTheirValue =
+    (tables : Tables) (section : List ℕ) (stamp : ℕ)
+    → cut_of tables section ≡ option_map (stamped 0) (option_map (stamped stamp) (cut_of tables section))

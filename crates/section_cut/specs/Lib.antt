@@ -6,4 +6,5 @@ pub mod Bound
 pub mod Change
 pub mod Stamps
 pub mod OneRun
+pub mod ReachedRuns
 pub mod Reach

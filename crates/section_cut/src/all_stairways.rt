@@ -86,14 +86,14 @@ impl AllStairways {
 }
 
 // Whether the last of these moments is before a section's window, or the first after it.
-fn is_outside(starts: Starts, section: &Section) -> bool
+pub(crate) fn is_outside(starts: Starts, section: &Section) -> bool
     ensures { result ≡ (int_lt starts.last (pos section.now.from_s) || int_le (pos section.now.to_s) starts.first) }
 {
     starts.last < i64::from(section.from_s) || i64::from(section.to_s) <= starts.first
 }
 
 // Between which moments uses start. Of no uses any moments would do.
-fn starts_of(uses: &[Use]) -> Starts
+pub(crate) fn starts_of(uses: &[Use]) -> Starts
     ensures { StartsBetween result uses.now }
 {
     let mut starts = Starts {

@@ -1,16 +1,19 @@
 //! What an edit makes of the cuts of a line's sections.
-ghost use Rattle.std.specs.Prelude.{◌≡◌, ◌≢◌, ◌↔◌, IsTrue, IfOk, IfSome, OnOk, OnErr, Some, None, option_map};
+ghost use Rattle.std.specs.Prelude.{◌≡◌, ◌≢◌, ◌↔◌, All, IsTrue, IfOk, IfSome, OnOk, OnErr, Some, None, option_map};
+ghost use Rattle.std.specs.Option.{option_copied};
 ghost use Rattle.rail_model.specs.Edits as edits;
 ghost use Rattle.rail_model.specs.Timetable.{timetable};
 ghost use Rattle.plan_model.specs.Cut.{stamped, IsSoundCut};
 ghost use Rattle.plan_model.specs.SectionCut.{cut_of};
 ghost use Rattle.section_cut.specs.Change.{IsChange, IsCutAfter};
+ghost use Rattle.section_cut.specs.Reach.{IsOneSection};
 
 use crate::all_stairways::AllStairways;
-use crate::cuts::cut_among;
+use crate::cuts::{cut_among, cut_of};
 use crate::one_run::cut_after_run;
 use crate::reach::{Reach, reach_of};
-use crate::same_value::same_cut;
+use crate::reached_runs::cut_after_runs;
+use crate::same_value::{same_cut, same_name};
 use crate::stamps::keep_stamps;
 use line_tables::LineTables;
 use plan_model::Cut;
@@ -73,64 +76,104 @@ impl<'a> CutChanges<'a> {
     pub fn cut_after(
         &self,
         alloc: Global,
-        cut: &Option<Cut>,
+        cut: Option<&Cut>,
         section: &Name,
         number: u64,
     ) -> Result<CutChange, OutOfMemory>
-        requires { cut_of self.now.before section.now ≡ option_map (stamped 0) cut.now }
-        ensures { IfOk result (IsChange
-            (cut_of self.now.before section.now) (cut_of self.now.after section.now) number cut.now) }
+        requires { cut_of self.now.before section.now ≡ option_map (stamped 0) (option_copied cut) }
+        ensures { IfOk result (IsChange (cut_of self.now.before section.now)
+            (cut_of self.now.after section.now) number (option_copied cut.entry)) }
     {
-        match (&self.reach, cut) {
-            (Reach::Run(_), None) => Ok(CutChange::Untouched),
-            (Reach::Run(run), Some(old)) => {
-                cut_after_run(alloc, self.before, self.after, run, old, section, number)
+        match &self.reach {
+            Reach::All(stairs) => {
+                cut_after_all(alloc, self.before, self.after, stairs, cut, section, number)
             }
-            (Reach::All(stairs), None) => cut_after_none(
-                alloc, self.after, stairs, section, number,
-            ),
-            (Reach::All(stairs), Some(old)) => {
-                let _sound = self.before.sections();
-                cut_after_one(alloc, self.after, stairs, old, section, number)
+            Reach::Run(run) => match cut {
+                Some(old) => cut_after_run(
+                    alloc,
+                    self.before,
+                    self.after,
+                    run,
+                    old,
+                    section,
+                    number,
+                ),
+                None => Ok(CutChange::Untouched),
+            },
+            Reach::Nothing => Ok(CutChange::Untouched),
+            Reach::Runs(stairs) => match cut {
+                Some(old) => {
+                    cut_after_runs(alloc, self.before, self.after, stairs, old, section, number)
+                }
+                None => Ok(CutChange::Untouched),
+            },
+            Reach::Section(name) => {
+                cut_after_section(alloc, self.before, self.after, name, cut, section, number)
             }
         }
     }
 }
 
-// What the edit of a number makes of the cut of a section that was not there, by all stairways after it.
-fn cut_after_none(
+// What the edit of a number makes of the cut of the section of a name, by all stairways after it.
+fn cut_after_all(
     alloc: Global,
+    before: &LineTables,
     after: &LineTables,
     stairs: &AllStairways,
-    section: &Name,
-    number: u64,
-) -> Result<CutChange, OutOfMemory>
-    requires { stairs.now ≡ timetable after.now }
-    ensures { IfOk result (IsChange None (cut_of after.now section.now) number None) }
-{
-    match cut_anew(alloc, after, stairs, section, number)? {
-        Some(cut) => Ok(CutChange::Touched(Some(cut))),
-        None => Ok(CutChange::Untouched),
-    }
-}
-
-// The same for a section that was there, with its cut.
-fn cut_after_one(
-    alloc: Global,
-    after: &LineTables,
-    stairs: &AllStairways,
-    old: &Cut,
+    cut: Option<&Cut>,
     section: &Name,
     number: u64,
 ) -> Result<CutChange, OutOfMemory>
     requires stairs { stairs.now ≡ timetable after.now }
-    requires sound { IsSoundCut old.now }
-    ensures { IfOk result (IsChange (Some (stamped 0 old.now))
-        (cut_of after.now section.now) number (Some old.now)) }
+    requires cut { cut_of before.now section.now ≡ option_map (stamped 0) (option_copied cut) }
+    ensures { IfOk result (IsChange (cut_of before.now section.now) (cut_of after.now section.now)
+        number (option_copied cut.entry)) }
 {
-    match cut_anew(alloc, after, stairs, section, number)? {
-        Some(cut) => Ok(compared(old, cut, number)),
-        None => Ok(CutChange::Touched(None)),
+    let _sound = before.sections();
+    let later = cut_anew(alloc, after, stairs, section, number)?;
+    Ok(changed(cut, later, number))
+}
+
+// What the edit of a section makes of the cut of the section of a name.
+fn cut_after_section(
+    alloc: Global,
+    before: &LineTables,
+    after: &LineTables,
+    edited: &Name,
+    cut: Option<&Cut>,
+    section: &Name,
+    number: u64,
+) -> Result<CutChange, OutOfMemory>
+    requires one { IsOneSection before.now after.now edited.now }
+    requires cut { cut_of before.now section.now ≡ option_map (stamped 0) (option_copied cut) }
+    ensures { IfOk result (IsChange (cut_of before.now section.now) (cut_of after.now section.now)
+        number (option_copied cut.entry)) }
+{
+    if !same_name(edited, section) {
+        return Ok(CutChange::Untouched);
+    }
+    let _sound = before.sections();
+    let later = cut_of(alloc, after, section, number)?;
+    Ok(changed(cut, later, number))
+}
+
+// What the edit of a number makes of a cut, where all rows of the cut after it have the edit's number.
+fn changed(cut: Option<&Cut>, later: Option<Cut>, number: u64) -> CutChange
+    requires old_sound { IfSome (option_copied cut) IsSoundCut }
+    requires sound { IfSome later IsSoundCut }
+    requires stamps { IfSome later (λ c. All (λ r. r.stamp ≡ number) c.rows) }
+    ensures { IsChange (option_map (stamped 0) (option_copied cut.entry))
+        (option_map (stamped 0) later) number (option_copied cut.entry) result }
+{
+    let Some(later) = later else {
+        if cut.is_none() {
+            return CutChange::Untouched;
+        }
+        return CutChange::Touched(None);
+    };
+    match cut {
+        Some(old) => compared(old, later, number),
+        None => CutChange::Touched(Some(later)),
     }
 }
 
@@ -155,7 +198,7 @@ fn cut_anew(
 
 // What the edit of a number makes of a cut that is there before it and after it, where all rows of the
 // later one have its number.
-fn compared(old: &Cut, later: Cut, number: u64) -> CutChange
+pub(crate) fn compared(old: &Cut, later: Cut, number: u64) -> CutChange
     requires old_sound { IsSoundCut old.now }
     requires sound { IsSoundCut later }
     ensures { IsChange (Some (stamped 0 old.now)) (Some (stamped 0 later)) number (Some old.now) result }
@@ -200,7 +243,7 @@ pub fn cut_change(
 {
     let _sound = after.sections();
     let changes = CutChanges::of(alloc, before, after, edit)?;
-    match changes.cut_after(alloc, cut, section, number)? {
+    match changes.cut_after(alloc, cut.as_ref(), section, number)? {
         CutChange::Untouched => Ok(false),
         CutChange::Touched(later) => {
             *cut = later;

@@ -13,14 +13,18 @@ mod connections;
 mod cut_changes;
 mod cuts;
 mod late;
+mod laws;
 mod members;
 mod one_run;
 mod positions;
 mod reach;
+mod reached_runs;
 mod same_value;
 mod stamps;
+mod timed_stair;
 
 pub use all_stairways::{AllStairways, stairways};
 pub use cut_changes::{CutChange, CutChanges, cut_change};
 pub use cuts::{cut_among, cut_of};
+pub use laws::made_cuts_have_their_value;
 pub use same_value::{same_cut, same_row};

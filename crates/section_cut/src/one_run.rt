@@ -16,18 +16,19 @@ use crate::cut_changes::CutChange;
 use crate::members::member_row;
 use crate::positions::{gather, positions};
 use crate::same_value::same_row;
-use crate::stamps::reached;
+use crate::stamps::place_of;
+use crate::timed_stair::TimedStair;
 use blocking_time::stairs;
 use line_tables::LineTables;
 use plan_model::{Cut, CutRow};
-use rail_model::{Edit, Item, Kind, Name, OutOfMemory, PATH_HOPS, Section, Stair};
+use rail_model::{Edit, Item, Kind, Name, OutOfMemory, PATH_HOPS, Section};
 use std::alloc::Global;
 
 // The run that an edit puts, changes or drops: its name, and its stair after the edit, if it is there.
 #[derive(Drop)]
 pub(crate) struct EditedRun {
     pub(crate) name: Name,
-    pub(crate) stair: Option<Stair>,
+    pub(crate) stair: Option<TimedStair>,
 }
 
 // The name of the run that an edit puts, changes or drops, if it is an edit of a run.
@@ -46,7 +47,7 @@ fn row_of_stair(
     alloc: Global,
     tables: &LineTables,
     section: &Section,
-    stair: &Option<Stair>,
+    stair: &Option<TimedStair>,
     stamp: u64,
 ) -> Result<Option<CutRow>, OutOfMemory>
     requires there { IfSome stair.now (λ s. All (λ u. u.block < length tables.now.blocks) s.uses) }
@@ -60,12 +61,12 @@ fn row_of_stair(
     }
 }
 
-// The same for a run that is there.
+// The same for a run that is there. Where it passes by the section, nothing else is looked at.
 fn row_by(
     alloc: Global,
     tables: &LineTables,
     section: &Section,
-    stair: &Stair,
+    stair: &TimedStair,
     stamp: u64,
 ) -> Result<Option<CutRow>, OutOfMemory>
     requires there { All (λ u. u.block < length tables.now.blocks) stair.now.uses }
@@ -73,15 +74,19 @@ fn row_by(
     ensures { IfOk result (λ row. row ≡ member_row section.now stair.now.run stamp
         (uses_of_section tables.now section.now stair.now.uses)) }
 {
+    if stair.passes_by(section) {
+        return Ok(None);
+    }
     let table = positions(alloc, tables, section)?;
     let mut found = Vec::new(alloc);
+    let own = stair.stair();
     gather(
         &mut found,
         &table,
         section.blocks.len() as u32,
-        stair.uses.slice(),
+        own.uses.slice(),
     )?;
-    member_row(alloc, section, stair.run, stamp, &found)
+    member_row(alloc, section, own.run, stamp, &found)
 }
 
 // The stair of the run of a name, if it is there.
@@ -89,7 +94,7 @@ pub(crate) fn stair_named(
     alloc: Global,
     tables: &LineTables,
     name: &Name,
-) -> Result<Option<Stair>, OutOfMemory>
+) -> Result<Option<TimedStair>, OutOfMemory>
     ensures { IfOk result (λ stair. stair ≡ option_map (λ run. stair_of (path_in tables.now run))
         (find (λ r. is_same r.name name.now) tables.now.runs)) }
 {
@@ -97,7 +102,7 @@ pub(crate) fn stair_named(
         return Ok(None);
     };
     let path = tables.path(number)?;
-    Ok(Some(stairs(alloc, &path)?))
+    Ok(Some(TimedStair::of(stairs(alloc, &path)?)))
 }
 
 // What the edit of a run makes of the cut of a section that is there.
@@ -136,7 +141,7 @@ fn with_row(
     ensures { IfOk result (IsChange (Some (stamped 0 old.now))
         (Some (stamped 0 (cut_with name.now row old.now))) number (Some old.now)) }
 {
-    let at = reached(old.rows.slice(), name, 0);
+    let at = place_of(old.rows.slice(), name);
     let there = stands_at(old.rows.slice(), name, at);
     let Some(row) = row else {
         if !there {
@@ -154,7 +159,7 @@ fn with_row(
 }
 
 // Whether the row at a place has this name.
-fn stands_at(rows: &[CutRow], name: &Name, at: usize) -> bool
+pub(crate) fn stands_at(rows: &[CutRow], name: &Name, at: usize) -> bool
     ensures { IsTrue result ↔ IsThere rows.now name.now at }
 {
     at < rows.len() && rows[at].name == *name

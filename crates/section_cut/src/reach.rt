@@ -1,22 +1,36 @@
-//! Which rows of cuts an edit can reach, and the stairways that they are made of.
-ghost use Rattle.std.specs.Prelude.{◌≡◌, IfOk};
+//! Which rows of cuts an edit can reach, and the stairways that they are made of, once for all sections.
+//!
+//! An edit of a section reaches its own rows. Where there are connections, any other edit may reach any
+//! row. Where there are none, an edit of a run reaches its row, a put or drop of a block, a signal or a
+//! route reaches none, and a change of one reaches the rows of the runs whose paths it changes.
+ghost use Rattle.std.specs.Prelude.{◌≡◌, ◌≢◌, true, false, All, IfOk, None};
 ghost use Rattle.rail_model.specs.Edits as edits;
-ghost use Rattle.section_cut.specs.Reach.{IsReach};
+ghost use Rattle.section_cut.specs.ReachedRuns.{KeepsBlocks, AreReachedRuns};
+ghost use Rattle.section_cut.specs.Reach.{IsReach, ReachesNoRun, section_edited};
 ghost use Rattle.rail_model.specs.Timetable.{timetable};
 
 use crate::all_stairways::{AllStairways, stairways};
 use crate::one_run::{EditedRun, run_edited, stair_named};
+use crate::reached_runs::reached_runs;
+use crate::same_value::same_name;
+use crate::timed_stair::TimedStair;
 use line_tables::LineTables;
-use rail_model::{Edit, OutOfMemory};
+use rail_model::{Edit, Item, Kind, Name, OutOfMemory};
 use std::alloc::Global;
 
 // What rows an edit can reach, by the tables after it.
 #[derive(Drop)]
 pub(crate) enum Reach {
-    // Any row: the stairways of all runs.
-    All(AllStairways),
+    // No row.
+    Nothing,
+    // All rows of the section of a name, and none of another.
+    Section(Name),
     // That of one run.
     Run(EditedRun),
+    // Those of some runs: for each run its stair, if it is one of them.
+    Runs(Vec<Option<TimedStair>>),
+    // Any row: the stairways of all runs.
+    All(AllStairways),
 }
 
 // What rows an edit can reach.
@@ -29,14 +43,25 @@ pub(crate) fn reach_of(
     requires { after.now ≡ edits.after before.now edit.now }
     ensures { IfOk result (IsReach before.now after.now) }
 {
+    if let Some(name) = section_edited(edit) {
+        return Ok(Reach::Section(name));
+    }
     if before.connections() > 0 {
         return Ok(Reach::All(stairs_of_all(alloc, after)?));
     }
-    let Some(name) = run_edited(edit) else {
-        return Ok(Reach::All(stairs_of_all(alloc, after)?));
-    };
-    let stair = stair_named(alloc, after, &name)?;
-    Ok(Reach::Run(EditedRun { name, stair }))
+    if let Some(name) = run_edited(edit) {
+        let stair = stair_named(alloc, after, &name)?;
+        return Ok(Reach::Run(EditedRun { name, stair }));
+    }
+    let _sound = after.sections();
+    if reaches_no_run(before, edit) {
+        return Ok(Reach::Nothing);
+    }
+    if keeps_blocks(edit) {
+        let stairs = reached_runs(alloc, before, after)?;
+        return Ok(reach_of_runs(before, after, stairs));
+    }
+    Ok(Reach::All(stairs_of_all(alloc, after)?))
 }
 
 // The stairways of all runs.
@@ -44,4 +69,76 @@ fn stairs_of_all(alloc: Global, tables: &LineTables) -> Result<AllStairways, Out
     ensures { IfOk result (λ stairs. stairs ≡ timetable tables.now) }
 {
     AllStairways::of(alloc, stairways(alloc, tables)?)
+}
+
+// The name of the section that an edit puts, changes or drops, if it is an edit of a section.
+fn section_edited(edit: &Edit) -> Option<Name>
+    ensures { result ≡ section_edited edit.now }
+{
+    match edit {
+        Edit::Put(Item::Section(section)) | Edit::Change(Item::Section(section)) => Some(
+            section.name,
+        ),
+        Edit::Drop(Kind::Section, name) => Some(*name),
+        _ => None,
+    }
+}
+
+// Whether an edit puts a block that isn't there or a route that no run is on, or drops a block, a
+// signal or a route. What is dropped is in no run's way, since the tables after the edit are sound.
+fn reaches_no_run(tables: &LineTables, edit: &Edit) -> bool
+    ensures { result ≡ true → ReachesNoRun tables.now edit.now }
+{
+    match edit {
+        Edit::Put(Item::Block(block)) => tables.block_number(&block.name).is_none(),
+        Edit::Put(Item::Route(route)) => has_no_run(tables, &route.name),
+        Edit::Drop(Kind::Block | Kind::Signal | Kind::Route, _) => true,
+        _ => false,
+    }
+}
+
+// Whether no run is on the route of a name.
+fn has_no_run(tables: &LineTables, route: &Name) -> bool
+    ensures { result ≡ true → All (λ r. r.route ≢ route.now) tables.now.runs }
+{
+    for n in 0..tables.runs() {
+        if same_name(&tables.run(n).route, route) {
+            return false;
+        }
+    }
+    true
+}
+
+// Whether an edit puts a signal or a route, or changes a block, a signal or a route.
+fn keeps_blocks(edit: &Edit) -> bool
+    ensures { result ≡ true → KeepsBlocks edit.now }
+{
+    match edit {
+        Edit::Put(Item::Signal(_) | Item::Route(_)) => true,
+        Edit::Change(Item::Block(_) | Item::Signal(_) | Item::Route(_)) => true,
+        _ => false,
+    }
+}
+
+// What rows an edit can reach by the stairs of the runs that it reaches: none, where no run is reached.
+fn reach_of_runs(before: &LineTables, after: &LineTables, stairs: Vec<Option<TimedStair>>) -> Reach
+    requires { AreReachedRuns before.now after.now stairs.items }
+    ensures { IsReach before.now after.now result }
+{
+    if reaches_some(&stairs) {
+        return Reach::Runs(stairs);
+    }
+    Reach::Nothing
+}
+
+// Whether one of these stairs is there.
+fn reaches_some(stairs: &[Option<TimedStair>]) -> bool
+    ensures { result ≡ false → All (λ s. s ≡ None) stairs.now }
+{
+    for stair in stairs {
+        if stair.is_some() {
+            return true;
+        }
+    }
+    false
 }

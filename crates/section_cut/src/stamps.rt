@@ -1,6 +1,6 @@
 //! The stamps of a cut's rows after an edit: a row that stands as before keeps its own.
 ghost use Rattle.std.specs.Prelude.{◌≡◌, ◌<◌, All, length, map, slice_set, slice_index_or};
-ghost use Rattle.rail_model.specs.Name.{NamesRise};
+ghost use Rattle.rail_model.specs.Name.{NamesRise, is_before};
 ghost use Rattle.plan_model.specs.Cut.{stamped_row};
 ghost use Rattle.plan_model.specs.Members.{no_member};
 ghost use Rattle.section_cut.specs.Change.{IsRestamped};
@@ -28,7 +28,7 @@ pub(crate) fn keep_stamps(rows: &mut List<CutRow>, old: &Cut, number: u64)
 }
 
 // The place of the first row whose name isn't before this one, from a place on.
-pub(crate) fn reached(rows: &[CutRow], name: &Name, from: usize) -> usize
+fn reached(rows: &[CutRow], name: &Name, from: usize) -> usize
     requires { AreBefore rows.now name.now from }
     ensures { IsReached rows.now name.now result }
 {
@@ -38,6 +38,21 @@ pub(crate) fn reached(rows: &[CutRow], name: &Name, from: usize) -> usize
         }
     }
     rows.len()
+}
+
+// The same place where the names rise, by halving.
+pub(crate) fn place_of(rows: &[CutRow], name: &Name) -> usize
+    requires { NamesRise (λ r. r.name) rows.now }
+    ensures { IsReached rows.now name.now result }
+{
+    rows.partition_point(|row| is_before(&row.name, name))
+}
+
+// Whether a name is before another.
+fn is_before(a: &Name, b: &Name) -> bool
+    ensures { result ≡ is_before a.now b.now }
+{
+    a < b
 }
 
 // The stamp of a row after the edit of a number, by the cut before it.

@@ -10,7 +10,7 @@ use std::test::Fail;
 
 // The rows of a cut: its connections; then for each train the place, start and end of each use, and its
 // entry, stamp and name.
-fn told(alloc: Global, cut: &Cut) -> Result<Sheet, OutOfMemory> {
+pub(super) fn told(alloc: Global, cut: &Cut) -> Result<Sheet, OutOfMemory> {
     let mut sheet = Sheet::new(alloc);
     for name in cut.connections.slice() {
         sheet.push_field(name.bytes())?;

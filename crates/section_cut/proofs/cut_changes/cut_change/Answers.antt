@@ -1,4 +1,5 @@
 use Rattle.std.proofs.Common.{◌≡◌, ◌∙◌, subst}
+use Rattle.std.specs.Option.{option_copied}
 use Rattle.plan_model.specs.SectionCut.{cut_of}
 use Rattle.section_cut.specs.Change.{TwoTables, IsChange}
 use Rattle.section_cut.proofs.SameValue.{untouched_is}
@@ -9,7 +10,7 @@ returns-in-Untouched-clause-cut c =
     let section = c.args.section.now in
     let changes = c.in_ok-changes.changes in
     let told : cut_of changes.after section ≡ cut_of changes.before section =
-    subst (IsChange (cut_of changes.before section) (cut_of changes.after section) c.args.number c.args.cut.now)
+    subst (IsChange (cut_of changes.before section) (cut_of changes.after section) c.args.number (option_copied c.as_ref.result))
     c.in-Untouched.is c.in_ok-cut_after.ensures in
     let same : cut_of c.args.after.now section ≡ cut_of c.args.before.now section =
     subst (λ (t : TwoTables). cut_of t.after section ≡ cut_of t.before section) c.in_ok-changes.ensures told in

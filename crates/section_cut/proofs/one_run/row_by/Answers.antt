@@ -1,21 +1,35 @@
-use Rattle.std.proofs.Common.{◌≡◌, ap, ◌∙◌, subst}
-use Rattle.std.specs.Prelude.{IfOk}
+use Rattle.std.proofs.Common.{◌≡◌, ◌<◌, length, refl, sym, ap, ◌∙◌, subst}
+use Rattle.std.specs.Prelude.{All, IfOk}
+use Rattle.rail_model.specs.declared.stair.Stair.{Stair}
+use Rattle.rail_model.specs.declared.stair.Use.{Use}
 use Rattle.section_cut.specs.Members.{member_row}
 use Rattle.section_cut.specs.Positions.{uses_in}
 use Rattle.section_cut.specs.OneRun.{uses_of_section}
+use Rattle.plan_model.specs.SectionCut.{position_in_section}
+use Rattle.section_cut.proofs.Outside.{outside_not_entered}
 use Rattle.section_cut.proofs.MemberRows.{uses_by_positions}
 use Rattle.section_cut.proofs.one_run.row_by.Goals as goal
+
+pub returns-then-passes_by : goal.returns-then-passes_by
+returns-then-passes_by c =
+    let section = c.args.section.now in
+    let stays = outside_not_entered section (position_in_section c.args.tables.now section) (length section.blocks) c.args.stair.now.uses
+    (c.passes_by.ensures c.if-passes_by.true) in
+    rw stays refl
 
 pub returns : goal.returns
 returns c =
     let tables = c.args.tables.now in
     let section = c.args.section.now in
-    let stair = c.args.stair.now in
+    let own = c.stair-own.result.now in
+    let same : own ≡ c.args.stair.now = c.stair-own.ensures in
+    let there = subst (λ (s : Stair). All (λ (u : Use). u.block < length tables.blocks) s.uses) (sym same) c.requires.there in
     let table = c.in_ok-table.table.items in
-    let is : c.deref-2.result.now ≡ uses_of_section tables section stair.uses =
+    let is : c.deref-2.result.now ≡ uses_of_section tables section own.uses =
     c.deref-2.ensures.value ∙ c.in_ok-gather.ensures
     ∙ ap (λ t. uses_in t c.len.result c.slice.result.now) c.deref.ensures.value
     ∙ ap (λ n. uses_in table n c.slice.result.now) c.len.ensures.count
-    ∙ ap (uses_in table (Rattle.std.proofs.Common.length section.blocks)) c.slice.ensures
-    ∙ uses_by_positions tables section table c.in_ok-table.ensures stair.uses c.requires.there in
-    subst (λ us. IfOk c.member_row.result (λ row. row ≡ member_row section stair.run c.args.stamp us)) is c.member_row.ensures
+    ∙ ap (uses_in table (length section.blocks)) c.slice.ensures
+    ∙ uses_by_positions tables section table c.in_ok-table.ensures own.uses there in
+    subst (λ (s : Stair). IfOk c.member_row.result (λ row. row ≡ member_row section s.run c.args.stamp (uses_of_section tables section s.uses))) same
+    (subst (λ us. IfOk c.member_row.result (λ row. row ≡ member_row section own.run c.args.stamp us)) is c.member_row.ensures)

@@ -15,5 +15,5 @@ pub returns : goal.returns
 returns c =
     let tables = c.args.tables.now in
     let found = run_found tables c.args.name.now c.in-Some.number c.in-Some.ensures.number c.in-Some.ensures.in_range in
-    ap Some (c.in_ok-stairs.ensures.same ∙ ap stair_of c.in_ok-path.ensures.same)
+    ap Some (c.of.ensures ∙ c.in_ok-stairs.ensures.same ∙ ap stair_of c.in_ok-path.ensures.same)
     ∙ sym (ap (option_map (λ (run : Run). stair_of (path_in tables run))) found)

@@ -34,8 +34,8 @@ pub returns-then-not-there : goal.returns-then-not-there
 returns-then-not-there c =
     let old = c.args.old.now in
     let n = c.args.name.now in
-    let at = c.reached-at.result in
-    let reached = subst (λ rs. IsReached rs n at) c.slice.ensures c.reached-at.ensures in
+    let at = c.place_of-at.result in
+    let reached = subst (λ rs. IsReached rs n at) c.slice.ensures c.place_of-at.ensures in
     let told = subst (λ rs. IsTrue c.stands_at-there.result ↔ IsThere rs n at) c.slice-2.ensures c.stands_at-there.ensures in
     with_this old n c.args.number c.args.row None change.Untouched c.in_default.is
     (ap Some (none_there old n at c.args.number c.requires.old_sound reached (gone old.rows n at c.stands_at-there.result told c.if-not-there.true)))
@@ -44,8 +44,8 @@ pub returns-in_default : goal.returns-in_default
 returns-in_default c =
     let old = c.args.old.now in
     let n = c.args.name.now in
-    let at = c.reached-at.result in
-    let reached = subst (λ rs. IsReached rs n at) c.slice.ensures c.reached-at.ensures in
+    let at = c.place_of-at.result in
+    let reached = subst (λ rs. IsReached rs n at) c.slice.ensures c.place_of-at.ensures in
     let told = subst (λ rs. IsTrue c.stands_at-there.result ↔ IsThere rs n at) c.slice-2.ensures c.stands_at-there.ensures in
     let sound = subst (λ r. IsSoundCut (cut_with n r old)) c.in_default.is c.requires.sound in
     let there = told.0 c.if-not-there.false in
@@ -57,9 +57,9 @@ pub returns-then-not-there-2 : goal.returns-then-not-there-2
 returns-then-not-there-2 c =
     let old = c.args.old.now in
     let n = c.args.name.now in
-    let at = c.reached-at.result in
+    let at = c.place_of-at.result in
     let row = c.in-Some.row in
-    let reached = subst (λ rs. IsReached rs n at) c.slice.ensures c.reached-at.ensures in
+    let reached = subst (λ rs. IsReached rs n at) c.slice.ensures c.place_of-at.ensures in
     let told = subst (λ rs. IsTrue c.stands_at-there.result ↔ IsThere rs n at) c.slice-2.ensures c.stands_at-there.ensures in
     let sound = subst (λ r. IsSoundCut (cut_with n r old)) c.in-Some.is c.requires.sound in
     let named = subst (λ o. IfSome o (λ (r : CutRow). r.name ≡ n)) c.in-Some.is c.requires.named in
@@ -72,9 +72,9 @@ pub returns-then-same_row : goal.returns-then-same_row
 returns-then-same_row c =
     let old = c.args.old.now in
     let n = c.args.name.now in
-    let at = c.reached-at.result in
+    let at = c.place_of-at.result in
     let row = c.in-Some.row in
-    let reached = subst (λ rs. IsReached rs n at) c.slice.ensures c.reached-at.ensures in
+    let reached = subst (λ rs. IsReached rs n at) c.slice.ensures c.place_of-at.ensures in
     let told = subst (λ rs. IsTrue c.stands_at-there.result ↔ IsThere rs n at) c.slice-2.ensures c.stands_at-there.ensures in
     let there = told.0 c.if-not-there-2.false in
     let is : c.index-slice-at.result ≡ get_or old.rows at no_member =
@@ -87,9 +87,9 @@ pub returns : goal.returns
 returns c =
     let old = c.args.old.now in
     let n = c.args.name.now in
-    let at = c.reached-at.result in
+    let at = c.place_of-at.result in
     let row = c.in-Some.row in
-    let reached = subst (λ rs. IsReached rs n at) c.slice.ensures c.reached-at.ensures in
+    let reached = subst (λ rs. IsReached rs n at) c.slice.ensures c.place_of-at.ensures in
     let told = subst (λ rs. IsTrue c.stands_at-there.result ↔ IsThere rs n at) c.slice-2.ensures c.stands_at-there.ensures in
     let sound = subst (λ r. IsSoundCut (cut_with n r old)) c.in-Some.is c.requires.sound in
     let named = subst (λ o. IfSome o (λ (r : CutRow). r.name ≡ n)) c.in-Some.is c.requires.named in

@@ -1,11 +1,30 @@
 use Rattle.std.proofs.Common.{◌≡◌, [], sym, ◌∙◌, arith}
 use Rattle.std.proofs.lemmas.List.{nil_from_length}
-use Rattle.section_cut.proofs.Reached.{one_run}
+use Rattle.section_cut.proofs.KeptBlocks.{same_traffic}
+use Rattle.section_cut.proofs.NoRun.{cuts_stay}
+use Rattle.section_cut.proofs.Reached.{one_run, one_section}
 use Rattle.section_cut.proofs.reach.reach_of.Goals as goal
 
-pub returns : goal.returns
-returns c =
+pub returns-in-Some : goal.returns-in-Some
+returns-in-Some c =
+    one_section c.args.before.now c.args.after.now c.args.edit.now c.in-Some.name c.requires (sym c.section_edited.ensures ∙ c.in-Some.is)
+
+pub returns-in-Some-run_edited : goal.returns-in-Some-run_edited
+returns-in-Some-run_edited c =
     let before = c.args.before.now in
     let none : before.connections ≡ [] = nil_from_length before.connections (omega (arith, c.connections.ensures.count)) in
-    one_run before c.args.after.now c.args.edit.now c.in-Some.name c.in_ok-stair.stair c.requires
-    (sym c.run_edited.ensures ∙ c.in-Some.is) none c.in_ok-stair.ensures
+    one_run before c.args.after.now c.args.edit.now c.in-Some-run_edited.name c.in_ok-stair.stair c.requires
+    (sym c.run_edited.ensures ∙ c.in-Some-run_edited.is) none c.in_ok-stair.ensures
+
+pub returns-then-reaches_no_run : goal.returns-then-reaches_no_run
+returns-then-reaches_no_run c =
+    let before = c.args.before.now in
+    let none : before.connections ≡ [] = nil_from_length before.connections (omega (arith, c.connections.ensures.count)) in
+    cuts_stay before c.args.after.now c.args.edit.now c.requires c.connections.ensures.sound c.sections-sound.ensures.sound none
+    (c.reaches_no_run.ensures c.if-reaches_no_run.true)
+
+pub reached_runs-requires : goal.reached_runs-requires
+reached_runs-requires c =
+    let before = c.args.before.now in
+    let none : before.connections ≡ [] = nil_from_length before.connections (omega (arith, c.connections.ensures.count)) in
+    same_traffic before c.args.after.now c.args.edit.now c.requires none (c.keeps_blocks.ensures c.if-keeps_blocks.true)

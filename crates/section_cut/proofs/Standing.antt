@@ -1,0 +1,136 @@
+-- A run's uses of a section depend on the run, its route, and the route's signals and blocks alone.
+use Rattle.std.proofs.Common.{◌≡◌, ℕ, Bool, true, List, [], ◌∷◌, map, ltb, length, get_or, Option, Some, None, refl, sym, ap, ◌∙◌, subst, inl, inr, arith}
+use Rattle.std.specs.Prelude.{All, filter, find, option_map}
+use Rattle.std.specs.List.{zip}
+use Rattle.std.proofs.lemmas.Bool.{cases_Bool}
+use Rattle.std.proofs.lemmas.List.{get_or_default}
+use Rattle.std.proofs.lemmas.List.Elements.{All-head, All-tail}
+use Rattle.std.proofs.lemmas.List.Sums.{passes_at_first}
+use Rattle.std.proofs.lemmas.Simd.{map-map}
+use Rattle.std.proofs.lemmas.Slice.Zip.{length-zip, get_or-zip}
+use Rattle.rail_model.specs.declared.items.Block.{Block}
+use Rattle.rail_model.specs.declared.items.Leg.{Leg}
+use Rattle.rail_model.specs.declared.items.Run.{Run}
+use Rattle.rail_model.specs.declared.items.Section.{Section}
+use Rattle.rail_model.specs.declared.tables.Tables.{Tables}
+use Rattle.rail_model.specs.declared.path.Hop.{Hop}
+use Rattle.rail_model.specs.declared.path.Path.{Path}
+use Rattle.rail_model.specs.declared.stair.Use.{Use}
+use Rattle.rail_model.specs.Name.{is_same}
+use Rattle.rail_model.specs.Rules.{has_block}
+use Rattle.rail_model.specs.Blocking.{stairway}
+use Rattle.rail_model.specs.Tables.{no_block, number_of, block_name, block_number, block_named, signal_named, route_named, hop_beyond, path_in}
+use Rattle.rail_model.specs.Within.{no_leg}
+use Rattle.rail_model.proofs.Lists.{map_same}
+use Rattle.rail_model.proofs.NameOrder.{same_name}
+use Rattle.rail_model.proofs.Paths.{place_within}
+use Rattle.plan_model.specs.declared.cut.CutRow.{CutRow}
+use Rattle.plan_model.specs.declared.cut.Cut.{Cut}
+use Rattle.plan_model.specs.SectionCut.{position_in_section, section_uses, is_member, section_cut, cut_of}
+use Rattle.section_cut.specs.Members.{row_on_blocks, enters, row_with}
+use Rattle.section_cut.proofs.Numberless.{renumbered_hop, renumbered, uses_renumbered}
+use Rattle.section_cut.proofs.OneRun.{bare_cut}
+
+-- a signal, its block's name, and the block's length stand as they stood
+pub record IsSameBeyond (earlier later : Tables) (name : List ℕ) : Type 0 where
+  pub signal : signal_named later name ≡ signal_named earlier name
+  pub there : has_block earlier (signal_named earlier name).block ≡ true
+  pub still : has_block later (signal_named earlier name).block ≡ true
+  pub block : block_named later (signal_named earlier name).block ≡ block_named earlier (signal_named earlier name).block
+
+-- so do a run's route and all signals of it
+pub record IsSameWay (earlier later : Tables) (run : Run) : Type 0 where
+  pub route : route_named later run.route ≡ route_named earlier run.route
+  pub signals : All (IsSameBeyond earlier later) (route_named earlier run.route).signals
+
+-- the block of a name has the name
+name_there : (tables : Tables) (name : List ℕ) → has_block tables name ≡ true → block_name tables (block_number tables name) ≡ name
+name_there tables name there =
+    let p : Block → Bool = λ b. is_same b.name name in
+    let first : is_same (block_named tables name).name name ≡ true = passes_at_first p tables.blocks no_block (place_within p tables.blocks there) in
+    same_name (block_named tables name).name name first
+
+module _ (earlier later : Tables) (s : Section) where
+  -- a hop over the block beyond a signal, by the block's position in the section
+  abbrev hop_placed : Tables → List ℕ × Leg → Hop
+  hop_placed tables p = renumbered_hop (position_in_section tables s) (hop_beyond tables (signal_named tables p.0) p.1)
+
+  hop_still : (p : List ℕ × Leg) → IsSameBeyond earlier later p.0 → hop_placed later p ≡ hop_placed earlier p
+  hop_still p same =
+      let b = (signal_named earlier p.0).block in
+      let hop : List ℕ → Block → Hop = λ n block. record (hop_beyond earlier (signal_named earlier p.0) p.1) { block = number_of (λ m. m) s.blocks n; block_m = block.length_m } in
+      rw (same.signal) (ap (λ n. hop n (block_named later b)) (name_there later b same.still) ∙ ap (hop b) same.block
+      ∙ ap (λ n. hop n (block_named earlier b)) (sym (name_there earlier b same.there)))
+
+  path_still : (run : Run) → IsSameWay earlier later run
+      → renumbered (position_in_section later s) (path_in later run) ≡ renumbered (position_in_section earlier s) (path_in earlier run)
+  path_still run same =
+      let names = (route_named earlier run.route).signals in
+      let path : List Hop → Path = λ hops. record { run = run.name; length_m = run.length_m; tail_s = run.tail_s; start_s = run.start_s; hops = hops } in
+      let beyond : (tables : Tables) → List ℕ × Leg → Hop = λ tables p. hop_beyond tables (signal_named tables p.0) p.1 in
+      ap path
+      (ap (λ r. map (renumbered_hop (position_in_section later s)) (map (beyond later) (zip r.signals run.legs))) same.route
+      ∙ map-map (renumbered_hop (position_in_section later s)) (beyond later) (zip names run.legs)
+      ∙ map_same (hop_placed later) (hop_placed earlier) (zip names run.legs)
+      (λ k d l.
+      let long = length-zip names run.legs in
+      hop_still (get_or (zip names run.legs) k d)
+      (subst (λ (p : List ℕ × Leg). IsSameBeyond earlier later p.0)
+      (sym (get_or_default (zip names run.legs) k d ([], no_leg) l ∙ get_or-zip names run.legs k ([], no_leg) (omega (arith, long)) (omega (arith, long))))
+      (same.signals k [] (omega (arith, long)))))
+      ∙ sym (map-map (renumbered_hop (position_in_section earlier s)) (beyond earlier) (zip names run.legs)))
+
+  -- the run's uses of the section are the same
+  pub uses_still : (run : Run) → IsSameWay earlier later run → section_uses later s run ≡ section_uses earlier s run
+  uses_still run same =
+      ap (filter (λ (u : Use). ltb u.block (length s.blocks)))
+      (uses_renumbered (position_in_section later s) (path_in later run)
+      ∙ ap stairway (path_still run same)
+      ∙ sym (uses_renumbered (position_in_section earlier s) (path_in earlier run)))
+
+  -- and so are its row and whether it is a member
+  pub member_still : (run : Run) → section_uses later s run ≡ section_uses earlier s run → is_member later s run ≡ is_member earlier s run
+  member_still run same = ap (enters s) same
+
+  pub row_still : (stamp : ℕ) (run : Run) → section_uses later s run ≡ section_uses earlier s run → row_on_blocks later s stamp run ≡ row_on_blocks earlier s stamp run
+  row_still stamp run same = ap (row_with run.name stamp) same
+
+rows_same : (f g : Run → CutRow) (p q : Run → Bool) (runs : List Run) → All (λ r. (p r ≡ q r) × (f r ≡ g r)) runs → map f (filter p runs) ≡ map g (filter q runs)
+rows_same f g p q [] same = refl
+rows_same f g p q (r ∷ runs) same =
+    let here = All-head (λ r. (p r ≡ q r) × (f r ≡ g r)) r runs same in
+    let rest = rows_same f g p q runs (All-tail (λ r. (p r ≡ q r) × (f r ≡ g r)) r runs same) in
+    elim (cases_Bool (q r)) [
+      | inl e ↦ rw (here.0, e) (ap (λ y. y ∷ map f (filter p runs)) here.1 ∙ ap (λ ys. g r ∷ ys) rest)
+      | inr e ↦ rw (here.0, e) rest
+    ]
+
+-- the tables have the same runs and sections, none has connections, and each run's way is the same
+pub record IsSameLine (earlier later : Tables) : Type 0 where
+  pub earlier_none : earlier.connections ≡ []
+  pub later_none : later.connections ≡ []
+  pub runs : later.runs ≡ earlier.runs
+  pub sections : later.sections ≡ earlier.sections
+  pub ways : All (IsSameWay earlier later) earlier.runs
+
+module _ (earlier later : Tables) (same : IsSameLine earlier later) where
+  cut_still : (s : Section) → section_cut later s ≡ section_cut earlier s
+  cut_still s =
+      let bare : List CutRow → Cut = λ rows. record { section = s; connections = []; rows = rows } in
+      bare_cut later s same.later_none
+      ∙ ap (λ runs. bare (map (row_on_blocks later s 0) (filter (is_member later s) runs))) same.runs
+      ∙ ap bare (rows_same (row_on_blocks later s 0) (row_on_blocks earlier s 0) (is_member later s) (is_member earlier s) earlier.runs
+      (λ k d l.
+      let uses = uses_still earlier later s (get_or earlier.runs k d) (same.ways k d l) in
+      (member_still earlier later s (get_or earlier.runs k d) uses, row_still earlier later s 0 (get_or earlier.runs k d) uses)))
+      ∙ sym (bare_cut earlier s same.earlier_none)
+
+  found_still : (found : Option Section) → option_map (section_cut later) found ≡ option_map (section_cut earlier) found
+  found_still None = refl
+  found_still (Some s) = ap Some (cut_still s)
+
+  -- no cut changes
+  pub cuts_still : (name : List ℕ) → cut_of later name ≡ cut_of earlier name
+  cuts_still name =
+      ap (λ sections. option_map (section_cut later) (find (λ (s : Section). is_same s.name name) sections)) same.sections
+      ∙ found_still (find (λ (s : Section). is_same s.name name) earlier.sections)

@@ -1,0 +1,48 @@
+use Rattle.std.proofs.Common.{Some, sym, subst}
+use Rattle.plan_model.specs.declared.cut.Cut.{Cut}
+use Rattle.plan_model.specs.Cut.{stamped}
+use Rattle.plan_model.specs.SectionCut.{cut_of}
+use Rattle.section_cut.specs.Change.{IsChange}
+use Rattle.section_cut.proofs.ReachedRuns.{old_rows, cut_made, cut_same}
+use Rattle.section_cut.proofs.SameValue.{sound_cut_of}
+use Rattle.section_cut.proofs.reached_runs.cut_after_runs.Goals as goal
+
+pub rows_after-requires-clause-rows : goal.rows_after-requires-clause-rows
+rows_after-requires-clause-rows c =
+    old_rows c.args.before.now c.args.after.now c.args.reached.now c.requires.reached c.args.section.now c.args.old.now c.requires.cut
+
+pub rows_after-requires-clause-blocks : goal.rows_after-requires-clause-blocks
+rows_after-requires-clause-blocks c =
+    (sound_cut_of c.args.before.now c.sections-sound_before.ensures.sound c.args.section.now c.args.old.now c.requires.cut).most_blocks
+
+pub compared-requires-clause-old_sound : goal.compared-requires-clause-old_sound
+compared-requires-clause-old_sound c =
+    sound_cut_of c.args.before.now c.sections-sound_before.ensures.sound c.args.section.now c.args.old.now c.requires.cut
+
+pub compared-requires-clause-sound : goal.compared-requires-clause-sound
+compared-requires-clause-sound c =
+    let made : Cut = record { section = c.in_ok-copy.field-0; connections = c.new.result; rows = c.in_ok-rows.rows } in
+    sound_cut_of c.args.after.now c.sections-sound.ensures.sound c.args.section.now made
+    (cut_made c.args.before.now c.args.after.now c.args.reached.now c.requires.reached c.args.section.now c.args.old.now c.requires.cut made
+    c.in_ok-copy.ensures c.new.ensures c.in_ok-rows.ensures)
+
+pub returns : goal.returns
+returns c =
+    let made : Cut = record { section = c.in_ok-copy.field-0; connections = c.new.result; rows = c.in_ok-rows.rows } in
+    let is = cut_made c.args.before.now c.args.after.now c.args.reached.now c.requires.reached c.args.section.now c.args.old.now c.requires.cut made
+    c.in_ok-copy.ensures c.new.ensures c.in_ok-rows.ensures in
+    subst (λ v. IsChange v (cut_of c.args.after.now c.args.section.now) c.args.number (Some c.args.old.now) c.compared.result) (sym c.requires.cut)
+    (subst (λ v. IsChange (Some (stamped 0 c.args.old.now)) v c.args.number (Some c.args.old.now) c.compared.result) (sym is) c.compared.ensures)
+
+pub rows_differ-requires-clause-rows : goal.rows_differ-requires-clause-rows
+rows_differ-requires-clause-rows c =
+    old_rows c.args.before.now c.args.after.now c.args.reached.now c.requires.reached c.args.section.now c.args.old.now c.requires.cut
+
+pub rows_differ-requires-clause-blocks : goal.rows_differ-requires-clause-blocks
+rows_differ-requires-clause-blocks c =
+    (sound_cut_of c.args.before.now c.sections-sound_before.ensures.sound c.args.section.now c.args.old.now c.requires.cut).most_blocks
+
+pub returns-then-not-branch : goal.returns-then-not-branch
+returns-then-not-branch c =
+    cut_same c.args.before.now c.args.after.now c.args.reached.now c.requires.reached c.args.section.now c.args.old.now c.requires.cut
+    (c.in_ok-rows_differ.ensures c.if-not-branch.true)

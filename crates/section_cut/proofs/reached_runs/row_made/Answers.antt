@@ -1,0 +1,11 @@
+use Rattle.std.proofs.Common.{length, refl}
+use Rattle.std.specs.Prelude.{slice_index}
+use Rattle.section_cut.proofs.Outside.{outside_not_entered}
+use Rattle.section_cut.proofs.reached_runs.row_made.Goals as goal
+
+pub returns-then-passes_by : goal.returns-then-passes_by
+returns-then-passes_by c =
+    let section = c.args.section.now in
+    let stays = outside_not_entered section (slice_index c.args.positions.now) (length section.blocks) c.args.stair.now.uses
+    (c.passes_by.ensures c.if-passes_by.true) in
+    rw stays refl
