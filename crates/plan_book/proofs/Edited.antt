@@ -20,13 +20,13 @@ use Rattle.plan_model.specs.Legal.{IsNext, IsJournal}
 use Rattle.plan_model.specs.Touch.{cut_at, cut_now}
 use Rattle.plan_model.proofs.Growing.{opening-more, tables_at-past}
 use Rattle.plan_model.proofs.Legality.{legal_has_one}
-use Rattle.section_cut.specs.declared.cut_changes.CutChange.{CutChange}
-use Rattle.section_cut.specs.declared.cut_changes.CutChange.TheVariants as change
+use Rattle.plan_book.specs.declared.changes.ShelfChange.{ShelfChange}
+use Rattle.plan_book.specs.declared.changes.ShelfChange.TheVariants as change
 use Rattle.section_cut.specs.Change.{IsChange}
 use Rattle.section_cut.proofs.Rows.{found_at}
 use Rattle.plan_book.specs.declared.shelf.Shelf.{Shelf}
 use Rattle.plan_book.specs.Shelves.{blank, shelf_of, IsShelf, AreShelves}
-use Rattle.plan_book.specs.Changes.{WillChange, HaveCuts, changed, AreChanges, AreChanged, Widens, HaveAll, HasCutOf}
+use Rattle.plan_book.specs.Changes.{WillChange, HaveCuts, changed, AreChanges, AreChanged, Widens, HaveAll, HasCutOf, cut_change_of}
 use Rattle.plan_book.specs.Kept.{MayDo, IsCounted, IsBook, AreDone}
 use Rattle.plan_book.proofs.Found.{found_name}
 use Rattle.plan_book.proofs.Starting.{found_of_all}
@@ -35,7 +35,7 @@ use Rattle.plan_book.proofs.NextTasks.{some_if, journal_edited}
 use Rattle.plan_book.proofs.Adding.{shelf_found, none_found, done-by, issued-same}
 use Rattle.plan_book.proofs.Editing.{last_number-edited, tables_of-edited, cut_then, shelf-edited}
 
-changed_name : (number : ℕ) (s : Shelf) (c : CutChange) → (changed number s c).name ≡ s.name
+changed_name : (number : ℕ) (s : Shelf) (c : ShelfChange) → (changed number s c).name ≡ s.name
 changed_name number s change.Untouched = refl
 changed_name number s (change.Touched cut) = refl
 
@@ -96,7 +96,7 @@ no_cut tables shelves name all none =
     (found_of_all (λ (x : Section). is_named (λ (s : Shelf). s.name) shelves x.name ≡ true) (λ s. is_same s.name name) tables.sections all)
     refl (unnamed shelves name none)
 
-module _ (journal : List Entry) (e : Entry) (edit : Edit) (some : 0 < length journal) (is : edit_of e.act ≡ Some edit) (quiet : (name : List ℕ) → publication_of name e.act ≡ None) (order : (opening journal).at ≤ last_number journal) (first : ℕ) (shelves later : List Shelf) (changes : List CutChange) (are : AreShelves journal first shelves) (all : HaveAll (after (tables_of journal) edit) shelves) (made : AreChanges (tables_of journal) (after (tables_of journal) edit) (last_number journal + 1) shelves changes) (new : AreChanged (last_number journal + 1) shelves changes later) where
+module _ (journal : List Entry) (e : Entry) (edit : Edit) (some : 0 < length journal) (is : edit_of e.act ≡ Some edit) (quiet : (name : List ℕ) → publication_of name e.act ≡ None) (order : (opening journal).at ≤ last_number journal) (first : ℕ) (shelves later : List Shelf) (changes : List ShelfChange) (are : AreShelves journal first shelves) (all : HaveAll (after (tables_of journal) edit) shelves) (made : AreChanges (tables_of journal) (after (tables_of journal) edit) (last_number journal + 1) shelves changes) (new : AreChanged (last_number journal + 1) shelves changes later) where
   names : (k : ℕ) (d : Shelf) → k < length shelves → (get_or later k d).name ≡ (get_or shelves k d).name
   names k d below =
       ap (λ (s : Shelf). s.name) (new.each k d change.Untouched below)
@@ -112,7 +112,7 @@ module _ (journal : List Entry) (e : Entry) (edit : Edit) (some : 0 < length jou
             let c = get_or changes k change.Untouched in
             let named : s.name ≡ name = found_name shelves name s there.2 in
             let made_here =
-            subst (λ n. IsChange (cut_of (tables_of journal) n) (cut_of (after (tables_of journal) edit) n) (last_number journal + 1) s.cut c) named
+            subst (λ n. IsChange (cut_of (tables_of journal) n) (cut_of (after (tables_of journal) edit) n) (last_number journal + 1) s.cut (cut_change_of c)) named
             (made.each k none change.Untouched there.1) in
             let is_changed : shelf_of first later name ≡ changed (last_number journal + 1) s c =
             ap (λ o. unwrap_or o none) there.3 ∙ new.each k none change.Untouched there.1 in
@@ -192,7 +192,7 @@ unfolding last_number
 from_opening journal = omega arith
 
 -- the book after an edit
-pub book-edited : (journal : List Entry) (tables : Tables) (first at passes : ℕ) (shelves later : List Shelf) (changes : List CutChange) (done counts : List ℕ)
+pub book-edited : (journal : List Entry) (tables : Tables) (first at passes : ℕ) (shelves later : List Shelf) (changes : List ShelfChange) (done counts : List ℕ)
     (e : Entry) (edit : Edit) → IsBook journal tables first at passes shelves done → IsJournal (journal ++ e ∷ [])
     → edit_of e.act ≡ Some edit → ((name : List ℕ) → publication_of name e.act ≡ None) → issues e.act ≡ false → AreDone (journal ++ e ∷ []) counts
     → HaveAll (after tables edit) shelves → AreChanges tables (after tables edit) (at + 1) shelves changes
@@ -214,7 +214,7 @@ book-edited journal tables first at passes shelves later changes done counts e e
     }
 
 -- the book after an edit by a planner, or outside the scripts, that no rule refuses
-pub book-accepted : (journal : List Entry) (tables : Tables) (first at passes : ℕ) (shelves later : List Shelf) (changes : List CutChange)
+pub book-accepted : (journal : List Entry) (tables : Tables) (first at passes : ℕ) (shelves later : List Shelf) (changes : List ShelfChange)
     (done counts : List ℕ) (who planner : ℕ) (edit : Edit) (number : ℕ) (next : Tables) → IsBook journal tables first at passes shelves done
     → IsNext journal (record { pass = who; act = act.Edited planner number edit }) → MayDo journal planner (task.Edit edit)
     → number ≡ at + 1 → next ≡ after tables edit

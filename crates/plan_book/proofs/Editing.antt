@@ -13,13 +13,13 @@ use Rattle.plan_model.specs.SectionCut.{cut_of}
 use Rattle.plan_model.specs.Journal.{opening, edit_of, edits, last_number, tables_of, publication_of}
 use Rattle.plan_model.specs.Touch.{row_named, cut_at, row_at, IsLastTouching, IsStamp}
 use Rattle.plan_model.proofs.Growing.{opening-more, last_number-more, tables_of-more, tables_at-past, cut_at-more, row_at-more}
-use Rattle.section_cut.specs.declared.cut_changes.CutChange.{CutChange}
-use Rattle.section_cut.specs.declared.cut_changes.CutChange.TheVariants as change
+use Rattle.plan_book.specs.declared.changes.ShelfChange.{ShelfChange}
+use Rattle.plan_book.specs.declared.changes.ShelfChange.TheVariants as change
 use Rattle.section_cut.specs.Change.{IsRestamped, IsCutAfter, IsChange}
 use Rattle.section_cut.proofs.Rows.{found_at}
 use Rattle.plan_book.specs.declared.shelf.Shelf.{Shelf}
 use Rattle.plan_book.specs.Shelves.{IsShelf}
-use Rattle.plan_book.specs.Changes.{changed}
+use Rattle.plan_book.specs.Changes.{changed, cut_change_of}
 use Rattle.plan_book.proofs.LastChanges.{last_change_too, last_change_on, last_change_new}
 use Rattle.plan_book.proofs.Others.{knows_last-more}
 use Rattle.plan_book.proofs.Starting.{found_of_all}
@@ -134,8 +134,8 @@ module _ (journal : List Entry) (e : Entry) (edit : Edit) (some : 0 < length jou
       new_stamps (Some c) made = restamped c made.same made.sound made.stamps
 
       -- what is known of a section after the edit
-      pub shelf-edited : (c : CutChange)
-          → IsChange (cut_of (tables_of journal) name) (cut_of (after (tables_of journal) edit) name) (last_number journal + 1) s.cut c
+      pub shelf-edited : (c : ShelfChange)
+          → IsChange (cut_of (tables_of journal) name) (cut_of (after (tables_of journal) edit) name) (last_number journal + 1) s.cut (cut_change_of c)
           → IsShelf longer name (changed (last_number journal + 1) s c)
       shelf-edited change.Untouched same = record {
         touched = touched_on s.touched same h.touched;

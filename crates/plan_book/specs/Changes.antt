@@ -1,18 +1,30 @@
 -- What an edit makes of what is known of sections.
-use Rattle.std.specs.Prelude.{◌≡◌, ℕ, ◌<◌, List, length, true, All, option_map, slice_index_or}
+use Rattle.std.specs.Prelude.{◌≡◌, ℕ, ◌<◌, List, length, true, All, IfSome, option_map, slice_index_or}
 use Rattle.rail_model.specs.declared.tables.Tables.{Tables}
 use Rattle.rail_model.specs.Name.{NamesRise}
 use Rattle.rail_model.specs.Rules.{is_named}
-use Rattle.plan_model.specs.Cut.{stamped}
+use Rattle.plan_model.specs.Cut.{stamped, IsSoundCut}
 use Rattle.plan_model.specs.SectionCut.{cut_of}
 use Rattle.section_cut.specs.declared.cut_changes.CutChange.{CutChange}
-use Rattle.section_cut.specs.declared.cut_changes.CutChange.TheVariants as change
+use Rattle.section_cut.specs.declared.cut_changes.CutChange.TheVariants as cut_change
+use Rattle.plan_book.specs.declared.changes.ShelfChange.{ShelfChange}
+use Rattle.plan_book.specs.declared.changes.ShelfChange.TheVariants as change
 use Rattle.section_cut.specs.Change.{IsChange}
 use Rattle.plan_book.specs.declared.shelf.Shelf.{Shelf}
 use Rattle.plan_book.specs.Shelves.{shelf_of}
 
+-- what an edit makes of a shelf's cut is what it makes of the section's cut
+abbrev pub cut_change_of : ShelfChange → CutChange
+cut_change_of change.Untouched = cut_change.Untouched
+cut_change_of (change.Touched cut) = cut_change.Touched cut
+
+-- the cut that it makes, if it makes one, is sound
+abbrev pub IsSoundChange : CutChange → Type 0
+IsSoundChange cut_change.Untouched = Unit {0}
+IsSoundChange (cut_change.Touched cut) = IfSome cut IsSoundCut
+
 -- a shelf after the edit of a number: where the edit touches its section, it has the section's new cut
-abbrev pub changed : ℕ → Shelf → CutChange → Shelf
+abbrev pub changed : ℕ → Shelf → ShelfChange → Shelf
 changed number s change.Untouched = s
 changed number s (change.Touched cut) = record s { touched = number; cut = cut }
 
@@ -26,19 +38,20 @@ HaveCuts tables first shelves =
     (name : List ℕ) → cut_of tables name ≡ option_map (stamped 0) (shelf_of first shelves name).cut
 
 -- what the edit of a number, between two tables, makes of the cut of a shelf's section
-abbrev pub IsChangeOf : Tables → Tables → ℕ → Shelf → CutChange → Type 0
-IsChangeOf before after number s c = IsChange (cut_of before s.name) (cut_of after s.name) number s.cut c
+abbrev pub IsChangeOf : Tables → Tables → ℕ → Shelf → ShelfChange → Type 0
+IsChangeOf before after number s c =
+    IsChange (cut_of before s.name) (cut_of after s.name) number s.cut (cut_change_of c)
 
 -- what it makes of the cut of each shelf
-pub record AreChanges (before after : Tables) (number : ℕ) (shelves : List Shelf) (changes : List CutChange) : Type 0 where
+pub record AreChanges (before after : Tables) (number : ℕ) (shelves : List Shelf) (changes : List ShelfChange) : Type 0 where
   pub count : length changes ≡ length shelves
-  pub each : (k : ℕ) (s : Shelf) (c : CutChange) → k < length shelves
+  pub each : (k : ℕ) (s : Shelf) (c : ShelfChange) → k < length shelves
       → IsChangeOf before after number (slice_index_or shelves k s) (slice_index_or changes k c)
 
 -- each shelf is changed
-pub record AreChanged (number : ℕ) (shelves : List Shelf) (changes : List CutChange) (later : List Shelf) : Type 0 where
+pub record AreChanged (number : ℕ) (shelves : List Shelf) (changes : List ShelfChange) (later : List Shelf) : Type 0 where
   pub count : length later ≡ length shelves
-  pub each : (k : ℕ) (s : Shelf) (c : CutChange) → k < length shelves
+  pub each : (k : ℕ) (s : Shelf) (c : ShelfChange) → k < length shelves
       → slice_index_or later k s ≡ changed number (slice_index_or shelves k s) (slice_index_or changes k c)
 
 -- shelves of more names, which stand in the order of names, and say what was known without them
@@ -56,6 +69,6 @@ Keeps old new = (name : List ℕ) → is_named (λ (s : Shelf). s.name) old name
     → is_named (λ (s : Shelf). s.name) new name ≡ true
 
 -- each section of the later tables has a shelf, and this is what the edit makes of the cuts
-pub record WillChange (before after : Tables) (number : ℕ) (shelves : List Shelf) (changes : List CutChange) : Type 0 where
+pub record WillChange (before after : Tables) (number : ℕ) (shelves : List Shelf) (changes : List ShelfChange) : Type 0 where
   pub all : HaveAll after shelves
   pub made : AreChanges before after number shelves changes

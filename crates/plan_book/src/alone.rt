@@ -97,8 +97,8 @@ impl<'a> Board for Alone<'a> {
     }
 }
 
-// How many readings were given, after this answer.
-fn counted(readings: u64, next: &Next<Reading>) -> u64
+/// How many readings a board has given, after this answer: the count stands still at 2^64 - 1.
+pub fn counted(readings: u64, next: &Next<Reading>) -> u64
     ensures { result ≡ counted readings next.now }
 {
     match next {

@@ -18,6 +18,7 @@ use crate::changes::{change_shelves, changes_for};
 use crate::first::first_shelves;
 use crate::shelf::{Published, Shelf, asked_of, place_of, shelf_of, verdict_of};
 use crate::tasks::count_task;
+use crate::twin::TwinTables;
 use line_tables::LineTables;
 use plan_model::{Act, Asked, Done, Entry, NotTaken, Reply, Scripts};
 use rail_model::{Edit, List, Name, OutOfMemory, Rule};
@@ -40,7 +41,7 @@ pub struct Book {
     pub(crate) journal: List<Entry>,
     // The tables after all edits, the number of the last edit before the book was started and that
     // of the last one, and how many passes are issued.
-    pub(crate) tables: LineTables,
+    pub(crate) tables: TwinTables,
     pub(crate) first: u64,
     pub(crate) at: u64,
     pub(crate) passes: u32,
@@ -99,7 +100,7 @@ impl Book {
         Ok(Book {
             alloc,
             journal,
-            tables,
+            tables: TwinTables::of(tables),
             first: at,
             at,
             passes: 1,
@@ -128,7 +129,7 @@ impl Book {
     pub fn tables(&self) -> &LineTables
         ensures { result.now ≡ tables_of self.now }
     {
-        &self.tables
+        self.tables.tables()
     }
 
     /// How many planners there are: one for each script.
@@ -225,6 +226,7 @@ impl Book {
         match next.apply(&edit)? {
             Ok(()) => Ok(Ok(self.accept(who, planner, edit, next)?)),
             Err(rule) => {
+                self.tables.give_back(next);
                 self.refuse(who, planner, edit, rule)?;
                 Ok(Err(rule))
             }
@@ -232,10 +234,11 @@ impl Book {
     }
 
     // The tables once more, for an edit.
-    fn next_tables(&self) -> Result<LineTables, OutOfMemory>
-        ensures { IfOk result (λ tables. tables ≡ tables_of self.now) }
+    fn next_tables(&mut self) -> Result<LineTables, OutOfMemory>
+        ensures same { self.new ≡ self.old }
+        ensures tables { IfOk result (λ tables. tables ≡ tables_of self.old) }
     {
-        self.tables.copy()
+        self.tables.take_spare()
     }
 
     // Adds an edit that a rule refuses.
@@ -281,16 +284,17 @@ impl Book {
             self.alloc,
             &mut self.shelves,
             self.first,
-            &self.tables,
+            self.tables.tables(),
             &next,
             &edit,
             number,
         )?;
+        let again = edit.copy(self.alloc)?;
         self.journal.push(edited_entry(who, planner, number, edit))?;
         count_task(&mut self.done, planner);
         change_shelves(&mut self.shelves, changes, number);
         self.at = number;
-        self.tables = next;
+        self.tables.replace(next, again);
         Ok(number)
     }
 

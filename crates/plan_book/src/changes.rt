@@ -3,14 +3,24 @@ ghost use Rattle.std.specs.Prelude.{◌≡◌, ◌<◌, ◌≤◌, All, IfOk, On
 ghost use Rattle.rail_model.specs.Edits as edits;
 ghost use Rattle.rail_model.specs.Name.{NamesRise};
 ghost use Rattle.plan_book.specs.Changes.{changed, HasCutOf, HaveCuts, WillChange, AreChanges};
-ghost use Rattle.plan_book.specs.Changes.{AreChanged, Widens, HaveAll};
+ghost use Rattle.plan_book.specs.Changes.{AreChanged, Widens, HaveAll, IsSoundChange, cut_change_of};
 
 use crate::shelf::{Shelf, place_of};
 use line_tables::LineTables;
+use plan_model::{Cut, SharedCut};
 use rail_model::{Edit, List, Name, OutOfMemory};
 use section_cut::{CutChange, CutChanges};
 use std::alloc::Global;
 use std::mem;
+
+/// What an edit makes of a shelf's cut.
+#[derive(Drop)]
+pub(crate) enum ShelfChange {
+    /// The edit doesn't touch the section.
+    Untouched,
+    /// The edit touches the section, whose cut is this one after it, if the section is there.
+    Touched(Option<SharedCut>),
+}
 
 /// What the edit of a number makes of the cut of each section. A shelf is put in for each section
 /// of the later tables that has none; what is known of sections stays, also without memory.
@@ -22,7 +32,7 @@ pub(crate) fn changes_for(
     after: &LineTables,
     edit: &Edit,
     number: u64,
-) -> Result<List<CutChange>, OutOfMemory>
+) -> Result<List<ShelfChange>, OutOfMemory>
     requires rise { NamesRise (λ s. s.name) shelves.old }
     requires cuts { HaveCuts before.now first shelves.old }
     requires after { after.now ≡ edits.after before.now edit.now }
@@ -90,7 +100,7 @@ fn changes_of(
     after: &LineTables,
     edit: &Edit,
     number: u64,
-) -> Result<List<CutChange>, OutOfMemory>
+) -> Result<List<ShelfChange>, OutOfMemory>
     requires after { after.now ≡ edits.after before.now edit.now }
     requires cuts { All (HasCutOf before.now) shelves.now }
     ensures { IfOk result (AreChanges before.now after.now number shelves.now) }
@@ -98,28 +108,55 @@ fn changes_of(
     let made = CutChanges::of(alloc, before, after, edit)?;
     let mut changes = List::new(alloc);
     for shelf in shelves {
-        changes.push(made.cut_after(alloc, &shelf.cut, &shelf.name, number)?)?;
+        let change = made.cut_after(alloc, cut_of(shelf), &shelf.name, number)?;
+        changes.push(shelf_change(alloc, change)?)?;
     }
     Ok(changes)
 }
 
+ghost use Rattle.std.specs.Option.{option_copied};
+
+// The cut of a shelf's section, if the section is there.
+fn cut_of(shelf: &Shelf) -> Option<&Cut>
+    ensures { option_copied result ≡ shelf.now.cut }
+{
+    match &shelf.cut {
+        Some(cut) => Some(cut.cut()),
+        None => None,
+    }
+}
+
+// What an edit makes of a shelf's cut, by what it makes of the section's cut.
+fn shelf_change(alloc: Global, change: CutChange) -> Result<ShelfChange, OutOfMemory>
+    requires { IsSoundChange change }
+    ensures { IfOk result (λ made. cut_change_of made ≡ change) }
+{
+    match change {
+        CutChange::Untouched => Ok(ShelfChange::Untouched),
+        CutChange::Touched(None) => Ok(ShelfChange::Touched(None)),
+        CutChange::Touched(Some(cut)) => {
+            Ok(ShelfChange::Touched(Some(SharedCut::of(alloc, cut)?)))
+        }
+    }
+}
+
 /// Changes each shelf by what the edit of a number made of its section's cut.
-pub(crate) fn change_shelves(shelves: &mut List<Shelf>, changes: List<CutChange>, number: u64)
+pub(crate) fn change_shelves(shelves: &mut List<Shelf>, changes: List<ShelfChange>, number: u64)
     requires { length changes ≡ length shelves.old }
     ensures { AreChanged number shelves.old changes shelves.new }
 {
     let mut changes = changes.into_vec();
     for place in 0..changes.len() {
-        let change = mem::replace(&mut changes[place], CutChange::Untouched);
+        let change = mem::replace(&mut changes[place], ShelfChange::Untouched);
         change_shelf(shelves.get_mut(place), change, number);
     }
 }
 
 // Changes a shelf.
-fn change_shelf(shelf: &mut Shelf, change: CutChange, number: u64)
+fn change_shelf(shelf: &mut Shelf, change: ShelfChange, number: u64)
     ensures { shelf.new ≡ changed number shelf.old change }
 {
-    if let CutChange::Touched(cut) = change {
+    if let ShelfChange::Touched(cut) = change {
         shelf.touched = number;
         shelf.cut = cut;
     }

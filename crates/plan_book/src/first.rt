@@ -7,6 +7,7 @@ ghost use Rattle.plan_book.specs.First as firsts;
 
 use crate::shelf::Shelf;
 use line_tables::LineTables;
+use plan_model::SharedCut;
 use rail_model::{List, OutOfMemory};
 use section_cut::{AllStairways, cut_among, stairways};
 use std::alloc::Global;
@@ -47,6 +48,6 @@ fn first_shelf(
         name: tables.section(section).name,
         touched: at,
         published: None,
-        cut: Some(cut),
+        cut: Some(SharedCut::of(alloc, cut)?),
     })
 }

@@ -13,6 +13,7 @@ mod kept;
 mod reading;
 mod shelf;
 mod tasks;
+mod twin;
 
-pub use alone::Alone;
+pub use alone::{Alone, counted};
 pub use book::{Book, FIRST_NUMBER, PLANNERS, TASKS};

@@ -56,7 +56,7 @@ impl Book {
         has_latest(self.shelf(number))
     }
 
-    // A reading of the section of a number.
+    // A reading of the section of a number, which shares its cut.
     fn reading(&self, number: u32) -> Result<Reading, OutOfMemory>
         requires { number < length (tables_of self.now).sections }
         ensures { IfOk result (IsReadingOf self.now (section_name self.now number)) }
@@ -64,7 +64,7 @@ impl Book {
         let Some(cut) = &self.shelf(number).cut else {
             unreachable!();
         };
-        Ok(Reading::new(cut.copy(self.alloc)?, self.at()))
+        Ok(Reading::shared(cut.share()?, self.at()))
     }
 
     // The shelf of the section of a number.
@@ -73,7 +73,7 @@ impl Book {
         ensures shelf { IsShelf self.now (section_name self.now number) result.now }
         ensures is_journal { IsJournal self.now }
     {
-        let name = &self.tables.section(number).name;
+        let name = &self.tables.tables().section(number).name;
         let Some(shelf) = shelf_of(self.shelves.slice(), name) else {
             unreachable!();
         };

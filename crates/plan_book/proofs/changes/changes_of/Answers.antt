@@ -1,4 +1,5 @@
-use Rattle.std.proofs.Common.{subst, arith, length-append, ◌∷◌, []}
+use Rattle.std.proofs.Common.{sym, subst, arith, length-append, ◌∷◌, []}
+use Rattle.std.specs.Option.{option_copied}
 use Rattle.section_cut.specs.Change.{TwoTables, IsChange}
 use Rattle.plan_model.specs.SectionCut.{cut_of}
 use Rattle.plan_book.specs.Changes.{IsChangeOf}
@@ -10,9 +11,16 @@ loop-shelf-preserved c =
     let shelf = c.shelf-item.result in
     let i = c.loop-shelf.shelf-index in
     let old = c.loop-shelf.changes in
-    let new = c.in_ok-cut_after.field-0 in
-    let made = subst (λ (t : TwoTables). IsChange (cut_of t.before shelf.name) (cut_of t.after shelf.name) c.args.number shelf.cut new)
-    c.in_ok-made.ensures c.in_ok-cut_after.ensures in
+    let new = c.in_ok-shelf_change.field-0 in
+    let before = cut_of c.args.before.now shelf.name in
+    let after = cut_of c.args.after.now shelf.name in
+    let change = c.in_ok-change.change in
+    let told =
+    subst (λ cut. IsChange before after c.args.number cut change) c.cut_of.ensures
+    (subst (λ (t : TwoTables). IsChange (cut_of t.before shelf.name) (cut_of t.after shelf.name) c.args.number (option_copied c.cut_of.result) change)
+    c.in_ok-made.ensures c.in_ok-change.ensures) in
+    let made : IsChangeOf c.args.before.now c.args.after.now c.args.number shelf new =
+    subst (IsChange before after c.args.number shelf.cut) (sym c.in_ok-shelf_change.ensures) told in
     rw c.in_ok-push.ensures.ok
     (record {
       count = rw (length-append old (new ∷ [])) (omega (arith, c.loop-shelf.invariant.count));

@@ -6,6 +6,7 @@ use Rattle.plan_model.specs.Journal.{last_number, tables_of}
 use Rattle.plan_model.specs.Legal.{IsNext}
 use Rattle.plan_model.specs.declared.scripts.Task.TheVariants as task
 use Rattle.plan_book.specs.Kept.{MayDo}
+use Rattle.plan_book.specs.Changes.{WillChange}
 use Rattle.plan_book.proofs.NextTasks.{planner_within, few_done}
 use Rattle.plan_book.proofs.Edited.{have_cuts, book-wider, book-accepted}
 use Rattle.plan_book.proofs.book.Book.accept.Goals as goal
@@ -13,11 +14,12 @@ use Rattle.plan_book.proofs.book.Book.accept.Goals as goal
 pub changes_for-requires-clause-cuts : goal.changes_for-requires-clause-cuts
 changes_for-requires-clause-cuts c =
     let b = c.self.inside in
-    rw c.self.invariant.tables_are (have_cuts b.journal b.first b.shelves c.self.invariant.shelves_are)
+    rw (c.tables.ensures, c.self.invariant.tables_are) (have_cuts b.journal b.first b.shelves c.self.invariant.shelves_are)
 
 pub changes_for-requires-clause-after : goal.changes_for-requires-clause-after
 changes_for-requires-clause-after c =
-    c.requires.next ∙ ap (λ t. after t c.args.edit) (ap tables_of (sym c.self.view_is) ∙ sym c.self.invariant.tables_are)
+    c.requires.next
+    ∙ ap (λ t. after t c.args.edit) (ap tables_of (sym c.self.view_is) ∙ sym c.self.invariant.tables_are ∙ sym c.tables.ensures)
 
 pub invariant_of-self : goal.invariant_of-self
 invariant_of-self c =
@@ -43,9 +45,11 @@ invariant_of-self-2 c =
     let number_is = c.next_number-number.ensures.number ∙ ap (λ n. n + 1) (ap last_number (sym c.self.view_is) ∙ sym c.self.invariant.at_is) in
     let next_is = c.requires.next ∙ ap (λ t. after t c.args.edit) (ap tables_of (sym c.self.view_is) ∙ sym c.self.invariant.tables_are) in
     let same = c.in_ok-push.ensures.ok ∙ ap (λ x. b.journal ++ x ∷ []) c.edited_entry.ensures in
-    rw same
+    let made =
+    subst (λ t. WillChange t c.args.next number c.changes_for.new.shelves c.in_ok-changes.changes) c.tables.ensures c.in_ok-changes.ensures.made in
+    rw (same, c.replace.ensures)
     (book-accepted b.journal b.tables b.first b.at b.passes c.changes_for.new.shelves c.change_shelves.new.shelves c.in_ok-changes.changes b.done.items c.count_task.new.done.items
-    c.args.who c.args.planner c.args.edit number c.args.next wider may may_do number_is next_is c.in_ok-changes.ensures.made c.change_shelves.ensures c.count_task.ensures)
+    c.args.who c.args.planner c.args.edit number c.args.next wider may may_do number_is next_is made c.change_shelves.ensures c.count_task.ensures)
 
 pub count_task-requires-clause-there : goal.count_task-requires-clause-there
 count_task-requires-clause-there c =

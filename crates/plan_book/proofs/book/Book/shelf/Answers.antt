@@ -1,4 +1,5 @@
-use Rattle.std.proofs.Common.{◌≡◌, ◌<◌, ◌∙◌, None, length, sym, subst, ap}
+use Rattle.std.proofs.Common.{◌≡◌, ◌<◌, ◌∙◌, None, Some, length, sym, subst, ap}
+use Rattle.std.specs.Prelude.{slice_get}
 use Rattle.std.specs.Option.{option_copied}
 use Rattle.std.proofs.lemmas.Option.{get_or_from_slice_get}
 use Rattle.rail_model.specs.declared.items.Section.{Section}
@@ -7,6 +8,7 @@ use Rattle.plan_model.specs.Journal.{tables_of}
 use Rattle.plan_model.specs.Touch.{cut_now}
 use Rattle.plan_model.specs.Outcome.{section_name}
 use Rattle.plan_book.specs.Shelves.{AreShelves, IsShelf}
+use Rattle.rail_model.specs.declared.tables.Tables.{Tables}
 use Rattle.plan_book.proofs.Adding.{shelf_found, none_found}
 use Rattle.plan_book.proofs.Sections.{cut_not_missing}
 use Rattle.plan_book.proofs.book.Book.shelf.Goals as goal
@@ -18,7 +20,7 @@ unreachable-requires c =
     let name = c.section.result.now.name in
     let name_is : section_name b.journal n ≡ name =
     ap (λ t. (section_at t n).name) (sym c.self.invariant.tables_are)
-    ∙ ap (λ (s : Section). s.name) (get_or_from_slice_get b.tables.sections n c.section.result.now no_section c.section.ensures) in
+    ∙ ap (λ (s : Section). s.name) (get_or_from_slice_get b.tables.sections n c.section.result.now no_section (subst (λ (t : Tables). slice_get t.sections n ≡ Some c.section.result.now) c.tables.ensures c.section.ensures)) in
     let there : n < length (tables_of b.journal).sections = subst (λ j. n < length (tables_of j).sections) (sym c.self.view_is) c.requires in
     let are = subst (AreShelves b.journal b.first) (sym c.slice.ensures) c.self.invariant.shelves_are in
     let found = sym c.shelf_of.ensures ∙ ap option_copied c.in_default.is in
@@ -32,7 +34,7 @@ returns-clause-shelf c =
     let name = c.section.result.now.name in
     let name_is : section_name b.journal n ≡ name =
     ap (λ t. (section_at t n).name) (sym c.self.invariant.tables_are)
-    ∙ ap (λ (s : Section). s.name) (get_or_from_slice_get b.tables.sections n c.section.result.now no_section c.section.ensures) in
+    ∙ ap (λ (s : Section). s.name) (get_or_from_slice_get b.tables.sections n c.section.result.now no_section (subst (λ (t : Tables). slice_get t.sections n ≡ Some c.section.result.now) c.tables.ensures c.section.ensures)) in
     let are = subst (AreShelves b.journal b.first) (sym c.slice.ensures) c.self.invariant.shelves_are in
     let found = sym c.shelf_of.ensures ∙ ap option_copied c.in-Some.is in
     subst (λ j. IsShelf j (section_name j n) c.in-Some.shelf.now) c.self.view_is
