@@ -1,0 +1,75 @@
+-- The kept rows that are left behind a name.
+use Rattle.std.proofs.Common.{◌≡◌, ℕ, suc, true, false, List, [], ◌∷◌, get_or, drop, None, inl, inr, refl, sym, ◌∙◌, subst, arith}
+use Rattle.std.specs.Prelude.{◌==◌, find}
+use Rattle.std.proofs.lemmas.Bool.{and_left, and_parts, both_ways, false_from_ne_true}
+use Rattle.rail_model.specs.Name.{IsBefore, is_before, is_same, NamesRise}
+use Rattle.rail_model.proofs.NameOrder.{same_name, is_same-before, is_same-after, IsBefore-from, IsBefore-trans, is_before-from, is_before-back, is_before-itself, same_or_after}
+use Rattle.rail_model.proofs.Lists.{find_none}
+use Rattle.plan_model.specs.declared.cut.CutRow.{CutRow}
+use Rattle.plan_repair.specs.Kept.{has}
+use Rattle.plan_repair.specs.Left.{first_is, IsLeft}
+
+pub left_through : (name : List ℕ) (a b c : List CutRow) → IsLeft name a b → IsLeft name b c → IsLeft name a c
+left_through name a b c first second = record {
+  rise = second.rise;
+  part = λ row there. first.part row (second.part row there);
+  later = λ row after. second.later row after ∙ first.later row after;
+}
+
+-- a name that doesn't come after one isn't any name that does
+not_same : (a b : List ℕ) → IsBefore a b → (k : List ℕ) → is_before a k ≡ false → is_same k b ≡ false
+not_same a b after k h =
+    false_from_ne_true (is_same k b) (λ same.
+    both_ways (is_before a k) h (subst (λ n. is_before a n ≡ true) (sym (same_name k b same)) (is_before-from a b after)))
+
+-- a row that doesn't come after the name is let go of
+pub left_behind : (name : List ℕ) (k : CutRow) (rest : List CutRow) → NamesRise (λ r. r.name) (k ∷ rest)
+    → is_before name k.name ≡ false → IsLeft name (k ∷ rest) rest
+left_behind name k rest rise h = record {
+  rise = λ i j d before below. rise (suc i) (suc j) d (omega arith) (omega arith);
+  part = λ row there. (suc there.0, omega arith, there.2);
+  later = λ row after. rw (not_same name row.name after k.name h) refl;
+}
+
+-- ---- rows before a name
+
+not_has : (name : List ℕ) (stamp : ℕ) (k : CutRow) → is_before k.name name ≡ true → has name stamp k ≡ false
+not_has name stamp k h =
+    and_left (is_same k.name name) (k.stamp == stamp) (is_same-before k.name name (IsBefore-from k.name name h))
+
+-- what comes after a name that isn't before another comes after that
+after_first : (name k b : List ℕ) → is_before k name ≡ false → IsBefore k b → IsBefore name b
+after_first name k b reached behind =
+    elim (same_or_after k name reached) [
+      | inl e ↦ subst (λ n. IsBefore n b) e behind
+      | inr before ↦ IsBefore-trans name k b before behind
+    ]
+
+module _ (name : List ℕ) where
+  pub passed_over : (rows : List CutRow) → NamesRise (λ r. r.name) rows → first_is (λ r. is_before r.name name) rows ≡ true
+      → IsLeft name rows (drop 1 rows)
+  passed_over [] rise h = absurd (cc)
+  passed_over (k ∷ rest) rise h = left_behind name k rest rise (is_before-back k.name name (IsBefore-from k.name name h))
+
+  pub found_behind : (rows : List CutRow) (stamp : ℕ) → first_is (λ r. is_before r.name name) rows ≡ true
+      → find (has name stamp) (drop 1 rows) ≡ find (has name stamp) rows
+  found_behind [] stamp h = absurd (cc)
+  found_behind (k ∷ rest) stamp h = rw (not_has name stamp k h) refl
+
+  module _ (stamp : ℕ) where
+    pub left_first : (rows : List CutRow) → NamesRise (λ r. r.name) rows → first_is (has name stamp) rows ≡ true
+        → IsLeft name rows (drop 1 rows)
+    left_first [] rise h = absurd (cc)
+    left_first (k ∷ rest) rise h =
+        let same = same_name k.name name (and_parts (is_same k.name name) (k.stamp == stamp) h).0 in
+        left_behind name k rest rise (rw same (is_before-itself name))
+
+    -- none is
+    pub found_none : (rows : List CutRow) → NamesRise (λ r. r.name) rows → first_is (λ r. is_before r.name name) rows ≡ false
+        → first_is (has name stamp) rows ≡ false → find (has name stamp) rows ≡ None
+    found_none [] rise reached h = refl
+    found_none (k ∷ rest) rise reached h =
+        rw h (find_none (has name stamp) rest (λ i d l.
+        let behind = rise 0 (suc i) d (omega arith) (omega arith) in
+        let after = after_first name k.name (get_or rest i d).name reached behind in
+        and_left (is_same (get_or rest i d).name name) ((get_or rest i d).stamp == stamp) (is_same-after name (get_or rest i d).name after)))

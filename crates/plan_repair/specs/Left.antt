@@ -1,0 +1,31 @@
+-- The kept rows that are left while the rows of a cut are looked for among them, in the order of names.
+use Rattle.std.specs.Prelude.{◌≡◌, ℕ, ◌<◌, ◌≤◌, Bool, false, List, [], ◌∷◌, take, sum_by, Contains}
+use Rattle.rail_model.specs.Name.{IsBefore, NamesRise}
+use Rattle.plan_model.specs.declared.cut.CutRow.{CutRow}
+use Rattle.plan_model.specs.declared.cut.Cut.{Cut}
+use Rattle.plan_model.specs.Members.{member, member_count}
+use Rattle.plan_model.specs.Reading.{Shown}
+use Rattle.plan_repair.specs.Kept.{is_kept, uses_to_take, TakesAtMost}
+
+-- there is a first row, and it passes a test
+abbrev pub first_is : (CutRow → Bool) → List CutRow → Bool
+first_is test [] = false
+first_is test (row ∷ rows) = test row
+
+-- of some rows those are left that may still be looked for behind a name: a row that comes after the name is kept among
+-- them where it was kept at all
+pub record IsLeft (name : List ℕ) (before after : List CutRow) : Type 0 where
+  pub rise : NamesRise (λ r. r.name) after
+  pub part : (row : CutRow) → Contains after row → Contains before row
+  pub later : (row : CutRow) → IsBefore name row.name → is_kept after row ≡ is_kept before row
+
+-- of the kept rows those are left that may be looked for from a position of the cut on
+pub record IsLeftFrom (cut : Cut) (kept : List CutRow) (from : ℕ) (left : List CutRow) : Type 0 where
+  pub rise : NamesRise (λ r. r.name) left
+  pub part : (row : CutRow) → Contains left row → Contains kept row
+  pub later : (j : ℕ) → from ≤ j → j < member_count cut → is_kept left (member cut j) ≡ is_kept kept (member cut j)
+
+-- the rows of a reading's cut up to a position are there: what is left of the kept rows, and what was taken so far
+pub record IsRenewing (kept : List CutRow) (before : Shown) (upto : ℕ) (rest : List CutRow) (now : Shown) : Type 0 where
+  pub left : IsLeftFrom before.cut kept upto rest
+  pub taken : TakesAtMost (sum_by (uses_to_take kept) (take upto before.cut.rows)) before now

@@ -1,0 +1,105 @@
+//! What is kept of a section's cut from one reading to the next.
+ghost use Rattle.std.specs.Prelude.{◌≡◌, nat_lt, IfOk};
+ghost use Rattle.rail_model.specs.Name.{NamesRise};
+ghost use Rattle.plan_model.specs.declared.limits.TheConstants.{MEMBERS};
+
+use crate::renewed::renewed;
+use compression::answer_of_cut;
+use plan_model::{Answer, Cut, CutRow, MEMBERS, Rows};
+use rail_model::{List, Name, OutOfMemory};
+use std::alloc::Global;
+use std::marker::Model;
+
+/// What is kept of a section's cut: the section's name, and the rows with their stamps.
+#[derive(Drop)]
+pub struct Keep {
+    section: Name,
+    rows: List<CutRow>,
+}
+
+impl Model for Keep {
+    ghost use Rattle.rail_model.specs.Name.{NamesRise};
+    ghost use Rattle.plan_repair.specs.Kept.{Kept};
+
+    ghost Value = { Kept };
+
+    ghost view = { λ k. record { section = k.section; rows = k.rows } };
+
+    ghost invariant = { λ k. NamesRise (λ r. r.name) k.rows };
+}
+
+impl Keep {
+    ghost use Rattle.plan_model.specs.Answer.{IsAnswer};
+    ghost use Rattle.plan_model.specs.Reading.{use_count};
+    ghost use Rattle.plan_repair.specs.Kept.{kept_of, AgreesWith, uses_not_kept, TakesAtMost};
+
+    /// The name of the section.
+    pub fn section(&self) -> &Name
+        ensures { result.now ≡ self.now.section }
+    {
+        &self.section
+    }
+
+    /// The first answer of a section, from a reading, and what is kept of it.
+    ///
+    /// The answer is that of the reading's cut. All rows are kept, or none where the cut is
+    /// crowded. At most the uses of all rows are taken, also where memory runs out.
+    pub fn first<R: Rows>(alloc: Global, reading: &mut R) -> Result<(Keep, Answer), OutOfMemory>
+        ensures answer { IfOk result (λ both. IsAnswer (R.shown reading.old).cut both.1) }
+        ensures keep { IfOk result (λ both. both.0 ≡ kept_of (R.shown reading.old).cut) }
+        ensures reading { TakesAtMost (use_count (R.shown reading.old))
+            (R.shown reading.old) (R.shown reading.new) }
+    {
+        let nothing = Keep {
+            section: reading.section().name,
+            rows: List::new(alloc),
+        };
+        nothing.repair(alloc, reading)
+    }
+
+    /// The answer of the section from a later reading, and what is kept of that one.
+    ///
+    /// The answer is that of the reading's cut, and what is kept is as for a first answer. At most
+    /// the uses of those rows are taken that aren't kept with their name and stamp, also where
+    /// memory runs out; then the keep is gone.
+    pub fn repair<R: Rows>(
+        self,
+        alloc: Global,
+        reading: &mut R,
+    ) -> Result<(Keep, Answer), OutOfMemory>
+        requires { AgreesWith self (R.shown reading.old).cut }
+        ensures answer { IfOk result (λ both. IsAnswer (R.shown reading.old).cut both.1) }
+        ensures keep { IfOk result (λ both. both.0 ≡ kept_of (R.shown reading.old).cut) }
+        ensures reading { TakesAtMost (uses_not_kept self (R.shown reading.old).cut)
+            (R.shown reading.old) (R.shown reading.new) }
+    {
+        let count = reading.count();
+        if is_crowded(count) {
+            let section = reading.section().name;
+            let rows = List::new(alloc);
+            return Ok((Keep { section, rows }, Answer::Crowded { count }));
+        }
+        let cut = renewed(alloc, self.rows, reading)?;
+        let answer = answer_of_cut(alloc, &cut)?;
+        Ok((keep_of(cut), answer))
+    }
+}
+
+// Whether so many rows are more than are compressed.
+fn is_crowded(count: u32) -> bool
+    ensures { result ≡ nat_lt MEMBERS count }
+{
+    count as usize > MEMBERS
+}
+
+// What is kept of a cut that isn't crowded.
+fn keep_of(cut: Cut) -> Keep
+    requires { NamesRise (λ r. r.name) cut.rows }
+    ensures { result ≡ record { section = cut.section.name; rows = cut.rows } }
+{
+    let Cut { section, rows, .. } = cut;
+    Keep {
+        section: section.name,
+        rows,
+    }
+}

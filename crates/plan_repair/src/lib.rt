@@ -1,0 +1,15 @@
+//! The answer of a section by repair: of a reading's cut only those rows are taken that aren't
+//! kept from an earlier reading with their name and stamp.
+//!
+//! ```text
+//! let (keep, answer) = Keep::first(alloc, &mut reading)?;
+//! let (keep, answer) = keep.repair(alloc, &mut later)?;
+//! ```
+#![tactic(auto)]
+
+mod keep;
+mod left;
+mod renewed;
+mod taken;
+
+pub use keep::Keep;

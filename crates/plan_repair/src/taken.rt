@@ -1,0 +1,64 @@
+//! A row that is taken of a reading.
+ghost use Rattle.std.specs.Prelude.{◌≡◌, ◌<◌, nat_lt, IfOk, map, filter, count_by, length};
+ghost use Rattle.plan_model.specs.Cut.{IsSoundCut, AreBlocksFirst, least};
+ghost use Rattle.plan_model.specs.Members.{member, member_count};
+ghost use Rattle.plan_model.specs.Reading.{after_taking, uses_of};
+
+use plan_model::{CutRow, Rows};
+use rail_model::{List, OutOfMemory, Use};
+use std::alloc::Global;
+
+/// Takes the row at a position, and copies it.
+pub(crate) fn take_row<R: Rows>(
+    alloc: Global,
+    reading: &mut R,
+    i: u32,
+) -> Result<CutRow, OutOfMemory>
+    requires there { i < member_count (R.shown reading.old).cut }
+    requires sound { IsSoundCut (R.shown reading.old).cut }
+    ensures row { IfOk result (λ row. row ≡ member (R.shown reading.old).cut i) }
+    ensures reading { R.shown reading.new
+        ≡ after_taking (length (uses_of (R.shown reading.old) i)) (R.shown reading.old) }
+{
+    let name = reading.name(i);
+    let stamp = reading.stamp(i);
+    let blocks = reading.section().blocks.len();
+    let uses = reading.take(i);
+    Ok(CutRow {
+        name,
+        stamp,
+        entry: least_start(of_blocks(uses, blocks)),
+        uses: List::from_vec(Vec::from_slice(alloc, uses)?),
+    })
+}
+
+// The uses of blocks, which stand before those of connections.
+fn of_blocks(uses: &[Use], blocks: usize) -> &[Use]
+    requires { AreBlocksFirst blocks uses.now }
+    ensures { result.now ≡ filter (λ u. nat_lt u.block blocks) uses.now }
+{
+    &uses[..count_on_blocks(uses, blocks)]
+}
+
+// How many uses are of blocks.
+fn count_on_blocks(uses: &[Use], blocks: usize) -> usize
+    ensures { result ≡ count_by (λ u. nat_lt u.block blocks) uses.now }
+{
+    uses.iter()
+        .filter(|one| (one.block as usize) < blocks)
+        .count()
+}
+
+// The least start of some uses, and 0 of none.
+fn least_start(uses: &[Use]) -> i64
+    ensures { result ≡ least (map (λ u. u.start) uses.now) }
+{
+    if uses.is_empty() {
+        return 0;
+    }
+    let mut entry = uses[0].start;
+    for one in &uses[1..] {
+        entry = entry.min(one.start);
+    }
+    entry
+}
