@@ -1,0 +1,4 @@
+pub mod Readings
+pub mod Past
+pub mod Keeps
+pub mod Turns

@@ -1,0 +1,107 @@
+-- What one turn of a worker does, and what it answers.
+use Rattle.std.specs.Prelude.{◌≡◌, ◌⊎◌, ℕ, ◌<◌, ◌≤◌, List, Result, Ok, Err, MatchResult}
+use Rattle.rail_model.specs.declared.memory.OutOfMemory.{OutOfMemory}
+use Rattle.plan_model.specs.declared.answer.Answer.{Answer}
+use Rattle.plan_model.specs.declared.answer.Done.{Done}
+use Rattle.plan_model.specs.declared.cut.Cut.{Cut}
+use Rattle.plan_model.specs.Reading.{Shown}
+use Rattle.plan_model.specs.declared.journal.Act.TheVariants as act
+use Rattle.plan_model.specs.declared.journal.Entry.{Entry}
+use Rattle.plan_model.specs.declared.outcome.NotTaken.{NotTaken}
+use Rattle.plan_model.specs.declared.outcome.NotTaken.TheVariants as not_taken
+use Rattle.plan_model.specs.Journal.{last_number, tasks_left}
+use Rattle.plan_model.specs.Touch.{IsUntouchedSince, IsLastTouching}
+use Rattle.plan_model.specs.Legal.{IsJournal, WasPublishedAt}
+use Rattle.plan_model.specs.Call.{GoesOn}
+use Rattle.plan_model.specs.Outcome.{AddsEntry, ShareIsCurrent, IsNextReading, PublishesTo}
+use Rattle.plan_model.specs.Board.{Access, IsAccess, KeepsCounts}
+use Rattle.section_worker.specs.declared.worker.Turned.{Turned}
+use Rattle.section_worker.specs.declared.worker.Turned.TheVariants as turned
+use Rattle.section_worker.specs.Keeping.{Working, kept_for, uses_missing, KeepsRows, Forgets}
+
+-- the same board, whatever it has seen
+pub record IsSameBoard (old new : Access) : Type 0 where
+  pub access : IsAccess new
+  pub journal : new.journal ≡ old.journal
+  pub pass : new.pass ≡ old.pass
+  pub numbers : new.numbers ≡ old.numbers
+
+-- what a turn reads: it finds the journal, which is what was seen and then entries of others, and reads the next
+-- section of the worker's share. The last edit before the reading is none before the last that was seen
+pub record Reads (w : Working) (old : Access) : Type 0 where
+  pub found : List Entry
+  pub goes_on : GoesOn old.numbers old.seen found
+  pub is_journal : IsJournal found
+  pub cut : Cut
+  pub at : ℕ
+  pub next : IsNextReading w.share w.of found (record { cut = cut; at = at; taken = 0 })
+  pub since : last_number old.seen ≤ at
+
+-- the answer that a publication gives
+abbrev pub turned_of : List ℕ → ℕ → Result (Unit {0}) NotTaken → Turned
+turned_of section at (Ok u) = turned.Published section at
+turned_of section at (Err (not_taken.Stale by)) = turned.Stale section at by
+turned_of section at (Err (not_taken.Current last)) = turned.Current section last
+
+-- a publication is made, or not, and the turn ends so
+abbrev pub TurnsOut : ℕ → Done → List Entry → Turned → List Entry → Type 0
+TurnsOut pass done found t after = (published : Result (Unit {0}) NotTaken)
+    × (t ≡ turned_of done.section done.at published) × PublishesTo pass done found published after
+
+-- an answer of a reading, as it is published
+abbrev pub done_of : Shown → Answer → Done
+done_of shown answer = record { section = shown.cut.section.name; at = shown.at; answer = answer }
+
+-- what comes of a reading of a journal: its answer is published by an entry of the pass; or a later edit touches its
+-- section, the last one by this number; or the section is current, since a publication that was made after the reading.
+-- Where it is not published, nothing is added
+abbrev pub EndsAs : ℕ → List ℕ → List Entry → Cut → ℕ → List Entry → Turned → Type 0
+EndsAs pass numbers found cut at seen (turned.Published section number) =
+    (section ≡ cut.section.name) × (number ≡ at)
+    × ((before : List Entry) × (answer : Answer) × GoesOn numbers found before
+    × AddsEntry pass (act.Published section number answer) before seen)
+EndsAs pass numbers found cut at seen (turned.Stale section number by) =
+    (section ≡ cut.section.name) × (number ≡ at) × GoesOn numbers found seen
+    × IsLastTouching seen section by × (number < by)
+EndsAs pass numbers found cut at seen (turned.Current section last) =
+    (section ≡ cut.section.name) × WasPublishedAt seen section last × IsUntouchedSince seen section last
+    × ((more : GoesOn numbers found seen) × WasPublishedAt more.more section last)
+EndsAs pass numbers found cut at seen (turned.Idle left) = ⊥
+
+-- a turn with a reading: the reading's rows are kept, and of those rows that weren't kept with their name and stamp all
+-- uses are taken at most
+pub record Answers (w later : Working) (old new : Access) (t : Turned) : Type 0 where
+  pub reads : Reads w old
+  pub ends : EndsAs old.pass old.numbers reads.found reads.cut reads.at new.seen t
+  pub keeps : KeepsRows reads.cut reads.at w later
+  pub handed : new.handed ≤ uses_missing (kept_for w reads.cut.section.name) reads.cut
+
+-- a turn with a reading that finds no memory: nothing is added, and nothing is kept of the section
+pub record Fails (w later : Working) (old new : Access) : Type 0 where
+  pub goes_on : GoesOn old.numbers old.seen new.seen
+  pub reads : Reads w old
+  pub forgets : Forgets reads.cut.section.name w later
+
+-- what comes of a reading
+abbrev pub WorksTo : Working → Working → Access → Access → Result Turned OutOfMemory → Type 0
+WorksTo w later old new result = MatchResult result (Answers w later old new) (λ _. Fails w later old new)
+
+-- a turn to which no reading is given: nothing is added, and what is kept stays
+pub record ReadsNothing (w later : Working) (old new : Access) : Type 0 where
+  pub goes_on : GoesOn old.numbers old.seen new.seen
+  pub counts : KeepsCounts old new
+  pub keeps : later ≡ w
+
+-- such a turn, where all sections of the share are current and so many tasks are left
+pub record Rests (w later : Working) (old new : Access) (left : ℕ) : Type 0 where
+  pub nothing : ReadsNothing w later old new
+  pub current : ShareIsCurrent w.share w.of new.seen
+  pub left_is : left ≡ tasks_left new.seen
+
+-- what a turn does
+abbrev pub TurnsTo : Working → Working → Access → Access → Result Turned OutOfMemory → Type 0
+TurnsTo w later old new (Ok (turned.Published section at)) = Answers w later old new (turned.Published section at)
+TurnsTo w later old new (Ok (turned.Stale section at by)) = Answers w later old new (turned.Stale section at by)
+TurnsTo w later old new (Ok (turned.Current section at)) = Answers w later old new (turned.Current section at)
+TurnsTo w later old new (Ok (turned.Idle left)) = Rests w later old new left
+TurnsTo w later old new (Err e) = ReadsNothing w later old new ⊎ Fails w later old new
