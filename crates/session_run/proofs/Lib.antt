@@ -1,0 +1,14 @@
+pub mod Publishing
+pub mod CatchingUp
+pub mod Turns
+pub mod InTurn
+pub mod NextTasks
+pub mod Entered
+pub mod Finishing
+pub mod Closing
+pub mod Working
+pub mod Starting
+pub mod Leaving
+pub mod Acting
+pub mod Seating
+pub mod Running

@@ -1,0 +1,121 @@
+//! The session of one thread.
+ghost use Rattle.std.specs.Prelude.{◌≡◌, ◌≢◌, ◌≤◌, [], length, sum_by, IfOk, OnOk, None};
+ghost use Rattle.plan_book.specs.declared.book.TheConstants.{PLANNERS, TASKS, FIRST_NUMBER};
+ghost use Rattle.plan_model.specs.Journal.{done_by, script_of};
+ghost use Rattle.plan_model.specs.Outcome.{IsPlanner, IsNextReading, IsAnswerOf, next_task};
+ghost use Rattle.plan_model.specs.Legal.{IsLegal};
+ghost use Rattle.plan_model.specs.Session.{IsSessionAlone};
+ghost use Rattle.session_run.specs.Turns.{PublishesNow, HasCaughtUp, DoesNextTask};
+ghost use Rattle.session_run.specs.Turns.{DoesTasks, by_planner};
+
+use compression::answer;
+use line_tables::LineTables;
+use plan_book::Book;
+use plan_model::{Act, Done, Entry, Next, Reading, Scripts};
+use rail_model::OutOfMemory;
+use std::alloc::Global;
+
+// By whom everything is done: by the pass that opens the journal.
+const PASS: u32 = 0;
+
+/// Runs the scripts of planners over these tables, whose last edit had the number `at`, in one
+/// thread: planner 1's script comes first, and before each task, and after the last, every section
+/// that is not current is answered, in the order of names.
+pub fn session_alone(
+    alloc: Global,
+    tables: LineTables,
+    at: u64,
+    scripts: Scripts,
+) -> Result<Book, OutOfMemory>
+    requires planners { length scripts ≤ PLANNERS }
+    requires tasks { sum_by length scripts ≤ TASKS }
+    requires at { at ≤ FIRST_NUMBER }
+    ensures { IfOk result (IsSessionAlone tables at scripts) }
+{
+    let mut book = Book::start(alloc, tables, at, scripts)?;
+    let planners = book.planners();
+    for place in 0..planners {
+        do_script(alloc, &mut book, place + 1)?;
+    }
+    catch_up(alloc, &mut book)?;
+    let _journal = book.journal();
+    Ok(book)
+}
+
+// Does the script of a planner, of which nothing is done yet.
+fn do_script(alloc: Global, book: &mut Book, planner: u32) -> Result<(), OutOfMemory>
+    requires planner { IsPlanner book.old planner }
+    requires none { done_by book.old planner ≡ [] }
+    ensures { OnOk result
+        (DoesTasks book.old (by_planner planner (script_of book.old planner)) book.new) }
+{
+    for _task in 0..script_length(book.journal().slice(), planner) {
+        do_task(alloc, book, planner)?;
+    }
+    Ok(())
+}
+
+// How many tasks the script of a planner has.
+fn script_length(journal: &[Entry], planner: u32) -> usize
+    requires legal { IsLegal journal.now }
+    requires planner { IsPlanner journal.now planner }
+    ensures { result ≡ length (script_of journal.now planner) }
+{
+    match &journal[0].act {
+        Act::Opened { scripts, .. } => scripts.script(planner as usize - 1).len(),
+        _ => unreachable!(),
+    }
+}
+
+// Answers the sections that are not current, and does a planner's next task.
+fn do_task(alloc: Global, book: &mut Book, planner: u32) -> Result<(), OutOfMemory>
+    requires planner { IsPlanner book.old planner }
+    requires left { next_task book.old planner ≢ None }
+    ensures { OnOk result (DoesNextTask planner book.old book.new) }
+{
+    catch_up(alloc, book)?;
+    let _stepped = book.step(PASS, planner)?;
+    Ok(())
+}
+
+// Answers the sections that are not current, in the order of names.
+fn catch_up(alloc: Global, book: &mut Book) -> Result<(), OutOfMemory>
+    ensures ok { OnOk result (HasCaughtUp book.old book.new) }
+    ensures legal { OnOk result (IsLegal book.old) }
+{
+    let _journal = book.journal();
+    for _step in 0..book.tables().sections() {
+        let Next::Reading(reading) = book.read_next(0, 1)? else {
+            return Ok(());
+        };
+        publish(alloc, book, reading)?;
+    }
+    Ok(())
+}
+
+// Answers the section of a reading, which is not current.
+fn publish(alloc: Global, book: &mut Book, reading: Reading) -> Result<(), OutOfMemory>
+    requires { IsNextReading 0 1 book.old reading }
+    ensures { OnOk result (PublishesNow reading.cut.section.name book.old book.new) }
+{
+    let _found = book.journal();
+    let done = answered(alloc, reading)?;
+    let Ok(()) = book.publish(PASS, done)? else {
+        unreachable!();
+    };
+    let _left = book.journal();
+    Ok(())
+}
+
+// The answer of the section of a reading.
+fn answered(alloc: Global, reading: Reading) -> Result<Done, OutOfMemory>
+    ensures { IfOk result (IsAnswerOf reading) }
+{
+    let mut reading = reading;
+    let answer = answer(alloc, &mut reading)?;
+    Ok(Done {
+        section: reading.section().name,
+        at: reading.at(),
+        answer,
+    })
+}
