@@ -5,4 +5,5 @@ pub mod Checks
 pub mod Within
 pub mod Plans
 pub mod Reports
+pub mod Published
 pub mod Pairs

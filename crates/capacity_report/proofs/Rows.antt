@@ -1,5 +1,5 @@
 -- Rows that are added to a sheet one after the other.
-use Rattle.std.proofs.Common.{◌≡◌, ℕ, ◌<◌, List, [], ◌∷◌, map, ap, ◌∙◌, arith}
+use Rattle.std.proofs.Common.{◌≡◌, ℕ, ◌<◌, List, [], ◌∷◌, ◌++◌, map, Result, Ok, Err, OnOk, OnErr, ap, ◌∙◌, arith}
 use Rattle.std.specs.Prelude.{◌-◌, codes}
 use Rattle.std.specs.List.{All, range_with_len}
 use Rattle.std.proofs.lemmas.Simd.{map-map}
@@ -14,6 +14,8 @@ use Rattle.rail_model.specs.Path.{hop, hop_count, no_hop}
 use Rattle.rail_model.specs.Tables.{no_block}
 use Rattle.std.proofs.Math.ListN.{get_or-map as get_or-map-any}
 use Rattle.row_text.specs.Row.{Row}
+use Rattle.row_text.specs.SheetRows.{SheetRows}
+use Rattle.row_text.specs.Adds.{AddsFirst, Adds}
 use Rattle.capacity_report.specs.Stairs.{hop_row, run_rows}
 use Rattle.capacity_report.specs.Blockings.{blocking_row, named_row, rows_by_names, names_of}
 
@@ -31,3 +33,9 @@ rows_named tables names path is =
   where
     row_is : (k : ℕ) → named_row (names_of tables) (codes "use" ∷ path.run ∷ []) (blocking_of path k) ≡ hop_row tables path k
     row_is k = ap (λ (block : Row). blocking_row (codes "use" ∷ path.run ∷ []) block (blocking_of path k)) (get_or-map-any (λ (b : Block). b.name ∷ []) tables.blocks (hop path k).block no_block)
+
+-- a call that adds rows, by its clauses
+pub adds_from : {T E : Type 0} (before after : SheetRows) (added : List Row) (result : Result T E) → OnOk result (after.rows ≡ before.rows ++ added)
+    → OnOk result (after.row ≡ []) → OnErr result (AddsFirst before after added) → Adds result before after added
+adds_from before after added (Ok x) rows closed first = record { rows = rows; closed = closed }
+adds_from before after added (Err e) rows closed first = first

@@ -6,4 +6,6 @@ pub mod Total
 pub mod Headways
 pub mod Pairs
 pub mod Report
+pub mod Journal
+pub mod Published
 pub mod Shown

@@ -1,0 +1,228 @@
+//! The rows of a journal.
+ghost use Rattle.std.specs.Prelude.{◌≡◌, ◌++◌, ◌∷◌, [], length, map, All, codes, decimal};
+ghost use Rattle.std.specs.Prelude.{OnOk, OnErr};
+ghost use Rattle.plan_model.specs.Legal.{IsLegal};
+ghost use Rattle.row_text.specs.SheetRows.{with_row, with_fields};
+ghost use Rattle.row_text.specs.Adds.{Adds, AddsFirst};
+ghost use Rattle.row_text.specs.Spelling.{edit_row};
+ghost use Rattle.capacity_report.specs.Journal as rows;
+ghost use Rattle.capacity_report.specs.Published.{PublishesAnswer};
+ghost use Rattle.capacity_report.specs.Total.{IsAnswerOfSome};
+
+use crate::answers::{Detail, answer_rows};
+use crate::rule::rule_text;
+use plan_model::{Act, Answer, Entry, Reply};
+use rail_model::{Edit, List, Name, OutOfMemory, Rule};
+use row_text::{Field, Fields, Line, Sheet, spell};
+use std::alloc::Global;
+
+/// Adds the rows of a legal journal, one entry after the other: `opened`, `entered`, `edited`,
+/// `rejected`, `asked`, and `published` with the rows of the answer and its trains. A row that is
+/// open is dropped first. It takes memory; where that runs out, only a prefix of the rows is added,
+/// and the next row may be open.
+pub fn journal_rows(
+    alloc: Global,
+    sheet: &mut Sheet,
+    journal: &List<Entry>,
+) -> Result<(), OutOfMemory>
+    requires { IsLegal journal.now }
+    ensures ok { OnOk result (sheet.new.rows
+        ≡ sheet.old.rows ++ rows.rows_of_journal journal.now) }
+    ensures closed { OnOk result (sheet.new.row ≡ []) }
+    ensures err { OnErr result (AddsFirst sheet.old sheet.new (rows.rows_of_journal journal.now)) }
+{
+    rows_of_entries(alloc, sheet, journal.slice())
+}
+
+// Adds the rows of entries.
+fn rows_of_entries(alloc: Global, sheet: &mut Sheet, entries: &[Entry]) -> Result<(), OutOfMemory>
+    requires { All (λ e. PublishesAnswer e.act) entries.now }
+    ensures { Adds result sheet.old sheet.new (rows.rows_of_journal entries.now) }
+{
+    sheet.drop_row();
+    for entry in entries {
+        act_rows(alloc, sheet, &entry.act)?;
+    }
+    Ok(())
+}
+
+// Adds the rows of what an entry says.
+fn act_rows(alloc: Global, sheet: &mut Sheet, act: &Act) -> Result<(), OutOfMemory>
+    requires { PublishesAnswer act.now }
+    ensures { Adds result sheet.old sheet.new (rows.act_rows act.now) }
+{
+    match act {
+        Act::Opened {
+            tables,
+            at,
+            scripts,
+        } => opened_row(
+            sheet,
+            *at,
+            scripts.len() as u64,
+            tables.sections.len() as u64,
+        ),
+        Act::Entered { number } => entered_row(sheet, *number),
+        Act::Edited { planner, at, edit } => edited_row(alloc, sheet, *planner, *at, edit),
+        Act::Refused {
+            planner,
+            rule,
+            edit,
+        } => rejected_row(alloc, sheet, *planner, *rule, edit),
+        Act::Asked {
+            planner,
+            section,
+            reply,
+        } => asked_row(sheet, *planner, section, *reply),
+        Act::Published {
+            section,
+            at,
+            answer,
+        } => published_rows(alloc, sheet, section, *at, answer),
+    }
+}
+
+// Adds the row of the opening.
+fn opened_row(sheet: &mut Sheet, at: u64, planners: u64, sections: u64) -> Result<(), OutOfMemory>
+    ensures { Adds result sheet.old sheet.new (rows.opened_row at planners sections ∷ []) }
+{
+    sheet.write(&[
+        Field::Text(b"opened"),
+        Field::Count(at),
+        Field::Count(planners),
+        Field::Count(sections),
+    ])
+}
+
+// Adds the row of a pass that was issued.
+fn entered_row(sheet: &mut Sheet, number: u32) -> Result<(), OutOfMemory>
+    ensures { Adds result sheet.old sheet.new (rows.entered_row number ∷ []) }
+{
+    sheet.write(&[Field::Text(b"entered"), Field::Count(u64::from(number))])
+}
+
+// Adds the row of an edit that was made.
+fn edited_row(
+    alloc: Global,
+    sheet: &mut Sheet,
+    planner: u32,
+    at: u64,
+    edit: &Edit,
+) -> Result<(), OutOfMemory>
+    ensures ok { OnOk result (sheet.new
+        ≡ with_row sheet.old (rows.edited_row planner at edit.now)) }
+    ensures err { OnErr result (sheet.new.rows ≡ sheet.old.rows) }
+{
+    sheet.drop_row();
+    sheet.push_field(b"edited")?;
+    sheet.push_count(u64::from(planner))?;
+    sheet.push_count(at)?;
+    push_edit(alloc, sheet, edit)?;
+    sheet.end_row()
+}
+
+// Adds the row of an edit that a rule refused.
+fn rejected_row(
+    alloc: Global,
+    sheet: &mut Sheet,
+    planner: u32,
+    rule: Rule,
+    edit: &Edit,
+) -> Result<(), OutOfMemory>
+    ensures ok { OnOk result (sheet.new
+        ≡ with_row sheet.old (rows.rejected_row planner rule edit.now)) }
+    ensures err { OnErr result (sheet.new.rows ≡ sheet.old.rows) }
+{
+    sheet.drop_row();
+    sheet.push_field(b"rejected")?;
+    sheet.push_count(u64::from(planner))?;
+    sheet.push_field(rule_text(rule))?;
+    push_edit(alloc, sheet, edit)?;
+    sheet.end_row()
+}
+
+// Adds the fields that spell an edit.
+fn push_edit(alloc: Global, sheet: &mut Sheet, edit: &Edit) -> Result<(), OutOfMemory>
+    ensures ok { OnOk result (sheet.new ≡ with_fields sheet.old (edit_row 1 edit.now)) }
+    ensures err { OnErr result (sheet.new.rows ≡ sheet.old.rows) }
+{
+    let row = spell(alloc, &Line::Edit(edit.copy(alloc)?))?;
+    push_fields(sheet, &row)
+}
+
+// Adds fields to a row.
+fn push_fields(sheet: &mut Sheet, fields: &Fields) -> Result<(), OutOfMemory>
+    ensures ok { OnOk result (sheet.new ≡ with_fields sheet.old fields.now) }
+    ensures err { OnErr result (sheet.new.rows ≡ sheet.old.rows) }
+{
+    for i in 0..fields.len() {
+        sheet.push_field(fields.get(i))?;
+    }
+    Ok(())
+}
+
+// Adds the row of a question, with what was replied.
+fn asked_row(
+    sheet: &mut Sheet,
+    planner: u32,
+    section: &Name,
+    reply: Reply,
+) -> Result<(), OutOfMemory>
+    ensures ok { OnOk result (sheet.new
+        ≡ with_row sheet.old (rows.asked_row planner section.now reply)) }
+    ensures err { OnErr result (sheet.new.rows ≡ sheet.old.rows) }
+{
+    sheet.drop_row();
+    sheet.push_field(b"asked")?;
+    sheet.push_count(u64::from(planner))?;
+    sheet.push_field(section.bytes())?;
+    push_reply(sheet, reply)?;
+    sheet.end_row()
+}
+
+// Adds the fields of a reply.
+fn push_reply(sheet: &mut Sheet, reply: Reply) -> Result<(), OutOfMemory>
+    ensures ok { OnOk result (sheet.new ≡ with_fields sheet.old (rows.reply_fields reply)) }
+    ensures err { OnErr result (sheet.new.rows ≡ sheet.old.rows) }
+{
+    match reply {
+        Reply::Ready { at } => {
+            sheet.push_field(b"ready")?;
+            sheet.push_count(at)
+        }
+        Reply::Stale { at, by } => {
+            sheet.push_field(b"stale")?;
+            sheet.push_count(at)?;
+            sheet.push_count(by)
+        }
+        Reply::NotYet => sheet.push_field(b"not-yet"),
+        Reply::Unknown => sheet.push_field(b"unknown"),
+    }
+}
+
+// Adds the rows of a publication.
+fn published_rows(
+    alloc: Global,
+    sheet: &mut Sheet,
+    section: &Name,
+    at: u64,
+    answer: &Answer,
+) -> Result<(), OutOfMemory>
+    requires { IsAnswerOfSome answer.now }
+    ensures { Adds result sheet.old sheet.new (rows.published_rows section.now at answer.now) }
+{
+    published_row(sheet, section, at)?;
+    answer_rows(alloc, sheet, section, answer, Detail::Trains)
+}
+
+// Adds the row that says what is published.
+fn published_row(sheet: &mut Sheet, section: &Name, at: u64) -> Result<(), OutOfMemory>
+    ensures ok { OnOk result (sheet.new ≡ with_row sheet.old (rows.published_row section.now at)) }
+    ensures err { OnErr result (sheet.new.rows ≡ sheet.old.rows) }
+{
+    sheet.write(&[
+        Field::Text(b"published"),
+        Field::Name(section),
+        Field::Count(at),
+    ])
+}
