@@ -10,7 +10,7 @@ pub(crate) fn explain(rt: &impl Eprint, status: Status, told: &str) -> io::Resul
         Status::BadWords => {
             eprintln!(rt;
                 "usage: capacity COMMAND < LINE.csv, COMMAND being stairs, check, report, \
-                compress NAME, headways NAME or cut NAME"
+                compress NAME, headways NAME, cut NAME or session 0"
             )
         }
         Status::ReadFault => eprintln!(rt; "the input could not be read"),

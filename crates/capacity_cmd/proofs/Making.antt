@@ -1,7 +1,8 @@
--- Rows that are read one after the other make what the whole input makes.
-use Rattle.std.proofs.Common.{◌≡◌, ℕ, ◌+◌, ◌<◌, ◌≤◌, List, [], ◌∷◌, ◌++◌, get_or, drop, length, Option, Some, None, Result, Ok, Err, refl, sym, ap, ◌∙◌, arith, length-append}
-use Rattle.std.specs.Prelude.{option_map}
-use Rattle.std.proofs.lemmas.List.{drop_all, drop_more}
+-- Rows that are read one after the other give what the whole input says.
+use Rattle.std.proofs.Common.{◌≡◌, ℕ, zero, suc, ◌+◌, ◌<◌, ◌≤◌, Bool, true, false, if◌then◌else◌, nat_lt, List, [], ◌∷◌, ◌++◌, get_or, drop, length, Option, Some, None, Result, Ok, Err, refl, sym, ap, ◌∙◌, subst, inl, inr, arith, length-append}
+use Rattle.std.specs.Prelude.{◌==◌, option_map, sum_by, IfOk}
+use Rattle.std.proofs.lemmas.Bool.{and_parts, ltb-true, ltb-false, lt-ltb}
+use Rattle.std.proofs.lemmas.List.{drop_all, drop_more, length-set}
 use Rattle.std.proofs.lemmas.List.Sums.{fold-append}
 use Rattle.rail_model.specs.declared.edit.Edit.{Edit}
 use Rattle.rail_model.specs.declared.edit.Rule.{Rule}
@@ -16,68 +17,19 @@ use Rattle.row_text.specs.declared.line.Line.TheVariants as line
 use Rattle.row_text.specs.Row.{Row}
 use Rattle.row_text.specs.Lines.{read_in, ◌>>=◌}
 use Rattle.row_text.specs.Versions.{first_line}
+use Rattle.plan_model.specs.declared.scripts.Task.{Task}
+use Rattle.plan_model.specs.declared.scripts.Task.TheVariants as task
+use Rattle.plan_model.specs.Scripts.{with_task}
+use Rattle.plan_book.specs.declared.book.TheConstants.{TASKS}
 use Rattle.capacity_cmd.specs.declared.status.Cause.{Cause}
+use Rattle.capacity_cmd.specs.declared.status.Cause.TheVariants as cause
 use Rattle.capacity_cmd.specs.declared.refusal.Refusal.{Refusal}
-use Rattle.capacity_cmd.specs.declared.input.TablesSoFar.{TablesSoFar}
-use Rattle.capacity_cmd.specs.Spelling.{Spelling, with_line}
-use Rattle.capacity_cmd.specs.Input.{refused, at_row, in_form, spelling_from, unless_refused, tables_from}
-use Rattle.capacity_cmd.specs.TablesSoFar.{tables_of_content, tables_in, edit_or_fault, edit_in, tables_so_far, by_rule, after_one_more, TakesRow}
-
--- edits of a base alone
-of_base : List Edit → Spelling
-of_base base = record { base = base; scripts = [] }
-
--- ---- one row
-
-stands : (number : ℕ) (base : List Edit) (found : Result Line Form) (e : Edit) → edit_or_fault found ≡ Ok e
-    → at_row number (in_form found >>= with_line 0 (of_base base)) ≡ Ok (of_base (base ++ e ∷ []))
-unfolding of_base
-stands number base (Ok (line.Edit a)) e is =
-    let same : a ≡ e = cc in ap (λ x. Ok (record { base = base ++ x ∷ []; scripts = [] })) same
-stands number base (Ok (line.Ask section)) e is = absurd (cc)
-stands number base (Ok (line.Planner planner)) e is = absurd (cc)
-stands number base (Err fault) e is = absurd (cc)
-
-stands_not : (number : ℕ) (base : List Edit) (found : Result Line Form) (why : Cause) → edit_or_fault found ≡ Err why
-    → at_row number (in_form found >>= with_line 0 (of_base base)) ≡ refused number why
-unfolding of_base
-stands_not number base (Ok (line.Edit a)) why is = absurd (cc)
-stands_not number base (Ok (line.Ask section)) why is = ap (λ w. refused number w) (cc)
-stands_not number base (Ok (line.Planner planner)) why is = ap (λ w. refused number w) (cc)
-stands_not number base (Err fault) why is = ap (λ w. refused number w) (cc)
-
--- ---- the rows that are left
-
--- what is made of a base and of the rows that are left, the first of which has this number
-made_of : ℕ → Result Spelling Refusal → Result Tables Refusal
-made_of first spelling =
-    tables_of_content (spelling >>= λ (s : Spelling). tables_from first s.base >>= λ tables. Ok (record { spelling = s; tables = tables }))
-
-pub goes_on : ℕ → ℕ → ℕ → List Edit → List Row → Result Tables Refusal
-goes_on version first number base rows = made_of first (spelling_from 0 version number (of_base base) rows)
-
-goes_on-edit : (version first number : ℕ) (base : List Edit) (row : Row) (rows : List Row) (e : Edit)
-    → edit_in version row ≡ Ok e
-    → goes_on version first number base (row ∷ rows) ≡ goes_on version first (number + 1) (base ++ e ∷ []) rows
-unfolding goes_on
-goes_on-edit version first number base row rows e is =
-    ap (λ found. made_of first (found >>= λ more. spelling_from 0 version (number + 1) more rows))
-    (stands number base (read_in version row) e is)
-
-goes_on-fault : (version first number : ℕ) (base : List Edit) (row : Row) (rows : List Row) (why : Cause)
-    → edit_in version row ≡ Err why → goes_on version first number base (row ∷ rows) ≡ refused number why
-unfolding goes_on made_of
-goes_on-fault version first number base row rows why is =
-    ap (λ found. made_of first (found >>= λ more. spelling_from 0 version (number + 1) more rows))
-    (stands_not number base (read_in version row) why is)
-
-goes_on-end : (version first number : ℕ) (base : List Edit) → goes_on version first number base [] ≡ tables_from first base
-unfolding goes_on made_of of_base
-goes_on-end version first number base = by_tables (tables_from first base)
-  where
-    by_tables : (tables : Result Tables Refusal) → tables_of_content (tables >>= λ t. Ok (record { spelling = record { base = base; scripts = [] }; tables = t })) ≡ tables
-    by_tables (Ok t) = refl
-    by_tables (Err refusal) = refl
+use Rattle.capacity_cmd.specs.declared.accepted.Accepted.{Accepted}
+use Rattle.capacity_cmd.specs.declared.input.BaseSoFar.{BaseSoFar}
+use Rattle.capacity_cmd.specs.declared.input.InputSoFar.{InputSoFar}
+use Rattle.capacity_cmd.specs.Spelling.{Spelling, nothing, takes_planner, takes_task, where_it_stands, with_one_task, with_line}
+use Rattle.capacity_cmd.specs.Input.{Content, refused, at_row, in_form, spelling_from, unless_refused, tables_from, content_in}
+use Rattle.capacity_cmd.specs.InputSoFar.{accepted_in, IsWithin, or_refused, tables_so_far, by_rule, after_one_more, TakesIf, IsNothing, Holds, accepted_so_far, TakesLine, TakesRow, TakesRows}
 
 -- ---- one edit more
 
@@ -103,46 +55,298 @@ one_more : (first : ℕ) (base : List Edit) (e : Edit)
     → tables_from first (base ++ e ∷ []) ≡ after_one_more (first + length base) (tables_from first base) e
 one_more first base e = by_refused first base e (first_refused no_tables base) refl
 
+-- ---- one line
+
+stood : (stands : Bool) (more : Spelling) → stands ≡ true → where_it_stands stands more ≡ Ok more
+stood true more is = refl
+stood false more is = absurd (cc)
+
+stood_not : (stands : Bool) (more : Spelling) (why : Cause) → stands ≡ false → why ≡ cause.Script → where_it_stands stands more ≡ Err why
+stood_not true more why not is = absurd (cc)
+stood_not false more why not is = ap Err (sym is)
+
+-- a planner's row
+pub planner_taken : (planners row planner : ℕ) (made : InputSoFar) (scripts : List (List Task)) (taken : Option Cause)
+    → TakesIf (takes_planner planners made.scripts planner) (made.scripts ++ [] ∷ []) scripts taken
+    → TakesLine planners row (line.Planner planner) made (record made { scripts = scripts }) taken
+planner_taken planners row planner made scripts None h = λ first s holds at. (
+  record s { scripts = s.scripts ++ [] ∷ [] },
+  stood (takes_planner planners s.scripts planner) (record s { scripts = s.scripts ++ [] ∷ [] })
+      (subst (λ (all : List (List Task)). takes_planner planners all planner ≡ true) holds.scripts h.0),
+  record {
+    tables = holds.tables;
+    edits = holds.edits;
+    scripts = h.1 ∙ ap (λ (all : List (List Task)). all ++ [] ∷ []) holds.scripts;
+  },
+)
+planner_taken planners row planner made scripts (Some why) h = λ first s holds.
+    stood_not (takes_planner planners s.scripts planner) (record s { scripts = s.scripts ++ [] ∷ [] }) why
+    (subst (λ (all : List (List Task)). takes_planner planners all planner ≡ false) holds.scripts h.0) h.1
+
+-- a task
+abbrev TaskTaken : InputSoFar → Task → List (List Task) → Option Cause → Type 0
+TaskTaken made t scripts None =
+    (first : ℕ) (s : Spelling) → Holds first s made
+    → (next : Spelling) × (with_one_task s t ≡ Ok next) × Holds first next (record made { scripts = scripts })
+TaskTaken made t scripts (Some why) = (first : ℕ) (s : Spelling) → Holds first s made → with_one_task s t ≡ Err why
+
+task_taken : (made : InputSoFar) (t : Task) (scripts : List (List Task)) (taken : Option Cause)
+    → TakesIf (takes_task made.scripts) (with_task made.scripts t) scripts taken → TaskTaken made t scripts taken
+task_taken made t scripts None h = λ first s holds. (
+  record s { scripts = with_task s.scripts t },
+  stood (takes_task s.scripts) (record s { scripts = with_task s.scripts t })
+      (subst (λ (all : List (List Task)). takes_task all ≡ true) holds.scripts h.0),
+  record {
+    tables = holds.tables;
+    edits = holds.edits;
+    scripts = h.1 ∙ ap (λ (all : List (List Task)). with_task all t) holds.scripts;
+  },
+)
+task_taken made t scripts (Some why) h = λ first s holds.
+    stood_not (takes_task s.scripts) (record s { scripts = with_task s.scripts t }) why
+    (subst (λ (all : List (List Task)). takes_task all ≡ false) holds.scripts h.0) h.1
+
+pub ask_taken : (planners row : ℕ) (section : List ℕ) (made : InputSoFar) (scripts : List (List Task)) (taken : Option Cause)
+    → TakesIf (takes_task made.scripts) (with_task made.scripts (task.Ask section)) scripts taken
+    → TakesLine planners row (line.Ask section) made (record made { scripts = scripts }) taken
+ask_taken planners row section made scripts None h = λ first s holds at. task_taken made (task.Ask section) scripts None h first s holds
+ask_taken planners row section made scripts (Some why) h = task_taken made (task.Ask section) scripts (Some why) h
+
+-- an edit in a script
+where_true : (b : Bool) (x y : Result Spelling Cause) → b ≡ true → (if b then x else y) ≡ x
+where_true true x y is = refl
+where_true false x y is = absurd (cc)
+
+pub some_scripts : (b : Bool) (n : ℕ) → b ≡ false → (n ≡ 0 → b ≡ true) → 0 < n
+some_scripts b zero fails holds = absurd (let is : true ≡ false = sym (holds refl) ∙ fails in cc)
+some_scripts b (suc n) fails holds = omega arith
+
+in_script : (made : InputSoFar) (first : ℕ) (s : Spelling) → Holds first s made → 0 < length made.scripts
+    → nat_lt 0 (length s.scripts) ≡ true
+in_script made first s holds some = lt-ltb 0 (length s.scripts) (omega (arith, some, ap length holds.scripts))
+
+pub edit_taken : (planners row : ℕ) (e : Edit) (made : InputSoFar) (scripts : List (List Task)) (taken : Option Cause)
+    → 0 < length made.scripts → TakesIf (takes_task made.scripts) (with_task made.scripts (task.Edit e)) scripts taken
+    → TakesLine planners row (line.Edit e) made (record made { scripts = scripts }) taken
+edit_taken planners row e made scripts None some h = λ first s holds at.
+    let next = task_taken made (task.Edit e) scripts None h first s holds in
+    (next.0, where_true _ _ _ (in_script made first s holds some) ∙ next.1, next.2)
+edit_taken planners row e made scripts (Some why) some h = λ first s holds.
+    where_true _ _ _ (in_script made first s holds some) ∙ task_taken made (task.Edit e) scripts (Some why) h first s holds
+
+-- a base edit
+pub base_taken : (planners row : ℕ) (e : Edit) (made : InputSoFar) (base : BaseSoFar) → length made.scripts ≡ 0
+    → tables_so_far base ≡ after_one_more row (tables_so_far made.base) e → base.edits ≡ made.base.edits + 1
+    → TakesLine planners row (line.Edit e) made (record made { base = base }) None
+base_taken planners row e made base none tables edits = λ first s holds at.
+    let empty : length s.scripts ≡ 0 = ap length (sym holds.scripts) ∙ none in
+    let number : first + length s.base ≡ row = at empty in
+    let more = record s { base = s.base ++ e ∷ [] } in (
+      more,
+      rw empty refl,
+      record {
+        tables = tables ∙ rw (holds.tables, ← number) (sym (one_more first s.base e));
+        edits = edits ∙ rw holds.edits (sym (length-append s.base (e ∷ [])));
+        scripts = holds.scripts;
+      },
+    )
+
+-- ---- how far a spelling grows by one line
+
+record Grows (planners : ℕ) (s next : Spelling) : Type 0 where
+  few : length next.base ≤ length s.base + 1
+  count : length next.scripts ≡ 0 → (length s.scripts ≡ 0) × (length next.base ≡ length s.base + 1)
+  scripts : length s.scripts ≤ planners → length next.scripts ≤ planners
+
+task_count : (scripts : List (List Task)) (t : Task) → length (with_task scripts t) ≡ length scripts
+task_count scripts t = length-set scripts _ _
+
+grows_by_task : (planners : ℕ) (s : Spelling) (t : Task) (next : Spelling) (stands : Bool) → takes_task s.scripts ≡ stands
+    → where_it_stands stands (record s { scripts = with_task s.scripts t }) ≡ Ok next → Grows planners s next
+grows_by_task planners s t next true stands is =
+    let same : record s { scripts = with_task s.scripts t } ≡ next = cc in
+    let some : 0 < length s.scripts = ltb-true 0 (length s.scripts) (and_parts _ _ stands).0 in
+    let count = task_count s.scripts t in
+    subst (Grows planners s) same (record {
+      few = omega arith;
+      count = λ none. absurd (omega (arith, some, count, none));
+      scripts = λ most. omega (arith, most, count);
+    })
+grows_by_task planners s t next false stands is = absurd (cc)
+
+grows_by_planner : (planners planner : ℕ) (s next : Spelling) (stands : Bool) → takes_planner planners s.scripts planner ≡ stands
+    → where_it_stands stands (record s { scripts = s.scripts ++ [] ∷ [] }) ≡ Ok next → Grows planners s next
+grows_by_planner planners planner s next true stands is =
+    let same : record s { scripts = s.scripts ++ [] ∷ [] } ≡ next = cc in
+    let more : length s.scripts < planners = ltb-true (length s.scripts) planners (and_parts _ _ stands).0 in
+    let count = length-append s.scripts ([] ∷ []) in
+    subst (Grows planners s) same (record {
+      few = omega arith;
+      count = λ none. absurd (omega (arith, count, none));
+      scripts = λ most. omega (arith, more, count);
+    })
+grows_by_planner planners planner s next false stands is = absurd (cc)
+
+grows_by_edit : (planners : ℕ) (s : Spelling) (e : Edit) (next : Spelling) (some : Bool) → nat_lt 0 (length s.scripts) ≡ some
+    → (if some then with_one_task s (task.Edit e) else Ok (record s { base = s.base ++ e ∷ [] })) ≡ Ok next
+    → Grows planners s next
+grows_by_edit planners s e next false none is =
+    let no_script : length s.scripts ≡ 0 = omega (arith, ltb-false 0 (length s.scripts) none) in
+    let same : record s { base = s.base ++ e ∷ [] } ≡ next = cc in
+    let count = length-append s.base (e ∷ []) in
+    subst (Grows planners s) same (record {
+      few = omega (arith, count);
+      count = λ empty. (no_script, omega (arith, count));
+      scripts = λ most. most;
+    })
+grows_by_edit planners s e next true some is = grows_by_task planners s (task.Edit e) next (takes_task s.scripts) refl is
+
+grows : (planners : ℕ) (s : Spelling) (l : Line) (next : Spelling) → with_line planners s l ≡ Ok next → Grows planners s next
+grows planners s (line.Planner planner) next is = grows_by_planner planners planner s next (takes_planner planners s.scripts planner) refl is
+grows planners s (line.Ask section) next is = grows_by_task planners s (task.Ask section) next (takes_task s.scripts) refl is
+grows planners s (line.Edit e) next is = grows_by_edit planners s e next (nat_lt 0 (length s.scripts)) refl is
+
+-- ---- the rows that are left
+
+-- what is said by what is spelled so far and by the rows that are left, the first of which has this number
+said_by : ℕ → Result Spelling Refusal → Result Content Refusal
+said_by first spelling =
+    spelling >>= λ (s : Spelling). tables_from first s.base >>= λ tables. Ok (record { spelling = s; tables = tables })
+
+pub goes_on : ℕ → ℕ → ℕ → ℕ → Spelling → List Row → Result Content Refusal
+goes_on planners version first number s rows = said_by first (spelling_from planners version number s rows)
+
+goes_on-line : (planners version first number : ℕ) (s : Spelling) (row : Row) (rows : List Row) (l : Line) (next : Spelling)
+    → read_in version row ≡ Ok l → with_line planners s l ≡ Ok next
+    → goes_on planners version first number s (row ∷ rows) ≡ goes_on planners version first (number + 1) next rows
+unfolding goes_on
+goes_on-line planners version first number s row rows l next read is = rw (read, is) refl
+
+goes_on-form : (planners version first number : ℕ) (s : Spelling) (row : Row) (rows : List Row) (fault : Form)
+    → read_in version row ≡ Err fault
+    → goes_on planners version first number s (row ∷ rows) ≡ refused number (cause.Form fault)
+unfolding goes_on said_by
+goes_on-form planners version first number s row rows fault read = rw read refl
+
+goes_on-place : (planners version first number : ℕ) (s : Spelling) (row : Row) (rows : List Row) (l : Line) (why : Cause)
+    → read_in version row ≡ Ok l → with_line planners s l ≡ Err why
+    → goes_on planners version first number s (row ∷ rows) ≡ refused number why
+unfolding goes_on said_by
+goes_on-place planners version first number s row rows l why read is = rw (read, is) refl
+
 -- ---- the rows so far
 
--- the rows before a place are taken: the edits that they spell are those of a base, and the rest goes on from there
-pub record HasTaken (version : ℕ) (rows : List Row) (made : TablesSoFar) (i : ℕ) : Type 0 where
-  pub base : List Edit
-  pub count : first_line rows + length base ≡ i
-  pub made_is : tables_so_far made ≡ tables_from (first_line rows + 1) base
-  pub rest : tables_in (Ok version) rows ≡ goes_on version (first_line rows + 1) (i + 1) base (drop i rows)
+-- the rows before a place are taken, as a spelling, and the rest goes on from there
+pub record HasTaken (planners version : ℕ) (rows : List Row) (made : InputSoFar) (i : ℕ) : Type 0 where
+  pub spelling : Spelling
+  pub holds : Holds (first_line rows + 1) spelling made
+  pub few : length spelling.base ≤ i
+  pub edits : length spelling.base ≤ length rows
+  pub count : length spelling.scripts ≡ 0 → first_line rows + length spelling.base ≡ i
+  pub scripts : length spelling.scripts ≤ planners
+  pub rest : content_in planners (Ok version) rows ≡ goes_on planners version (first_line rows + 1) (i + 1) spelling (drop i rows)
 
-pub taken_none : (version : ℕ) (rows : List Row) (made : TablesSoFar) → tables_so_far made ≡ Ok no_tables
-    → HasTaken version rows made (first_line rows)
-unfolding goes_on made_of of_base
-taken_none version rows made none = record { base = []; count = omega arith; made_is = none; rest = refl }
+pub taken_none : (planners version : ℕ) (rows : List Row) (made : InputSoFar) → IsNothing made
+    → HasTaken planners version rows made (first_line rows)
+unfolding goes_on said_by
+taken_none planners version rows made none = record {
+  spelling = nothing;
+  holds = record { tables = none.tables; edits = none.edits; scripts = no_items made.scripts none.scripts };
+  few = omega arith;
+  edits = omega arith;
+  count = λ empty. omega arith;
+  scripts = omega arith;
+  rest = refl;
+}
+  where
+    no_items : (scripts : List (List Task)) → length scripts ≡ 0 → scripts ≡ []
+    no_items [] is = refl
+    no_items (s ∷ scripts) is = absurd (omega (arith, is))
 
-pub taken_more : (version i : ℕ) (rows : List Row) (made more : TablesSoFar) → i < length rows
-    → HasTaken version rows made i → TakesRow (edit_in version (get_or rows i [])) (i + 1) made more None
-    → HasTaken version rows more (i + 1)
-taken_more version i rows made more there so_far takes =
+-- how many edits a made base counts
+pub few_edits : (planners version i : ℕ) (rows : List Row) (made : InputSoFar) → HasTaken planners version rows made i → made.base.edits ≤ i
+few_edits planners version i rows made so_far = omega (arith, so_far.holds.edits, so_far.few)
+
+taken_line : (planners version i : ℕ) (rows : List Row) (made more : InputSoFar) (l : Line) → i < length rows
+    → HasTaken planners version rows made i → read_in version (get_or rows i []) ≡ Ok l
+    → TakesLine planners (i + 1) l made more None → HasTaken planners version rows more (i + 1)
+taken_line planners version i rows made more l there so_far read takes =
     let first = first_line rows + 1 in
-    let base = so_far.base in
-    let number : first + length base ≡ i + 1 = omega (arith, so_far.count) in
+    let s = so_far.spelling in
+    let next = takes first s so_far.holds (λ empty. omega (arith, so_far.count empty)) in
+    let grown = grows planners s l next.0 next.1 in
     record {
-      base = base ++ takes.0 ∷ [];
-      count = omega (arith, so_far.count, length-append base (takes.0 ∷ []));
-      made_is = takes.2 ∙ rw (so_far.made_is, ← number) (sym (one_more first base takes.0));
-      rest = so_far.rest ∙ ap (goes_on version first (i + 1) base) (drop_more rows i [] there)
-          ∙ goes_on-edit version first (i + 1) base (get_or rows i []) (drop (i + 1) rows) takes.0 takes.1;
+      spelling = next.0;
+      holds = next.2;
+      few = omega (arith, grown.few, so_far.few);
+      edits = omega (arith, grown.few, so_far.few, there);
+      count = λ empty. let was = grown.count empty in omega (arith, was.1, so_far.count was.0);
+      scripts = grown.scripts so_far.scripts;
+      rest = so_far.rest ∙ ap (goes_on planners version first (i + 1) s) (drop_more rows i [] there)
+          ∙ goes_on-line planners version first (i + 1) s (get_or rows i []) (drop (i + 1) rows) l next.0 read next.1;
     }
 
-pub not_taken : (version i : ℕ) (rows : List Row) (made more : TablesSoFar) (why : Cause) → i < length rows
-    → HasTaken version rows made i → TakesRow (edit_in version (get_or rows i [])) (i + 1) made more (Some why)
-    → tables_in (Ok version) rows ≡ refused (i + 1) why
-not_taken version i rows made more why there so_far takes =
-    let first = first_line rows + 1 in
-    so_far.rest ∙ ap (goes_on version first (i + 1) so_far.base) (drop_more rows i [] there)
-    ∙ goes_on-fault version first (i + 1) so_far.base (get_or rows i []) (drop (i + 1) rows) why takes
+pub taken_more : (planners version i : ℕ) (rows : List Row) (made more : InputSoFar) (found : Result Line Form) → i < length rows
+    → HasTaken planners version rows made i → read_in version (get_or rows i []) ≡ found
+    → TakesRow planners (i + 1) found made more None → HasTaken planners version rows more (i + 1)
+taken_more planners version i rows made more (Ok l) there so_far read takes = taken_line planners version i rows made more l there so_far read takes
+taken_more planners version i rows made more (Err fault) there so_far read takes = absurd takes
 
-pub taken_all : (version i : ℕ) (rows : List Row) (made : TablesSoFar) → length rows ≤ i
-    → HasTaken version rows made i → tables_in (Ok version) rows ≡ tables_so_far made
-taken_all version i rows made end so_far =
+pub not_taken : (planners version i : ℕ) (rows : List Row) (made more : InputSoFar) (found : Result Line Form) (why : Cause)
+    → i < length rows → HasTaken planners version rows made i → read_in version (get_or rows i []) ≡ found
+    → TakesRow planners (i + 1) found made more (Some why)
+    → content_in planners (Ok version) rows ≡ refused (i + 1) why
+not_taken planners version i rows made more (Ok l) why there so_far read takes =
     let first = first_line rows + 1 in
-    so_far.rest ∙ ap (goes_on version first (i + 1) so_far.base) (drop_all i rows (omega arith))
-    ∙ goes_on-end version first (i + 1) so_far.base ∙ sym so_far.made_is
+    so_far.rest ∙ ap (goes_on planners version first (i + 1) so_far.spelling) (drop_more rows i [] there)
+    ∙ goes_on-place planners version first (i + 1) so_far.spelling (get_or rows i []) (drop (i + 1) rows) l why read
+    (takes first so_far.spelling so_far.holds)
+not_taken planners version i rows made more (Err fault) why there so_far read takes =
+    let first = first_line rows + 1 in
+    so_far.rest ∙ ap (goes_on planners version first (i + 1) so_far.spelling) (drop_more rows i [] there)
+    ∙ goes_on-form planners version first (i + 1) so_far.spelling (get_or rows i []) (drop (i + 1) rows) fault read
+    ∙ ap (refused (i + 1)) (sym takes)
+
+-- what is given in the end
+given : (first : ℕ) (s : Spelling) (made : InputSoFar) (refusal : Option Refusal) → made.base.refused ≡ refusal
+    → Holds first s made
+    → accepted_in (tables_from first s.base >>= λ tables. Ok (record { spelling = s; tables = tables })) ≡ accepted_so_far made
+given first s made None is holds =
+    let tables : tables_from first s.base ≡ Ok made.base.tables = sym holds.tables ∙ rw is refl in
+    rw (tables, is, holds.edits, holds.scripts) refl
+given first s made (Some refusal) is holds =
+    let tables : tables_from first s.base ≡ Err refusal = sym holds.tables ∙ rw is refl in
+    rw (tables, is) refl
+
+given_within : (planners rows : ℕ) (made given : Accepted) (refusal : Option Refusal) → or_refused refusal made ≡ Ok given
+    → length made.scripts ≤ planners → made.at ≤ rows → sum_by length given.scripts ≤ TASKS → IsWithin planners rows given
+given_within planners rows made given None is few edits tasks =
+    let same : made ≡ given = cc in
+    record {
+      scripts = subst (λ (g : Accepted). length g.scripts ≤ planners) same few;
+      tasks = tasks;
+      edits = subst (λ (g : Accepted). g.at ≤ rows) same edits;
+    }
+given_within planners rows made given (Some refusal) is few edits tasks = absurd (cc)
+
+pub all_within : (planners rows : ℕ) (made : InputSoFar) (result : Result Accepted Refusal) → result ≡ accepted_so_far made
+    → length made.scripts ≤ planners → made.base.edits ≤ rows → IfOk result (λ given. sum_by length given.scripts ≤ TASKS)
+    → IfOk result (IsWithin planners rows)
+all_within planners rows made (Ok given) is few edits tasks =
+    given_within planners rows (record { tables = made.base.tables; at = made.base.edits; scripts = made.scripts }) given
+    made.base.refused (sym is) few edits tasks
+all_within planners rows made (Err refusal) is few edits tasks = tt
+
+pub taken_all : (planners version i : ℕ) (rows : List Row) (made : InputSoFar) → length rows ≤ i
+    → HasTaken planners version rows made i
+    → TakesRows planners (length rows) (content_in planners (Ok version) rows) made None
+unfolding goes_on said_by
+taken_all planners version i rows made end so_far =
+    let first = first_line rows + 1 in
+    let s = so_far.spelling in
+    record {
+      is = ap accepted_in (so_far.rest ∙ ap (goes_on planners version first (i + 1) s) (drop_all i rows (omega arith)))
+          ∙ given first s made made.base.refused refl so_far.holds;
+      scripts = omega (arith, so_far.scripts, ap length so_far.holds.scripts);
+      edits = omega (arith, so_far.holds.edits, so_far.edits);
+    }

@@ -4,20 +4,24 @@ use Rattle.std.specs.Io.KnownBytes.{Consumes, IsAtEnd}
 use Rattle.std.proofs.lemmas.List.{append-nil}
 use Rattle.std.proofs.lemmas.Bool.{lt-ltb}
 use Rattle.std.proofs.lemmas.Bool.Decides.{nat_tests}
-use Rattle.rail_model.specs.declared.tables.Tables.{Tables}
 use Rattle.rail_outside.specs.InCall.{SourceInCall, HasGiven, IsReadToEnd}
 use Rattle.row_text.specs.Rows.{rows_of}
+use Rattle.row_text.specs.Row.{Row}
+use Rattle.plan_book.specs.declared.book.TheConstants.{PLANNERS}
 use Rattle.capacity_cmd.specs.declared.command.Command.{Command}
+use Rattle.capacity_cmd.specs.declared.command.Command.TheVariants as command
 use Rattle.capacity_cmd.specs.declared.refusal.Refusal.{Refusal}
+use Rattle.capacity_cmd.specs.declared.accepted.Accepted.{Accepted}
 use Rattle.capacity_cmd.specs.declared.status.Cause.TheVariants as cause
 use Rattle.capacity_cmd.specs.declared.limit.TheConstants.{INPUT_BYTES}
-use Rattle.capacity_cmd.specs.Input.{Content, refused, content_of_rows, content_of_input}
-use Rattle.capacity_cmd.specs.TablesSoFar.{tables_of_content, tables_of}
+use Rattle.capacity_cmd.specs.Input.{Content, accepted_of, refused, content_of_rows, content_of_input}
+use Rattle.capacity_cmd.specs.InputSoFar.{accepted_in, IsWithin}
 use Rattle.capacity_cmd.specs.Command.{planners_of}
 use Rattle.capacity_cmd.specs.Outcome.{Outcome, Refuses}
-use Rattle.capacity_cmd.specs.Ends.{EndsOnTables, Ends, EndsOn, IsOutcome}
+use Rattle.capacity_cmd.specs.Ends.{EndsOnAccepted, Ends, EndsOn, IsOutcome}
 use Rattle.capacity_cmd.specs.Promise.{IsEnd}
 use Rattle.capacity_cmd.proofs.Refused.{ends_not_too_long, read_for}
+use Rattle.capacity_cmd.proofs.RowCount.{row_count}
 
 -- an input that isn't too long says what its rows say, and one that is too long is refused
 pub content_of_short : (planners : ℕ) (input : List ℕ) → length input ≤ INPUT_BYTES
@@ -38,29 +42,31 @@ ends_too_long : (c : Command) (input : List ℕ) → INPUT_BYTES < length input 
 ends_too_long c input long =
     subst (λ content. Ends c content (Refuses 0 cause.TooLong)) (sym (content_of_long (planners_of c) input long)) refl
 
--- what a command that takes no scripts ends with on an input, by the tables or the refusal that its rows make
-by_tables : (c : Command) (content : Result Content Refusal) (tables : Tables) (outcome : Outcome)
-    → tables_of_content content ≡ Ok tables → EndsOnTables c tables outcome → Ends c content outcome
-by_tables c (Ok content) tables outcome is ends =
-    let same : content.tables ≡ tables = cc in subst (λ t. EndsOnTables c t outcome) (sym same) ends
-by_tables c (Err refusal) tables outcome is ends = absurd (cc)
+-- what a command ends with on an input, by what its rows give or by their refusal
+by_accepted : (c : Command) (content : Result Content Refusal) (given : Accepted) (outcome : Outcome)
+    → accepted_in content ≡ Ok given → EndsOnAccepted c given outcome → Ends c content outcome
+by_accepted c (Ok content) given outcome is ends =
+    let same : accepted_of content ≡ given = cc in subst (λ g. EndsOnAccepted c g outcome) (sym same) ends
+by_accepted c (Err refusal) given outcome is ends = absurd (cc)
 
-by_refusal : (c : Command) (content : Result Content Refusal) (refusal : Refusal) → tables_of_content content ≡ Err refusal
+by_refusal : (c : Command) (content : Result Content Refusal) (refusal : Refusal) → accepted_in content ≡ Err refusal
     → Ends c content (Refuses refusal.row refusal.cause)
 by_refusal c (Ok content) refusal is = absurd (cc)
 by_refusal c (Err other) refusal is = let same : refusal ≡ other = cc in ap (λ (r : Refusal). Refuses r.row r.cause) same
 
-pub ends_on_tables : (c : Command) (input : List ℕ) (tables : Tables) (outcome : Outcome) → length input ≤ INPUT_BYTES
-    → tables_of (rows_of input) ≡ Ok tables → EndsOnTables c tables outcome → EndsOn c input outcome
-ends_on_tables c input tables outcome short made ends =
+pub ends_on_accepted : (c : Command) (input : List ℕ) (given : Accepted) (outcome : Outcome) → length input ≤ INPUT_BYTES
+    → accepted_in (content_of_rows (planners_of c) (rows_of input)) ≡ Ok given → EndsOnAccepted c given outcome
+    → EndsOn c input outcome
+ends_on_accepted c input given outcome short made ends =
     subst (λ content. Ends c content outcome) (sym (content_of_short (planners_of c) input short))
-    (by_tables c (content_of_rows 0 (rows_of input)) tables outcome made ends)
+    (by_accepted c (content_of_rows (planners_of c) (rows_of input)) given outcome made ends)
 
 pub ends_refused : (c : Command) (input : List ℕ) (refusal : Refusal) → length input ≤ INPUT_BYTES
-    → tables_of (rows_of input) ≡ Err refusal → EndsOn c input (Refuses refusal.row refusal.cause)
+    → accepted_in (content_of_rows (planners_of c) (rows_of input)) ≡ Err refusal
+    → EndsOn c input (Refuses refusal.row refusal.cause)
 ends_refused c input refusal short made =
     subst (λ content. Ends c content (Refuses refusal.row refusal.cause)) (sym (content_of_short (planners_of c) input short))
-    (by_refusal c (content_of_rows 0 (rows_of input)) refusal made)
+    (by_refusal c (content_of_rows (planners_of c) (rows_of input)) refusal made)
 
 -- the outcome is that of the bytes that a source gave, where it gave all that it had
 all_given : (c : Command) (told left : Option (List ℕ)) (input : List ℕ) (outcome : Outcome) → Consumes told left input
@@ -95,4 +101,23 @@ pub IsEnd-too_long : {S : Type 0} (c : Command) (source : SourceInCall S) → Ha
 IsEnd-too_long c source given = record {
   is = more_given c (source.left source.before) (source.left source.after) given.0 given.2 given.1;
   read = given;
+}
+
+-- what an input gives is within the limits of a session
+few_planners : (c : Command) → planners_of c ≤ PLANNERS
+few_planners command.Stairs = omega arith
+few_planners command.Check = omega arith
+few_planners (command.Compress section) = omega arith
+few_planners command.Report = omega arith
+few_planners (command.Headways section) = omega arith
+few_planners (command.Cut section) = omega arith
+few_planners command.Session = omega arith
+
+pub within_limits : (c : Command) (planners : ℕ) (input : List ℕ) (rows : List Row) (given : Accepted) → planners ≡ planners_of c
+    → rows ≡ rows_of input → length input ≤ INPUT_BYTES → IsWithin planners (length rows) given
+    → IsWithin PLANNERS INPUT_BYTES given
+within_limits c planners input rows given takes is short within = record {
+  scripts = omega (arith, within.scripts, takes, few_planners c);
+  tasks = within.tasks;
+  edits = omega (arith, within.edits, ap length is, row_count input, short);
 }

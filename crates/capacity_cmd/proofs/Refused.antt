@@ -22,11 +22,12 @@ use Rattle.capacity_cmd.specs.declared.refusal.Refusal.{Refusal}
 use Rattle.capacity_cmd.specs.declared.status.Cause.{Cause}
 use Rattle.capacity_cmd.specs.declared.status.Cause.TheVariants as cause
 use Rattle.capacity_cmd.specs.Spelling.{Spelling, nothing, takes_planner, takes_task, where_it_stands, with_one_task, with_line}
-use Rattle.capacity_cmd.specs.Input.{Content, at_row, in_form, spelling_from, unless_refused, content_of_rows}
+use Rattle.capacity_cmd.specs.declared.accepted.Accepted.{Accepted}
+use Rattle.capacity_cmd.specs.Input.{Content, accepted_of, at_row, in_form, spelling_from, unless_refused, content_of_rows}
 use Rattle.capacity_cmd.specs.Command.{planners_of}
 use Rattle.capacity_cmd.specs.Outcome.{Outcome, Writes, Refuses, EndsInText}
 use Rattle.capacity_cmd.specs.Named.{EndsOnNamed}
-use Rattle.capacity_cmd.specs.Ends.{EndsOnTables, Ends}
+use Rattle.capacity_cmd.specs.Ends.{EndsOnAccepted, Ends}
 use Rattle.capacity_cmd.specs.Promise.{IsReadFor}
 
 -- an outcome is no refusal of an input that is too long
@@ -103,7 +104,7 @@ content_other planners rows =
     then_other _ _ (rule_other (first_line rows + 1) (after_edits no_tables spelling.base) (first_refused no_tables spelling.base))
     λ tables. tt
 
--- ---- and by its tables
+-- ---- and by what it gives
 
 in_text : (IsText : List ℕ → Type 0) (outcome : Outcome) → EndsInText IsText outcome → IsNotTooLong outcome
 in_text IsText outcome ends = subst IsNotTooLong (sym ends.2) tt
@@ -113,17 +114,18 @@ on_named : {X : Type 0} (IsText : X → List ℕ → Type 0) (found : Option X) 
 on_named IsText None outcome ends = subst IsNotTooLong (sym ends) (λ is. cc)
 on_named IsText (Some found) outcome ends = in_text (IsText found) outcome ends
 
-on_tables : (c : Command) (tables : Tables) (outcome : Outcome) → EndsOnTables c tables outcome → IsNotTooLong outcome
-on_tables command.Stairs tables outcome ends = in_text _ outcome ends
-on_tables command.Check tables outcome ends = in_text _ outcome ends
-on_tables (command.Compress section) tables outcome ends = on_named _ (option_and_then (cut_of tables) section) outcome ends
-on_tables command.Report tables outcome ends = in_text _ outcome ends
-on_tables (command.Headways section) tables outcome ends = on_named _ (option_and_then (cut_of tables) section) outcome ends
-on_tables (command.Cut section) tables outcome ends = on_named _ (option_and_then (cut_of tables) section) outcome ends
+on_accepted : (c : Command) (given : Accepted) (outcome : Outcome) → EndsOnAccepted c given outcome → IsNotTooLong outcome
+on_accepted command.Stairs given outcome ends = in_text _ outcome ends
+on_accepted command.Check given outcome ends = in_text _ outcome ends
+on_accepted (command.Compress section) given outcome ends = on_named _ (option_and_then (cut_of given.tables) section) outcome ends
+on_accepted command.Report given outcome ends = in_text _ outcome ends
+on_accepted (command.Headways section) given outcome ends = on_named _ (option_and_then (cut_of given.tables) section) outcome ends
+on_accepted (command.Cut section) given outcome ends = on_named _ (option_and_then (cut_of given.tables) section) outcome ends
+on_accepted command.Session given outcome ends = in_text _ outcome ends
 
 by_content : (c : Command) (said : Result Content Refusal) (outcome : Outcome) → HasOtherRefusal said → Ends c said outcome
     → IsNotTooLong outcome
-by_content c (Ok content) outcome other ends = on_tables c content.tables outcome ends
+by_content c (Ok content) outcome other ends = on_accepted c (accepted_of content) outcome ends
 by_content c (Err refusal) outcome other ends = subst IsNotTooLong (sym ends) other
 
 pub ends_not_too_long : (c : Command) (rows : List Row) (outcome : Outcome) → Ends c (content_of_rows (planners_of c) rows) outcome

@@ -1,20 +1,26 @@
 -- A report, to which the head of one more section's answer comes.
-use Rattle.std.proofs.Common.{◌≡◌, ℕ, ◌+◌, ◌<◌, ◌≤◌, List, [], ◌∷◌, ◌++◌, length, take, sym, ap, ◌∙◌, subst, arith}
+use Rattle.std.proofs.Common.{◌≡◌, ℕ, ◌+◌, ◌<◌, ◌≤◌, List, [], ◌∷◌, ◌++◌, length, take, sym, ap, ◌∙◌, subst, append_assoc, arith}
 use Rattle.std.proofs.lemmas.List.{take_all, take_more, length-take-le}
 use Rattle.rail_model.specs.declared.tables.Tables.{Tables}
 use Rattle.rail_model.specs.Tables.{no_section, section_at}
+use Rattle.plan_model.specs.declared.scripts.Task.{Task}
+use Rattle.plan_model.specs.declared.journal.Entry.{Entry}
+use Rattle.plan_model.specs.Journal.{tables_of}
+use Rattle.plan_model.specs.Session.{IsSessionAlone}
 use Rattle.row_text.specs.Row.{Row}
 use Rattle.row_text.specs.SheetRows.{text_of_rows}
 use Rattle.capacity_report.specs.declared.answers.Detail.TheVariants as detail
 use Rattle.capacity_report.specs.Answers.{answer_rows}
-use Rattle.capacity_report.specs.Report.{AreAnswers, heads}
+use Rattle.capacity_report.specs.Report.{AreAnswers, heads, report_rows}
 use Rattle.capacity_report.specs.Total.{Total, total_row, with_answer}
+use Rattle.capacity_report.specs.Journal.{rows_of_journal}
 use Rattle.capacity_report.proofs.Reports.{total_more, heads_more, answers_more, answers_count}
-use Rattle.capacity_cmd.specs.Report.{IsReportText, AddsHead, HasHeads}
+use Rattle.capacity_cmd.specs.Report.{IsReportText, AddsReport, AddsHead, HasHeads}
+use Rattle.capacity_cmd.specs.Session.{IsSessionText}
 
 -- the heads of the first sections, and that of the next
-pub heads_added : (tables : Tables) (count : ℕ) (rows more : List Row) (total greater : Total) → count < length tables.sections → HasHeads tables count rows total → AddsHead tables (section_at tables count) rows more total greater → HasHeads tables (count + 1) more greater
-heads_added tables count rows more total greater there had adds =
+pub heads_added : (tables : Tables) (count : ℕ) (before rows more : List Row) (total greater : Total) → count < length tables.sections → HasHeads tables count before rows total → AddsHead tables (section_at tables count) rows more total greater → HasHeads tables (count + 1) before more greater
+heads_added tables count before rows more total greater there had adds =
     let first = take count tables.sections in
     let section = section_at tables count in
     let one_more = take_more tables.sections count no_section there in
@@ -24,25 +30,55 @@ heads_added tables count rows more total greater there had adds =
       are = subst (λ sections. AreAnswers tables sections answers) (sym one_more)
           (answers_more tables section adds.answer adds.is first had.answers had.are);
       written = adds.head ∙ ap (λ (r : List Row). r ++ answer_rows section.name adds.answer detail.Head) had.written
-          ∙ sym (heads_more first had.answers section adds.answer (answers_count tables first had.answers had.are))
-          ∙ ap (λ sections. heads sections answers) (sym one_more);
+          ∙ append_assoc before (heads first had.answers) (answer_rows section.name adds.answer detail.Head)
+          ∙ ap (λ (r : List Row). before ++ r)
+          (sym (heads_more first had.answers section adds.answer (answers_count tables first had.answers had.are))
+          ∙ ap (λ sections. heads sections answers) (sym one_more));
       counted = adds.counted ∙ ap (λ t. with_answer t adds.answer) had.counted ∙ sym (total_more had.answers adds.answer);
     }
 
 -- the total counts the sections whose heads there are
-pub sections_counted : (tables : Tables) (count : ℕ) (rows : List Row) (total : Total) → count ≤ length tables.sections → HasHeads tables count rows total → total.sections ≡ count
-sections_counted tables count rows total within had =
+pub sections_counted : (tables : Tables) (count : ℕ) (before rows : List Row) (total : Total) → count ≤ length tables.sections → HasHeads tables count before rows total → total.sections ≡ count
+sections_counted tables count before rows total within had =
     ap (λ (t : Total). t.sections) had.counted
     ∙ sym (answers_count tables (take count tables.sections) had.answers had.are)
     ∙ length-take-le count tables.sections within
 
 -- the heads of all sections and the total are the report
-pub report_written : (tables : Tables) (made whole : List Row) (total : Total) (text : List ℕ) → HasHeads tables (length tables.sections) made total → whole ≡ made ++ total_row total ∷ [] → text ≡ text_of_rows whole → IsReportText tables text
-report_written tables made whole total text had is written =
-    let all = take_all (length tables.sections) tables.sections (omega arith) in (
+pub report_added : (tables : Tables) (before made whole : List Row) (total : Total)
+    → HasHeads tables (length tables.sections) before made total → whole ≡ made ++ total_row total ∷ []
+    → AddsReport tables before whole
+report_added tables before made whole total had is =
+    let all = take_all (length tables.sections) tables.sections (omega arith) in
+    let last = λ (t : Total). total_row t ∷ [] in (
       had.answers,
       subst (λ sections. AreAnswers tables sections had.answers) all had.are,
-      written ∙ ap text_of_rows (is
-          ∙ ap (λ r. r ++ total_row total ∷ []) (had.written ∙ ap (λ sections. heads sections had.answers) all)
-          ∙ ap (λ t. heads tables.sections had.answers ++ total_row t ∷ []) had.counted),
+      is ∙ ap (λ (r : List Row). r ++ last total) (had.written ∙ ap (λ sections. before ++ heads sections had.answers) all)
+          ∙ append_assoc before (heads tables.sections had.answers) (last total)
+          ∙ ap (λ t. before ++ (heads tables.sections had.answers ++ last t)) had.counted,
+    )
+
+-- without rows before it the report is the text of `report`
+pub report_written : (tables : Tables) (before whole : List Row) (text : List ℕ) → before ≡ []
+    → AddsReport tables before whole → text ≡ text_of_rows whole → IsReportText tables text
+report_written tables before whole text none adds written = (
+  adds.0,
+  adds.1,
+  written ∙ ap text_of_rows (adds.2 ∙ ap (λ (r : List Row). r ++ report_rows tables.sections adds.0) none),
+)
+
+-- after the rows of a session's journal the report of the tables at its end is the text of the session
+pub session_written : (tables : Tables) (at : ℕ) (scripts : List (List Task)) (journal seen : List Entry) (end_tables : Tables)
+    (before first whole : List Row) (text : List ℕ) → IsSessionAlone tables at scripts journal → seen ≡ journal
+    → end_tables ≡ tables_of journal → before ≡ [] → first ≡ before ++ rows_of_journal seen → AddsReport end_tables first whole
+    → text ≡ text_of_rows whole → IsSessionText tables at scripts text
+session_written tables at scripts journal seen end_tables before first whole text is same last none rows adds written =
+    let report = subst (λ (t : Tables). AddsReport t first whole) last adds in
+    let all = λ (r : List Row). r ++ report_rows (tables_of journal).sections report.0 in (
+      journal,
+      is,
+      report.0,
+      report.1,
+      written ∙ ap text_of_rows (report.2
+          ∙ ap all (rows ∙ ap (λ (r : List Row). r ++ rows_of_journal seen) none ∙ ap rows_of_journal same)),
     )

@@ -13,6 +13,7 @@ use Rattle.row_text.specs.Versions.{version_of, first_line}
 use Rattle.capacity_cmd.specs.declared.status.Cause.{Cause}
 use Rattle.capacity_cmd.specs.declared.status.Cause.TheVariants as cause
 use Rattle.capacity_cmd.specs.declared.refusal.Refusal.{Refusal}
+use Rattle.capacity_cmd.specs.declared.accepted.Accepted.{Accepted}
 use Rattle.capacity_cmd.specs.declared.limit.TheConstants.{INPUT_BYTES}
 use Rattle.capacity_cmd.specs.Spelling.{Spelling, nothing, with_line}
 
@@ -20,6 +21,14 @@ use Rattle.capacity_cmd.specs.Spelling.{Spelling, nothing, with_line}
 pub record Content : Type 0 where
   pub spelling : Spelling
   pub tables : Tables
+
+-- what a command is run on: the tables, the number of the last edit that made them, and the scripts
+abbrev pub accepted_of : Content → Accepted
+accepted_of content = record {
+  tables = content.tables;
+  at = length content.spelling.base;
+  scripts = content.spelling.scripts;
+}
 
 -- a row is refused, counted from 1, or with row 0 the input as a whole
 abbrev pub refused : {X : Type 0} → ℕ → Cause → Result X Refusal

@@ -9,7 +9,8 @@ pub mod Compress
 pub mod Report
 pub mod Headways
 pub mod Cut
+pub mod Session
 pub mod Ends
-pub mod TablesSoFar
+pub mod InputSoFar
 pub mod Reply
 pub mod Promise

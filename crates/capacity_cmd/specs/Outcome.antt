@@ -2,9 +2,8 @@
 use Rattle.std.specs.Prelude.{◌≡◌, ℕ, List, [], ◌∷◌, codes, decimal}
 use Rattle.rail_model.specs.declared.form.Form.{Form}
 use Rattle.rail_model.specs.declared.form.Form.TheVariants as form
-use Rattle.rail_model.specs.declared.edit.Rule.{Rule}
-use Rattle.rail_model.specs.declared.edit.Rule.TheVariants as rule
 use Rattle.row_text.specs.SheetRows.{text_of_row}
+use Rattle.capacity_report.specs.Journal.{rule_text}
 use Rattle.capacity_cmd.specs.declared.status.Status.{Status}
 use Rattle.capacity_cmd.specs.declared.status.Status.TheVariants as status
 use Rattle.capacity_cmd.specs.declared.status.Cause.{Cause}
@@ -22,14 +21,6 @@ form_text form.Fields = codes "fields"
 form_text form.Number = codes "number"
 form_text form.BadName = codes "name"
 form_text form.Order = codes "order"
-
-abbrev pub rule_text : Rule → List ℕ
-rule_text rule.Range = codes "range"
-rule_text rule.Twice = codes "twice"
-rule_text rule.Unknown = codes "unknown"
-rule_text rule.Limit = codes "limit"
-rule_text rule.Count = codes "count"
-rule_text rule.InUse = codes "in-use"
 
 abbrev pub cause_text : Cause → List ℕ
 cause_text (cause.Form f) = form_text f

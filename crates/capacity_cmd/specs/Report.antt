@@ -18,6 +18,12 @@ IsReportText tables text =
     (answers : List Answer) × AreAnswers tables tables.sections answers
     × (text ≡ text_of_rows (report_rows tables.sections answers))
 
+-- the same after other rows
+abbrev pub AddsReport : Tables → List Row → List Row → Type 0
+AddsReport tables rows more =
+    (answers : List Answer) × AreAnswers tables tables.sections answers
+    × (more ≡ rows ++ report_rows tables.sections answers)
+
 -- the head of a section's answer comes to the rows, and the answer to the total
 pub record AddsHead (tables : Tables) (section : Section) (rows more : List Row) (total greater : Total) : Type 0 where
   pub answer : Answer
@@ -25,9 +31,9 @@ pub record AddsHead (tables : Tables) (section : Section) (rows more : List Row)
   pub head : more ≡ rows ++ answer_rows section.name answer detail.Head
   pub counted : greater ≡ with_answer total answer
 
--- the rows are the heads of the answers of the first sections, and the total is theirs
-pub record HasHeads (tables : Tables) (count : ℕ) (rows : List Row) (total : Total) : Type 0 where
+-- after some rows come the heads of the answers of the first sections, and the total is theirs
+pub record HasHeads (tables : Tables) (count : ℕ) (before rows : List Row) (total : Total) : Type 0 where
   pub answers : List Answer
   pub are : AreAnswers tables (take count tables.sections) answers
-  pub written : rows ≡ heads (take count tables.sections) answers
+  pub written : rows ≡ before ++ heads (take count tables.sections) answers
   pub counted : total ≡ total_of answers

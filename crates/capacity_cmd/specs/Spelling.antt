@@ -6,9 +6,9 @@ use Rattle.row_text.specs.declared.line.Line.TheVariants as line
 use Rattle.plan_model.specs.declared.scripts.Task.{Task}
 use Rattle.plan_model.specs.declared.scripts.Task.TheVariants as task
 use Rattle.plan_model.specs.Scripts.{with_task}
+use Rattle.plan_book.specs.declared.book.TheConstants.{TASKS}
 use Rattle.capacity_cmd.specs.declared.status.Cause.{Cause}
 use Rattle.capacity_cmd.specs.declared.status.Cause.TheVariants as cause
-use Rattle.capacity_cmd.specs.declared.limit.TheConstants.{TASKS}
 
 -- the edits of the base rows, and the tasks of each planner's script, planner 1's first
 pub record Spelling : Type 0 where

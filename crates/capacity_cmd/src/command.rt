@@ -2,8 +2,9 @@
 ghost use Rattle.std.specs.Prelude.{◌≡◌, map};
 ghost use Rattle.std.specs.String.{string_bytes};
 ghost use Rattle.rail_model.specs.Name.{name_of};
-ghost use Rattle.capacity_cmd.specs.Command.{command_of};
+ghost use Rattle.capacity_cmd.specs.Command.{command_of, is_no_workers, planners_of};
 
+use plan_book::PLANNERS;
 use rail_model::Name;
 
 /// A command of the program. A section is named by any one word: a word that is no name names no
@@ -23,6 +24,22 @@ pub enum Command {
     Headways(Option<Name>),
     /// Writes the fewest orderly pieces of a section: the words `cut` and NAME.
     Cut(Option<Name>),
+    /// Runs planners' scripts in one thread, and writes the journal and the report of the tables at
+    /// its end: the words `session` and 0, in one or two digits.
+    Session,
+}
+
+impl Command {
+    // How many planners' scripts the command takes.
+    pub(crate) fn planners(&self) -> usize
+        ensures { result ≡ planners_of self.now }
+    {
+        match self {
+            Command::Session => PLANNERS,
+            Command::Stairs | Command::Check | Command::Report => 0,
+            Command::Compress(_) | Command::Headways(_) | Command::Cut(_) => 0,
+        }
+    }
 }
 
 // The command that the words spell, if they spell one.
@@ -36,8 +53,18 @@ pub(crate) fn command_of(words: &[String]) -> Option<Command>
         [word, section] if word.as_str() == "compress" => Some(Command::Compress(name_of(section))),
         [word, section] if word.as_str() == "headways" => Some(Command::Headways(name_of(section))),
         [word, section] if word.as_str() == "cut" => Some(Command::Cut(name_of(section))),
+        [word, workers] if word.as_str() == "session" && is_no_workers(workers) => {
+            Some(Command::Session)
+        }
         _ => None,
     }
+}
+
+// Whether a word says that a session has no workers.
+fn is_no_workers(word: &str) -> bool
+    ensures { result ≡ is_no_workers word.now }
+{
+    word == "0" || word == "00"
 }
 
 // The name that a word is, if it is one.

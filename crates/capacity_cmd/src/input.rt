@@ -1,21 +1,32 @@
-//! From the bytes of an input to tables, or to the row at which it is refused.
-ghost use Rattle.std.specs.Prelude.{◌≡◌, ◌+◌, ◌<◌, ◌^◌, length, slice_index_or, [], IfOk, OnOk, Ok, Some};
+//! From the rows of an input to tables and scripts, or to the row at which it is refused.
+ghost use Rattle.std.specs.Prelude.{◌≡◌, ◌+◌, ◌-◌, ◌≤◌, ◌<◌, ◌^◌, length, sum_by, slice_index_or, [], IfOk, OnOk, Ok, Some};
+ghost use Rattle.plan_book.specs.declared.book.TheConstants.{TASKS};
 ghost use Rattle.rail_model.specs.Edits.{no_tables};
-ghost use Rattle.capacity_cmd.specs.TablesSoFar.{tables_of, tables_in, edit_of, edit_in};
+ghost use Rattle.row_text.specs.Lines.{read_in};
+ghost use Rattle.capacity_cmd.specs.Input.{content_of_rows, content_in};
+ghost use Rattle.capacity_cmd.specs.InputSoFar.{accepted_in, tables_so_far, accepted_so_far};
+ghost use Rattle.capacity_cmd.specs.InputSoFar.{after_one_more, IsWithin, IsNothing};
+ghost use Rattle.capacity_cmd.specs.InputSoFar.{TakesLine, TakesRow, TakesRows};
 
 use crate::Cause;
+use crate::accepted::Accepted;
 use crate::refusal::Refusal;
+use crate::script_rows::ScriptRows;
 use line_tables::LineTables;
+use plan_model::Task;
 use rail_model::{Edit, OutOfMemory};
 use row_text::{Line, RowList};
 use std::alloc::Global;
 
-// The tables that rows make, or the row at which they are refused.
-pub(crate) fn tables_of_rows(
+// What rows give to a command that takes the scripts of so many planners, or the row at which they
+// are refused.
+pub(crate) fn accepted_of_rows(
     alloc: Global,
+    planners: usize,
     rows: &RowList,
-) -> Result<Result<LineTables, Refusal>, OutOfMemory>
-    ensures { IfOk result (λ made. made ≡ tables_of rows.now) }
+) -> Result<Result<Accepted, Refusal>, OutOfMemory>
+    ensures same { IfOk result (λ made. made ≡ accepted_in (content_of_rows planners rows.now)) }
+    ensures within { IfOk result (λ made. IfOk made (IsWithin planners (length rows.now))) }
 {
     let version = match rows.version() {
         Ok(version) => version,
@@ -24,96 +35,38 @@ pub(crate) fn tables_of_rows(
             cause: Cause::Form(form),
         })),
     };
-    let mut so_far = TablesSoFar {
-        tables: LineTables::new(alloc),
-        refused: None,
+    let mut so_far = InputSoFar {
+        base: BaseSoFar {
+            tables: LineTables::new(alloc),
+            edits: 0,
+            refused: None,
+        },
+        scripts: ScriptRows::new(alloc),
     };
-    match so_far.take_rows(alloc, rows, version)? {
+    match so_far.take_rows(alloc, planners, rows, version)? {
         Some(refusal) => Ok(Err(refusal)),
         None => Ok(so_far.end()),
     }
 }
 
-// The edit that the row at a place spells, or why it is refused.
-fn edit_at(
-    alloc: Global,
-    rows: &RowList,
-    version: u32,
-    i: usize,
-) -> Result<Result<Edit, Cause>, OutOfMemory>
-    requires { i < length rows.now }
-    ensures { IfOk result (λ found. found ≡ edit_in version (slice_index_or rows.now i [])) }
-{
-    match rows.line(alloc, version, i)? {
-        Ok(line) => Ok(edit_of(line)),
-        Err(form) => Ok(Err(Cause::Form(form))),
-    }
-}
-
-fn edit_of(line: Line) -> Result<Edit, Cause>
-    ensures { result ≡ edit_of line }
-{
-    match line {
-        Line::Edit(edit) => Ok(edit),
-        Line::Ask(_) | Line::Planner(_) => Err(Cause::Script),
-    }
-}
-
-// The tables after the edits of some rows, and the first of these rows whose edit a rule refused.
-// After it rows are only read on for one that spells no edit.
+// The tables after the base edits of some rows, how many these are, and the first of the rows whose
+// edit a rule refused. After it an edit is only counted.
 #[derive(Drop)]
-struct TablesSoFar {
+struct BaseSoFar {
     tables: LineTables,
+    edits: u64,
     refused: Option<Refusal>,
 }
 
-impl TablesSoFar {
-    ghost use Rattle.capacity_cmd.specs.TablesSoFar.{tables_so_far, after_one_more, TakesRow, TakesRows};
-
-    // Takes the edits of all rows, up to the first row that is refused.
-    fn take_rows(
-        &mut self,
-        alloc: Global,
-        rows: &RowList,
-        version: u32,
-    ) -> Result<Option<Refusal>, OutOfMemory>
-        requires { tables_so_far self.old ≡ Ok no_tables }
-        ensures { IfOk result (TakesRows (tables_in (Ok version) rows.now) self.new) }
-    {
-        for i in rows.first_line()..rows.len() {
-            if let Some(cause) = self.take_row(alloc, rows, version, i)? {
-                return Ok(Some(Refusal {
-                    row: i as u64 + 1,
-                    cause,
-                }));
-            }
-        }
-        Ok(None)
-    }
-
-    // Takes the edit of the row at a place, unless the row is refused.
-    fn take_row(
-        &mut self,
-        alloc: Global,
-        rows: &RowList,
-        version: u32,
-        i: usize,
-    ) -> Result<Option<Cause>, OutOfMemory>
-        requires there { i < length rows.now }
-        requires counted { length rows.now < 2 ^ 64 }
-        ensures { IfOk result (TakesRow
-            (edit_in version (slice_index_or rows.now i [])) (i + 1) self.old self.new) }
-    {
-        match edit_at(alloc, rows, version, i)? {
-            Ok(edit) => self.take(i as u64 + 1, edit).map(|()| None),
-            Err(cause) => Ok(Some(cause)),
-        }
-    }
-
+impl BaseSoFar {
     // Makes an edit, or keeps the rule that refuses it; after a refusal the edit is dropped.
     fn take(&mut self, row: u64, edit: Edit) -> Result<(), OutOfMemory>
-        ensures { OnOk result (tables_so_far self.new ≡ after_one_more row (tables_so_far self.old) edit) }
+        requires { self.old.edits < 2 ^ 64 - 1 }
+        ensures tables { OnOk result (tables_so_far self.new
+            ≡ after_one_more row (tables_so_far self.old) edit) }
+        ensures edits { OnOk result (self.new.edits ≡ self.old.edits + 1) }
     {
+        self.edits += 1;
         if self.refused.is_some() {
             return Ok(());
         }
@@ -125,13 +78,101 @@ impl TablesSoFar {
         }
         Ok(())
     }
+}
 
-    fn end(self) -> Result<LineTables, Refusal>
-        ensures { result ≡ tables_so_far self }
+// What some rows give: the base edits, and after them the scripts of planners. After an edit that a
+// rule refused, rows are read on for one with a fault of its form or its place.
+#[derive(Drop)]
+struct InputSoFar {
+    base: BaseSoFar,
+    scripts: ScriptRows,
+}
+
+impl InputSoFar {
+    // Takes all rows, up to the first that has a fault.
+    fn take_rows(
+        &mut self,
+        alloc: Global,
+        planners: usize,
+        rows: &RowList,
+        version: u32,
+    ) -> Result<Option<Refusal>, OutOfMemory>
+        requires { IsNothing self.old }
+        ensures { IfOk result (TakesRows
+            planners (length rows.now) (content_in planners (Ok version) rows.now) self.new) }
     {
-        match self.refused {
+        for i in rows.first_line()..rows.len() {
+            if let Some(cause) = self.take_row(alloc, planners, rows, version, i)? {
+                return Ok(Some(Refusal {
+                    row: i as u64 + 1,
+                    cause,
+                }));
+            }
+        }
+        Ok(None)
+    }
+
+    // Takes the row at a place, unless it has a fault.
+    fn take_row(
+        &mut self,
+        alloc: Global,
+        planners: usize,
+        rows: &RowList,
+        version: u32,
+        i: usize,
+    ) -> Result<Option<Cause>, OutOfMemory>
+        requires there { i < length rows.now }
+        requires counted { length rows.now < 2 ^ 64 }
+        requires few { self.old.base.edits ≤ i }
+        ensures { IfOk result (TakesRow
+            planners (i + 1) (read_in version (slice_index_or rows.now i [])) self.old self.new) }
+    {
+        match rows.line(alloc, version, i)? {
+            Ok(line) => self.take_line(planners, i as u64 + 1, line),
+            Err(form) => Ok(Some(Cause::Form(form))),
+        }
+    }
+
+    // Takes the line of a row: an edit before the first script is one of the base, any other a task.
+    fn take_line(
+        &mut self,
+        planners: usize,
+        row: u64,
+        line: Line,
+    ) -> Result<Option<Cause>, OutOfMemory>
+        requires { self.old.base.edits < 2 ^ 64 - 1 }
+        ensures { IfOk result (TakesLine planners row line self.old self.new) }
+    {
+        match line {
+            Line::Edit(edit) => {
+                if self.scripts.is_empty() {
+                    self.base.take(row, edit)?;
+                    return Ok(None);
+                }
+                self.scripts.push(Task::Edit(edit))
+            }
+            Line::Ask(section) => self.scripts.push(Task::Ask(section)),
+            Line::Planner(planner) => self.scripts.begin(planners, planner),
+        }
+    }
+
+    fn end(self) -> Result<Accepted, Refusal>
+        ensures same { result ≡ accepted_so_far self }
+        ensures tasks { IfOk result (λ given. sum_by length given.scripts ≤ TASKS) }
+    {
+        let BaseSoFar {
+            tables,
+            edits,
+            refused,
+        } = self.base;
+        let scripts = self.scripts.end();
+        match refused {
             Some(refusal) => Err(refusal),
-            None => Ok(self.tables),
+            None => Ok(Accepted {
+                tables,
+                at: edits,
+                scripts,
+            }),
         }
     }
 }

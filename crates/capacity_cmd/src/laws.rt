@@ -1,8 +1,9 @@
 //! Laws of the definitions: each function does nothing, and its contract is the law.
 ghost use Rattle.std.specs.Prelude.{◌≡◌};
 
-use crate::{INPUT_BYTES, TASKS};
+use crate::INPUT_BYTES;
 use conflict_finder::LISTED;
+use plan_book::{PLANNERS, TASKS};
 use plan_model::MEMBERS;
 use row_text::{HOUR_DIGITS, NUMBER_DIGITS};
 
@@ -10,6 +11,7 @@ use row_text::{HOUR_DIGITS, NUMBER_DIGITS};
 /// law of `rail_model`.
 pub fn limits()
     ensures input_bytes { INPUT_BYTES ≡ 16777216 }
+    ensures planners { PLANNERS ≡ 16 }
     ensures tasks { TASKS ≡ 256 }
     ensures number_digits { NUMBER_DIGITS ≡ 9 }
     ensures hour_digits { HOUR_DIGITS ≡ 5 }

@@ -2,6 +2,7 @@
 //! of a command is written.
 #![tactic(auto)]
 
+mod accepted;
 mod call;
 mod check;
 mod clashes;
@@ -23,8 +24,11 @@ mod report;
 mod row_at;
 mod row_shape;
 mod rule_sentence;
+mod script_rows;
+mod script_sentence;
 mod send;
 mod sentence;
+mod session;
 mod shown;
 mod stairs;
 mod standing;
@@ -35,6 +39,6 @@ mod twice_sentence;
 
 pub use call::{alone, run, run_alone, run_alone_telling, run_telling};
 pub use command::Command;
-pub use limit::{INPUT_BYTES, TASKS};
+pub use limit::INPUT_BYTES;
 pub use status::{Cause, Status};
 pub use told::Told;

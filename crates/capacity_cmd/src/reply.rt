@@ -1,17 +1,20 @@
 //! The reply to an input: the text to write, and the status that says so.
 ghost use Rattle.std.specs.Prelude.{◌≡◌, ◌≤◌, length, IfOk};
-ghost use Rattle.capacity_cmd.specs.Outcome.{Refuses, cause_text, form_text, rule_text};
+ghost use Rattle.capacity_cmd.specs.Outcome.{Refuses, cause_text, form_text};
 ghost use Rattle.capacity_cmd.specs.Outcome as outcome;
-ghost use Rattle.capacity_cmd.specs.Ends.{EndsOnTables, EndsOn};
+ghost use Rattle.capacity_cmd.specs.InputSoFar.{IsWithin};
+ghost use Rattle.capacity_cmd.specs.Ends.{EndsOnAccepted, EndsOn};
+ghost use Rattle.plan_book.specs.declared.book.TheConstants.{PLANNERS};
 ghost use Rattle.capacity_cmd.specs.Reply.{Says, IsReply};
 
-use crate::input::tables_of_rows;
+use crate::accepted::Accepted;
+use crate::input::accepted_of_rows;
 use crate::limit::INPUT_BYTES;
 use crate::sentence::told_of;
 use crate::texts::text_of;
 use crate::{Cause, Command, Status, Told};
-use line_tables::LineTables;
-use rail_model::{Form, OutOfMemory, Rule};
+use capacity_report::rule_text;
+use rail_model::{Form, OutOfMemory};
 use row_text::{Sheet, rows};
 use std::alloc::Global;
 use std::thread::Threads;
@@ -34,29 +37,30 @@ pub(crate) fn reply_to(
     ensures { IfOk result (IsReply (EndsOn command input.now)) }
 {
     let rows = rows(alloc, input)?;
-    match tables_of_rows(alloc, &rows)? {
-        Ok(tables) => {
+    match accepted_of_rows(alloc, command.planners(), &rows)? {
+        Ok(given) => {
             drop(rows);
-            reply_on(rt, alloc, command, &tables, told)
+            reply_on(rt, alloc, command, given, told)
         }
         Err(refused) => {
-            *told = told_of(alloc, input, &rows, refused);
+            *told = told_of(alloc, input, &rows, command.planners(), refused);
             refusal(alloc, refused.row, refused.cause)
         }
     }
 }
 
-// The reply of a command to the tables of a line.
+// The reply of a command to an input that is not refused.
 fn reply_on(
     rt: &(impl Threads + Sync),
     alloc: Global,
     command: Command,
-    tables: &LineTables,
+    given: Accepted,
     told: &mut Told,
 ) -> Result<Reply, OutOfMemory>
-    ensures { IfOk result (IsReply (EndsOnTables command tables.now)) }
+    requires { IsWithin PLANNERS INPUT_BYTES given }
+    ensures { IfOk result (IsReply (EndsOnAccepted command given)) }
 {
-    match text_of(rt, alloc, command, tables, told)? {
+    match text_of(rt, alloc, command, given, told)? {
         Ok(text) => Ok(Reply {
             text,
             status: Status::Done,
@@ -108,18 +112,5 @@ fn form_text(form: Form) -> &'static [u8]
         Form::Number => b"number",
         Form::BadName => b"name",
         Form::Order => b"order",
-    }
-}
-
-fn rule_text(rule: Rule) -> &'static [u8]
-    ensures { result.now ≡ rule_text rule }
-{
-    match rule {
-        Rule::Range => b"range",
-        Rule::Twice => b"twice",
-        Rule::Unknown => b"unknown",
-        Rule::Limit => b"limit",
-        Rule::Count => b"count",
-        Rule::InUse => b"in-use",
     }
 }

@@ -3,7 +3,7 @@ ghost use Rattle.std.specs.Prelude.{◌≡◌, ◌<◌, [], length, IfOk, OnOk};
 ghost use Rattle.rail_model.specs.Tables.{section_at};
 ghost use Rattle.rail_model.specs.Timetable.{timetable};
 ghost use Rattle.capacity_report.specs.Total.{total_of};
-ghost use Rattle.capacity_cmd.specs.Report.{IsReportText, HasHeads, AddsHead};
+ghost use Rattle.capacity_cmd.specs.Report.{IsReportText, AddsReport, HasHeads, AddsHead};
 
 use crate::compress::answer_of;
 use capacity_report::{Detail, Tally, answer_rows, total_row};
@@ -17,12 +17,23 @@ use std::alloc::Global;
 pub(crate) fn report_text(alloc: Global, tables: &LineTables) -> Result<Vec<u8>, OutOfMemory>
     ensures { IfOk result (λ text. IsReportText tables.now text.items) }
 {
-    let stairs = AllStairways::of(alloc, stairways(alloc, tables)?)?;
     let mut sheet = Sheet::new(alloc);
-    let mut tally = Tally::new();
-    add_heads(alloc, &mut sheet, &mut tally, tables, &stairs)?;
-    total_row(&mut sheet, &tally)?;
+    add_report(alloc, &mut sheet, tables)?;
     Ok(sheet.into_text())
+}
+
+// Adds these rows to a sheet.
+pub(crate) fn add_report(
+    alloc: Global,
+    sheet: &mut Sheet,
+    tables: &LineTables,
+) -> Result<(), OutOfMemory>
+    ensures { OnOk result (AddsReport tables.now sheet.old.rows sheet.new.rows) }
+{
+    let stairs = AllStairways::of(alloc, stairways(alloc, tables)?)?;
+    let mut tally = Tally::new();
+    add_heads(alloc, sheet, &mut tally, tables, &stairs)?;
+    total_row(sheet, &tally)
 }
 
 // Adds the head of each section's answer, in the order of the sections' names.
@@ -34,10 +45,9 @@ fn add_heads(
     stairs: &AllStairways,
 ) -> Result<(), OutOfMemory>
     requires stairs { stairs.now ≡ timetable tables.now }
-    requires rows { sheet.old.rows ≡ [] }
     requires tally { tally.old ≡ total_of [] }
     ensures { OnOk result (HasHeads
-        tables.now (length tables.now.sections) sheet.new.rows tally.new) }
+        tables.now (length tables.now.sections) sheet.old.rows sheet.new.rows tally.new) }
 {
     for number in 0..tables.sections() {
         add_head(alloc, sheet, tally, tables, stairs, number)?;

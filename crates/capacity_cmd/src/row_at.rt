@@ -55,6 +55,11 @@ pub(crate) fn field_at(rows: &RowList, place: usize, at: usize) -> &[u8] {
     if at < row.len() { row.get(at) } else { b"" }
 }
 
+// Whether the row at a place begins a planner's script.
+pub(crate) fn is_planner_row(rows: &RowList, place: usize) -> bool {
+    field_at(rows, place, 0) == b"planner".as_slice()
+}
+
 // What the first field of a row says that the row does.
 #[derive(Clone, Copy)]
 pub(crate) enum First {
@@ -147,9 +152,13 @@ pub(crate) fn row_of(rows: &RowList, place: usize, kind: Kind, name: &[u8]) -> u
     found
 }
 
-// The number of the first row below a place that puts the item of a kind and a name, or 0.
+// The number of the first row below a place, and above the first script, that puts the item of a kind
+// and a name, or 0.
 pub(crate) fn row_below(rows: &RowList, place: usize, kind: Kind, name: &[u8]) -> u64 {
     for i in place..rows.len() {
+        if is_planner_row(rows, i) {
+            return 0;
+        }
         if i > place && is_row_of(rows, i, kind, name) {
             return i as u64 + 1;
         }

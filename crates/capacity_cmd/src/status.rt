@@ -20,7 +20,8 @@ pub enum Cause {
     /// The named section isn't in the tables.
     #[error("no section has that name")]
     NoSection,
-    /// The row may not stand at its place in the input: the rows of scripts stand in sessions alone.
+    /// The row may not stand at its place in the input: the rows of scripts stand in sessions alone,
+    /// the planners in their order, and there with at most 256 tasks.
     #[error("the row may not stand there")]
     Script,
 }

@@ -1,39 +1,45 @@
-//! The text of each command for the tables of a line.
+//! The text of each command for an input that is not refused.
 ghost use Rattle.std.specs.Prelude.{◌≡◌, IfOk, MatchResult};
 ghost use Rattle.capacity_cmd.specs.Outcome.{Writes, Refuses};
-ghost use Rattle.capacity_cmd.specs.Ends.{EndsOnTables};
+ghost use Rattle.capacity_cmd.specs.declared.limit.TheConstants.{INPUT_BYTES};
+ghost use Rattle.capacity_cmd.specs.InputSoFar.{IsWithin};
+ghost use Rattle.capacity_cmd.specs.Ends.{EndsOnAccepted};
+ghost use Rattle.plan_book.specs.declared.book.TheConstants.{PLANNERS};
 
+use crate::accepted::Accepted;
 use crate::check::check_text;
 use crate::compress::compress_text;
 use crate::cut::cut_text;
 use crate::headways::headways_text;
 use crate::report::report_text;
+use crate::session::session_text;
 use crate::stairs::stairs_text;
 use crate::{Cause, Command, Told};
-use line_tables::LineTables;
 use rail_model::OutOfMemory;
 use std::alloc::Global;
 use std::thread::Threads;
 
-// The text of a command for the tables of a line, or why the input as a whole is refused, and what
-// people are told besides.
+// The text of a command for the tables of a line and for planners' scripts, or why the input as a
+// whole is refused, and what people are told besides.
 pub(crate) fn text_of(
     rt: &(impl Threads + Sync),
     alloc: Global,
     command: Command,
-    tables: &LineTables,
+    given: Accepted,
     told: &mut Told,
 ) -> Result<Result<Vec<u8>, Cause>, OutOfMemory>
+    requires { IsWithin PLANNERS INPUT_BYTES given }
     ensures { IfOk result (λ made. MatchResult made
-        (λ text. EndsOnTables command tables.now (Writes text.items))
-        (λ why. EndsOnTables command tables.now (Refuses 0 why))) }
+        (λ text. EndsOnAccepted command given (Writes text.items))
+        (λ why. EndsOnAccepted command given (Refuses 0 why))) }
 {
     match command {
-        Command::Stairs => Ok(Ok(stairs_text(alloc, tables)?)),
-        Command::Check => Ok(Ok(check_text(alloc, tables)?)),
-        Command::Compress(section) => compress_text(alloc, tables, section, told),
-        Command::Report => Ok(Ok(report_text(alloc, tables)?)),
-        Command::Headways(section) => headways_text(rt, alloc, tables, section),
-        Command::Cut(section) => cut_text(alloc, tables, section),
+        Command::Stairs => Ok(Ok(stairs_text(alloc, &given.tables)?)),
+        Command::Check => Ok(Ok(check_text(alloc, &given.tables)?)),
+        Command::Compress(section) => compress_text(alloc, &given.tables, section, told),
+        Command::Report => Ok(Ok(report_text(alloc, &given.tables)?)),
+        Command::Headways(section) => headways_text(rt, alloc, &given.tables, section),
+        Command::Cut(section) => cut_text(alloc, &given.tables, section),
+        Command::Session => Ok(Ok(session_text(alloc, given)?)),
     }
 }

@@ -148,12 +148,13 @@ const INPUTS: [(&str, &str); 34] = [
     ),
     (
         "ask,S\n",
-        "row 1: rows planner and ask stand in scripts of planners, which no command takes",
+        "row 1: rows planner and ask stand in scripts of planners, which the command session \
+            alone takes",
     ),
     (
         "block,A,5\n\nplanner,1\n",
-        "row 2, in line 3: rows planner and ask stand in scripts of planners, which no command \
-            takes",
+        "row 2, in line 3: rows planner and ask stand in scripts of planners, which the command \
+            session alone takes",
     ),
     (
         "version,2\nrun,T,R,1,1,0:01:40,0:01:40\n",
@@ -319,12 +320,52 @@ const RULES: [(&str, u32, &str); 31] = [
     ),
 ];
 
+// Inputs of a session, and what is said of the row of a script that may not stand there.
+const SCRIPTS: [(&str, &str); 3] = [
+    (
+        "planner,2\n",
+        "row 1: field 2, \"2\": planners stand in the order of their numbers, and the next is 1",
+    ),
+    (
+        "block,A,5\nplanner,1\nask,S\nplanner,1\n",
+        "row 4: field 2, \"1\": planners stand in the order of their numbers, and the next is 2",
+    ),
+    (
+        "block,A,5\n\nask,S\nplanner,1\n",
+        "row 2, in line 3: a question is a task of a planner, and no row planner stands above it",
+    ),
+];
+
 #[test]
 fn a_row_that_spells_nothing_is_told(rt: HostRuntime) -> Result<(), Fail> {
     for (input, sentence) in INPUTS {
-        assert_told(&rt, input, sentence)?;
+        assert_told(&rt, &["stairs"], input, sentence)?;
     }
     Ok(())
+}
+
+#[test]
+fn a_row_of_a_script_out_of_its_place_is_told(rt: HostRuntime) -> Result<(), Fail> {
+    let session = ["session", "0"];
+    for (input, sentence) in SCRIPTS {
+        assert_told(&rt, &session, input, sentence)?;
+    }
+    let mut planners = String::new(rt.alloc());
+    for n in 1..=17 {
+        planners.push_str(&format!(in rt.alloc(); "planner,{n}\n")?)?;
+    }
+    assert_told(
+        &rt,
+        &session,
+        &planners,
+        "row 17: a session takes 16 planners at most",
+    )?;
+    let mut tasks = String::from_str(rt.alloc(), "planner,1\n")?;
+    for _ in 0..257 {
+        tasks.push_str("ask,S\n")?;
+    }
+    let most = "row 258: the scripts have 256 tasks above this row, and more are not taken";
+    assert_told(&rt, &session, &tasks, most)
 }
 
 #[test]
@@ -332,7 +373,7 @@ fn the_rule_that_a_row_breaks_is_told(rt: HostRuntime) -> Result<(), Fail> {
     for (rows, number, why) in RULES {
         let input = joined(rt.alloc(), &[LINE, FIRST_RUN, REST, rows, "\n"])?;
         let sentence = format!(in rt.alloc(); "row {number}: {why}")?;
-        assert_told(&rt, &input, &sentence)?;
+        assert_told(&rt, &["stairs"], &input, &sentence)?;
     }
     Ok(())
 }
@@ -346,29 +387,34 @@ fn what_is_too_much_is_told(rt: HostRuntime) -> Result<(), Fail> {
     let fields =
         "row 1: the fields are route,NAME,SIGNAL_1,..,SIGNAL_n with n from 1 to 256; this row \
         has 259";
-    assert_told(&rt, &route, fields)?;
+    assert_told(&rt, &["stairs"], &route, fields)?;
     let mut sections = joined(rt.alloc(), &[LINE, FIRST_RUN, REST])?;
     for n in 2..=65 {
         sections.push_str(&format!(in rt.alloc(); "section,S{n},0,1,0,A\n")?)?;
     }
     let limit = "row 72: there are 64 sections above, and there may be no more";
-    assert_told(&rt, &sections, limit)
+    assert_told(&rt, &["stairs"], &sections, limit)
 }
 
-// Calls the program with the word `stairs`, and compares what it tells.
+// Calls the program with these words, and compares what it tells.
 fn assert_told<R: Abort + AllocGlobal + Threads + Sync>(
     rt: &R,
+    words: &[&str],
     input: &str,
     sentence: &str,
 ) -> Result<(), Fail> {
-    let told = told(rt, input)?;
+    let told = told(rt, words, input)?;
     assert_eq!(rt; told.text(), sentence);
     Ok(())
 }
 
-fn told<R: AllocGlobal + Threads + Sync>(rt: &R, input: &str) -> Result<Told, OutOfMemory> {
+fn told<R: AllocGlobal + Threads + Sync>(
+    rt: &R,
+    words: &[&str],
+    input: &str,
+) -> Result<Told, OutOfMemory> {
     let alloc = rt.alloc();
-    let words = words_of(alloc, &["stairs"])?;
+    let words = words_of(alloc, words)?;
     let mut source = source_of(alloc, input.as_bytes(), 4_096, 0)?;
     let mut sink = sink_of(alloc, WORKING)?;
     let mut told = Told::nothing();

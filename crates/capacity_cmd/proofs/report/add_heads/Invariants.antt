@@ -3,4 +3,4 @@ use Rattle.capacity_cmd.proofs.report.add_heads.Given as goal
 
 -- the heads of the sections so far
 abbrev pub invariant-loop-number : goal.invariant-loop-number
-invariant-loop-number l = HasHeads l.tables l.number l.sheet.rows l.tally
+invariant-loop-number l = HasHeads l.tables l.number l.fn.sheet.rows l.sheet.rows l.tally

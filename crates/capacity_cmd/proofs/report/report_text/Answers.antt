@@ -1,7 +1,5 @@
-use Rattle.std.proofs.Common.{ap}
-use Rattle.row_text.specs.SheetRows.{SheetRows}
 use Rattle.capacity_cmd.proofs.Reports.{report_written}
 use Rattle.capacity_cmd.proofs.report.report_text.Goals as goal
 
 pub returns : goal.returns
-returns c = report_written c.args.tables.now _ _ _ _ c.in_ok-add_heads.ensures (ap (λ (s : SheetRows). s.rows) c.in_ok-total_row.ensures.ok) c.into_text.ensures
+returns c = report_written c.args.tables.now _ _ _ c.new-sheet.ensures.rows c.in_ok-add_report.ensures c.into_text.ensures

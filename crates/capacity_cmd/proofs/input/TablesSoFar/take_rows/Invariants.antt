@@ -1,6 +1,0 @@
-use Rattle.capacity_cmd.proofs.Making.{HasTaken}
-use Rattle.capacity_cmd.proofs.input.TablesSoFar.take_rows.Given as goal
-
--- the rows so far are taken
-abbrev pub invariant-loop-i : goal.invariant-loop-i
-invariant-loop-i l = HasTaken l.version l.rows l.self l.i
