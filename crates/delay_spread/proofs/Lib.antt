@@ -1,0 +1,4 @@
+pub mod Floors
+pub mod Later
+pub mod Tied
+pub mod Tally

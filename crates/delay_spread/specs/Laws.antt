@@ -1,0 +1,20 @@
+-- Laws of delayed schedules.
+use Rattle.std.specs.Prelude.{◌≡◌, ℕ, ◌<◌, ℤ, ◌+ℤ◌, pos, List, All}
+use Rattle.plan_model.specs.declared.cut.Cut.{Cut}
+use Rattle.plan_model.specs.Members.{member_count}
+use Rattle.plan_model.specs.Schedule.{entry_at, IsSchedule}
+use Rattle.plan_model.specs.Planned.{planned_entries}
+use Rattle.delay_spread.specs.Delayed.{delayed_floor, knock_on, IsDelayedSchedule, IsLeastDelayed}
+
+-- where no train is delayed and the planned entries are a schedule, no train has a knock-on delay
+abbrev pub NoneIsKnockedOn : Type 0
+NoneIsKnockedOn =
+    (cut : Cut) (delays : List ℕ) (entries : List ℤ) → All (λ d. d ≡ 0) delays → IsSchedule cut (planned_entries cut)
+    → IsLeastDelayed cut delays entries → (i : ℕ) → i < member_count cut → knock_on cut delays entries i ≡ 0
+
+-- by a delayed schedule each train enters at its floor and its knock-on delay
+abbrev pub EntersByItsKnockOn : Type 0
+EntersByItsKnockOn =
+    (cut : Cut) (delays : List ℕ) (entries : List ℤ) → IsDelayedSchedule cut delays entries
+    → (i : ℕ) → i < member_count cut
+    → entry_at entries i ≡ delayed_floor cut delays i +ℤ pos (knock_on cut delays entries i)

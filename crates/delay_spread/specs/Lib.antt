@@ -1,0 +1,4 @@
+pub mod Delayed
+pub mod Spreading
+pub mod Laws
+pub mod Rows

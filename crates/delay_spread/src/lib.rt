@@ -1,0 +1,21 @@
+//! Knock-on delays: given delays spread over the planned timetable of a section, with running
+//! times, dwell times and the order kept, so that no train enters later than it must.
+//!
+//! ```text
+//! match spread(alloc, &cut, &delays)? {
+//!     Ok(spread) => spread_rows(&mut sheet, &cut, &spread)?,
+//!     Err(disorder) => ..,
+//! }
+//! ```
+#![tactic(auto)]
+
+mod found;
+mod knock_on;
+mod laws;
+mod rows;
+mod spreading;
+
+pub use found::{Held, Spread};
+pub use laws::{enters_by_its_knock_on, none_is_knocked_on};
+pub use rows::spread_rows;
+pub use spreading::{GREATEST_DELAY_S, spread};
