@@ -1,0 +1,10 @@
+pub mod Best
+pub mod BlockUses
+pub mod FirstCopy
+pub mod Least
+pub mod Behind
+pub mod Room
+pub mod KeptUntil
+pub mod Filled
+pub mod FoundFill
+pub mod Unique

@@ -1,0 +1,200 @@
+//! What copies of a train ask of the blocks that it uses. Each is the greatest of what the blocks
+//! ask one by one.
+ghost use Rattle.std.specs.Prelude.{◌≡◌, ℕ, ◌<◌, ◌≤◌, ◌^◌, ℤ, pos, ◌+ℤ◌, ◌-ℤ◌, ◌≤ℤ◌, length, IsTrue};
+ghost use Rattle.std.specs.List.{All};
+ghost use Rattle.train_placing.specs.Last.{IsNear, IsNearLast};
+ghost use Rattle.plan_model.specs.Cut.{IsBounded, IsMoment};
+ghost use Rattle.plan_model.specs.Members.{member, member_count, uses_place};
+ghost use Rattle.plan_model.specs.Places.{block_count, place_count};
+ghost use Rattle.plan_model.specs.Schedule.{window_start, start_at};
+ghost use Rattle.plan_model.specs.Occupancy.{first_start};
+ghost use Rattle.path_fill.specs.Search as given;
+ghost use Rattle.path_fill.specs.Search.{IsGreatest};
+
+use plan_model::{SoundCut, shift};
+use rail_model::Use;
+use train_placing::Last;
+
+/// The headway of a train to itself on the blocks: how long it keeps the block that it keeps
+/// longest, in seconds.
+pub(crate) fn own_headway(cut: &SoundCut, row: u32) -> i64
+    requires { row < member_count cut.now }
+    ensures greatest { IsGreatest (uses_place (member cut.now row)) (given.time_at cut.now row)
+        (block_count cut.now) (pos 0) result }
+    ensures small { result ≤ℤ pos (2 ^ 40) }
+{
+    let mut greatest = 0;
+    for block in 0..cut.block_count() {
+        greatest = greater(greatest, time_at(cut, row, block));
+    }
+    greatest
+}
+
+// How long a train keeps a block, if it uses it.
+fn time_at(cut: &SoundCut, row: u32, block: u32) -> Option<i64>
+    requires { row < member_count cut.now }
+    ensures is { result
+        ≡ given.where_used (uses_place (member cut.now row) block)
+        (given.time_at cut.now row block) }
+    ensures small { given.IsAtMost (2 ^ 40) result }
+{
+    match cut.use_at(row, block) {
+        Some(one) => Some(time_of(one)),
+        None => None,
+    }
+}
+
+// How long a use lasts.
+fn time_of(one: Use) -> i64
+    requires start { IsMoment one.start }
+    requires ends { IsMoment one.«end» }
+    ensures is { result ≡ one.«end» -ℤ one.start }
+    ensures small { result ≤ℤ pos (2 ^ 40) }
+{
+    one.end - one.start
+}
+
+/// When the first copy of a train enters, by the last uses of the blocks.
+pub(crate) fn first_copy(cut: &SoundCut, row: u32, last: &[Option<Last>]) -> i64
+    requires there { row < member_count cut.now }
+    requires count { length last.now ≡ place_count cut.now }
+    requires near { All IsNearLast last.now }
+    ensures greatest { IsGreatest (uses_place (member cut.now row))
+        (given.asked cut.now row last.now) (block_count cut.now) (window_start cut.now) result }
+    ensures bounded { IsBounded result }
+{
+    let mut entry = cut.window_start();
+    for block in 0..cut.block_count() {
+        entry = greater(entry, asked_at(cut, row, last, block));
+    }
+    entry
+}
+
+// When a copy of a train can enter after the last use of a block, if it uses it.
+fn asked_at(cut: &SoundCut, row: u32, last: &[Option<Last>], block: u32) -> Option<i64>
+    requires there { row < member_count cut.now }
+    requires block { block < length last.now }
+    requires near { All IsNearLast last.now }
+    ensures is { result
+        ≡ given.where_used (uses_place (member cut.now row) block)
+        (given.asked cut.now row last.now block) }
+    ensures small { given.IsAtMost (2 ^ 50) result }
+{
+    match cut.use_at(row, block) {
+        Some(one) => Some(asked(until(last[block as usize]), one, cut.row(row).entry)),
+        None => None,
+    }
+}
+
+// When a copy, planned to enter at a moment, can enter after a place is free for one of its uses.
+fn asked(until: i64, one: Use, planned: i64) -> i64
+    requires until { IsNear until }
+    requires start { IsMoment one.start }
+    requires planned { IsMoment planned }
+    ensures is { result ≡ until -ℤ (one.start -ℤ planned) }
+    ensures small { result ≤ℤ pos (2 ^ 50) }
+{
+    until - (one.start - planned)
+}
+
+// Until when a place is used.
+fn until(last: Option<Last>) -> i64
+    requires { IsNearLast last }
+    ensures is { result ≡ given.until last }
+    ensures near { IsNear result }
+{
+    match last {
+        Some(last) => last.until,
+        None => 0,
+    }
+}
+
+/// How long a block that a train uses is kept at most, by trains that enter at these moments, up to
+/// the end of a copy that enters at another: seconds.
+pub(crate) fn kept_to(cut: &SoundCut, row: u32, entries: &[i64], entry: i64) -> i64
+    requires there { row < member_count cut.now }
+    requires count { length entries.now ≡ member_count cut.now }
+    requires bounded { All IsBounded entries.now }
+    requires entry { IsBounded entry }
+    ensures greatest { IsGreatest (uses_place (member cut.now row))
+        (given.kept_to cut.now row entries.now entry) (block_count cut.now) (pos 0) result }
+    ensures small { result ≤ℤ pos (2 ^ 52) }
+{
+    let mut greatest = 0;
+    for block in 0..cut.block_count() {
+        greatest = greater(greatest, kept_at(cut, row, entries, entry, block));
+    }
+    greatest
+}
+
+// How long a block is kept up to the end of a copy of a train, if the train uses it.
+fn kept_at(cut: &SoundCut, row: u32, entries: &[i64], entry: i64, block: u32) -> Option<i64>
+    requires there { row < member_count cut.now }
+    requires count { length entries.now ≡ member_count cut.now }
+    requires bounded { All IsBounded entries.now }
+    requires entry { IsBounded entry }
+    ensures is { result ≡ given.where_used (uses_place (member cut.now row) block)
+        (given.kept_to cut.now row entries.now entry block) }
+    ensures small { given.IsAtMost (2 ^ 52) result }
+{
+    match cut.use_at(row, block) {
+        Some(one) => {
+            let end = shift(one.end, cut.row(row).entry, entry);
+            Some(kept_until(cut, row, entries, end, block))
+        }
+        None => None,
+    }
+}
+
+// How long a block that a train uses is kept up to a moment.
+fn kept_until(cut: &SoundCut, row: u32, entries: &[i64], end: i64, block: u32) -> i64
+    requires there { row < member_count cut.now }
+    requires uses { IsTrue (uses_place (member cut.now row) block) }
+    requires count { length entries.now ≡ member_count cut.now }
+    requires bounded { All IsBounded entries.now }
+    requires end { given.IsNearEnd end }
+    ensures is { result ≡ end -ℤ first_start cut.now entries.now block }
+    ensures small { result ≤ℤ pos (2 ^ 52) }
+{
+    let mut kept = kept_from(cut, row, entries[row as usize], end, block).unwrap();
+    for i in 0..cut.member_count() {
+        kept = greater(kept, kept_from(cut, i, entries[i as usize], end, block));
+    }
+    kept
+}
+
+// How long it is from the start of a member, which enters at a moment, up to another, if it uses
+// the block.
+fn kept_from(cut: &SoundCut, i: u32, entry: i64, end: i64, block: u32) -> Option<i64>
+    requires there { i < member_count cut.now }
+    requires entry { IsBounded entry }
+    requires end { given.IsNearEnd end }
+    ensures is { result ≡ given.where_used (uses_place (member cut.now i) block)
+        (end -ℤ start_at (member cut.now i) entry block) }
+    ensures small { given.IsAtMost (2 ^ 52) result }
+{
+    match cut.use_at(i, block) {
+        Some(one) => Some(from_to(shift(one.start, cut.row(i).entry, entry), end)),
+        None => None,
+    }
+}
+
+// How long it is from one moment to another.
+fn from_to(start: i64, end: i64) -> i64
+    requires start { given.IsNearEnd start }
+    requires end { given.IsNearEnd end }
+    ensures is { result ≡ end -ℤ start }
+    ensures small { result ≤ℤ pos (2 ^ 52) }
+{
+    end - start
+}
+
+// The greater of the best so far and of one more, if there is one more.
+fn greater(best: i64, one: Option<i64>) -> i64
+    ensures { result ≡ given.greater best one }
+{
+    match one {
+        Some(one) => best.max(one),
+        None => best,
+    }
+}
