@@ -1,5 +1,5 @@
 -- Answers that are held stay so while a book goes on.
-use Rattle.std.proofs.Common.{◌≡◌, ℕ, zero, suc, ◌<◌, List, [], ◌∷◌, ◌++◌, length, remove, Result, Ok, Err, sym, subst, arith}
+use Rattle.std.proofs.Common.{◌≡◌, ℕ, zero, suc, ◌<◌, List, [], ◌∷◌, ◌++◌, length, remove, Result, Ok, Err, refl, sym, subst, arith}
 use Rattle.std.specs.Prelude.{All}
 use Rattle.rail_model.specs.declared.edit.Edit.{Edit}
 use Rattle.rail_model.specs.declared.edit.Rule.{Rule}
@@ -12,7 +12,7 @@ use Rattle.plan_model.specs.Journal.{issued}
 use Rattle.plan_model.specs.Legal.{IsJournal}
 use Rattle.plan_model.specs.Outcome.{EditsTo, AsksTo, PublishesTo}
 use Rattle.plan_model.proofs.Readings.{done_stays}
-use Rattle.acceptance_books.specs.Held.{AreHeld}
+use Rattle.acceptance_books.specs.Held.{AreHeld, IsJustOpened}
 
 -- pass 0 is issued
 pub zero_issued : (journal : List Entry) → 0 < issued journal
@@ -46,3 +46,14 @@ module _ (journal : List Entry) (held : List Done) (is : IsJournal journal) (are
   held_published done (Ok u) after h = one_more _ after h.is
   held_published done (Err (not_taken.Stale by)) after h = subst (λ j. AreHeld j held) (sym h.0) are
   held_published done (Err (not_taken.Current at)) after h = subst (λ j. AreHeld j held) (sym h.0) are
+
+-- ---- a book that was just opened
+
+pub one_issued : (journal : List Entry) → IsJustOpened journal → issued journal ≡ 1
+unfolding issued
+one_issued journal h = rw h.is refl
+
+pub all_by_zero : (journal : List Entry) → IsJustOpened journal → All (λ e. e.pass ≡ 0) journal
+all_by_zero journal h =
+    subst (λ j. All (λ (e : Entry). e.pass ≡ 0) j) (sym h.is)
+    (elim [ zero ↦ λ d l. refl | suc k ↦ λ d l. absurd (omega (arith, l)) ])
