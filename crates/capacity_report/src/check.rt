@@ -12,9 +12,9 @@ use line_tables::LineTables;
 use rail_model::OutOfMemory;
 use row_text::{Field, Sheet};
 
-/// Adds the rows of the conflicts that were found, in their order, and their count. A row that is
-/// open is dropped first. Where memory runs out, only a prefix of the rows is added, and the next
-/// row may be open.
+/// Adds the rows of the conflicts that are listed, in their order, and how many are listed and how
+/// many there are besides. A row that is open is dropped first. Where memory runs out, only a
+/// prefix of the rows is added, and the next row may be open.
 pub fn conflict_rows(
     sheet: &mut Sheet,
     tables: &LineTables,

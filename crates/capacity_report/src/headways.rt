@@ -14,9 +14,10 @@ use rail_model::{Name, OutOfMemory};
 use row_text::{Sheet, Written};
 use std::alloc::Global;
 
-/// Adds the rows of the headways of a cut: one for each two trains that share a place, by the names
-/// of the first and then the second. A row that is open is dropped first. It takes memory; where
-/// that runs out, only a prefix of the rows is added, and the next row may be open.
+/// Adds the rows of the headways of a cut: one from each train to each other that shares a place
+/// with it, by the names of the first and then the second. A row that is open is dropped first. It
+/// takes memory; where that runs out, only a prefix of the rows is added, and the next row may be
+/// open.
 pub fn headway_rows(
     alloc: Global,
     sheet: &mut Sheet,

@@ -13,7 +13,7 @@ pub fn stairways(alloc: Global, tables: &LineTables) -> Result<List<Stair>, OutO
     ensures same { IfOk result (λ all. all ≡ timetable tables.now) }
     ensures fits { IfOk result IsTimetable }
 {
-    let _count = tables.runs();
+    tables.learn_sound();
     let all = section_cut::stairways(alloc, tables)?;
     Ok(all)
 }

@@ -1,5 +1,5 @@
 //! The answer of a cut.
-ghost use Rattle.std.specs.Prelude.{◌≡◌, ◌≤◌, nat_lt, IfOk, []};
+ghost use Rattle.std.specs.Prelude.{◌≡◌, ◌≤◌, IfOk, []};
 ghost use Rattle.plan_model.specs.declared.limits.TheConstants.{MEMBERS};
 ghost use Rattle.plan_model.specs.Cut.{IsSoundCut};
 ghost use Rattle.plan_model.specs.Members.{member_count};
@@ -9,7 +9,7 @@ ghost use Rattle.train_order.specs.Ordering.{IsOrder};
 ghost use Rattle.train_placing.specs.Laid.{HasBoundedTimes};
 ghost use Rattle.compression.specs.Promise.{IsTaken, OnPlan, HasNoneLater, ReachesToClosing, ReachesEachClosing};
 
-use plan_model::{Answer, Cut, FitCut, MEMBERS, Plan, Rows};
+use plan_model::{Answer, Cut, FitCut, Plan, Rows, is_crowded};
 use rail_model::OutOfMemory;
 use std::alloc::Global;
 use train_order::order;
@@ -42,13 +42,6 @@ pub fn answer<R: Rows>(alloc: Global, reading: &mut R) -> Result<Answer, OutOfMe
         return Ok(Answer::Crowded { count });
     }
     answer_of_cut(alloc, reading.whole())
-}
-
-// Whether so many members are more than are compressed.
-fn is_crowded(count: u32) -> bool
-    ensures { result ≡ nat_lt MEMBERS count }
-{
-    count as usize > MEMBERS
 }
 
 /// The same of a cut that isn't crowded.

@@ -10,7 +10,8 @@ pub struct Held {
     pub delay: u32,
     /// Its entry: seconds from the timetable's origin.
     pub entry: i64,
-    /// Why it enters no earlier: `Start` says that its own delay alone holds it.
+    /// Why it enters no earlier: `Start` says that it enters at its planned entry and its own
+    /// delay, else it touches the train and place that are named.
     pub tie: Tie,
 }
 

@@ -20,8 +20,9 @@ pub(crate) struct Longest {
     pub(crate) disorder: Option<Disorder>,
 }
 
-/// The longest orderly piece from block a on: pieces of 1, 2, 4, 8 blocks and so on are tried up to
-/// the first that isn't orderly, and then those between it and the one before.
+/// The longest orderly piece from block a on. One of 1 block is orderly; pieces of 2, 4, 8 blocks
+/// and so on are tried up to the first that isn't orderly, and then by halves those between it and
+/// the one before.
 pub(crate) fn longest_from(alloc: Global, cut: &FitCut, a: u32) -> Result<Longest, OutOfMemory>
     requires { a < block_count cut.now }
     ensures { IfOk result (IsLongestFrom cut.now a) }

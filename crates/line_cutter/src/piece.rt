@@ -1,11 +1,10 @@
 //! The piece of a cut as a cut.
 ghost use Rattle.std.specs.Prelude.{◌≡◌, ◌<◌, ◌≤◌, IfOk, filter, length, map};
 ghost use Rattle.std.specs.List.{list_any};
-ghost use Rattle.plan_model.specs.Cut.{least};
 ghost use Rattle.plan_model.specs.Places.{block_count};
 ghost use Rattle.line_cutter.specs.Piece as pieces;
 
-use plan_model::{Cut, CutRow};
+use plan_model::{Cut, CutRow, least_start};
 use rail_model::{List, OutOfMemory, Section, Use};
 use std::alloc::Global;
 
@@ -107,18 +106,4 @@ fn moved(one: Use, a: u32) -> Use
         start: one.start,
         end: one.end,
     }
-}
-
-// The least start of some uses, and 0 of none.
-fn least_start(uses: &[Use]) -> i64
-    ensures { result ≡ least (map (λ u. u.start) uses.now) }
-{
-    if uses.is_empty() {
-        return 0;
-    }
-    let mut entry = uses[0].start;
-    for one in &uses[1..] {
-        entry = entry.min(one.start);
-    }
-    entry
 }

@@ -1,5 +1,5 @@
 //! How many copies of a train a section can take.
-ghost use Rattle.std.specs.Prelude.{◌≡◌, ◌<◌, ◌≤◌, IfOk, [], nat_lt};
+ghost use Rattle.std.specs.Prelude.{◌≡◌, ◌<◌, ◌≤◌, IfOk, []};
 ghost use Rattle.plan_model.specs.declared.limits.TheConstants.{MEMBERS};
 ghost use Rattle.plan_model.specs.Cut.{IsSoundCut};
 ghost use Rattle.plan_model.specs.Members.{member_count};
@@ -12,7 +12,7 @@ use crate::blocks::{first_copy, kept_to, own_headway};
 use crate::copies::fill_up;
 use crate::found::Fill;
 use occupancy_rate::occupancy;
-use plan_model::{Answer, Cut, FitCut, MEMBERS, Rows};
+use plan_model::{Answer, Cut, FitCut, Rows, is_crowded};
 use rail_model::OutOfMemory;
 use std::alloc::Global;
 use train_order::order;
@@ -39,13 +39,6 @@ pub fn fill<R: Rows>(
         return Ok(Err(Answer::Crowded { count }));
     }
     fill_of_cut(alloc, reading.whole(), row)
-}
-
-// Whether so many members are more than are compressed.
-fn is_crowded(count: u32) -> bool
-    ensures { result ≡ nat_lt MEMBERS count }
-{
-    count as usize > MEMBERS
 }
 
 /// The same of a cut that isn't crowded.

@@ -10,7 +10,7 @@ use std::sync::Wait;
 
 /// The access of a pass to a book that nobody else adds to: what it has seen is the whole journal.
 /// It counts the readings that it was given, and notes how many uses were taken of the last that it
-/// handed back.
+/// handed back by a call that found memory.
 #[derive(Drop)]
 pub struct Alone<'a> {
     book: &'a mut Book,

@@ -139,10 +139,11 @@ impl Book {
         self.done.len() as u32
     }
 
-    /// Asks for a section outside the scripts, by a pass. `Ready` gives the answer that was
-    /// published last and that no later edit touches, `Stale` the edit that touched the section
-    /// last, `NotYet` comes where none was published, and `Unknown` where the section isn't there.
-    /// Each reply adds its entry. Without memory the book stays as it was.
+    /// Asks for a section outside the scripts, by a pass. `Unknown` comes where the section isn't
+    /// there. Else `NotYet` comes where no answer of it was published; `Stale` where a later edit
+    /// touches it, with the number of the answer and that of the last such edit; and `Ready` where
+    /// none does, with the answer that was published last. Each reply adds its entry. Without
+    /// memory the journal stays as it was.
     pub fn ask(&mut self, who: u32, section: Name) -> Result<Asked, OutOfMemory>
         requires { who < issued self.old }
         ensures { Gives (AsksTo who 0 section) result self.old self.new }
@@ -203,7 +204,7 @@ impl Book {
 
     /// Makes an edit outside the scripts, by a pass, and gives its number; or says by which rule it
     /// is refused, the first that refuses it, and leaves the tables. Each adds its entry. Without
-    /// memory the book stays as it was.
+    /// memory the journal stays as it was.
     pub fn edit(&mut self, who: u32, edit: Edit) -> Result<Result<u64, Rule>, OutOfMemory>
         requires { who < issued self.old }
         ensures { Gives (EditsTo who 0 edit) result self.old self.new }
@@ -311,7 +312,7 @@ impl Book {
     /// Publishes an answer by a pass. `Stale` comes exactly where a later edit touches the section,
     /// and names the last one; `Current` exactly where none does and the section is current, since
     /// its publication at the edit of this number. With either nothing is added, and the answer is
-    /// dropped. Without memory the book stays as it was.
+    /// dropped. Without memory the journal stays as it was.
     pub fn publish(&mut self, who: u32, done: Done) -> Result<Result<(), NotTaken>, OutOfMemory>
         requires issued { who < issued self.old }
         requires done { IsDone self.old done }
@@ -368,7 +369,7 @@ fn opening(
     ensures same { IfOk result (λ journal. journal ≡ opened tables.now at scripts ∷ []) }
     ensures sound { IsSound tables.now }
 {
-    let _sections = tables.sections();
+    tables.learn_sound();
     let mut journal = List::new(alloc);
     let act = Act::Opened {
         tables: tables.plain()?,

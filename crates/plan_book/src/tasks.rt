@@ -14,7 +14,7 @@ use rail_model::{Edit, OutOfMemory};
 impl Book {
     /// Does the next task of a planner's script, as an edit or a question of that planner, by a
     /// pass. `Ended` comes exactly where none is left, and then nothing is added. Without memory
-    /// the book stays as it was.
+    /// the journal stays as it was.
     pub fn step(&mut self, who: u32, planner: u32) -> Result<Stepped, OutOfMemory>
         requires issued { who < issued self.old }
         requires planner { IsPlanner self.old planner }

@@ -6,7 +6,8 @@ use rail_model::{List, OutOfMemory};
 use std::alloc::Global;
 
 impl CutRow {
-    fn copy(&self, alloc: Global) -> Result<CutRow, OutOfMemory>
+    /// A row equal to this one, its stamp included.
+    pub fn copy(&self, alloc: Global) -> Result<CutRow, OutOfMemory>
         ensures { IfOk result (λ other. other ≡ self.now) }
     {
         Ok(CutRow {

@@ -1,4 +1,7 @@
 //! The cut of a section: the trains that enter it within its window, with their uses of its places.
+ghost use Rattle.std.specs.Prelude.{◌≡◌, map};
+ghost use Rattle.plan_model.specs.Cut.{least};
+
 use rail_model::{List, Name, Section, Use};
 
 /// A member of a cut: a run that enters the section within its window.
@@ -27,4 +30,18 @@ pub struct Cut {
     pub connections: List<Name>,
     /// In the order of their names.
     pub rows: List<CutRow>,
+}
+
+/// The least start of some uses, and 0 of none.
+pub fn least_start(uses: &[Use]) -> i64
+    ensures { result ≡ least (map (λ u. u.start) uses.now) }
+{
+    if uses.is_empty() {
+        return 0;
+    }
+    let mut entry = uses[0].start;
+    for one in &uses[1..] {
+        entry = entry.min(one.start);
+    }
+    entry
 }

@@ -24,7 +24,7 @@ mod shared_cut;
 
 pub use answer::{Answer, Disorder, Done, Link, Placed, Plan, Tie};
 pub use board::Board;
-pub use cut::{Cut, CutRow};
+pub use cut::{Cut, CutRow, least_start};
 pub use fit_cut::{FitCut, SoundCut, shift, use_of};
 pub use journal::{Act, Entry, Reply};
 pub use journal_laws::{
@@ -39,7 +39,7 @@ pub use laws::{
     occupancy_reaches_closing, preceded_remain, reduced_is_unique, remaining_is_left,
     tied_is_least, uses_are_apart,
 };
-pub use limits::MEMBERS;
+pub use limits::{MEMBERS, is_crowded};
 pub use outcome::{Asked, Next, NotTaken, Stepped};
 pub use reading::Reading;
 pub use rows::Rows;

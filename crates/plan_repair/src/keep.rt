@@ -1,11 +1,10 @@
 //! What is kept of a section's cut from one reading to the next.
-ghost use Rattle.std.specs.Prelude.{◌≡◌, nat_lt, IfOk};
+ghost use Rattle.std.specs.Prelude.{◌≡◌, IfOk};
 ghost use Rattle.rail_model.specs.Name.{NamesRise};
-ghost use Rattle.plan_model.specs.declared.limits.TheConstants.{MEMBERS};
 
 use crate::renewed::renewed;
 use compression::answer_of_cut;
-use plan_model::{Answer, Cut, CutRow, MEMBERS, Rows};
+use plan_model::{Answer, Cut, CutRow, Rows, is_crowded};
 use rail_model::{List, Name, OutOfMemory};
 use std::alloc::Global;
 use std::marker::Model;
@@ -83,13 +82,6 @@ impl Keep {
         let answer = answer_of_cut(alloc, &cut)?;
         Ok((keep_of(cut), answer))
     }
-}
-
-// Whether so many rows are more than are compressed.
-fn is_crowded(count: u32) -> bool
-    ensures { result ≡ nat_lt MEMBERS count }
-{
-    count as usize > MEMBERS
 }
 
 // What is kept of a cut that isn't crowded.

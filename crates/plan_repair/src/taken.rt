@@ -1,10 +1,10 @@
 //! A row that is taken of a reading.
-ghost use Rattle.std.specs.Prelude.{◌≡◌, ◌<◌, nat_lt, IfOk, map, filter, count_by, length};
-ghost use Rattle.plan_model.specs.Cut.{IsSoundCut, AreBlocksFirst, least};
+ghost use Rattle.std.specs.Prelude.{◌≡◌, ◌<◌, nat_lt, IfOk, filter, count_by, length};
+ghost use Rattle.plan_model.specs.Cut.{IsSoundCut, AreBlocksFirst};
 ghost use Rattle.plan_model.specs.Members.{member, member_count};
 ghost use Rattle.plan_model.specs.Reading.{after_taking, uses_of};
 
-use plan_model::{CutRow, Rows};
+use plan_model::{CutRow, Rows, least_start};
 use rail_model::{List, OutOfMemory, Use};
 use std::alloc::Global;
 
@@ -47,18 +47,4 @@ fn count_on_blocks(uses: &[Use], blocks: usize) -> usize
     uses.iter()
         .filter(|one| (one.block as usize) < blocks)
         .count()
-}
-
-// The least start of some uses, and 0 of none.
-fn least_start(uses: &[Use]) -> i64
-    ensures { result ≡ least (map (λ u. u.start) uses.now) }
-{
-    if uses.is_empty() {
-        return 0;
-    }
-    let mut entry = uses[0].start;
-    for one in &uses[1..] {
-        entry = entry.min(one.start);
-    }
-    entry
 }

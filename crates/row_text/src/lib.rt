@@ -22,7 +22,7 @@ mod written;
 pub use fields::{Fields, Row};
 pub use line::{Line, read_line, read_row, read_row_in};
 pub use line_row::{has_times_in, spell, spell_in};
-pub use read_field::{HOUR_DIGITS, NUMBER_DIGITS};
+pub use read_field::{HOUR_DIGITS, NUMBER_DIGITS, number};
 pub use row_list::{RowList, rows};
 pub use sheet::Sheet;
 pub use time_text::GREATEST_CLOCK_S;

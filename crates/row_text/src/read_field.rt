@@ -47,9 +47,9 @@ pub(crate) fn time_at(version: u32, row: &Row<'_>, i: usize) -> Result<u32, Form
     time(version, row.get(i)).ok_or(Form::Number)
 }
 
-// The number that a field of one to nine digits writes.
+/// The number that a field of one to nine digits writes.
 #[inline]
-pub(crate) fn number(field: &[u8]) -> Option<u32>
+pub fn number(field: &[u8]) -> Option<u32>
     ensures value { result ≡ number_of field.now }
     ensures small { IfSome result (λ value. value < 10 ^ length field.now) }
 {

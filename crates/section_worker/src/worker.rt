@@ -81,12 +81,14 @@ impl Worker {
         }
     }
 
-    /// One turn: reads the next section of the share, works out its answer while no turn of the
-    /// board is held, and publishes it. The gate is passed after the reading and before the
-    /// publication.
+    /// One turn: reads the next section of the share, works out its answer between two calls of the
+    /// board, and publishes it, unless a later edit touches the section or it is current already.
+    /// Where the share is current nothing is read. The gate is passed after a reading and before
+    /// its publication.
     ///
-    /// Of a section that was answered before only those rows are taken that aren't kept with their
-    /// name and stamp.
+    /// Of a section that was answered before at most the uses of those rows are taken that aren't
+    /// kept with their name and stamp. Without memory nothing is added, and of the section that was
+    /// read nothing is kept.
     pub fn turn<R: Wait, B: Board, G: Gate>(
         &mut self,
         rt: &R,

@@ -11,8 +11,8 @@ use std::sync::Wait;
 use turn_desk::{Desk, Pass};
 
 /// The access of a pass to the book at a desk. Each call takes the turn, makes one call of the
-/// book, and gives the turn back, also where memory ran out. A turn is short: no answer is worked
-/// out in it. Contracts see the pass and the counts.
+/// book, and gives the turn back, also where memory ran out. No answer is worked out in a turn.
+/// Contracts see the pass and the counts.
 #[derive(Drop)]
 pub struct Seat<'a> {
     desk: &'a Desk<Book>,

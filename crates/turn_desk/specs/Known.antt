@@ -62,8 +62,7 @@ module _ {E : Type 0} where
   abbrev pub without_turn : Known E → List E → Known E
   without_turn k seen = record k { seen = seen; holds = false; steps = k.steps + 1; word = 0 }
 
-  -- The pass after another has left into it, with the word after the later step of the two. Its tries stay
-  -- its own
+  -- The pass after another has left into it, with a word that is one of the two. Its tries stay its own
   abbrev pub with_other : Known E → Known E → ℕ → Known E
   with_other k other word = record k {
     numbers = k.numbers ++ other.numbers;

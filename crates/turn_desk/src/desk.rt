@@ -67,7 +67,8 @@ impl<V: Kept> Desk<V> {
 
     /// One try to take the turn, which does not wait. What the value's list has beyond the pass's
     /// seen part are entries of others, and the list is legal. `Busy` comes exactly where the turn
-    /// was taken at the pass's one step: the word was 1 then, and nothing but counts has changed.
+    /// was taken at the pass's one step: the word was 1 then. What the pass has seen stays; the try
+    /// and the step are counted, with the word that they found and left.
     pub fn try_take(&self, pass: &mut Pass<V>) -> Result<Turn<V>, Busy>
         requires { IsReady self.now pass.old }
         ensures goes_on { IfOk result
@@ -82,8 +83,8 @@ impl<V: Kept> Desk<V> {
         Ok(Turn::new(value))
     }
 
-    /// Gives the turn back, with the value as it was taken and then entries of the pass's own
-    /// number.
+    /// Gives the turn back. The value's list is what the pass has seen and then entries of the
+    /// pass's own number.
     pub fn give(&self, pass: &mut Pass<V>, turn: Turn<V>)
         requires desk { pass.old.desk ≡ self.now }
         requires holds { pass.old.holds ≡ true }
@@ -120,10 +121,10 @@ impl<V: Kept> Desk<V> {
     }
 
     /// Draws `count` numbers in one turn, one after the other, and gives a new pass for each, in
-    /// the order of the numbers. `Full` comes exactly where so many numbers are not left; no entry
-    /// is then made. Out of memory, some of the entries may stand in the journal, and no pass has
-    /// their numbers. In each case the pass has taken the turn, and given it back by one more step,
-    /// and what it has seen is legal.
+    /// the order of the numbers. `Full` says that so many numbers are not left, and no entry is
+    /// made. Out of memory, at most `count` entries stand in the journal, and no pass is given. In
+    /// each case the pass has taken the turn, and given it back by one more step, and what it has
+    /// seen is legal.
     ///
     /// No number goes to two passes of a desk. A caller learns this where one of the two leaves
     /// into the other: `leave` says that they have no number in common.
@@ -175,8 +176,8 @@ impl<V: Kept> Desk<V> {
         join_one(&self.table.shared, &mut pass.seat, other.into_seat());
     }
 
-    /// Closes the desk with the turn that the pass holds, and gives the turn's value as it is. No
-    /// pass takes a turn afterwards.
+    /// Closes the desk by a pass that holds the turn, and gives the turn's value as it is. No pass
+    /// takes a turn afterwards.
     pub fn shut(self, pass: Pass<V>, turn: Turn<V>) -> V
         requires desk { pass.desk ≡ self }
         requires holds { pass.holds ≡ true }

@@ -1,5 +1,5 @@
 use Rattle.std.proofs.Common.{rules}
-use Rattle.compression.proofs.answering.is_crowded.Goals as goal
+use Rattle.plan_model.proofs.limits.is_crowded.Goals as goal
 
 pub returns : goal.returns
 returns c = search rules
