@@ -26,3 +26,4 @@ pub mod InUse
 pub mod Paths
 pub mod Numbers
 pub mod RunPaths
+pub mod Passed

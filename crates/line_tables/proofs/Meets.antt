@@ -34,7 +34,7 @@ use Rattle.line_tables.proofs.Repeats.{moved, repeats_moved}
 -- ---- lists of names and of their keys
 
 -- a look-up of the images of names gives the images of their keys
-map_keyed : (find target : List ℕ → Option ℕ) (g : List ℕ → List ℕ) (f : ℕ → ℕ) (ns : List (List ℕ)) (ks : List ℕ) → ((n : List ℕ) (q : ℕ) → find n ≡ Some q → target (g n) ≡ Some (f q)) → map find ns ≡ map Some ks → map target (map g ns) ≡ map Some (map f ks)
+pub map_keyed : (find target : List ℕ → Option ℕ) (g : List ℕ → List ℕ) (f : ℕ → ℕ) (ns : List (List ℕ)) (ks : List ℕ) → ((n : List ℕ) (q : ℕ) → find n ≡ Some q → target (g n) ≡ Some (f q)) → map find ns ≡ map Some ks → map target (map g ns) ≡ map Some (map f ks)
 map_keyed find target g f [] [] keyed e = refl
 map_keyed find target g f [] (k ∷ ks) keyed e = absurd (cc)
 map_keyed find target g f (n ∷ ns) [] keyed e = absurd (cc)

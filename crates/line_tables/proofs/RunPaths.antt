@@ -26,7 +26,7 @@ use Rattle.rail_model.proofs.Paths.{path_fits, route_stands, hops_numbered}
 use Rattle.line_tables.proofs.Paths.{looked_up_first}
 
 -- what names and their keys give alike
-same_images : {Y : Type 0} (find : List ℕ → Option ℕ) (g : List ℕ → Y) (f : ℕ → Y) (ns : List (List ℕ)) (ks : List ℕ) → ((n : List ℕ) (q : ℕ) → find n ≡ Some q → g n ≡ f q) → map find ns ≡ map Some ks → map g ns ≡ map f ks
+pub same_images : {Y : Type 0} (find : List ℕ → Option ℕ) (g : List ℕ → Y) (f : ℕ → Y) (ns : List (List ℕ)) (ks : List ℕ) → ((n : List ℕ) (q : ℕ) → find n ≡ Some q → g n ≡ f q) → map find ns ≡ map Some ks → map g ns ≡ map f ks
 same_images find g f [] [] same e = refl
 same_images find g f [] (k ∷ ks) same e = absurd (cc)
 same_images find g f (n ∷ ns) [] same e = absurd (cc)
@@ -47,7 +47,7 @@ images_more f items n x so_far y here right same =
     let e = read_entry items n x here in
     rw (right, same, map_more (λ (e : ℕ × _). f e.1) items n e.0 e.3, e.1, e.2) refl
 
-all_at : {X : Type 0} (P : ℕ × X → Type 0) (items : List (ℕ × X)) (n : ℕ) (x : X) → option_map (λ e. e.1) (slice_get items n) ≡ Some x → All P items → (e : ℕ × X) × (e.1 ≡ x) × P e
+pub all_at : {X : Type 0} (P : ℕ × X → Type 0) (items : List (ℕ × X)) (n : ℕ) (x : X) → option_map (λ e. e.1) (slice_get items n) ≡ Some x → All P items → (e : ℕ × X) × (e.1 ≡ x) × P e
 all_at P items n x h all =
     let e = read_entry items n x h in
     (e.0, e.2, subst P e.1 (all n e.0 e.3))

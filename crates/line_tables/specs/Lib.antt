@@ -7,3 +7,4 @@ pub mod References
 pub mod Inside
 pub mod Hops
 pub mod AnswersEdit
+pub mod Passing

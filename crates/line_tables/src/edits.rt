@@ -9,8 +9,8 @@ use crate::LineTables;
 use rail_model::{Edit, Item, Kind, Name, OutOfMemory, Rule};
 
 impl LineTables {
-    /// Makes an edit, or says which rule refuses it: the first that does, in the order of `rule_of`. The
-    /// tables stay as they were where a rule refuses the edit or memory runs out.
+    /// Makes an edit, or says which rule refuses it: the first that does, in the order of
+    /// `rule_of`. The tables stay as they were where a rule refuses the edit or memory runs out.
     pub fn apply(&mut self, edit: &Edit) -> Result<Result<(), Rule>, OutOfMemory>
         ensures refused { IfOk result
             (λ answer. IfErr answer (λ rule. rule_of self.old edit.now ≡ Some rule)) }
@@ -23,7 +23,7 @@ impl LineTables {
         self.take(own)
     }
 
-    /// The same as `apply` for an edit that is given away: nothing of it is copied.
+    /// The same as `apply` for an edit that is given away: its item moves into the tables.
     pub fn take(&mut self, edit: Edit) -> Result<Result<(), Rule>, OutOfMemory>
         ensures refused { IfOk result
             (λ answer. IfErr answer (λ rule. rule_of self.old edit ≡ Some rule)) }
@@ -38,8 +38,8 @@ impl LineTables {
         self.make(edit)
     }
 
-    // Makes an edit that no rule refuses, save one of what a put or changed route refers to, or of a
-    // changed signal and its block: that is told here.
+    // Makes an edit that no rule refuses, save one of what a put or changed route refers to, or of
+    // a changed signal and its block: that is told here.
     fn make(&mut self, edit: Edit) -> Result<Result<(), Rule>, OutOfMemory>
         requires { rule_before self.old edit ≡ None }
         ensures { AnswersEdit (rule_of self.old edit) (after self.old edit)

@@ -141,6 +141,17 @@ pub(crate) fn meet(one: &[u64], other: &[u64]) -> bool
     false
 }
 
+/// Whether a key is in a set, given by its words.
+pub(crate) fn has_key(words: &[u64], key: usize) -> bool
+    ensures { result ≡ holds words.now key }
+{
+    let place = key / WORD;
+    if place >= words.len() {
+        return false;
+    }
+    has_bit(words[place], key % WORD)
+}
+
 /// How many words a set has where a key is its greatest.
 pub(crate) fn words_for(key: usize) -> usize
     ensures { key / 64 < result }

@@ -9,6 +9,7 @@ mod key_sets;
 mod line_tables;
 mod linked;
 mod named_table;
+mod passing;
 mod path;
 mod remove;
 mod replace;

@@ -14,8 +14,8 @@ use rail_model::{Block, Connection, List, Name, OutOfMemory, Route, Run, Section
 use std::alloc::Global;
 use std::marker::Model;
 
-/// A line and its timetable, seen as `Tables`, which take edits. Each item stands under a key that stays
-/// its own, and what it refers to was found once, when it was put or changed.
+/// A line and its timetable, seen as `Tables`, which take edits. Each item stands under a key that
+/// stays its own, and what it refers to was found once, when it was put or changed.
 pub struct LineTables {
     pub(crate) alloc: Global,
     pub(crate) blocks: NamedTable<Block>,
@@ -24,8 +24,8 @@ pub struct LineTables {
     pub(crate) runs: NamedTable<Linked<Run>>,
     pub(crate) sections: NamedTable<Linked<Section>>,
     pub(crate) connections: NamedTable<Linked<Connection>>,
-    // How often signals and sections refer to each block, routes to each signal, runs to each route, and
-    // connections to each run.
+    // How often signals and sections refer to each block, routes to each signal, runs to each
+    // route, and connections to each run.
     pub(crate) block_uses: KeyCounts,
     pub(crate) signal_uses: KeyCounts,
     pub(crate) route_uses: KeyCounts,
@@ -116,6 +116,13 @@ impl LineTables {
             sections: plain_items(self.alloc, &self.sections)?,
             connections: plain_items(self.alloc, &self.connections)?,
         })
+    }
+
+    /// Learns that the tables are sound: so there are no more items of a kind than its limit.
+    pub fn learn_sound(&self)
+        ensures { IsSound self.now }
+    {
+        let _blocks = &self.blocks;
     }
 
     /// How many blocks there are: at most `BLOCKS`.

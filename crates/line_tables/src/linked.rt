@@ -173,8 +173,8 @@ pub(crate) fn put_linked<T: Stored>(
     Ok(key)
 }
 
-/// Puts an item in the place of the one under a key, and counts what it refers to in place of what that
-/// one does. Without memory all stays.
+/// Puts an item in the place of the one under a key, and counts what it refers to in place of what
+/// that one does. Without memory all stays.
 pub(crate) fn change_linked<T: Stored>(
     table: &mut NamedTable<Linked<T>>,
     uses: &mut KeyCounts,

@@ -1,5 +1,5 @@
-//! A table of named items. An item stands under a key that stays its own until it is taken out, so what
-//! refers to it by its key needs no change while others come and go.
+//! A table of named items. An item stands under a key that stays its own until it is taken out, so
+//! what refers to it by its key needs no change while others come and go.
 ghost use Rattle.std.specs.Prelude.{◌≡◌, ◌<◌, false, true, length, take, drop, All, slice_get, is_some, IfSome, IsSome, IfOk, OnOk, OnErr, Some, None, MatchResult, [], nat_eq};
 ghost use Rattle.std.specs.Option.{option_map};
 ghost use Rattle.std.specs.Cmp.Lexicographic.{pointwise};
@@ -96,8 +96,8 @@ impl<T: Stored> NamedTable<T> {
         self.by_name.get(name).copied()
     }
 
-    /// The same as `key_of` in a list of names. Each list starts with `near` at 0, and names that follow each
-    /// other in it as they were put in are found without being hashed.
+    /// The same as `key_of` in a list of names. Each list starts with `near` at 0, and names that
+    /// follow each other in it as they were put in are found without being hashed.
     pub(crate) fn key_near(&self, name: &Name, near: &mut usize) -> Option<usize>
         ensures key { result ≡ tables.key_of T.label self.now name.now }
         ensures there { is_some result ≡ is_named (tables.named T.label) self.now name.now }
@@ -176,7 +176,8 @@ impl<T: Stored> NamedTable<T> {
         self.slots.remove(key)
     }
 
-    /// Puts an item in the place of the one under a key, which has the same name, and gives that one.
+    /// Puts an item in the place of the one under a key, which has the same name, and gives that
+    /// one.
     pub(crate) fn change(&mut self, key: usize, item: T) -> T
         requires { option_map T.label (tables.under self.old key) ≡ Some (T.label item) }
         ensures old { tables.under self.old key ≡ Some result }

@@ -1,7 +1,7 @@
 //! The path of a run: its route's signals and their blocks, by the keys that were found once.
 //!
-//! What a signal and its block say of a hop is the same for every run over a route, so `route_hops` makes it
-//! once for each route, and `run_path` adds the times of a run's legs.
+//! What a signal and its block say of a hop is the same for every run over a route, so `route_hops`
+//! makes it once for each route, and `run_path` adds the times of a run's legs.
 ghost use Rattle.std.specs.Prelude.{◌≡◌, ◌≤◌, ◌<◌, IfOk, length, map, All};
 ghost use Rattle.rail_model.specs.Path.{Fits};
 ghost use Rattle.rail_model.specs.Tables.{path_in, run_at};
@@ -17,8 +17,11 @@ use crate::named_table::NamedTable;
 use rail_model::{BLOCKS, Block, Hop, Leg, List, OutOfMemory, Path, Run, Signal};
 use std::alloc::Global;
 
-// The number of each block, at its key: a list as long as the greatest key.
-fn numbers_by_key(alloc: Global, blocks: &NamedTable<Block>) -> Result<Vec<usize>, OutOfMemory>
+// The number of each block, at its key: a list that reaches up to the greatest key.
+pub(crate) fn numbers_by_key(
+    alloc: Global,
+    blocks: &NamedTable<Block>,
+) -> Result<Vec<usize>, OutOfMemory>
     ensures { IfOk result (λ numbers. AreNumbered (length blocks.now) blocks.now numbers.items) }
 {
     let mut numbers = Vec::with_capacity(alloc, blocks.len())?;

@@ -2,17 +2,18 @@
 ghost use Rattle.std.specs.Prelude.{◌≡◌, ◌≢◌, ◌≤◌, true, false, length, slice_index_or, All, [], OnOk, IfOk};
 ghost use Rattle.line_tables.specs.KeySet.{Meets, KeepsApart};
 ghost use Rattle.line_tables.specs.Links.{block_of, IsKey};
-ghost use Rattle.line_tables.specs.RouteSets.{words_of, SameSets, NoneShorter, HasRoomAt, IsPutAt, IsTakenAt, IsMoved};
+ghost use Rattle.std.specs.List.{list_any};
+ghost use Rattle.line_tables.specs.RouteSets.{has, words_of, SameSets, NoneShorter, HasRoomAt, IsPutAt, IsTakenAt, IsMoved};
 
-use crate::key_set::meet;
+use crate::key_set::{has_key, meet};
 use crate::key_sets::KeySets;
 use crate::linked::{Linked, block_of};
 use crate::named_table::NamedTable;
 use rail_model::{OutOfMemory, Signal};
 use std::alloc::Global;
 
-/// At each signal's key the keys of the routes that list it, and at each block's key the keys of the
-/// routes that have a signal of it.
+/// At each signal's key the keys of the routes that list it, and at each block's key the keys of
+/// the routes that have a signal of it.
 #[derive(Drop)]
 pub(crate) struct RouteSets {
     pub(crate) of_signals: KeySets,
@@ -139,6 +140,18 @@ impl RouteSets {
             (slice_index_or self.now.of_blocks to []) }
     {
         from != to && self.meet(signal, to)
+    }
+
+    /// Whether the route under a key has a signal of one of these blocks.
+    pub(crate) fn has_some(&self, blocks: &[usize], route: usize) -> bool
+        ensures { result ≡ list_any (λ b. has self.now.of_blocks b route) blocks.now }
+    {
+        for block in blocks {
+            if has_key(self.of_blocks.words(*block), route) {
+                return true;
+            }
+        }
+        false
     }
 
     /// The same sets again.

@@ -120,13 +120,15 @@ impl LineTables {
         None
     }
 
-    fn has_block(&self, name: &Name) -> bool
+    /// Whether a block of a name is there.
+    pub fn has_block(&self, name: &Name) -> bool
         ensures { result ≡ rules.has_block self.now name.now }
     {
         self.blocks.key_of(name).is_some()
     }
 
-    fn has_signal(&self, name: &Name) -> bool
+    /// Whether a signal of a name is there.
+    pub fn has_signal(&self, name: &Name) -> bool
         ensures { result ≡ rules.has_signal self.now name.now }
     {
         self.signals.key_of(name).is_some()

@@ -31,5 +31,8 @@ pub mod OneRun
 pub mod Standing
 pub mod Reached
 pub mod NoRun
+pub mod RowPlaces
 pub mod ReachedRuns
 pub mod KeptBlocks
+pub mod PathsStay
+pub mod PassedBy

@@ -173,7 +173,7 @@ name_found tables name (Some run) e s stamp =
     by_test true h named = rw (sym h) (named, refl)
     by_test false h named = rw (sym h) tt
 
-uses_found : (tables : Tables) → IsSound tables → (name : List ℕ) (found : Option Run) → find (λ (r : Run). is_same r.name name) tables.runs ≡ found
+pub uses_found : (tables : Tables) → IsSound tables → (name : List ℕ) (found : Option Run) → find (λ (r : Run). is_same r.name name) tables.runs ≡ found
     → IfSome (option_map (λ run. stair_of (path_in tables run)) found) (λ (s : Stair). All (λ (u : Use). u.block < length tables.blocks) s.uses)
 uses_found tables sound name None e = tt
 uses_found tables sound name (Some run) e =

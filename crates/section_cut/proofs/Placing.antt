@@ -1,20 +1,21 @@
 -- The table of positions: as far as it is filled, from the last name of the section's list on; and uses by it.
-use Rattle.std.proofs.Common.{◌≡◌, ℕ, ◌+◌, ◌<◌, ◌≤◌, Bool, true, false, not, cond, ltb, List, [], ◌∷◌, ◌++◌, map, length, get_or, take, drop, replicate, refl, sym, ap, ◌∙◌, subst, inl, inr, arith}
+use Rattle.std.proofs.Common.{◌≡◌, ℕ, ◌+◌, ◌-◌, ◌<◌, ◌≤◌, Bool, true, false, not, cond, ltb, List, [], ◌∷◌, ◌++◌, map, length, get_or, take, drop, replicate, refl, sym, ap, ◌∙◌, subst, inl, inr, arith}
 use Rattle.std.specs.Prelude.{filter, slice_set}
 use Rattle.std.proofs.lemmas.Bool.{cases_Bool, cases_eq, lt-ltb, le-ltb}
-use Rattle.std.proofs.lemmas.List.{append-nil, length-set, length-replicate, get_or-replicate, get_or-set_same, get_or-set_other, map_more}
+use Rattle.std.proofs.lemmas.List.{append-nil, length-set, length-replicate, get_or-replicate, get_or-set_same, get_or-set_other, get_or-map, length-map, map_more}
 use Rattle.std.proofs.lemmas.List.Elements.{filter-append}
-use Rattle.std.proofs.lemmas.List.Sums.{passes_at_first, prefix_len-drop_yes, prefix_len-drop_no, prefix_len-drop_all}
+use Rattle.std.proofs.lemmas.List.Sums.{AllPass-from_list_all, passes_at_first, prefix_len-drop_yes, prefix_len-drop_no, prefix_len-drop_all}
 use Rattle.rail_model.specs.declared.items.Block.{Block}
 use Rattle.rail_model.specs.declared.items.Section.{Section}
 use Rattle.rail_model.specs.declared.tables.Tables.{Tables}
 use Rattle.rail_model.specs.declared.stair.Use.{Use}
 use Rattle.rail_model.specs.Name.{is_same}
-use Rattle.rail_model.specs.Tables.{number_of, no_block, block_number, block_name}
+use Rattle.rail_model.specs.Tables.{number_of, no_block, section_at, block_number, block_name}
 use Rattle.rail_model.specs.Rules.{has_block}
 use Rattle.rail_model.specs.Sound.{IsSound}
 use Rattle.rail_model.proofs.NameOrder.{same_name, is_same-sym, names_apart}
-use Rattle.rail_model.proofs.Members.{none_passes}
+use Rattle.rail_model.proofs.Paths.{place_within}
+use Rattle.section_cut.proofs.Sections.{section_stands}
 use Rattle.section_cut.specs.Positions.{IsPositions, IsPlaced, with_position, uses_in}
 
 -- from some name of the section's list on, the table has what the rest of the list says
@@ -46,18 +47,6 @@ module _ (tables : Tables) where
               rw other (get_or-set_other before n block position 0 differ)
         ];
       }
-
-  -- the position of a name that is no block's
-  pub placed_nowhere : (name : List ℕ) (position : ℕ) (before : List ℕ) → has_block tables name ≡ false
-      → IsPlaced tables name position before before
-  placed_nowhere name position before missing = record {
-    count = refl;
-    each = λ block below.
-        let other : is_same name (block_name tables block) ≡ false =
-        is_same-sym name (block_name tables block)
-        ∙ none_passes (λ (x : Block). is_same x.name name) tables.blocks missing block no_block below in
-        rw other refl;
-  }
 
   module _ (section : Section) where
     pub filled_none : (from : ℕ) (table : List ℕ) → from ≡ length section.blocks
@@ -99,6 +88,38 @@ module _ (tables : Tables) where
           let first = subst (λ k. get_or table block 0 ≡ k + number_of (λ (n : List ℕ). n) (drop k section.blocks) (block_name tables block)) none (filled.each block below) in
           omega (arith, first);
     }
+
+-- the table with the position of one block more of the section of a number, by the numbers of its blocks
+module _ (tables : Tables) (sound : IsSound tables) (n : ℕ) (l : n < length tables.sections) (blocks : List ℕ) (is : blocks ≡ map (block_number tables) (section_at tables n).blocks) (later : ℕ) (more : later < length blocks) where
+  abbrev section : Section
+  section = section_at tables n
+
+  abbrev at : ℕ
+  at = length blocks - 1 - later
+
+  count : length blocks ≡ length section.blocks
+  count = ap length is ∙ length-map section.blocks (block_number tables)
+
+  name_there : has_block tables (get_or section.blocks at []) ≡ true
+  name_there = AllPass-from_list_all (has_block tables) section.blocks (section_stands tables sound n l).known at [] (omega (arith, count, more))
+
+  its_number : (d : ℕ) → get_or blocks at d ≡ block_number tables (get_or section.blocks at [])
+  its_number d = ap (λ bs. get_or bs at d) is ∙ get_or-map (block_number tables) section.blocks at [] d (omega (arith, count, more))
+
+  pub placed_within : (d : ℕ) → get_or blocks at d < length tables.blocks
+  placed_within d =
+      let within = place_within (λ (b : Block). is_same b.name (get_or section.blocks at [])) tables.blocks name_there in
+      omega (arith, its_number d, within)
+
+  pub filled_next : (d : ℕ) (before : List ℕ) → IsFilled tables section (length section.blocks - later) before
+      → IsFilled tables section (length section.blocks - (later + 1)) (slice_set before (get_or blocks at d) at)
+  filled_next d before filled =
+      let Filled : ℕ → List ℕ → Type 0 = λ k table. IsFilled tables section k table in
+      let from : at + 1 ≡ length section.blocks - later = omega (arith, count, more) in
+      let to : at ≡ length section.blocks - (later + 1) = omega (arith, count, more) in
+      subst (λ k. Filled k (slice_set before (get_or blocks at d) at)) to
+      (filled_more tables section at before (slice_set before (get_or blocks at d) at) (omega (arith, count, more)) (subst (λ k. Filled k before) (sym from) filled)
+      (placed_there tables sound (get_or section.blocks at []) (get_or blocks at d) at before (its_number d) (placed_within d) filled.count))
 
 -- the uses in the section, with one use more
 pub uses_in_more : (positions : List ℕ) (blocks : ℕ) (uses : List Use) (i : ℕ) (d : Use) → i < length uses

@@ -26,10 +26,11 @@ use Rattle.plan_model.specs.Members.{no_member}
 use Rattle.plan_model.specs.SectionCut.{use_in_section, section_uses, is_member, section_cut, cut_of}
 use Rattle.section_cut.specs.Members.{enters, member_row, row_on_blocks, rows_on_blocks}
 use Rattle.section_cut.specs.Positions.{IsPositions, uses_in}
-use Rattle.section_cut.specs.Stamps.{IsThere}
-use Rattle.section_cut.specs.ReachedRuns.{IsStairIfReached, AreReachedRuns, row_after}
+use Rattle.section_cut.specs.Stamps.{IsReached, IsThere}
+use Rattle.section_cut.specs.ReachedRuns.{IsStairIfReached, AreReachedRuns, IsSameThere, row_after}
 use Rattle.section_cut.proofs.Lists.{passing_at, passing_behind}
 use Rattle.section_cut.proofs.MemberRows.{rows_more, uses_by_table}
+use Rattle.section_cut.proofs.RowPlaces.{place_is}
 use Rattle.section_cut.proofs.OneRun.{bare_cut, bare_member, located}
 
 -- a run of the same path has the same uses, where the blocks have the same names
@@ -219,6 +220,21 @@ module _ (earlier later : Tables) (s : Section) (sound : IsSound earlier) (later
       let member = there_earlier b told in
       sym (made_is 0 stair b (subst (IsStairIfReached earlier later (run_at later n)) (sym own) (reached.each n d below)) member)
       ∙ same ∙ kept_is earlier s rise old is n below_earlier at passed b member
+
+-- the same of a run of a number, by what is told of its stair
+pub same_told : (earlier later : Tables) (s : Section) → IsSound earlier → IsSound later → (stairs : List (Option Stair)) → AreReachedRuns earlier later stairs
+    → (old : List CutRow) → map (stamped_row 0) old ≡ rows_on_blocks earlier s 0 → (positions : List ℕ) → IsPositions later s positions
+    → (n : ℕ) → n < length later.runs → (stair d : Option Stair) → stair ≡ get_or stairs n d
+    → IfSome stair (IsSameThere s positions old (run_at later n).name) → IsSameRow earlier later s n
+same_told earlier later s sound later_sound stairs reached old is positions table n below None d own told =
+    let same = subst (IsStairIfReached earlier later (run_at later n)) (sym own) (reached.each n d below) in
+    ap (member_row s (run_at later n).name 0) (uses_by_path earlier later s (run_at later n) reached.same.names same)
+    ∙ ap (λ (r : Run). member_row s r.name 0 (section_uses earlier s r)) (ap (λ runs. get_or runs n no_run) reached.same.runs)
+same_told earlier later s sound later_sound stairs reached old is positions table n below (Some stair) d own told =
+    let run : run_at later n ≡ run_at earlier n = ap (λ runs. get_or runs n no_run) reached.same.runs in
+    let early : n < length earlier.runs = omega (arith, below, ap length reached.same.runs) in
+    let at = place_is earlier s sound.runs.names old is n early told.at (subst (λ (r : Run). IsReached old r.name told.at) run told.found) in
+    row_same earlier later s sound later_sound stairs reached old is positions table n below told.at at (Some stair) d told.there own told.told told.same
 
 -- ---- the cut after the edit
 

@@ -1,5 +1,5 @@
 -- An edit of one run, without connections: what it leaves of the tables, and the row that it reaches.
-use Rattle.std.specs.Prelude.{◌≡◌, ℕ, List, [], ◌++◌, filter, find, map, length, nat_lt, Option, Some, None, option_map, option_and_then}
+use Rattle.std.specs.Prelude.{◌≡◌, ℕ, List, [], ◌++◌, filter, find, map, length, nat_lt, Option, Some, None, option_map, option_and_then, IfSome, false}
 use Rattle.std.specs.Option.{option_to_list}
 use Rattle.rail_model.specs.declared.items.Item.{Item}
 use Rattle.rail_model.specs.declared.items.Item.TheVariants as item
@@ -15,6 +15,7 @@ use Rattle.rail_model.specs.Tables.{path_in}
 use Rattle.rail_model.specs.declared.items.Section.{Section}
 use Rattle.rail_model.specs.declared.stair.Use.{Use}
 use Rattle.plan_model.specs.SectionCut.{use_in_section}
+use Rattle.line_tables.specs.Passing.{passes_section}
 use Rattle.section_cut.specs.Members.{member_row}
 use Rattle.plan_model.specs.declared.cut.CutRow.{CutRow}
 use Rattle.plan_model.specs.declared.cut.Cut.{Cut}
@@ -75,3 +76,8 @@ uses_of_section tables section uses =
 abbrev pub row_of_stair : Tables → Section → ℕ → Option Stair → Option CutRow
 row_of_stair tables section stamp stair =
     option_and_then (λ s. member_row section s.run stamp (uses_of_section tables section s.uses)) stair
+
+-- the run of a name, if it is there, passes no block of a section
+abbrev pub PassesBy : Tables → Section → List ℕ → Type 0
+PassesBy tables section name =
+    IfSome (find (λ r. is_same r.name name) tables.runs) (λ run. passes_section tables section run ≡ false)

@@ -1,5 +1,5 @@
 -- Changes of blocks, signals and routes, without connections: the runs whose paths they change, and these runs' rows.
-use Rattle.std.specs.Prelude.{◌≡◌, ℕ, ◌<◌, ⊤, List, [], length, slice_index_or, Option, Some, None}
+use Rattle.std.specs.Prelude.{◌≡◌, ℕ, ◌<◌, ⊤, Bool, true, false, List, [], length, slice_index_or, Option, Some, None, option_map, if◌then◌else◌, IsTrue, ◌↔◌}
 use Rattle.rail_model.specs.declared.items.Run.{Run}
 use Rattle.rail_model.specs.declared.items.Section.{Section}
 use Rattle.rail_model.specs.declared.items.Item.{Item}
@@ -9,9 +9,14 @@ use Rattle.rail_model.specs.declared.edit.Edit.TheVariants as edit
 use Rattle.rail_model.specs.declared.stair.Stair.{Stair}
 use Rattle.rail_model.specs.declared.tables.Tables.{Tables}
 use Rattle.rail_model.specs.Blocking.{stair_of}
-use Rattle.rail_model.specs.Tables.{run_at, block_name, path_in}
+use Rattle.rail_model.specs.Name.{is_same}
+use Rattle.rail_model.specs.Tables.{no_run, run_at, block_name, path_in}
+use Rattle.line_tables.specs.Passing.{passes_block, passes_signal}
 use Rattle.plan_model.specs.declared.cut.CutRow.{CutRow}
+use Rattle.plan_model.specs.Cut.{stamped_row}
+use Rattle.plan_model.specs.Members.{no_member}
 use Rattle.section_cut.specs.Members.{member_row}
+use Rattle.section_cut.specs.Stamps.{IsReached, IsThere}
 use Rattle.section_cut.specs.Positions.{uses_in}
 
 -- a put of a signal or a route, or a change of a block, a signal or a route
@@ -61,3 +66,38 @@ abbrev pub row_after : Section → List ℕ → ℕ → Option Stair → Option 
 row_after section positions stamp (Some stair) old =
     member_row section stair.run stamp (uses_in positions (length section.blocks) stair.uses)
 row_after section positions stamp None old = old
+
+-- a reached run's row is the one that stands at its name's place, but for its stamp, or neither is there
+pub record IsSameThere (section : Section) (positions : List ℕ) (old : List CutRow) (name : List ℕ) (stair : Stair) : Type 0 where
+  pub at : ℕ
+  pub there : Bool
+  pub found : IsReached old name at
+  pub told : IsTrue there ↔ IsThere old name at
+  pub same : option_map (stamped_row 0) (row_after section positions 0 (Some stair) (if there then Some (slice_index_or old at no_member) else None))
+      ≡ option_map (stamped_row 0) (if there then Some (slice_index_or old at no_member) else None)
+
+-- ---- the runs that pass what is edited
+
+-- a run is on the route of a name
+abbrev pub is_on : List ℕ → Run → Bool
+is_on name run = is_same run.route name
+
+-- a run passes a block or a signal, or is on a route
+abbrev pub passes_item : Tables → Item → Run → Bool
+passes_item tables (item.Block b) run = passes_block tables b.name run
+passes_item tables (item.Signal s) run = passes_signal tables s.name run
+passes_item tables (item.Route r) run = is_on r.name run
+passes_item tables (item.Run r) run = true
+passes_item tables (item.Section s) run = true
+passes_item tables (item.Connection c) run = true
+
+-- it passes what an edit puts or changes
+abbrev pub passes : Tables → Edit → Run → Bool
+passes tables (edit.Put x) run = passes_item tables x run
+passes tables (edit.Change x) run = passes_item tables x run
+passes tables (edit.Drop k n) run = true
+
+-- of each run it is told that it fails a test, or nothing
+pub record IsTold (test : Run → Bool) (runs : List Run) (told : List Bool) : Type 0 where
+  pub count : length told ≡ length runs
+  pub each : (n : ℕ) (d : Bool) → n < length runs → slice_index_or told n d ≡ false → test (slice_index_or runs n no_run) ≡ false

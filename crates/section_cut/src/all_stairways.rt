@@ -76,7 +76,8 @@ impl AllStairways {
         &self.stairs.slice()[n]
     }
 
-    /// Whether all uses of the stairway at a place start before a section's window, or all after it.
+    /// Whether all uses of the stairway at a place start before a section's window, or all at its
+    /// end or later: `true` says so, and `false` says nothing.
     pub(crate) fn passes_by(&self, n: usize, section: &Section) -> bool
         requires { n < length self.now }
         ensures { result ≡ true → StartsOutside section.now (stair_at self.now n).uses }

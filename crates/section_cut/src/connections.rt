@@ -136,7 +136,7 @@ fn last_arrival(tables: &LineTables, number: u32) -> u64
     ensures same { result ≡ cuts.last_arrival tables.now (run_at tables.now number) }
     ensures bounded { result ≤ GREATEST_DEPARTURE_S }
 {
-    let _count = tables.runs();
+    tables.learn_sound();
     let run = tables.run(number);
     u64::from(run.start_s) + time_of(run)
 }

@@ -26,11 +26,13 @@ use std::marker::Model;
 pub enum CutChange {
     /// The edit doesn't touch the section: the cut keeps its value and its stamps.
     Untouched,
-    /// The edit touches the section, whose cut is this one after it, or none where the section isn't there.
+    /// The edit touches the section, whose cut is this one after it, or none where the section
+    /// isn't there.
     Touched(Option<Cut>),
 }
 
-/// The tables before and after an edit, with what is made of them once for the cuts of many sections.
+/// The tables before and after an edit, with what is made of them once for the cuts of many
+/// sections.
 #[derive(Drop)]
 pub struct CutChanges<'a> {
     before: &'a LineTables,
@@ -69,10 +71,10 @@ impl<'a> CutChanges<'a> {
         })
     }
 
-    /// What the edit, which has this number, makes of the cut of the section of a name. The section is
-    /// touched exactly where its cuts before and after the edit differ, and a cut that isn't there
-    /// differs from each that is. In the cut after it each row that is new, or whose value changed, has
-    /// the edit's number as its stamp, and each other row keeps its stamp.
+    /// What the edit, which has this number, makes of the cut of the section of a name. The section
+    /// is touched exactly where its cuts before and after the edit differ, and a cut that isn't
+    /// there differs from each that is. In the cut after it each row that is new, or whose value
+    /// changed, has the edit's number as its stamp, and each other row keeps its stamp.
     pub fn cut_after(
         &self,
         alloc: Global,
@@ -129,7 +131,7 @@ fn cut_after_all(
     ensures { IfOk result (IsChange (cut_of before.now section.now) (cut_of after.now section.now)
         number (option_copied cut.entry)) }
 {
-    let _sound = before.sections();
+    before.learn_sound();
     let later = cut_anew(alloc, after, stairs, section, number)?;
     Ok(changed(cut, later, number))
 }
@@ -152,7 +154,7 @@ fn cut_after_section(
     if !same_name(edited, section) {
         return Ok(CutChange::Untouched);
     }
-    let _sound = before.sections();
+    before.learn_sound();
     let later = cut_of(alloc, after, section, number)?;
     Ok(changed(cut, later, number))
 }
@@ -220,10 +222,10 @@ fn restamped(old: &Cut, later: Cut, number: u64) -> Cut
     cut
 }
 
-/// Makes the cut of a section that of the tables after an edit, and tells whether the edit touches the
-/// section: whether its cuts before and after the edit differ, where a cut that isn't there differs from
-/// each that is. Each row that is new, or whose value changed, gets the edit's number as its stamp, and
-/// each other row keeps its stamp. Without memory the cut stays as it was.
+/// Makes the cut of a section that of the tables after an edit, and tells whether the edit touches
+/// the section: whether its cuts before and after the edit differ, where a cut that isn't there
+/// differs from each that is. Each row that is new, or whose value changed, gets the edit's number
+/// as its stamp, and each other row keeps its stamp. Without memory the cut stays as it was.
 pub fn cut_change(
     alloc: Global,
     cut: &mut Option<Cut>,
@@ -241,7 +243,7 @@ pub fn cut_change(
         (IsCutAfter (cut_of after.now section.now) number cut.old cut.new) }
     ensures kept { OnErr result (cut.new ≡ cut.old) }
 {
-    let _sound = after.sections();
+    after.learn_sound();
     let changes = CutChanges::of(alloc, before, after, edit)?;
     match changes.cut_after(alloc, cut.as_ref(), section, number)? {
         CutChange::Untouched => Ok(false),

@@ -17,8 +17,9 @@ use rail_model::{Name, OutOfMemory};
 use std::alloc::Global;
 
 /// The cut of the section of a name, each row with this stamp, and `None` exactly where the section
-/// isn't there. A run is a member where it uses a block of the section and its entry, the least start
-/// of its blockings there, lies in the section's window: from the window's start, and before its end.
+/// isn't there. A run is a member where it uses a block of the section and its entry, the least
+/// start of its blockings there, lies in the section's window: from the window's start, and before
+/// its end.
 pub fn cut_of(
     alloc: Global,
     tables: &LineTables,
@@ -36,9 +37,9 @@ pub fn cut_of(
     Ok(Some(cut_by(alloc, tables, &stairs, number, stamp)?))
 }
 
-/// The same cut of the section of a number, by the stairways of all runs, which `stairways` makes once
-/// for many sections. A run whose blockings all start before the section's window, or all after it, is
-/// passed over without a look at each of them.
+/// The same cut of the section of a number, by all stairways, which are made once for many
+/// sections by `stairways` and `AllStairways::of`. A run whose blockings all start before the
+/// section's window, or all at its end or later, is passed over without a look at each of them.
 pub fn cut_among(
     alloc: Global,
     tables: &LineTables,
@@ -69,9 +70,9 @@ fn cut_by(
         ≡ stamped stamp (cuts.section_cut tables.now (section_at tables.now section))) }
     ensures sound { IfOk result IsSoundCut }
 {
-    let _count = tables.sections();
-    let section = tables.section(section);
+    tables.learn_sound();
     let table = positions(alloc, tables, section)?;
+    let section = tables.section(section);
     let MemberRows { mut rows, of_run } = members(alloc, tables, section, &table, stairs, stamp)?;
     let connections = connections(alloc, tables, section, &of_run, &mut rows)?;
     Ok(Cut {

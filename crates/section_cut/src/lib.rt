@@ -4,8 +4,8 @@
 //! `cut_of` makes the cut of one section. For the cuts of many sections `stairways` makes the
 //! stairways of all runs once, and `cut_among` takes each cut from them.
 //!
-//! `cut_change` makes a cut that is kept that of the tables after an edit, with the stamps of its rows,
-//! and tells whether the edit touches the section; `CutChanges` does so for many sections.
+//! `cut_change` makes a cut that is kept that of the tables after an edit, with the stamps of its
+//! rows, and tells whether the edit touches the section; `CutChanges` does so for many sections.
 #![tactic(auto)]
 
 mod all_stairways;

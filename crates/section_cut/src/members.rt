@@ -10,7 +10,7 @@ ghost use Rattle.section_cut.specs.Members as rows;
 use crate::all_stairways::AllStairways;
 use crate::positions::gather;
 use line_tables::LineTables;
-use plan_model::CutRow;
+use plan_model::{CutRow, least_start};
 use rail_model::{List, Name, OutOfMemory, PATH_HOPS, Section, Stair, Use};
 use std::alloc::Global;
 
@@ -45,7 +45,7 @@ pub(crate) fn members(
     ensures of_run { IfOk result
         (λ all. all.of_run.items ≡ rows.members_by_run tables.now section.now) }
 {
-    let _count = tables.runs();
+    tables.learn_sound();
     let mut all = MemberRows {
         rows: List::new(alloc),
         of_run: Vec::with_capacity(alloc, stairs.len())?,
@@ -115,20 +115,6 @@ fn enters(section: &Section, uses: &[Use], entry: i64) -> bool
     let from = i64::from(section.from_s);
     let to = i64::from(section.to_s);
     !uses.is_empty() && from <= entry && entry < to
-}
-
-// The least start of some uses, and 0 of none.
-fn least_start(uses: &[Use]) -> i64
-    ensures { result ≡ least (map (λ u. u.start) uses.now) }
-{
-    if uses.is_empty() {
-        return 0;
-    }
-    let mut entry = uses[0].start;
-    for one in &uses[1..] {
-        entry = entry.min(one.start);
-    }
-    entry
 }
 
 // Adds the next run: its row, if it is a member.

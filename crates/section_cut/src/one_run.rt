@@ -1,14 +1,14 @@
-//! What an edit of one run makes of a section's cut, where there are no connections: it reaches the run's
-//! own row alone.
-ghost use Rattle.std.specs.Prelude.{◌≡◌, ◌<◌, ◌≤◌, ◌↔◌, IsTrue, All, length, IfOk, IfSome, Some, find, option_map, insert, remove, slice_set};
+//! What an edit of one run makes of a section's cut, where there are no connections: it reaches the
+//! run's own row alone.
+ghost use Rattle.std.specs.Prelude.{◌≡◌, ◌<◌, ◌≤◌, ◌↔◌, false, IsTrue, All, length, IfOk, IfSome, Some, find, option_map, insert, remove, slice_set};
 ghost use Rattle.plan_model.specs.Cut.{stamped, IsSoundCut};
 ghost use Rattle.section_cut.specs.Change.{IsChange};
 ghost use Rattle.section_cut.specs.Members.{member_row};
-ghost use Rattle.section_cut.specs.OneRun.{run_edited, cut_with, uses_of_section, IsOneRun};
+ghost use Rattle.section_cut.specs.OneRun.{run_edited, cut_with, uses_of_section, IsOneRun, PassesBy};
 ghost use Rattle.section_cut.specs.OneRun as one;
 ghost use Rattle.plan_model.specs.SectionCut.{cut_of};
 ghost use Rattle.rail_model.specs.Blocking.{stair_of};
-ghost use Rattle.rail_model.specs.Tables.{path_in};
+ghost use Rattle.rail_model.specs.Tables.{path_in, section_at};
 ghost use Rattle.rail_model.specs.Name.{is_same};
 ghost use Rattle.section_cut.specs.Stamps.{IsThere};
 
@@ -42,42 +42,67 @@ pub(crate) fn run_edited(edit: &Edit) -> Option<Name>
     }
 }
 
-// The row of a section that a run has by its stair, if it is there and a member.
-fn row_of_stair(
+// The row that the edited run has in a section, which has this name, if it is there and a member. Where
+// the run passes by the section's window or its blocks, no table is made for it.
+fn row_of_run(
     alloc: Global,
     tables: &LineTables,
+    name: &Name,
     section: &Section,
-    stair: &Option<TimedStair>,
+    run: &EditedRun,
     stamp: u64,
 ) -> Result<Option<CutRow>, OutOfMemory>
-    requires there { IfSome stair.now (λ s. All (λ u. u.block < length tables.now.blocks) s.uses) }
+    requires section { find (λ s. is_same s.name name.now) tables.now.sections ≡ Some section.now }
+    requires stair { run.now.stair ≡ option_map (λ r. stair_of (path_in tables.now r))
+        (find (λ r. is_same r.name run.now.name) tables.now.runs) }
     requires blocks { length section.now.blocks ≤ PATH_HOPS }
     ensures { IfOk result
-        (λ row. row ≡ one.row_of_stair tables.now section.now stamp stair.now) }
+        (λ row. row ≡ one.row_of_stair tables.now section.now stamp run.now.stair) }
 {
-    match stair {
-        Some(stair) => row_by(alloc, tables, section, stair, stamp),
-        None => Ok(None),
+    let Some(stair) = &run.stair else {
+        return Ok(None);
+    };
+    tables.learn_sound();
+    if stair.passes_by(section) {
+        return Ok(None);
+    }
+    let Some(place) = tables.section_number(name) else {
+        unreachable!();
+    };
+    if !passes(tables, &run.name, place) {
+        return Ok(None);
+    }
+    row_by(alloc, tables, place, section, stair, stamp)
+}
+
+// Whether the run of a name, if it is there, passes a block of the section of a number.
+fn passes(tables: &LineTables, name: &Name, section: u32) -> bool
+    requires { section < length tables.now.sections }
+    ensures { result ≡ false → PassesBy tables.now (section_at tables.now section) name.now }
+{
+    match tables.run_number(name) {
+        Some(number) => tables.passes_section(number, section),
+        None => false,
     }
 }
 
-// The same for a run that is there. Where it passes by the section, nothing else is looked at.
+// The row of the run of a stair in the section of a number, if it is a member.
 fn row_by(
     alloc: Global,
     tables: &LineTables,
+    place: u32,
     section: &Section,
     stair: &TimedStair,
     stamp: u64,
 ) -> Result<Option<CutRow>, OutOfMemory>
+    requires place { place < length tables.now.sections }
+    requires section { section_at tables.now place ≡ section.now }
     requires there { All (λ u. u.block < length tables.now.blocks) stair.now.uses }
     requires blocks { length section.now.blocks ≤ PATH_HOPS }
     ensures { IfOk result (λ row. row ≡ member_row section.now stair.now.run stamp
         (uses_of_section tables.now section.now stair.now.uses)) }
 {
-    if stair.passes_by(section) {
-        return Ok(None);
-    }
-    let table = positions(alloc, tables, section)?;
+    let table = positions(alloc, tables, place)?;
     let mut found = Vec::new(alloc);
     let own = stair.stair();
     gather(
@@ -120,9 +145,9 @@ pub(crate) fn cut_after_run(
     ensures { IfOk result (IsChange (cut_of before.now section.now) (cut_of after.now section.now)
         number (Some old.now)) }
 {
-    let _sound_before = before.sections();
-    let _sound = after.sections();
-    let row = row_of_stair(alloc, after, &old.section, &run.stair, number)?;
+    before.learn_sound();
+    after.learn_sound();
+    let row = row_of_run(alloc, after, section, &old.section, run, number)?;
     with_row(alloc, old, &run.name, row, number)
 }
 

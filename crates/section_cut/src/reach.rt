@@ -1,8 +1,10 @@
-//! Which rows of cuts an edit can reach, and the stairways that they are made of, once for all sections.
+//! Which rows of cuts an edit can reach, and the stairways that they are made of, once for all
+//! sections.
 //!
-//! An edit of a section reaches its own rows. Where there are connections, any other edit may reach any
-//! row. Where there are none, an edit of a run reaches its row, a put or drop of a block, a signal or a
-//! route reaches none, and a change of one reaches the rows of the runs whose paths it changes.
+//! An edit of a section reaches its own rows. Where there are connections, any other edit may reach
+//! any row. Where there are none, an edit of a run reaches its row, a put or drop of a block, a
+//! signal or a route reaches none, and a change of one reaches the rows of the runs whose paths it
+//! changes.
 ghost use Rattle.std.specs.Prelude.{◌≡◌, ◌≢◌, true, false, All, IfOk, None};
 ghost use Rattle.rail_model.specs.Edits as edits;
 ghost use Rattle.section_cut.specs.ReachedRuns.{KeepsBlocks, AreReachedRuns};
@@ -53,12 +55,12 @@ pub(crate) fn reach_of(
         let stair = stair_named(alloc, after, &name)?;
         return Ok(Reach::Run(EditedRun { name, stair }));
     }
-    let _sound = after.sections();
+    after.learn_sound();
     if reaches_no_run(before, edit) {
         return Ok(Reach::Nothing);
     }
     if keeps_blocks(edit) {
-        let stairs = reached_runs(alloc, before, after)?;
+        let stairs = reached_runs(alloc, before, after, edit)?;
         return Ok(reach_of_runs(before, after, stairs));
     }
     Ok(Reach::All(stairs_of_all(alloc, after)?))

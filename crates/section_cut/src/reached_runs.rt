@@ -1,77 +1,192 @@
 //! What a change of a block, a signal or a route makes of a section's cut, where there are no
 //! connections: it reaches the rows of the runs whose paths it changes, and no other.
-ghost use Rattle.std.specs.Prelude.{◌≡◌, ◌↔◌, ◌<◌, ◌≤◌, ◌+◌, ◌++◌, true, false, option_map, if◌then◌else◌, IsTrue, All, length, map, IfOk, IfSome, OnOk, Some, None, slice_index_or};
+ghost use Rattle.std.specs.Prelude.{◌≡◌, ◌↔◌, ◌<◌, ◌≤◌, ◌+◌, ◌++◌, true, false, Bool, option_map, if◌then◌else◌, IsTrue, All, length, map, IfOk, IfSome, OnOk, Some, None, slice_index_or};
 ghost use Rattle.std.specs.Option.{option_to_list};
 ghost use Rattle.line_tables.specs.Hops as hops;
 ghost use Rattle.plan_model.specs.Cut.{stamped, stamped_row};
 ghost use Rattle.plan_model.specs.Members.{no_member};
 ghost use Rattle.plan_model.specs.SectionCut.{cut_of};
-ghost use Rattle.rail_model.specs.Tables.{run_at};
+ghost use Rattle.rail_model.specs.Tables.{run_at, section_at, path_in};
 ghost use Rattle.section_cut.specs.Change.{IsChange};
 ghost use Rattle.section_cut.specs.Members.{member_row, rows_on_blocks};
-ghost use Rattle.section_cut.specs.Positions.{uses_in};
-ghost use Rattle.section_cut.specs.ReachedRuns.{IsSameTraffic, IsStairIfReached, AreReachedRuns};
+ghost use Rattle.section_cut.specs.Positions.{IsPositions, uses_in};
+ghost use Rattle.section_cut.specs.ReachedRuns.{IsSameTraffic, KeepsBlocks, IsTold, AreReachedRuns};
+ghost use Rattle.line_tables.specs.Passing.{passes_block, passes_signal};
+ghost use Rattle.rail_model.specs.declared.items.Run.{Run};
+ghost use Rattle.rail_model.specs.Edits as edits;
+ghost use Rattle.rail_model.specs.Name.{NamesRise};
+ghost use Rattle.rail_model.specs.Path.{Fits};
+ghost use Rattle.rail_model.specs.Blocking.{stair_of};
 ghost use Rattle.section_cut.specs.ReachedRuns as reached;
 
 use crate::cut_changes::{CutChange, compared};
 use crate::members::member_row;
 use crate::one_run::stands_at;
 use crate::positions::{gather, positions};
-use crate::same_value::{same_hops, same_row};
+use crate::same_value::{same_name, same_row};
+use crate::stamps::place_of;
 use crate::timed_stair::TimedStair;
 use blocking_time::stairs;
 use line_tables::LineTables;
 use plan_model::{Cut, CutRow};
-use rail_model::{Hop, List, Name, OutOfMemory, PATH_HOPS, Section, Use};
+use rail_model::{Edit, Hop, Item, List, Name, OutOfMemory, PATH_HOPS, Path, Section, Use};
 use std::alloc::Global;
 
-// For each run, in the order of the runs' names, its stair after an edit that changes its path.
+// How many reached runs each get a path of their own: for more, the hops of all routes are made once.
+const FEW: usize = 32;
+
+// For each run, in the order of the runs' names, its stair after an edit, where the edit may change its
+// path: only the runs that pass what is put or changed are looked at.
 pub(crate) fn reached_runs(
     alloc: Global,
     before: &LineTables,
     after: &LineTables,
+    edit: &Edit,
 ) -> Result<Vec<Option<TimedStair>>, OutOfMemory>
-    requires { IsSameTraffic before.now after.now }
+    requires after { after.now ≡ edits.after before.now edit.now }
+    requires keeps { KeepsBlocks edit.now }
+    requires same { IsSameTraffic before.now after.now }
     ensures { IfOk result (λ stairs. AreReachedRuns before.now after.now stairs.items) }
 {
-    let old_routes = before.route_hops()?;
-    let routes = after.route_hops()?;
+    let passing = passing_runs(alloc, after, edit)?;
+    let found = hops_for(after, &passing)?;
+    let routes = &found;
     let mut all = Vec::with_capacity(alloc, after.runs() as usize)?;
     for run in 0..after.runs() {
-        let stair = stair_if_reached(
-            alloc,
-            before,
-            old_routes.slice(),
-            after,
-            routes.slice(),
-            run,
-        )?;
+        let stair = stair_if_passing(alloc, after, routes, run, passing[run as usize])?;
         all.push(stair)?;
     }
     Ok(all)
 }
 
-// The stair after an edit of the run of a number, if the edit changes its path.
-fn stair_if_reached(
-    alloc: Global,
-    before: &LineTables,
-    old_routes: &[List<Hop>],
-    after: &LineTables,
-    routes: &[List<Hop>],
-    run: u32,
-) -> Result<Option<TimedStair>, OutOfMemory>
-    requires same { IsSameTraffic before.now after.now }
-    requires there { run < length after.now.runs }
-    requires old_routes { old_routes.now ≡ map (hops.route_hops before.now) before.now.routes }
-    requires routes { routes.now ≡ map (hops.route_hops after.now) after.now.routes }
-    ensures { IfOk result (IsStairIfReached before.now after.now (run_at after.now run)) }
+// For each run whether it passes what an edit puts or changes; `true` where that isn't looked up.
+fn passing_runs(alloc: Global, after: &LineTables, edit: &Edit) -> Result<Vec<bool>, OutOfMemory>
+    ensures { IfOk result
+        (λ told. IsTold (reached.passes after.now edit.now) after.now.runs told.items) }
 {
-    let old = before.run_path(old_routes, run)?;
-    let path = after.run_path(routes, run)?;
-    if same_hops(old.hops.slice(), path.hops.slice()) {
+    match edit {
+        Edit::Put(item) => passing_item(alloc, after, item),
+        Edit::Change(item) => passing_item(alloc, after, item),
+        Edit::Drop(..) => all_runs(alloc, after),
+    }
+}
+
+fn passing_item(alloc: Global, after: &LineTables, item: &Item) -> Result<Vec<bool>, OutOfMemory>
+    ensures { IfOk result
+        (λ told. IsTold (reached.passes_item after.now item.now) after.now.runs told.items) }
+{
+    match item {
+        Item::Block(block) => runs_past_block(alloc, after, &block.name),
+        Item::Signal(signal) => runs_past_signal(alloc, after, &signal.name),
+        Item::Route(route) => runs_on_route(alloc, after, &route.name),
+        Item::Run(_) | Item::Section(_) | Item::Connection(_) => all_runs(alloc, after),
+    }
+}
+
+fn runs_past_block(alloc: Global, after: &LineTables, name: &Name) -> Result<Vec<bool>, OutOfMemory>
+    ensures { IfOk result
+        (λ told. IsTold (passes_block after.now name.now) after.now.runs told.items) }
+{
+    if !after.has_block(name) {
+        return all_runs(alloc, after);
+    }
+    after.runs_past_block(name)
+}
+
+fn runs_past_signal(
+    alloc: Global,
+    after: &LineTables,
+    name: &Name,
+) -> Result<Vec<bool>, OutOfMemory>
+    ensures { IfOk result
+        (λ told. IsTold (passes_signal after.now name.now) after.now.runs told.items) }
+{
+    if !after.has_signal(name) {
+        return all_runs(alloc, after);
+    }
+    after.runs_past_signal(name)
+}
+
+fn runs_on_route(alloc: Global, after: &LineTables, name: &Name) -> Result<Vec<bool>, OutOfMemory>
+    ensures { IfOk result
+        (λ told. IsTold (reached.is_on name.now) after.now.runs told.items) }
+{
+    let mut told = Vec::with_capacity(alloc, after.runs() as usize)?;
+    for run in 0..after.runs() {
+        told.push(same_name(&after.run(run).route, name))?;
+    }
+    Ok(told)
+}
+
+fn all_runs(alloc: Global, after: &LineTables) -> Result<Vec<bool>, OutOfMemory>
+    ensures { IfOk result (λ told. (test : Run → Bool) → IsTold test after.now.runs told.items) }
+{
+    let told = vec![in alloc; true; after.runs() as usize]?;
+    Ok(told)
+}
+
+// The hops of all routes, where they serve more than a few runs.
+fn hops_for(after: &LineTables, passing: &[bool]) -> Result<Option<List<List<Hop>>>, OutOfMemory>
+    ensures { IfOk result (λ routes. IfSome routes (λ all. all
+        ≡ map (hops.route_hops after.now) after.now.routes)) }
+{
+    if are_few(passing) {
         return Ok(None);
     }
+    Ok(Some(after.route_hops()?))
+}
+
+// Whether no more than a few of these are `true`.
+fn are_few(passing: &[bool]) -> bool {
+    let mut left = FEW;
+    for passes in passing {
+        if *passes {
+            if left == 0 {
+                return false;
+            }
+            left -= 1;
+        }
+    }
+    true
+}
+
+// The stair after an edit of the run of a number, if it passes what is edited.
+fn stair_if_passing(
+    alloc: Global,
+    after: &LineTables,
+    routes: &Option<List<List<Hop>>>,
+    run: u32,
+    passes: bool,
+) -> Result<Option<TimedStair>, OutOfMemory>
+    requires there { run < length after.now.runs }
+    requires routes { IfSome routes.now
+        (λ all. all ≡ map (hops.route_hops after.now) after.now.routes) }
+    ensures { IfOk result (λ stair. stair
+        ≡ (if passes then Some (stair_of (path_in after.now (run_at after.now run))) else None)) }
+{
+    if !passes {
+        return Ok(None);
+    }
+    let path = path_by(after, routes, run)?;
     Ok(Some(TimedStair::of(stairs(alloc, &path)?)))
+}
+
+// The path of the run of a number, by the hops of all routes where these are there.
+fn path_by(
+    after: &LineTables,
+    routes: &Option<List<List<Hop>>>,
+    run: u32,
+) -> Result<Path, OutOfMemory>
+    requires there { run < length after.now.runs }
+    requires routes { IfSome routes.now
+        (λ all. all ≡ map (hops.route_hops after.now) after.now.routes) }
+    ensures same { IfOk result (λ path. path ≡ path_in after.now (run_at after.now run)) }
+    ensures fits { IfOk result Fits }
+{
+    match routes {
+        Some(all) => after.run_path(all.slice(), run),
+        None => after.path(run),
+    }
 }
 
 // What the edit of a number makes of the cut of a section that is there.
@@ -89,12 +204,16 @@ pub(crate) fn cut_after_runs(
     ensures { IfOk result (IsChange (cut_of before.now section.now) (cut_of after.now section.now)
         number (Some old.now)) }
 {
-    let _sound_before = before.sections();
-    let _sound = after.sections();
-    if !rows_differ(alloc, before, after, reached, old)? {
+    before.learn_sound();
+    after.learn_sound();
+    let Some(place) = after.section_number(section) else {
+        unreachable!();
+    };
+    let table = positions(alloc, after, place)?;
+    if !rows_differ(alloc, before, after, reached, old, &table)? {
         return Ok(CutChange::Untouched);
     }
-    let rows = rows_after(alloc, before, after, reached, old, number)?;
+    let rows = rows_after(alloc, before, after, reached, old, &table, number)?;
     let later = Cut {
         section: old.section.copy(alloc)?,
         connections: List::new(alloc),
@@ -110,61 +229,51 @@ fn rows_differ(
     after: &LineTables,
     reached: &[Option<TimedStair>],
     old: &Cut,
+    positions: &[u32],
 ) -> Result<bool, OutOfMemory>
     requires reached { AreReachedRuns before.now after.now reached.now }
     requires rows { map (stamped_row 0) old.now.rows ≡ rows_on_blocks before.now old.now.section 0 }
     requires blocks { length old.now.section.blocks ≤ PATH_HOPS }
+    requires table { IsPositions after.now old.now.section positions.now }
+    requires rise { NamesRise (λ r. r.name) old.now.rows }
     ensures { IfOk result (λ differ. differ ≡ false → rows_on_blocks after.now old.now.section 0
         ≡ rows_on_blocks before.now old.now.section 0) }
 {
-    let _sound = before.sections();
-    let table = positions(alloc, after, &old.section)?;
+    before.learn_sound();
     let mut found = Vec::new(alloc);
-    let mut at = 0;
     for n in 0..after.runs() {
-        let own = old.rows.slice();
-        let there = stands_at(own, &after.run(n).name, at);
+        let name = &after.run(n).name;
         let stair = &reached[n as usize];
-        if row_differs(
-            alloc,
-            &old.section,
-            &table,
-            stair,
-            own,
-            at,
-            there,
-            &mut found,
-        )? {
+        let own = old.rows.slice();
+        if row_differs(alloc, &old.section, positions, stair, own, name, &mut found)? {
             return Ok(true);
         }
-        at = place_behind(own, at, there);
     }
     Ok(false)
 }
 
-// Whether a run's row after an edit differs from the one at a place before it, if that is there.
+// Whether the row of the run of a name differs after an edit from the one before it. Of a run that isn't
+// reached nothing is looked at.
 fn row_differs(
     alloc: Global,
     section: &Section,
     positions: &[u32],
     stair: &Option<TimedStair>,
     old: &[CutRow],
-    at: usize,
-    there: bool,
+    name: &Name,
     found: &mut Vec<Use>,
 ) -> Result<bool, OutOfMemory>
+    requires rise { NamesRise (λ r. r.name) old.now }
     requires uses { IfSome stair.now (λ s. All (λ u. u.block < length positions.now) s.uses) }
     requires blocks { length section.now.blocks ≤ PATH_HOPS }
-    requires at { there ≡ true → at < length old.now }
     ensures { IfOk result (λ differs. differs ≡ false
-        → option_map (stamped_row 0) (reached.row_after section.now positions.now 0 stair.now
-        (if there then Some (slice_index_or old.now at no_member) else None))
-        ≡ option_map (stamped_row 0)
-        (if there then Some (slice_index_or old.now at no_member) else None)) }
+        → IfSome stair.now (reached.IsSameThere section.now positions.now old.now name.now)) }
 {
     let Some(stair) = stair else {
         return Ok(false);
     };
+    let at = place_of(old, name);
+    let there = stands_at(old, name, at);
     let row = row_made(alloc, section, positions, stair, 0, found)?;
     Ok(!stands_same(&row, old, at, there))
 }
@@ -188,16 +297,17 @@ fn rows_after(
     after: &LineTables,
     reached: &[Option<TimedStair>],
     old: &Cut,
+    positions: &[u32],
     number: u64,
 ) -> Result<List<CutRow>, OutOfMemory>
     requires reached { AreReachedRuns before.now after.now reached.now }
     requires rows { map (stamped_row 0) old.now.rows ≡ rows_on_blocks before.now old.now.section 0 }
     requires blocks { length old.now.section.blocks ≤ PATH_HOPS }
+    requires table { IsPositions after.now old.now.section positions.now }
     ensures { IfOk result
         (λ rows. map (stamped_row 0) rows ≡ rows_on_blocks after.now old.now.section 0) }
 {
-    let _sound = before.sections();
-    let table = positions(alloc, after, &old.section)?;
+    before.learn_sound();
     let mut found = Vec::new(alloc);
     let mut rows = List::new(alloc);
     let mut at = 0;
@@ -208,7 +318,7 @@ fn rows_after(
         let row = row_after(
             alloc,
             &old.section,
-            &table,
+            positions,
             stair,
             own,
             at,
@@ -247,7 +357,7 @@ fn row_after(
     if !there {
         return Ok(None);
     }
-    Ok(Some(copy_of(alloc, &old[at])?))
+    Ok(Some(old[at].copy(alloc)?))
 }
 
 // The row of the run of a stair, if it is a member. The uses of the section's blocks are gathered in a
@@ -272,18 +382,6 @@ fn row_made(
     let blocks = section.blocks.len() as u32;
     gather(found, positions, blocks, own.uses.slice())?;
     member_row(alloc, section, own.run, stamp, found)
-}
-
-// A copy of a row.
-fn copy_of(alloc: Global, row: &CutRow) -> Result<CutRow, OutOfMemory>
-    ensures { IfOk result (λ copy. copy ≡ row.now) }
-{
-    Ok(CutRow {
-        name: row.name,
-        stamp: row.stamp,
-        entry: row.entry,
-        uses: List::from_vec(Vec::from_slice(alloc, row.uses.slice())?),
-    })
 }
 
 // Adds a row, if there is one.

@@ -3,7 +3,7 @@ ghost use Rattle.std.specs.Prelude.{◌≡◌, ◌↔◌, IsTrue, map};
 ghost use Rattle.plan_model.specs.Cut.{stamped_row, IsSameCut};
 
 use plan_model::{Cut, CutRow};
-use rail_model::{Hop, Name, Section, Use};
+use rail_model::{Name, Section, Use};
 
 /// Whether two cuts are equal but for their stamps.
 pub fn same_cut(a: &Cut, b: &Cut) -> bool
@@ -89,34 +89,4 @@ pub(crate) fn same_name(a: &Name, b: &Name) -> bool
     ensures { IsTrue result ↔ (a.now ≡ b.now) }
 {
     a == b
-}
-
-// Whether two lists of hops are equal.
-pub(crate) fn same_hops(a: &[Hop], b: &[Hop]) -> bool
-    ensures { IsTrue result ↔ (a.now ≡ b.now) }
-{
-    if a.len() != b.len() {
-        return false;
-    }
-    for i in 0..a.len() {
-        if !same_hop(a[i], b[i]) {
-            return false;
-        }
-    }
-    true
-}
-
-// Whether two hops are equal.
-fn same_hop(a: Hop, b: Hop) -> bool
-    ensures { IsTrue result ↔ (a ≡ b) }
-{
-    a.block == b.block
-        && a.block_m == b.block_m
-        && a.approach_m == b.approach_m
-        && a.watch_s == b.watch_s
-        && a.form_s == b.form_s
-        && a.overlap_m == b.overlap_m
-        && a.release_s == b.release_s
-        && a.running_s == b.running_s
-        && a.dwell_s == b.dwell_s
 }

@@ -6,7 +6,7 @@ use Rattle.section_cut.proofs.cut_changes.cut_after_all.Goals as goal
 
 pub changed-requires-clause-old_sound : goal.changed-requires-clause-old_sound
 changed-requires-clause-old_sound c =
-    sound_if_there c.args.before.now c.sections-sound.ensures.sound c.args.section.now (option_copied c.args.cut) c.requires.cut
+    sound_if_there c.args.before.now c.learn_sound.ensures c.args.section.now (option_copied c.args.cut) c.requires.cut
 
 pub changed-requires-clause-stamps : goal.changed-requires-clause-stamps
 changed-requires-clause-stamps c =

@@ -13,7 +13,7 @@ returns-then-not-same_name c =
 
 pub changed-requires-clause-old_sound : goal.changed-requires-clause-old_sound
 changed-requires-clause-old_sound c =
-    sound_if_there c.args.before.now c.sections-sound.ensures.sound c.args.section.now (option_copied c.args.cut) c.requires.cut
+    sound_if_there c.args.before.now c.learn_sound.ensures c.args.section.now (option_copied c.args.cut) c.requires.cut
 
 pub changed-requires-clause-stamps : goal.changed-requires-clause-stamps
 changed-requires-clause-stamps c =

@@ -14,4 +14,4 @@ returns-in-Untouched-clause-cut c =
     c.in-Untouched.is c.in_ok-cut_after.ensures in
     let same : cut_of c.args.after.now section ≡ cut_of c.args.before.now section =
     subst (λ (t : TwoTables). cut_of t.after section ≡ cut_of t.before section) c.in_ok-changes.ensures told in
-    untouched_is c.args.after.now c.sections-sound.ensures.sound section c.args.number c.args.cut.now (same ∙ c.requires.cut)
+    untouched_is c.args.after.now c.learn_sound.ensures section c.args.number c.args.cut.now (same ∙ c.requires.cut)

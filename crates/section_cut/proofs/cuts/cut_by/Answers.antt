@@ -7,11 +7,18 @@ use Rattle.plan_model.specs.declared.cut.CutRow.{CutRow}
 use Rattle.plan_model.specs.Cut.{stamped, IsSoundCut}
 use Rattle.plan_model.specs.SectionCut.{section_cut}
 use Rattle.rail_model.specs.Tables.{no_section, section_at}
+use Rattle.section_cut.specs.Positions.{IsPositions}
 use Rattle.section_cut.specs.Members.{members_of, row_on_blocks}
 use Rattle.section_cut.proofs.Sections.{section_stands, section_within}
 use Rattle.section_cut.proofs.Joined.{cut_is}
 use Rattle.section_cut.proofs.SoundCut.{sound_cut, sound_stamped}
 use Rattle.section_cut.proofs.cuts.cut_by.Goals as goal
+
+pub members-requires-clause-positions : goal.members-requires-clause-positions
+members-requires-clause-positions c =
+    let tables = c.args.tables.now in
+    let is = get_or_from_slice_get tables.sections c.args.section c.section-section.result.now no_section c.section-section.ensures in
+    rw c.deref.ensures.value (subst (λ s. IsPositions tables s c.in_ok-table.table.items) is c.in_ok-table.ensures)
 
 pub connections-requires-clause-rows : goal.connections-requires-clause-rows
 connections-requires-clause-rows c =
@@ -25,13 +32,13 @@ connections-requires-clause-blocks c =
     let tables = c.args.tables.now in
     subst (λ (s : Section). length s.blocks ≤ PATH_HOPS)
     (get_or_from_slice_get tables.sections c.args.section c.section-section.result.now no_section c.section-section.ensures)
-    (section_within tables c.sections-count.ensures.sound c.args.section c.requires.there).most
+    (section_within tables c.learn_sound.ensures c.args.section c.requires.there).most
 
 pub returns-clause-same : goal.returns-clause-same
 returns-clause-same c =
     let tables = c.args.tables.now in
     let section = c.section-section.result.now in
-    cut_is tables c.sections-count.ensures.sound section c.args.stamp c.in_ok-copy.field-0 c.in_ok-connections.connections
+    cut_is tables c.learn_sound.ensures section c.args.stamp c.in_ok-copy.field-0 c.in_ok-connections.connections
     c.in_ok-rows.field-0.rows c.connections.new.rows c.in_ok-copy.ensures c.in_ok-connections.ensures.names
     c.in_ok-rows.ensures.rows c.in_ok-connections.ensures.rows
     ∙ ap (λ s. stamped c.args.stamp (section_cut tables s))
@@ -40,7 +47,7 @@ returns-clause-same c =
 pub returns-clause-sound : goal.returns-clause-sound
 returns-clause-sound c =
     let tables = c.args.tables.now in
-    let sound = c.sections-count.ensures.sound in
+    let sound = c.learn_sound.ensures in
     let section = section_at tables c.args.section in
     subst IsSoundCut (sym (returns-clause-same c))
     (sound_stamped c.args.stamp (section_cut tables section)

@@ -16,7 +16,7 @@ row_at-requires-clause-there c =
     let tables = c.args.tables.now in
     let n = c.loop-n.n in
     let here : n < length tables.runs = omega (arith, c.loop-n-test.true, c.len-n-end.ensures, c.requires.stairs.count) in
-    let there = stair_there tables c.args.section.now c.runs-count.ensures.sound n here (stair_at c.args.stairs.now n) (c.requires.stairs.each n no_stair here) in
+    let there = stair_there tables c.args.section.now c.learn_sound.ensures n here (stair_at c.args.stairs.now n) (c.requires.stairs.each n no_stair here) in
     λ k d l. omega (arith, there k d l, c.requires.positions.count)
 
 pub loop-n-preserved : goal.loop-n-preserved
@@ -29,7 +29,7 @@ loop-n-preserved c =
     let here : n < length tables.runs = omega (arith, c.loop-n-test.true, c.len-n-end.ensures, c.requires.stairs.count) in
     let stair = stair_at c.args.stairs.now n in
     let is = c.requires.stairs.each n no_stair here in
-    let sound = c.runs-count.ensures.sound in
+    let sound = c.learn_sound.ensures in
     let row : c.in_ok-row.row ≡ member_row section run.name stamp (section_uses tables section run) =
     c.in_ok-row.ensures
     ∙ ap (λ name. member_row section name stamp (uses_in c.args.positions.now (length section.blocks) stair.uses)) (stair_name tables section sound n here stair is)

@@ -1,21 +1,12 @@
-use Rattle.std.proofs.Common.{◌≡◌, ◌<◌, length, refl, sym, ap, ◌∙◌, subst}
+use Rattle.std.proofs.Common.{◌≡◌, ◌<◌, length, sym, ap, ◌∙◌, subst}
 use Rattle.std.specs.Prelude.{All, IfOk}
 use Rattle.rail_model.specs.declared.stair.Stair.{Stair}
 use Rattle.rail_model.specs.declared.stair.Use.{Use}
 use Rattle.section_cut.specs.Members.{member_row}
-use Rattle.section_cut.specs.Positions.{uses_in}
+use Rattle.section_cut.specs.Positions.{IsPositions, uses_in}
 use Rattle.section_cut.specs.OneRun.{uses_of_section}
-use Rattle.plan_model.specs.SectionCut.{position_in_section}
-use Rattle.section_cut.proofs.Outside.{outside_not_entered}
 use Rattle.section_cut.proofs.MemberRows.{uses_by_positions}
 use Rattle.section_cut.proofs.one_run.row_by.Goals as goal
-
-pub returns-then-passes_by : goal.returns-then-passes_by
-returns-then-passes_by c =
-    let section = c.args.section.now in
-    let stays = outside_not_entered section (position_in_section c.args.tables.now section) (length section.blocks) c.args.stair.now.uses
-    (c.passes_by.ensures c.if-passes_by.true) in
-    rw stays refl
 
 pub returns : goal.returns
 returns c =
@@ -30,6 +21,6 @@ returns c =
     ∙ ap (λ t. uses_in t c.len.result c.slice.result.now) c.deref.ensures.value
     ∙ ap (λ n. uses_in table n c.slice.result.now) c.len.ensures.count
     ∙ ap (uses_in table (length section.blocks)) c.slice.ensures
-    ∙ uses_by_positions tables section table c.in_ok-table.ensures own.uses there in
+    ∙ uses_by_positions tables section table (subst (λ s. IsPositions tables s table) c.requires.section c.in_ok-table.ensures) own.uses there in
     subst (λ (s : Stair). IfOk c.member_row.result (λ row. row ≡ member_row section s.run c.args.stamp (uses_of_section tables section s.uses))) same
     (subst (λ us. IfOk c.member_row.result (λ row. row ≡ member_row section own.run c.args.stamp us)) is c.member_row.ensures)

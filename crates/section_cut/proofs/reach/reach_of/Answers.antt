@@ -20,11 +20,11 @@ pub returns-then-reaches_no_run : goal.returns-then-reaches_no_run
 returns-then-reaches_no_run c =
     let before = c.args.before.now in
     let none : before.connections ≡ [] = nil_from_length before.connections (omega (arith, c.connections.ensures.count)) in
-    cuts_stay before c.args.after.now c.args.edit.now c.requires c.connections.ensures.sound c.sections-sound.ensures.sound none
+    cuts_stay before c.args.after.now c.args.edit.now c.requires c.connections.ensures.sound c.learn_sound.ensures none
     (c.reaches_no_run.ensures c.if-reaches_no_run.true)
 
-pub reached_runs-requires : goal.reached_runs-requires
-reached_runs-requires c =
+pub reached_runs-requires-clause-same : goal.reached_runs-requires-clause-same
+reached_runs-requires-clause-same c =
     let before = c.args.before.now in
     let none : before.connections ≡ [] = nil_from_length before.connections (omega (arith, c.connections.ensures.count)) in
     same_traffic before c.args.after.now c.args.edit.now c.requires none (c.keeps_blocks.ensures c.if-keeps_blocks.true)

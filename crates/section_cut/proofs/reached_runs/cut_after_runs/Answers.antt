@@ -4,8 +4,30 @@ use Rattle.plan_model.specs.Cut.{stamped}
 use Rattle.plan_model.specs.SectionCut.{cut_of}
 use Rattle.section_cut.specs.Change.{IsChange}
 use Rattle.section_cut.proofs.ReachedRuns.{old_rows, cut_made, cut_same}
+use Rattle.section_cut.specs.Positions.{IsPositions}
+use Rattle.section_cut.proofs.PassedBy.{section_there, section_is, section_of_cut}
 use Rattle.section_cut.proofs.SameValue.{sound_cut_of}
 use Rattle.section_cut.proofs.reached_runs.cut_after_runs.Goals as goal
+
+pub unreachable-requires : goal.unreachable-requires
+unreachable-requires c =
+    section_there c.args.after.now c.args.section.now c.args.old.now.section
+    (section_of_cut c.args.before.now c.args.after.now c.args.section.now c.args.old.now c.requires.reached.same.sections c.requires.cut)
+    (sym c.in_default.ensures.there)
+
+pub rows_differ-requires-clause-table : goal.rows_differ-requires-clause-table
+rows_differ-requires-clause-table c =
+    let section = section_is c.args.after.now c.args.section.now c.args.old.now.section
+    (section_of_cut c.args.before.now c.args.after.now c.args.section.now c.args.old.now c.requires.reached.same.sections c.requires.cut)
+    c.in-Some.place c.in-Some.ensures.number in
+    rw c.deref.ensures.value (subst (λ s. IsPositions c.args.after.now s c.in_ok-table.table.items) section c.in_ok-table.ensures)
+
+pub rows_after-requires-clause-table : goal.rows_after-requires-clause-table
+rows_after-requires-clause-table c =
+    let section = section_is c.args.after.now c.args.section.now c.args.old.now.section
+    (section_of_cut c.args.before.now c.args.after.now c.args.section.now c.args.old.now c.requires.reached.same.sections c.requires.cut)
+    c.in-Some.place c.in-Some.ensures.number in
+    rw c.deref-2.ensures.value (subst (λ s. IsPositions c.args.after.now s c.in_ok-table.table.items) section c.in_ok-table.ensures)
 
 pub rows_after-requires-clause-rows : goal.rows_after-requires-clause-rows
 rows_after-requires-clause-rows c =
@@ -13,16 +35,16 @@ rows_after-requires-clause-rows c =
 
 pub rows_after-requires-clause-blocks : goal.rows_after-requires-clause-blocks
 rows_after-requires-clause-blocks c =
-    (sound_cut_of c.args.before.now c.sections-sound_before.ensures.sound c.args.section.now c.args.old.now c.requires.cut).most_blocks
+    (sound_cut_of c.args.before.now c.learn_sound.ensures c.args.section.now c.args.old.now c.requires.cut).most_blocks
 
 pub compared-requires-clause-old_sound : goal.compared-requires-clause-old_sound
 compared-requires-clause-old_sound c =
-    sound_cut_of c.args.before.now c.sections-sound_before.ensures.sound c.args.section.now c.args.old.now c.requires.cut
+    sound_cut_of c.args.before.now c.learn_sound.ensures c.args.section.now c.args.old.now c.requires.cut
 
 pub compared-requires-clause-sound : goal.compared-requires-clause-sound
 compared-requires-clause-sound c =
     let made : Cut = record { section = c.in_ok-copy.field-0; connections = c.new.result; rows = c.in_ok-rows.rows } in
-    sound_cut_of c.args.after.now c.sections-sound.ensures.sound c.args.section.now made
+    sound_cut_of c.args.after.now c.learn_sound-2.ensures c.args.section.now made
     (cut_made c.args.before.now c.args.after.now c.args.reached.now c.requires.reached c.args.section.now c.args.old.now c.requires.cut made
     c.in_ok-copy.ensures c.new.ensures c.in_ok-rows.ensures)
 
@@ -38,9 +60,13 @@ pub rows_differ-requires-clause-rows : goal.rows_differ-requires-clause-rows
 rows_differ-requires-clause-rows c =
     old_rows c.args.before.now c.args.after.now c.args.reached.now c.requires.reached c.args.section.now c.args.old.now c.requires.cut
 
+pub rows_differ-requires-clause-rise : goal.rows_differ-requires-clause-rise
+rows_differ-requires-clause-rise c =
+    (sound_cut_of c.args.before.now c.learn_sound.ensures c.args.section.now c.args.old.now c.requires.cut).names_rise
+
 pub rows_differ-requires-clause-blocks : goal.rows_differ-requires-clause-blocks
 rows_differ-requires-clause-blocks c =
-    (sound_cut_of c.args.before.now c.sections-sound_before.ensures.sound c.args.section.now c.args.old.now c.requires.cut).most_blocks
+    (sound_cut_of c.args.before.now c.learn_sound.ensures c.args.section.now c.args.old.now c.requires.cut).most_blocks
 
 pub returns-then-not-branch : goal.returns-then-not-branch
 returns-then-not-branch c =

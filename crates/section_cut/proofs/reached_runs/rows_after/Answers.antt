@@ -19,8 +19,7 @@ row_after-requires-clause-uses c =
     let n = c.loop-n.n in
     let stair = c.index-reached-n.result in
     let below : n < length later.runs = omega (arith, c.loop-n-test.true, c.runs-n-end.ensures.count) in
-    let long : length c.deref.result.now ≡ length later.blocks = ap length c.deref.ensures.value ∙ c.in_ok-table.ensures.count in
-    subst (λ k. IfSome stair (λ (s : Stair). All (λ (u : Use). u.block < k) s.uses)) (sym long)
+    subst (λ k. IfSome stair (λ (s : Stair). All (λ (u : Use). u.block < k) s.uses)) (sym c.requires.table.count)
     (reached_uses c.args.before.now later c.runs-n-end.ensures.sound n below stair
     (subst (IsStairIfReached c.args.before.now later (run_at later n)) (sym c.index-reached-n.is) (c.requires.reached.each n stair below)))
 
@@ -34,9 +33,9 @@ loop-n-preserved c =
     let at = c.loop-n.at in
     let there = c.stands_at-there.result in
     let stair = c.index-reached-n.result in
-    let positions = c.deref.result.now in
+    let positions = c.args.positions.now in
     let below : n < length later.runs = omega (arith, c.loop-n-test.true, c.runs-n-end.ensures.count) in
-    let table = subst (IsPositions later section) (sym c.deref.ensures.value) c.in_ok-table.ensures in
+    let table = c.requires.table in
     let run : c.run.result.now ≡ run_at later n = sym (get_or_from_slice_get later.runs n c.run.result.now no_run c.run.ensures) in
     let told : IsTrue there ↔ IsThere old (run_at later n).name at =
     subst (λ (r : Run). IsTrue there ↔ IsThere old r.name at) run
@@ -46,9 +45,9 @@ loop-n-preserved c =
     ∙ ap (λ (rs : List CutRow). row_after section positions c.args.number stair (cond there (Some (get_or rs at no_member)) None)) c.slice-own.ensures
     ∙ ap (λ o. row_after section positions c.args.number o (cond there (Some (get_or old at no_member)) None)) c.index-reached-n.is in (
       ap (map _) c.in_ok-push_row.ensures
-          ∙ rows_with earlier later section c.sections-sound.ensures.sound c.runs-n-end.ensures.sound c.args.reached.now c.requires.reached old c.requires.rows
+          ∙ rows_with earlier later section c.learn_sound.ensures c.runs-n-end.ensures.sound c.args.reached.now c.requires.reached old c.requires.rows
           positions table n below at c.loop-n.invariant.1 c.loop-n.rows c.in_ok-row.row c.args.number stair there told c.loop-n.invariant.0 own,
       c.place_behind-at.ensures
-          ∙ place_with earlier later section c.sections-sound.ensures.sound c.runs-n-end.ensures.sound c.args.reached.now c.requires.reached old c.requires.rows
+          ∙ place_with earlier later section c.learn_sound.ensures c.runs-n-end.ensures.sound c.args.reached.now c.requires.reached old c.requires.rows
           positions table n below at c.loop-n.invariant.1 there told,
     )

@@ -10,9 +10,9 @@ use Rattle.plan_model.specs.declared.cut.CutRow.{CutRow}
 use Rattle.plan_model.specs.Cut.{stamped_row}
 use Rattle.plan_model.specs.Members.{no_member}
 use Rattle.section_cut.specs.Positions.{IsPositions}
-use Rattle.section_cut.specs.ReachedRuns.{IsStairIfReached, row_after}
+use Rattle.section_cut.specs.ReachedRuns.{IsStairIfReached, IsSameThere}
 use Rattle.section_cut.specs.Stamps.{IsThere}
-use Rattle.section_cut.proofs.ReachedRuns.{IsSameRow, reached_uses, row_same, place_with, rows_stay}
+use Rattle.section_cut.proofs.ReachedRuns.{IsSameRow, reached_uses, same_told, rows_stay}
 use Rattle.section_cut.proofs.reached_runs.rows_differ.Goals as goal
 
 pub row_differs-requires-clause-uses : goal.row_differs-requires-clause-uses
@@ -21,8 +21,7 @@ row_differs-requires-clause-uses c =
     let n = c.loop-n.n in
     let stair = c.index-reached-n.result in
     let below : n < length later.runs = omega (arith, c.loop-n-test.true, c.runs-n-end.ensures.count) in
-    let long : length c.deref.result.now ≡ length later.blocks = ap length c.deref.ensures.value ∙ c.in_ok-table.ensures.count in
-    subst (λ k. IfSome stair (λ (s : Stair). All (λ (u : Use). u.block < k) s.uses)) (sym long)
+    subst (λ k. IfSome stair (λ (s : Stair). All (λ (u : Use). u.block < k) s.uses)) (sym c.requires.table.count)
     (reached_uses c.args.before.now later c.runs-n-end.ensures.sound n below stair
     (subst (IsStairIfReached c.args.before.now later (run_at later n)) (sym c.index-reached-n.is) (c.requires.reached.each n stair below)))
 
@@ -33,32 +32,22 @@ loop-n-preserved c =
     let section = c.args.old.now.section in
     let old = c.args.old.now.rows in
     let n = c.loop-n.n in
-    let at = c.loop-n.at in
-    let there = c.stands_at-there.result in
     let stair = c.index-reached-n.result in
-    let positions = c.deref.result.now in
+    let positions = c.args.positions.now in
     let below : n < length later.runs = omega (arith, c.loop-n-test.true, c.runs-n-end.ensures.count) in
-    let table = subst (IsPositions later section) (sym c.deref.ensures.value) c.in_ok-table.ensures in
     let run : c.run.result.now ≡ run_at later n = sym (get_or_from_slice_get later.runs n c.run.result.now no_run c.run.ensures) in
-    let told : IsTrue there ↔ IsThere old (run_at later n).name at =
-    subst (λ (r : Run). IsTrue there ↔ IsThere old r.name at) run
-    (subst (λ (rs : List CutRow). IsTrue there ↔ IsThere rs c.run.result.now.name at) c.slice-own.ensures c.stands_at-there.ensures) in
-    let same =
-    subst (λ (rs : List CutRow). option_map (stamped_row 0) (row_after section positions 0 stair (cond there (Some (get_or rs at no_member)) None))
-    ≡ option_map (stamped_row 0) (cond there (Some (get_or rs at no_member)) None)) c.slice-own.ensures
-    (c.in_ok-row_differs.ensures c.if-branch.false) in
-    let own = row_same earlier later section c.sections-sound.ensures.sound c.runs-n-end.ensures.sound c.args.reached.now c.requires.reached old c.requires.rows
-    positions table n below at c.loop-n.invariant.0 stair stair there c.index-reached-n.is told same in (
-      c.place_behind-at.ensures
-          ∙ place_with earlier later section c.sections-sound.ensures.sound c.runs-n-end.ensures.sound c.args.reached.now c.requires.reached old c.requires.rows
-          positions table n below at c.loop-n.invariant.0 there told,
-      λ k l. elim (cases_lt k n) [
-        | inl lt ↦ c.loop-n.invariant.1 k lt
-        | inr ge ↦ let last : n ≡ k = omega (arith, ge, l) in subst (IsSameRow earlier later section) last own
-      ],
-    )
+    let told =
+    subst (λ (r : Run). IfSome stair (IsSameThere section positions old r.name)) run
+    (subst (λ (rs : List CutRow). IfSome stair (IsSameThere section positions rs c.run.result.now.name)) c.slice-own.ensures
+    (c.in_ok-row_differs.ensures c.if-branch.false)) in
+    let own = same_told earlier later section c.learn_sound.ensures c.runs-n-end.ensures.sound c.args.reached.now c.requires.reached old c.requires.rows
+    positions c.requires.table n below stair stair c.index-reached-n.is told in
+    λ k l. elim (cases_lt k n) [
+      | inl lt ↦ c.loop-n.invariant k lt
+      | inr ge ↦ let last : n ≡ k = omega (arith, ge, l) in subst (IsSameRow earlier later section) last own
+    ]
 
 pub returns : goal.returns
 returns c _ =
     rows_stay c.args.before.now c.args.after.now c.args.old.now.section c.requires.reached.same.runs
-    (λ k l. c.loop-n.invariant.1 k (omega (arith, l, c.loop-n-test.false, c.runs-n-end.ensures.count)))
+    (λ k l. c.loop-n.invariant k (omega (arith, l, c.loop-n-test.false, c.runs-n-end.ensures.count)))
