@@ -4,9 +4,10 @@ ghost use Rattle.rail_outside.specs.InCall.{source_call, sink_call};
 ghost use Rattle.capacity.specs.Call.{IsCall, EndsAsCall};
 
 use crate::sentence::explain;
-use capacity_cmd::{Status, Told, run_alone_telling};
-use rail_outside::{Sink, Source, Words};
+use capacity_cmd::{Status, Told, alone, run_alone_telling, run_telling};
+use rail_outside::{OpenGate, Sink, Source, Words};
 use std::process::{ExitCode, Termination};
+use std::sync::Wait;
 use std::thread::Threads;
 
 // How the process ends. It is made here alone and can't be dropped, so `main` has to end with what
@@ -25,13 +26,13 @@ impl Termination for Ended {
     }
 }
 
-// Makes a call, and says on standard error why it isn't done. It can't wait.
-pub(crate) fn end_of_call<R: AllocGlobal + Eprint + Threads + Sync, W: Words, S: Source, K: Sink>(
-    rt: &R,
-    words: &W,
-    source: &mut S,
-    sink: &mut K,
-) -> Ended
+// Makes a call, and says on standard error why it isn't done.
+pub(crate) fn end_of_call<
+    R: AllocGlobal + Eprint + Threads + Wait + Sync,
+    W: Words,
+    S: Source,
+    K: Sink,
+>(rt: &R, words: &W, source: &mut S, sink: &mut K) -> Ended
     ensures { EndsAsCall
         result
         (W.told words.now)
@@ -47,9 +48,9 @@ pub(crate) fn end_of_call<R: AllocGlobal + Eprint + Threads + Sync, W: Words, S:
     }
 }
 
-// Makes a call, and tells why a row is refused. A word that isn't UTF-8 is no word of
-// a command.
-fn call<R: AllocGlobal + Threads + Sync, W: Words, S: Source, K: Sink>(
+// Makes a call, and tells why a row is refused. Words that ask for no session with workers are
+// run by a call that can't wait. A word that isn't UTF-8 is no word of a command.
+fn call<R: AllocGlobal + Threads + Wait + Sync, W: Words, S: Source, K: Sink>(
     rt: &R,
     words: &W,
     source: &mut S,
@@ -63,7 +64,8 @@ fn call<R: AllocGlobal + Threads + Sync, W: Words, S: Source, K: Sink>(
         (sink_call K.written K.flushed K.faults sink.old sink.new) }
 {
     match words.take(rt.alloc()) {
-        Ok(Ok(words)) => run_alone_telling(rt, &words, source, sink, told),
+        Ok(Ok(words)) if alone(&words) => run_alone_telling(rt, &words, source, sink, told),
+        Ok(Ok(words)) => run_telling(rt, &words, source, sink, &OpenGate, told),
         Ok(Err(_)) => Status::BadWords,
         Err(_) => Status::OutOfMemory,
     }

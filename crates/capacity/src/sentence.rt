@@ -10,7 +10,8 @@ pub(crate) fn explain(rt: &impl Eprint, status: Status, told: &str) -> io::Resul
         Status::BadWords => {
             eprintln!(rt;
                 "usage: capacity COMMAND < LINE.csv, COMMAND being stairs, check, report, \
-                compress NAME, headways NAME, cut NAME or session 0"
+                compress NAME, headways NAME, cut NAME, delays NAME RUN SECONDS .., fill NAME RUN \
+                or session W, W from 0 to 16"
             )
         }
         Status::ReadFault => eprintln!(rt; "the input could not be read"),

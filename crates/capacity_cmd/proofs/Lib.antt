@@ -3,4 +3,7 @@ pub mod Outcomes
 pub mod RowCount
 pub mod Making
 pub mod Cuts
+pub mod Commands
+pub mod Members
+pub mod GivenDelays
 pub mod Reports

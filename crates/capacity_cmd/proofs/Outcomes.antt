@@ -1,5 +1,6 @@
 -- The outcome of a command on an input, by the input's length and by what a source gave of it.
 use Rattle.std.proofs.Common.{◌≡◌, ℕ, ◌+◌, ◌<◌, ◌≤◌, true, false, List, ◌++◌, length, Option, Some, None, Result, Ok, Err, refl, sym, ap, ◌∙◌, subst, arith, nat_lt, length-append}
+use Rattle.std.specs.Prelude.{MatchResult}
 use Rattle.std.specs.Io.KnownBytes.{Consumes, IsAtEnd}
 use Rattle.std.proofs.lemmas.List.{append-nil}
 use Rattle.std.proofs.lemmas.Bool.{lt-ltb}
@@ -12,6 +13,8 @@ use Rattle.capacity_cmd.specs.declared.command.Command.{Command}
 use Rattle.capacity_cmd.specs.declared.command.Command.TheVariants as command
 use Rattle.capacity_cmd.specs.declared.refusal.Refusal.{Refusal}
 use Rattle.capacity_cmd.specs.declared.accepted.Accepted.{Accepted}
+use Rattle.capacity_cmd.specs.declared.reply.Reply.{Reply}
+use Rattle.capacity_cmd.specs.declared.status.Status.TheVariants as status
 use Rattle.capacity_cmd.specs.declared.status.Cause.TheVariants as cause
 use Rattle.capacity_cmd.specs.declared.limit.TheConstants.{INPUT_BYTES}
 use Rattle.capacity_cmd.specs.Input.{Content, accepted_of, refused, content_of_rows, content_of_input}
@@ -20,6 +23,8 @@ use Rattle.capacity_cmd.specs.Command.{planners_of}
 use Rattle.capacity_cmd.specs.Outcome.{Outcome, Refuses}
 use Rattle.capacity_cmd.specs.Ends.{EndsOnAccepted, Ends, EndsOn, IsOutcome}
 use Rattle.capacity_cmd.specs.Promise.{IsEnd}
+use Rattle.capacity_cmd.specs.Reply.{IsReply}
+use Rattle.capacity_cmd.specs.Given.{GivesOrRefuses}
 use Rattle.capacity_cmd.proofs.Refused.{ends_not_too_long, read_for}
 use Rattle.capacity_cmd.proofs.RowCount.{row_count}
 
@@ -111,7 +116,9 @@ few_planners (command.Compress section) = omega arith
 few_planners command.Report = omega arith
 few_planners (command.Headways section) = omega arith
 few_planners (command.Cut section) = omega arith
-few_planners command.Session = omega arith
+few_planners (command.Delays section delays) = omega arith
+few_planners (command.Fill section run) = omega arith
+few_planners (command.Session workers) = omega arith
 
 pub within_limits : (c : Command) (planners : ℕ) (input : List ℕ) (rows : List Row) (given : Accepted) → planners ≡ planners_of c
     → rows ≡ rows_of input → length input ≤ INPUT_BYTES → IsWithin planners (length rows) given
@@ -121,3 +128,22 @@ within_limits c planners input rows given takes is short within = record {
   tasks = within.tasks;
   edits = omega (arith, within.edits, ap length is, row_count input, short);
 }
+
+-- ---- what may be said of an outcome that the call may have
+
+pub reply_more : (MayEnd MayEnd2 : Outcome → Type 0) (reply : Reply) → ((outcome : Outcome) → MayEnd outcome → MayEnd2 outcome)
+    → IsReply MayEnd reply → IsReply MayEnd2 reply
+reply_more MayEnd MayEnd2 reply more is = record { outcome = is.outcome; ends = more is.outcome is.ends; said = is.said }
+
+pub found_more : (c : Command) (MayEnd MayEnd2 : Outcome → Type 0) (found : Result Accepted Reply)
+    → ((outcome : Outcome) → MayEnd outcome → MayEnd2 outcome) → GivesOrRefuses c MayEnd found → GivesOrRefuses c MayEnd2 found
+found_more c MayEnd MayEnd2 (Ok given) more is = record {
+  within = is.within;
+  ends = λ outcome ends. more outcome (is.ends outcome ends);
+}
+found_more c MayEnd MayEnd2 (Err reply) more is = reply_more MayEnd MayEnd2 reply more is
+
+pub found_at_end : (X : Type 0) (found : Result Accepted Reply) → X
+    → MatchResult found (λ given. X) (λ reply. reply.status ≡ status.Done → X)
+found_at_end X (Ok given) end = end
+found_at_end X (Err reply) end = λ is. end

@@ -12,6 +12,7 @@ use Rattle.row_text.specs.declared.line.Line.TheVariants as line
 use Rattle.row_text.specs.Row.{Row}
 use Rattle.row_text.specs.Lines.{read_in, ◌>>=◌}
 use Rattle.row_text.specs.Versions.{version_of, first_line}
+use Rattle.plan_model.specs.declared.cut.Cut.{Cut}
 use Rattle.plan_model.specs.SectionCut.{cut_of}
 use Rattle.plan_model.specs.declared.scripts.Task.{Task}
 use Rattle.plan_model.specs.declared.scripts.Task.TheVariants as task
@@ -26,7 +27,10 @@ use Rattle.capacity_cmd.specs.declared.accepted.Accepted.{Accepted}
 use Rattle.capacity_cmd.specs.Input.{Content, accepted_of, at_row, in_form, spelling_from, unless_refused, content_of_rows}
 use Rattle.capacity_cmd.specs.Command.{planners_of}
 use Rattle.capacity_cmd.specs.Outcome.{Outcome, Writes, Refuses, EndsInText}
-use Rattle.capacity_cmd.specs.Named.{EndsOnNamed}
+use Rattle.capacity_cmd.specs.declared.given_delay.GivenDelay.{GivenDelay}
+use Rattle.capacity_cmd.specs.Named.{cut_named, row_named, EndsOnNamed}
+use Rattle.capacity_cmd.specs.Delays.{are_members, delays_in, with_delays, delayed_named}
+use Rattle.capacity_cmd.specs.Fill.{member_named}
 use Rattle.capacity_cmd.specs.Ends.{EndsOnAccepted, Ends}
 use Rattle.capacity_cmd.specs.Promise.{IsReadFor}
 
@@ -109,19 +113,52 @@ content_other planners rows =
 in_text : (IsText : List ℕ → Type 0) (outcome : Outcome) → EndsInText IsText outcome → IsNotTooLong outcome
 in_text IsText outcome ends = subst IsNotTooLong (sym ends.2) tt
 
-on_named : {X : Type 0} (IsText : X → List ℕ → Type 0) (found : Option X) (outcome : Outcome)
-    → EndsOnNamed IsText (ok_or found cause.NoSection) outcome → IsNotTooLong outcome
-on_named IsText None outcome ends = subst IsNotTooLong (sym ends) (λ is. cc)
-on_named IsText (Some found) outcome ends = in_text (IsText found) outcome ends
+on_named : {X : Type 0} (IsText : X → List ℕ → Type 0) (found : Result X Cause) (outcome : Outcome) → HasOtherCause found
+    → EndsOnNamed IsText found outcome → IsNotTooLong outcome
+on_named IsText (Ok found) outcome other ends = in_text (IsText found) outcome ends
+on_named IsText (Err why) outcome other ends = subst IsNotTooLong (sym ends) other
+
+or_other : {X : Type 0} (found : Option X) (why : Cause) → why ≢ cause.TooLong → HasOtherCause (ok_or found why)
+or_other None why other = other
+or_other (Some x) why other = tt
+
+and_then_other : {X Y : Type 0} (found : Result X Cause) (next : X → Result Y Cause) → HasOtherCause found
+    → ((x : X) → HasOtherCause (next x)) → HasOtherCause (found >>= next)
+and_then_other (Ok x) next other each = each x
+and_then_other (Err why) next other each = other
+
+cut_other : (tables : Tables) (section : Option (List ℕ)) → HasOtherCause (cut_named tables section)
+cut_other tables section = or_other (option_and_then (cut_of tables) section) cause.NoSection (λ is. cc)
+
+if_other : {X : Type 0} (test : Bool) (x : X) → HasOtherCause (if test then Ok x else Err cause.NoMember)
+if_other true x = tt
+if_other false x = λ is. cc
+
+with_delays_other : (given : Option (List GivenDelay)) (cut : Cut) → HasOtherCause (with_delays given cut)
+with_delays_other None cut = λ is. cc
+with_delays_other (Some given) cut = if_other (are_members cut given) (cut, delays_in cut given)
+
+delayed_other : (tables : Tables) (section : Option (List ℕ)) (given : Option (List GivenDelay))
+    → HasOtherCause (delayed_named tables section given)
+delayed_other tables section given = and_then_other _ _ (cut_other tables section) (with_delays_other given)
+
+member_other : (tables : Tables) (section run : Option (List ℕ)) → HasOtherCause (member_named tables section run)
+member_other tables section run =
+    and_then_other _ _ (cut_other tables section) λ cut.
+    and_then_other _ _ (or_other (row_named cut run) cause.NoMember (λ is. cc)) λ row. tt
 
 on_accepted : (c : Command) (given : Accepted) (outcome : Outcome) → EndsOnAccepted c given outcome → IsNotTooLong outcome
 on_accepted command.Stairs given outcome ends = in_text _ outcome ends
 on_accepted command.Check given outcome ends = in_text _ outcome ends
-on_accepted (command.Compress section) given outcome ends = on_named _ (option_and_then (cut_of given.tables) section) outcome ends
+on_accepted (command.Compress section) given outcome ends = on_named _ _ outcome (cut_other given.tables section) ends
 on_accepted command.Report given outcome ends = in_text _ outcome ends
-on_accepted (command.Headways section) given outcome ends = on_named _ (option_and_then (cut_of given.tables) section) outcome ends
-on_accepted (command.Cut section) given outcome ends = on_named _ (option_and_then (cut_of given.tables) section) outcome ends
-on_accepted command.Session given outcome ends = in_text _ outcome ends
+on_accepted (command.Headways section) given outcome ends = on_named _ _ outcome (cut_other given.tables section) ends
+on_accepted (command.Cut section) given outcome ends = on_named _ _ outcome (cut_other given.tables section) ends
+on_accepted (command.Delays section delays) given outcome ends =
+    on_named _ _ outcome (delayed_other given.tables section delays) ends
+on_accepted (command.Fill section run) given outcome ends =
+    on_named _ _ outcome (member_other given.tables section run) ends
+on_accepted (command.Session workers) given outcome ends = in_text _ outcome ends
 
 by_content : (c : Command) (said : Result Content Refusal) (outcome : Outcome) → HasOtherRefusal said → Ends c said outcome
     → IsNotTooLong outcome
@@ -140,4 +177,5 @@ read_for source (Refuses row (cause.Form form)) other end = end
 read_for source (Refuses row (cause.Rule rule)) other end = end
 read_for source (Refuses row cause.TooLong) other end = absurd (other refl)
 read_for source (Refuses row cause.NoSection) other end = end
+read_for source (Refuses row cause.NoMember) other end = end
 read_for source (Refuses row cause.Script) other end = end

@@ -1,12 +1,12 @@
 -- A report, to which the head of one more section's answer comes.
-use Rattle.std.proofs.Common.{◌≡◌, ℕ, ◌+◌, ◌<◌, ◌≤◌, List, [], ◌∷◌, ◌++◌, length, take, sym, ap, ◌∙◌, subst, append_assoc, arith}
+use Rattle.std.proofs.Common.{◌≡◌, ℕ, zero, suc, ◌+◌, ◌<◌, ◌≤◌, List, [], ◌∷◌, ◌++◌, length, take, sym, ap, ◌∙◌, subst, append_assoc, arith}
 use Rattle.std.proofs.lemmas.List.{take_all, take_more, length-take-le}
 use Rattle.rail_model.specs.declared.tables.Tables.{Tables}
 use Rattle.rail_model.specs.Tables.{no_section, section_at}
 use Rattle.plan_model.specs.declared.scripts.Task.{Task}
 use Rattle.plan_model.specs.declared.journal.Entry.{Entry}
 use Rattle.plan_model.specs.Journal.{tables_of}
-use Rattle.plan_model.specs.Session.{IsSessionAlone}
+use Rattle.plan_model.specs.Session.{IsSession}
 use Rattle.row_text.specs.Row.{Row}
 use Rattle.row_text.specs.SheetRows.{text_of_rows}
 use Rattle.capacity_report.specs.declared.answers.Detail.TheVariants as detail
@@ -16,7 +16,7 @@ use Rattle.capacity_report.specs.Total.{Total, total_row, with_answer}
 use Rattle.capacity_report.specs.Journal.{rows_of_journal}
 use Rattle.capacity_report.proofs.Reports.{total_more, heads_more, answers_more, answers_count}
 use Rattle.capacity_cmd.specs.Report.{IsReportText, AddsReport, AddsHead, HasHeads}
-use Rattle.capacity_cmd.specs.Session.{IsSessionText}
+use Rattle.capacity_cmd.specs.Session.{IsJournalWith, IsJournalText}
 
 -- the heads of the first sections, and that of the next
 pub heads_added : (tables : Tables) (count : ℕ) (before rows more : List Row) (total greater : Total) → count < length tables.sections → HasHeads tables count before rows total → AddsHead tables (section_at tables count) rows more total greater → HasHeads tables (count + 1) before more greater
@@ -68,17 +68,20 @@ report_written tables before whole text none adds written = (
 )
 
 -- after the rows of a session's journal the report of the tables at its end is the text of the session
-pub session_written : (tables : Tables) (at : ℕ) (scripts : List (List Task)) (journal seen : List Entry) (end_tables : Tables)
-    (before first whole : List Row) (text : List ℕ) → IsSessionAlone tables at scripts journal → seen ≡ journal
-    → end_tables ≡ tables_of journal → before ≡ [] → first ≡ before ++ rows_of_journal seen → AddsReport end_tables first whole
-    → text ≡ text_of_rows whole → IsSessionText tables at scripts text
-session_written tables at scripts journal seen end_tables before first whole text is same last none rows adds written =
+pub journal_written : (journal seen : List Entry) (end_tables : Tables) (before first whole : List Row) (text : List ℕ)
+    → seen ≡ journal → end_tables ≡ tables_of journal → before ≡ [] → first ≡ before ++ rows_of_journal seen
+    → AddsReport end_tables first whole → text ≡ text_of_rows whole → IsJournalText journal text
+journal_written journal seen end_tables before first whole text same last none rows adds written =
     let report = subst (λ (t : Tables). AddsReport t first whole) last adds in
     let all = λ (r : List Row). r ++ report_rows (tables_of journal).sections report.0 in (
-      journal,
-      is,
       report.0,
       report.1,
       written ∙ ap text_of_rows (report.2
           ∙ ap all (rows ∙ ap (λ (r : List Row). r ++ rows_of_journal seen) none ∙ ap rows_of_journal same)),
     )
+
+-- the journal of a session with workers, by its number of workers
+pub journal_with : (workers at : ℕ) (tables : Tables) (scripts : List (List Task)) (journal : List Entry) → 1 ≤ workers
+    → IsSession tables at scripts workers journal → IsJournalWith workers tables at scripts journal
+journal_with zero at tables scripts journal some is = absurd (omega (arith, some))
+journal_with (suc workers) at tables scripts journal some is = is

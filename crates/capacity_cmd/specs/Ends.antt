@@ -14,6 +14,8 @@ use Rattle.capacity_cmd.specs.Compress.{IsCompressText}
 use Rattle.capacity_cmd.specs.Report.{IsReportText}
 use Rattle.capacity_cmd.specs.Headways.{IsHeadwaysText}
 use Rattle.capacity_cmd.specs.Cut.{IsCutText}
+use Rattle.capacity_cmd.specs.Delays.{delayed_named, IsDelaysText}
+use Rattle.capacity_cmd.specs.Fill.{member_named, IsFillText}
 use Rattle.capacity_cmd.specs.Session.{IsSessionText}
 
 -- the outcome of each command on the tables of a line, and that of a session on the planners' scripts besides
@@ -24,7 +26,11 @@ EndsOnAccepted (command.Compress section) given = EndsOnNamed IsCompressText (cu
 EndsOnAccepted command.Report given = EndsInText (IsReportText given.tables)
 EndsOnAccepted (command.Headways section) given = EndsOnNamed IsHeadwaysText (cut_named given.tables section)
 EndsOnAccepted (command.Cut section) given = EndsOnNamed IsCutText (cut_named given.tables section)
-EndsOnAccepted command.Session given = EndsInText (IsSessionText given.tables given.at given.scripts)
+EndsOnAccepted (command.Delays section delays) given =
+    EndsOnNamed IsDelaysText (delayed_named given.tables section delays)
+EndsOnAccepted (command.Fill section run) given = EndsOnNamed IsFillText (member_named given.tables section run)
+EndsOnAccepted (command.Session workers) given =
+    EndsInText (IsSessionText given.tables given.at given.scripts workers)
 
 -- the outcome of a command on what an input says, or on its refusal
 abbrev pub Ends : Command → Result Content Refusal → Outcome → Type 0

@@ -1,3 +1,4 @@
+pub mod GivenDelays
 pub mod Command
 pub mod Spelling
 pub mod Input
@@ -9,8 +10,12 @@ pub mod Compress
 pub mod Report
 pub mod Headways
 pub mod Cut
+pub mod Head
+pub mod Delays
+pub mod Fill
 pub mod Session
 pub mod Ends
 pub mod InputSoFar
 pub mod Reply
+pub mod Given
 pub mod Promise

@@ -27,6 +27,7 @@ cause_text (cause.Form f) = form_text f
 cause_text (cause.Rule r) = rule_text r
 cause_text cause.TooLong = codes "too-long"
 cause_text cause.NoSection = codes "no-section"
+cause_text cause.NoMember = codes "no-member"
 cause_text cause.Script = codes "script"
 
 -- refused,ROW,CAUSE

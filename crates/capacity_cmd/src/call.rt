@@ -1,30 +1,37 @@
 //! A call of the program: its words, its source and its sink.
-ghost use Rattle.std.specs.Prelude.{◌≡◌, ◌≢◌, ◌⊎◌, ◌↔◌, map, IsTrue, IfOk, IfErr};
+ghost use Rattle.std.specs.Prelude.{◌≡◌, ◌≢◌, ◌≤◌, ◌⊎◌, ◌↔◌, map, IsTrue, IfOk, IfErr, MatchResult};
 ghost use Rattle.std.specs.String.{string_bytes};
 ghost use Rattle.std.specs.Io.KnownBytes.{IsAtEnd};
 ghost use Rattle.rail_outside.specs.InCall.{source_call, sink_call, ReadFailed, NoReadFailed};
+ghost use Rattle.session_run.specs.declared.threads.TheConstants.{WORKERS};
+ghost use Rattle.capacity_cmd.specs.declared.command.Command.TheVariants as command;
 ghost use Rattle.capacity_cmd.specs.declared.status.Status.TheVariants as status;
-ghost use Rattle.capacity_cmd.specs.Command.{IsAlone};
+ghost use Rattle.capacity_cmd.specs.Command.{workers_of, IsAlone};
 ghost use Rattle.capacity_cmd.specs.Reply.{IsReply};
-ghost use Rattle.capacity_cmd.specs.Promise.{IsEnd, Answers};
+ghost use Rattle.capacity_cmd.specs.Given.{GivesOrRefuses};
+ghost use Rattle.capacity_cmd.specs.Promise.{IsEnd, RunsCommand, Answers};
 
-use crate::command::command_of;
+use crate::accepted::Accepted;
+use crate::command::{command_of, workers_asked};
 use crate::limit::INPUT_BYTES;
-use crate::reply::{Reply, refusal, reply_to};
+use crate::reply::{Reply, given_or_reply, refusal, reply_alone, reply_on_threads};
 use crate::send::send;
 use crate::{Cause, Command, Status, Told};
+use rail_model::OutOfMemory;
 use rail_outside::{Gate, Sink, Source, Taken, take_all};
 use std::sync::Wait;
 use std::thread::Threads;
 
-/// Whether a call with these words waits for nobody: no command waits.
+/// Whether a call with these words waits for nobody: all but a session with workers.
 pub fn alone(words: &[String]) -> bool
     ensures { IsTrue result ↔ IsAlone (map string_bytes words.now) }
 {
-    true
+    workers_asked(words) == 0
 }
 
-/// Runs a command. The words are those after the program's name.
+/// Runs a command. The words are those after the program's name. A session with workers has a
+/// thread for each planner and each worker, where one can be made; its planners and workers wait for
+/// one another, and pass the gate at the points of their work.
 pub fn run<R: AllocGlobal + Threads + Wait + Sync, S: Source, K: Sink, G: Gate>(
     rt: &R,
     words: &[String],
@@ -41,14 +48,14 @@ pub fn run<R: AllocGlobal + Threads + Wait + Sync, S: Source, K: Sink, G: Gate>(
     run_telling(rt, words, source, sink, gate, &mut Told::nothing())
 }
 
-/// Runs a command as `run` does, and tells why a row is refused. A command that waits
-/// for nobody is run by a call that can't wait, and no command waits.
+/// Runs a command as `run` does, and tells people why a row is refused, and what the answer of
+/// `compress` leaves out. A command that waits for nobody is run by a call that can't wait.
 pub fn run_telling<R: AllocGlobal + Threads + Wait + Sync, S: Source, K: Sink, G: Gate>(
     rt: &R,
     words: &[String],
     source: &mut S,
     sink: &mut K,
-    _gate: &G,
+    gate: &G,
     told: &mut Told,
 ) -> Status
     ensures { Answers
@@ -57,7 +64,14 @@ pub fn run_telling<R: AllocGlobal + Threads + Wait + Sync, S: Source, K: Sink, G
         (source_call S.left S.faults S.at_fault source.old source.new)
         (sink_call K.written K.flushed K.faults sink.old sink.new) }
 {
-    run_alone_telling(rt, words, source, sink, told)
+    let workers = workers_asked(words);
+    if workers == 0 {
+        return run_alone_telling(rt, words, source, sink, told);
+    }
+    match session_reply(rt, workers, source, gate, told) {
+        Ok(reply) => send(sink, reply),
+        Err(status) => status,
+    }
 }
 
 /// Runs a command that waits for nobody: it takes memory and may start threads, but no handle to
@@ -78,7 +92,8 @@ pub fn run_alone<R: AllocGlobal + Threads + Sync, S: Source, K: Sink>(
     run_alone_telling(rt, words, source, sink, &mut Told::nothing())
 }
 
-/// Runs a command as `run_alone` does, and tells why a row is refused.
+/// Runs a command as `run_alone` does, and tells people why a row is refused, and what the answer
+/// of `compress` leaves out.
 pub fn run_alone_telling<R: AllocGlobal + Threads + Sync, S: Source, K: Sink>(
     rt: &R,
     words: &[String],
@@ -93,24 +108,44 @@ pub fn run_alone_telling<R: AllocGlobal + Threads + Sync, S: Source, K: Sink>(
         (source_call S.left S.faults S.at_fault source.old source.new)
         (sink_call K.written K.flushed K.faults sink.old sink.new) }
 {
-    let Some(command) = command_of(words) else {
-        return Status::BadWords;
-    };
+    match command_of(rt.alloc(), words) {
+        None => Status::BadWords,
+        Some(Err(OutOfMemory)) => Status::OutOfMemory,
+        Some(Ok(command)) => run_command(rt, &command, source, sink, told),
+    }
+}
+
+// Runs a command without workers.
+fn run_command<R: AllocGlobal + Threads + Sync, S: Source, K: Sink>(
+    rt: &R,
+    command: &Command,
+    source: &mut S,
+    sink: &mut K,
+    told: &mut Told,
+) -> Status
+    requires { workers_of command.now ≡ 0 }
+    ensures { RunsCommand
+        command.now
+        result
+        (source_call S.left S.faults S.at_fault source.old source.new)
+        (sink_call K.written K.flushed K.faults sink.old sink.new) }
+{
     match reply_from(rt, command, source, told) {
         Ok(reply) => send(sink, reply),
         Err(status) => status,
     }
 }
 
-// Reads the input and makes the reply to it, or says why there is none.
+// Reads the input and makes the reply of a command without workers, or says why there is none.
 fn reply_from<R: AllocGlobal + Threads + Sync, S: Source>(
     rt: &R,
-    command: Command,
+    command: &Command,
     source: &mut S,
     told: &mut Told,
 ) -> Result<Reply, Status>
+    requires { workers_of command.now ≡ 0 }
     ensures replies { IfOk result (IsReply
-        (IsEnd command (source_call S.left S.faults S.at_fault source.old source.new))) }
+        (IsEnd command.now (source_call S.left S.faults S.at_fault source.old source.new))) }
     ensures whole_input { IfOk result (λ reply.
         reply.status ≡ status.Done → IsAtEnd (S.left source.new)) }
     ensures why { IfErr result (λ why. (why ≡ status.ReadFault) ⊎ (why ≡ status.OutOfMemory)) }
@@ -119,10 +154,62 @@ fn reply_from<R: AllocGlobal + Threads + Sync, S: Source>(
     ensures no_fault { result ≢ Err status.ReadFault →
         NoReadFailed (source_call S.left S.faults S.at_fault source.old source.new) }
 {
+    match input_from(rt, command, source, told)? {
+        Ok(given) => Ok(reply_alone(rt, rt.alloc(), command, given, told)?),
+        Err(refused) => Ok(refused),
+    }
+}
+
+// The same of a session with workers.
+fn session_reply<R: AllocGlobal + Threads + Wait + Sync, S: Source, G: Gate>(
+    rt: &R,
+    workers: u32,
+    source: &mut S,
+    gate: &G,
+    told: &mut Told,
+) -> Result<Reply, Status>
+    requires some { 1 ≤ workers }
+    requires most { workers ≤ WORKERS }
+    ensures replies { IfOk result (IsReply (IsEnd (command.Session workers)
+        (source_call S.left S.faults S.at_fault source.old source.new))) }
+    ensures whole_input { IfOk result (λ reply.
+        reply.status ≡ status.Done → IsAtEnd (S.left source.new)) }
+    ensures why { IfErr result (λ why. (why ≡ status.ReadFault) ⊎ (why ≡ status.OutOfMemory)) }
+    ensures fault { result ≡ Err status.ReadFault →
+        ReadFailed (source_call S.left S.faults S.at_fault source.old source.new) }
+    ensures no_fault { result ≢ Err status.ReadFault →
+        NoReadFailed (source_call S.left S.faults S.at_fault source.old source.new) }
+{
+    let command = Command::Session(workers);
+    match input_from(rt, &command, source, told)? {
+        Ok(given) => Ok(reply_on_threads(rt, rt.alloc(), given, workers, gate)?),
+        Err(refused) => Ok(refused),
+    }
+}
+
+// Reads the input: what it gives to a command, or the reply that refuses it. Or says why there is
+// neither.
+fn input_from<R: AllocGlobal, S: Source>(
+    rt: &R,
+    command: &Command,
+    source: &mut S,
+    told: &mut Told,
+) -> Result<Result<Accepted, Reply>, Status>
+    ensures found { IfOk result (GivesOrRefuses command.now
+        (IsEnd command.now (source_call S.left S.faults S.at_fault source.old source.new))) }
+    ensures whole_input { IfOk result (λ found. MatchResult found
+        (λ _. IsAtEnd (S.left source.new))
+        (λ reply. reply.status ≡ status.Done → IsAtEnd (S.left source.new))) }
+    ensures why { IfErr result (λ why. (why ≡ status.ReadFault) ⊎ (why ≡ status.OutOfMemory)) }
+    ensures fault { result ≡ Err status.ReadFault →
+        ReadFailed (source_call S.left S.faults S.at_fault source.old source.new) }
+    ensures no_fault { result ≢ Err status.ReadFault →
+        NoReadFailed (source_call S.left S.faults S.at_fault source.old source.new) }
+{
     let alloc = rt.alloc();
     match take_all(alloc, source, INPUT_BYTES)? {
-        Ok(input) => Ok(reply_to(rt, alloc, command, input.slice(), told)?),
-        Err(Taken::TooLong) => Ok(refusal(alloc, 0, Cause::TooLong)?),
+        Ok(input) => Ok(given_or_reply(alloc, command, input.slice(), told)?),
+        Err(Taken::TooLong) => Ok(Err(refusal(alloc, 0, Cause::TooLong)?)),
         Err(Taken::Failed) => Err(Status::ReadFault),
     }
 }

@@ -1,15 +1,22 @@
 //! What the words of a call ask for.
-ghost use Rattle.std.specs.Prelude.{◌≡◌, map};
+ghost use Rattle.std.specs.Prelude.{◌≡◌, ◌≤◌, map, IfOk, IfSome};
 ghost use Rattle.std.specs.String.{string_bytes};
 ghost use Rattle.rail_model.specs.Name.{name_of};
-ghost use Rattle.capacity_cmd.specs.Command.{command_of, is_no_workers, planners_of};
+ghost use Rattle.session_run.specs.declared.threads.TheConstants.{WORKERS};
+ghost use Rattle.capacity_cmd.specs.Command.{command_of, short_command_of, workers_in, workers_of, workers_asked, planners_of, IsRead};
+ghost use Rattle.capacity_cmd.specs.declared.command.Command.TheVariants as command;
+ghost use Rattle.capacity_cmd.specs.GivenDelays.{delays_of};
 
+use crate::given_delay::{GivenDelay, are_delays, delays_of};
 use plan_book::PLANNERS;
-use rail_model::Name;
+use rail_model::{List, Name, OutOfMemory};
+use row_text::number;
+use session_run::WORKERS;
+use std::alloc::Global;
 
-/// A command of the program. A section is named by any one word: a word that is no name names no
-/// section, and stands here as `None`.
-#[derive(Clone, Copy)]
+/// A command of the program. A section and a run are named by any one word: a word that is no name
+/// names none, and stands here as `None`, as do delays of which one is given to such a word.
+#[derive(Drop)]
 pub enum Command {
     /// Writes the blocking times of every run: the word `stairs`.
     Stairs,
@@ -20,13 +27,22 @@ pub enum Command {
     Compress(Option<Name>),
     /// Writes the head of every section's answer and a total: the word `report`.
     Report,
-    /// Writes the headways of a section's trains: the words `headways` and NAME.
+    /// Writes the headways of a section's trains, or of a crowded one how many these are: the words
+    /// `headways` and NAME.
     Headways(Option<Name>),
-    /// Writes the fewest orderly pieces of a section: the words `cut` and NAME.
+    /// Writes the fewest orderly pieces of a section, or of a crowded one how many trains it has:
+    /// the words `cut` and NAME.
     Cut(Option<Name>),
-    /// Runs planners' scripts in one thread, and writes the journal and the report of the tables at
-    /// its end: the words `session` and 0, in one or two digits.
-    Session,
+    /// Spreads delays over the planned timetable of a section, and writes the knock-on delays: the
+    /// words `delays`, NAME and 1 to 64 pairs of RUN and SECONDS.
+    Delays(Option<Name>, Option<List<GivenDelay>>),
+    /// Writes how many more trains fit into a section, copies of one of its trains: the words
+    /// `fill`, NAME and RUN.
+    Fill(Option<Name>, Option<Name>),
+    /// Runs planners' scripts with so many workers, and writes the journal and the report of the
+    /// tables at its end: the words `session` and a number from 0 to 16, in one or two digits. With
+    /// workers each planner and each worker has a thread of its own.
+    Session(u32),
 }
 
 impl Command {
@@ -35,16 +51,57 @@ impl Command {
         ensures { result ≡ planners_of self.now }
     {
         match self {
-            Command::Session => PLANNERS,
+            Command::Session(_) => PLANNERS,
             Command::Stairs | Command::Check | Command::Report => 0,
             Command::Compress(_) | Command::Headways(_) | Command::Cut(_) => 0,
+            Command::Delays(_, _) | Command::Fill(_, _) => 0,
+        }
+    }
+
+    // How many workers the command has.
+    fn workers(&self) -> u32
+        ensures { result ≡ workers_of self.now }
+    {
+        match self {
+            Command::Session(workers) => *workers,
+            Command::Stairs | Command::Check | Command::Report => 0,
+            Command::Compress(_) | Command::Headways(_) | Command::Cut(_) => 0,
+            Command::Delays(_, _) | Command::Fill(_, _) => 0,
         }
     }
 }
 
-// The command that the words spell, if they spell one.
-pub(crate) fn command_of(words: &[String]) -> Option<Command>
-    ensures { result ≡ command_of (map string_bytes words.now) }
+// The command that the words spell, if they spell one. It is without a value where memory runs out
+// for it.
+pub(crate) fn command_of(alloc: Global, words: &[String]) -> Option<Result<Command, OutOfMemory>>
+    ensures { IsRead (command_of (map string_bytes words.now)) result }
+{
+    match words {
+        [word, section, given @ ..] if word.as_str() == "delays" && are_delays(given) => {
+            Some(delays_command(alloc, name_of(section), given))
+        }
+        _ => match short_command_of(words) {
+            Some(command) => Some(Ok(command)),
+            None => None,
+        },
+    }
+}
+
+fn delays_command(
+    alloc: Global,
+    section: Option<Name>,
+    given: &[String],
+) -> Result<Command, OutOfMemory>
+    ensures { IfOk result (λ made.
+        made ≡ command.Delays section (delays_of (map string_bytes given.now))) }
+{
+    Ok(Command::Delays(section, delays_of(alloc, given)?))
+}
+
+// The command that up to three words spell, if they spell one.
+fn short_command_of(words: &[String]) -> Option<Command>
+    ensures spelled { result ≡ short_command_of (map string_bytes words.now) }
+    ensures workers { IfSome result (λ command. workers_of command ≤ WORKERS) }
 {
     match words {
         [word] if word.as_str() == "stairs" => Some(Command::Stairs),
@@ -53,18 +110,41 @@ pub(crate) fn command_of(words: &[String]) -> Option<Command>
         [word, section] if word.as_str() == "compress" => Some(Command::Compress(name_of(section))),
         [word, section] if word.as_str() == "headways" => Some(Command::Headways(name_of(section))),
         [word, section] if word.as_str() == "cut" => Some(Command::Cut(name_of(section))),
-        [word, workers] if word.as_str() == "session" && is_no_workers(workers) => {
-            Some(Command::Session)
+        [word, workers] if word.as_str() == "session" => {
+            workers_in(workers).map(Command::Session)
+        }
+        [word, section, run] if word.as_str() == "fill" => {
+            Some(Command::Fill(name_of(section), name_of(run)))
         }
         _ => None,
     }
 }
 
-// Whether a word says that a session has no workers.
-fn is_no_workers(word: &str) -> bool
-    ensures { result ≡ is_no_workers word.now }
+// How many workers the words ask for: those of a session, and none where they spell another command
+// or no command.
+pub(crate) fn workers_asked(words: &[String]) -> u32
+    ensures asked { result ≡ workers_asked (command_of (map string_bytes words.now)) }
+    ensures most { result ≤ WORKERS }
 {
-    word == "0" || word == "00"
+    match short_command_of(words) {
+        Some(command) => command.workers(),
+        None => 0,
+    }
+}
+
+// The number of workers that a word says, if it is one.
+fn workers_in(word: &str) -> Option<u32>
+    ensures said { result ≡ workers_in word.now }
+    ensures most { IfSome result (λ workers. workers ≤ WORKERS) }
+{
+    if word.len() > 2 {
+        return None;
+    }
+    let workers = number(word.as_bytes())?;
+    if workers > WORKERS {
+        return None;
+    }
+    Some(workers)
 }
 
 // The name that a word is, if it is one.

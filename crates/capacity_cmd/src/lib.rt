@@ -1,5 +1,5 @@
-//! The program's commands, from bytes to bytes: rows are read, their edits make tables, and the text
-//! of a command is written.
+//! The program's commands, from bytes to bytes: rows are read, their edits make tables, and the
+//! text of a command is written.
 #![tactic(auto)]
 
 mod accepted;
@@ -9,12 +9,17 @@ mod clashes;
 mod command;
 mod compress;
 mod cut;
+mod delays;
+mod fill;
 mod form_sentence;
+mod given_delay;
+mod head;
 mod headways;
 mod input;
 pub mod laws;
 mod limit;
 mod line_number;
+mod member_sentence;
 mod named;
 mod notes;
 mod probe;
@@ -39,6 +44,7 @@ mod twice_sentence;
 
 pub use call::{alone, run, run_alone, run_alone_telling, run_telling};
 pub use command::Command;
+pub use given_delay::{DELAY_DIGITS, Delay, GIVEN_DELAYS, GivenDelay};
 pub use limit::INPUT_BYTES;
 pub use status::{Cause, Status};
 pub use told::Told;

@@ -1,12 +1,14 @@
 //! What a command names.
-ghost use Rattle.std.specs.Prelude.{◌≡◌, IfOk, IfSome, option_and_then};
+ghost use Rattle.std.specs.Prelude.{◌≡◌, ◌<◌, length, position, IfOk, IfSome, option_and_then};
+ghost use Rattle.rail_model.specs.Name.{is_same, NamesRise};
+ghost use Rattle.plan_model.specs.Members.{member_count};
 ghost use Rattle.plan_model.specs.Cut.{IsSoundCut};
 ghost use Rattle.plan_model.specs.SectionCut as section_cut;
-ghost use Rattle.capacity_cmd.specs.Named.{cut_named};
+ghost use Rattle.capacity_cmd.specs.Named.{cut_named, row_named};
 
 use crate::Cause;
 use line_tables::LineTables;
-use plan_model::Cut;
+use plan_model::{Cut, CutRow};
 use rail_model::{Name, OutOfMemory};
 use section_cut::cut_of;
 use std::alloc::Global;
@@ -35,5 +37,29 @@ fn cut_of_word(
     match section {
         Some(section) => cut_of(alloc, tables, &section, 0),
         None => Ok(None),
+    }
+}
+
+// The position of the train of a cut that a word names, if it names one.
+pub(crate) fn row_named(cut: &Cut, run: Option<Name>) -> Option<usize>
+    requires { IsSoundCut cut.now }
+    ensures row { result ≡ row_named cut.now run }
+    ensures there { IfSome result (λ row. row < member_count cut.now) }
+{
+    match run {
+        Some(run) => row_of_name(cut.rows.slice(), &run),
+        None => None,
+    }
+}
+
+// The position of the row of a name, if there is one.
+fn row_of_name(rows: &[CutRow], name: &Name) -> Option<usize>
+    requires { NamesRise (λ r. r.name) rows.now }
+    ensures row { result ≡ position (λ r. is_same r.name name.now) rows.now }
+    ensures there { IfSome result (λ row. row < length rows.now) }
+{
+    match rows.binary_search_by(|row| row.name.bytes().cmp(name.bytes())) {
+        Ok(row) => Some(row),
+        Err(_) => None,
     }
 }

@@ -1,22 +1,30 @@
 //! The reply to an input: the text to write, and the status that says so.
 ghost use Rattle.std.specs.Prelude.{◌≡◌, ◌≤◌, length, IfOk};
+ghost use Rattle.session_run.specs.declared.threads.TheConstants.{WORKERS};
+ghost use Rattle.capacity_cmd.specs.declared.command.Command.TheVariants as command;
+ghost use Rattle.capacity_cmd.specs.Command.{workers_of};
 ghost use Rattle.capacity_cmd.specs.Outcome.{Refuses, cause_text, form_text};
 ghost use Rattle.capacity_cmd.specs.Outcome as outcome;
 ghost use Rattle.capacity_cmd.specs.InputSoFar.{IsWithin};
 ghost use Rattle.capacity_cmd.specs.Ends.{EndsOnAccepted, EndsOn};
 ghost use Rattle.plan_book.specs.declared.book.TheConstants.{PLANNERS};
 ghost use Rattle.capacity_cmd.specs.Reply.{Says, IsReply};
+ghost use Rattle.capacity_cmd.specs.Given.{GivesOrRefuses};
 
 use crate::accepted::Accepted;
 use crate::input::accepted_of_rows;
 use crate::limit::INPUT_BYTES;
+use crate::refusal::Refusal;
 use crate::sentence::told_of;
+use crate::session::text_on_threads;
 use crate::texts::text_of;
 use crate::{Cause, Command, Status, Told};
 use capacity_report::rule_text;
 use rail_model::{Form, OutOfMemory};
-use row_text::{Sheet, rows};
+use rail_outside::Gate;
+use row_text::{RowList, Sheet, rows};
 use std::alloc::Global;
+use std::sync::Wait;
 use std::thread::Threads;
 
 #[derive(Drop)]
@@ -25,40 +33,56 @@ pub(crate) struct Reply {
     pub(crate) status: Status,
 }
 
-// The reply of a command to an input that isn't too long.
-pub(crate) fn reply_to(
-    rt: &(impl Threads + Sync),
+// What an input that isn't too long gives to a command, or the reply that refuses it.
+pub(crate) fn given_or_reply(
     alloc: Global,
-    command: Command,
+    command: &Command,
     input: &[u8],
     told: &mut Told,
-) -> Result<Reply, OutOfMemory>
+) -> Result<Result<Accepted, Reply>, OutOfMemory>
     requires { length input.now ≤ INPUT_BYTES }
-    ensures { IfOk result (IsReply (EndsOn command input.now)) }
+    ensures { IfOk result (GivesOrRefuses command.now (EndsOn command.now input.now)) }
 {
     let rows = rows(alloc, input)?;
     match accepted_of_rows(alloc, command.planners(), &rows)? {
-        Ok(given) => {
-            drop(rows);
-            reply_on(rt, alloc, command, given, told)
-        }
-        Err(refused) => {
-            *told = told_of(alloc, input, &rows, command.planners(), refused);
-            refusal(alloc, refused.row, refused.cause)
-        }
+        Ok(given) => Ok(Ok(given)),
+        Err(refused) => Ok(Err(refusal_told(
+            alloc,
+            input,
+            &rows,
+            command.planners(),
+            refused,
+            told,
+        )?)),
     }
 }
 
-// The reply of a command to an input that is not refused.
-fn reply_on(
+// The refusal of a row, and what people are told of it.
+fn refusal_told(
+    alloc: Global,
+    input: &[u8],
+    rows: &RowList,
+    planners: usize,
+    refused: Refusal,
+    told: &mut Told,
+) -> Result<Reply, OutOfMemory>
+    ensures { IfOk result (Says (Refuses refused.row refused.cause)) }
+{
+    *told = told_of(alloc, input, rows, planners, refused);
+    refusal(alloc, refused.row, refused.cause)
+}
+
+// The reply of a command without workers to an input that is not refused.
+pub(crate) fn reply_alone(
     rt: &(impl Threads + Sync),
     alloc: Global,
-    command: Command,
+    command: &Command,
     given: Accepted,
     told: &mut Told,
 ) -> Result<Reply, OutOfMemory>
-    requires { IsWithin PLANNERS INPUT_BYTES given }
-    ensures { IfOk result (IsReply (EndsOnAccepted command given)) }
+    requires within { IsWithin PLANNERS INPUT_BYTES given }
+    requires alone { workers_of command.now ≡ 0 }
+    ensures { IfOk result (IsReply (EndsOnAccepted command.now given)) }
 {
     match text_of(rt, alloc, command, given, told)? {
         Ok(text) => Ok(Reply {
@@ -67,6 +91,25 @@ fn reply_on(
         }),
         Err(cause) => refusal(alloc, 0, cause),
     }
+}
+
+// The reply of a session with workers to an input that is not refused.
+pub(crate) fn reply_on_threads<R: Threads + Wait + Sync, G: Gate>(
+    rt: &R,
+    alloc: Global,
+    given: Accepted,
+    workers: u32,
+    gate: &G,
+) -> Result<Reply, OutOfMemory>
+    requires within { IsWithin PLANNERS INPUT_BYTES given }
+    requires some { 1 ≤ workers }
+    requires most { workers ≤ WORKERS }
+    ensures { IfOk result (IsReply (EndsOnAccepted (command.Session workers) given)) }
+{
+    Ok(Reply {
+        text: text_on_threads(rt, alloc, given, workers, gate)?,
+        status: Status::Done,
+    })
 }
 
 // The refusal of a row.
@@ -99,6 +142,7 @@ fn cause_text(cause: Cause) -> &'static [u8]
         Cause::Rule(rule) => rule_text(rule),
         Cause::TooLong => b"too-long",
         Cause::NoSection => b"no-section",
+        Cause::NoMember => b"no-member",
         Cause::Script => b"script",
     }
 }

@@ -58,6 +58,6 @@ fn why(
         Cause::Rule(rule) => rule_sentence(alloc, row, rule),
         Cause::Script => script_sentence(alloc, row, planners),
         // No row is refused for these.
-        Cause::TooLong | Cause::NoSection => Ok(String::new(alloc)),
+        Cause::TooLong | Cause::NoSection | Cause::NoMember => Ok(String::new(alloc)),
     }
 }

@@ -1,24 +1,62 @@
 //! The command `session`.
-ghost use Rattle.std.specs.Prelude.{IfOk};
+ghost use Rattle.std.specs.Prelude.{◌≡◌, ◌≤◌, IfOk};
+ghost use Rattle.session_run.specs.declared.threads.TheConstants.{WORKERS};
 ghost use Rattle.capacity_cmd.specs.InputSoFar.{IsWithin};
-ghost use Rattle.capacity_cmd.specs.Session.{IsSessionText};
+ghost use Rattle.capacity_cmd.specs.Session.{IsSessionText, IsJournalText};
 ghost use Rattle.capacity_cmd.specs.declared.limit.TheConstants.{INPUT_BYTES};
 ghost use Rattle.plan_book.specs.declared.book.TheConstants.{PLANNERS};
 
 use crate::accepted::Accepted;
 use crate::report::add_report;
 use capacity_report::journal_rows;
+use plan_book::Book;
 use rail_model::OutOfMemory;
+use rail_outside::Gate;
 use row_text::Sheet;
-use session_run::session_alone;
+use session_run::{session, session_alone};
 use std::alloc::Global;
+use std::sync::Wait;
+use std::thread::Threads;
 
-// The rows of the journal of a session in one thread, and the report of the tables at its end.
-pub(crate) fn session_text(alloc: Global, given: Accepted) -> Result<Vec<u8>, OutOfMemory>
+// The text of a session in one thread.
+pub(crate) fn text_alone(alloc: Global, given: Accepted) -> Result<Vec<u8>, OutOfMemory>
     requires { IsWithin PLANNERS INPUT_BYTES given }
-    ensures { IfOk result (λ text. IsSessionText given.tables given.at given.scripts text.items) }
+    ensures { IfOk result (λ text. IsSessionText given.tables given.at given.scripts 0 text.items) }
 {
     let book = session_alone(alloc, given.tables, given.at, given.scripts)?;
+    text_of_book(alloc, &book)
+}
+
+// The text of a session with workers, where each planner and each worker has a thread of its own.
+pub(crate) fn text_on_threads<R: Threads + Wait + Sync, G: Gate>(
+    rt: &R,
+    alloc: Global,
+    given: Accepted,
+    workers: u32,
+    gate: &G,
+) -> Result<Vec<u8>, OutOfMemory>
+    requires within { IsWithin PLANNERS INPUT_BYTES given }
+    requires some { 1 ≤ workers }
+    requires most { workers ≤ WORKERS }
+    ensures { IfOk result (λ text.
+        IsSessionText given.tables given.at given.scripts workers text.items) }
+{
+    let book = session(
+        rt,
+        alloc,
+        given.tables,
+        given.at,
+        given.scripts,
+        workers,
+        gate,
+    )?;
+    text_of_book(alloc, &book)
+}
+
+// The rows of a book's journal, and the report of its tables.
+fn text_of_book(alloc: Global, book: &Book) -> Result<Vec<u8>, OutOfMemory>
+    ensures { IfOk result (λ text. IsJournalText book.now text.items) }
+{
     let mut sheet = Sheet::new(alloc);
     journal_rows(alloc, &mut sheet, book.journal())?;
     add_report(alloc, &mut sheet, book.tables())?;

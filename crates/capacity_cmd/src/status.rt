@@ -14,14 +14,18 @@ pub enum Cause {
     /// The rule that refuses the row's edit.
     #[error("the row breaks a rule of the tables")]
     Rule(Rule),
-    /// The input has more bytes than are read.
+    /// The input has more than `INPUT_BYTES` bytes.
     #[error("the input is longer than 16,777,216 bytes")]
     TooLong,
     /// The named section isn't in the tables.
     #[error("no section has that name")]
     NoSection,
-    /// The row may not stand at its place in the input: the rows of scripts stand in sessions alone,
-    /// the planners in their order, and there with at most 256 tasks.
+    /// The named run is no train of the section: it has no row in the section's cut.
+    #[error("no train of the section has that name")]
+    NoMember,
+    /// The row may not stand at its place in the input: rows `planner` and `ask` stand in sessions
+    /// alone, planners in the order of their numbers and at most 16, a question below a planner,
+    /// and there are at most 256 tasks.
     #[error("the row may not stand there")]
     Script,
 }

@@ -4,7 +4,7 @@ use std::sync::Wait;
 /// Where in its work a thread passes the gate.
 #[derive(Clone, Copy, Debug, PartialEq, Eq)]
 pub enum Point {
-    /// A planner is about to edit the tables.
+    /// A planner is about to make its next step: an edit, a question, or none where it has ended.
     BeforeEdit,
     /// A worker has read what it works on.
     AfterReading,

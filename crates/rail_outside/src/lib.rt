@@ -1,9 +1,11 @@
 //! The program's outside: its words, where bytes come from, where they go, and a gate that threads
 //! pass.
 //!
-//! A source or a sink raises its count of faults by one where it answers a fault, and nowhere else.
-//! Those in memory fail at exactly the calls that they are told to, and words in memory tell
-//! themselves; those of the process tell nothing of their words and bytes.
+//! A source or a sink raises its count of faults by one where it answers a fault, and nowhere else;
+//! at 2^64 - 1 the count stands still. A source in memory fails at exactly the reads that it is
+//! told to; a sink in memory fails at the writes and flushes that it is told to, and at a write for
+//! which it has no room. Words in memory tell themselves; those of the process tell nothing of
+//! their words and bytes.
 #![tactic(auto)]
 
 mod faults;

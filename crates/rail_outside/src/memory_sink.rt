@@ -6,8 +6,9 @@ use crate::{Failed, Sink};
 use rail_model::{List, OutOfMemory};
 use std::alloc::Global;
 
-/// A sink of bytes in memory. It takes at most a piece at each write, and fails at the calls whose
-/// numbers, from 1, it is given. Writes and flushes are counted together.
+/// A sink of bytes in memory. It takes at most a piece at each write. It fails at the calls whose
+/// numbers, from 1, it is given, and at a write for which there is no room. Writes and flushes are
+/// counted together.
 #[derive(Drop)]
 pub struct MemorySink {
     bytes: Vec<u8>,

@@ -11,7 +11,8 @@ pub trait Sink {
     /// The bytes written, where the sink tells them.
     ghost written: { Self → Option (List ℕ) };
 
-    /// How many of the bytes written are flushed. A failed flush may leave any number.
+    /// How many of the bytes written are flushed, where the sink tells them. A failed flush may
+    /// leave any number.
     ghost flushed: { Self → ℕ };
 
     /// How many calls have failed. A call that fails raises the count by one, and no other does; it
@@ -19,7 +20,7 @@ pub trait Sink {
     ghost faults: { Self → ℕ };
 
     /// Writes the first bytes of a piece. `Ok(n)`: the first n bytes are written, at least one
-    /// where the piece isn't empty. A write that fails writes nothing.
+    /// where the piece isn't empty. A write that fails writes nothing, where the sink tells it.
     fn write(&mut self, from: &[u8]) -> Result<usize, Failed>
         ensures within { IfOk result (λ n. n ≤ length from.now) }
         ensures some { IfOk result (λ n. 0 < length from.now → 0 < n) }

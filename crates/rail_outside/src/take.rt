@@ -20,8 +20,8 @@ pub enum Taken {
 const PIECE_BYTES: usize = 8_192;
 
 /// Takes all bytes that a source has left, at most `limit`. It stops at the end of the source, at a
-/// read that fails, and at the first byte past the limit: a read that would come later is never
-/// made. Where memory runs out, what was taken is lost.
+/// read that fails, after which it makes none, and at the first byte past the limit, of which it
+/// takes one. Where memory runs out, what was taken is lost.
 pub fn take_all<S: Source>(
     alloc: Global,
     source: &mut S,

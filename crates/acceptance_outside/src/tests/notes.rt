@@ -1,6 +1,6 @@
 //! What people are told beside an answer.
 use super::{WORKING, sink_of, source_of, words_of};
-use capacity_cmd::{Status, Told, run_alone_telling};
+use capacity_cmd::{Status, Told, alone, run_alone_telling};
 use rail_model::OutOfMemory;
 use small_lines::{FIRST_RUN, LINE, REST, joined};
 use std::test::Fail;
@@ -61,6 +61,9 @@ fn told<R: AllocGlobal + Threads + Sync>(
     let mut source = source_of(alloc, input.as_bytes(), 4_096, 0)?;
     let mut sink = sink_of(alloc, WORKING)?;
     let mut told = Told::nothing();
+    if !alone(&words) {
+        return Ok((Status::BadWords, told));
+    }
     let status = run_alone_telling(rt, &words, &mut source, &mut sink, &mut told);
     Ok((status, told))
 }

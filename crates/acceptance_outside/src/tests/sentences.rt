@@ -1,6 +1,6 @@
 //! What people are told of a refused row.
 use super::{WORKING, sink_of, source_of, words_of};
-use capacity_cmd::{Told, run_alone_telling};
+use capacity_cmd::{Told, alone, run_alone_telling};
 use rail_model::OutOfMemory;
 use small_lines::{FIRST_RUN, LINE, REST, joined};
 use std::process::Abort;
@@ -336,6 +336,38 @@ const SCRIPTS: [(&str, &str); 3] = [
     ),
 ];
 
+// The words of calls on the line of two blocks, and what is said of a run that is no train.
+const NO_MEMBERS: [(&[&str], &str); 5] = [
+    (
+        &["fill", "S", "T9"],
+        "run \"T9\" is no train of section \"S\": those use a block of it and enter within the window \
+            from 0 to 3600",
+    ),
+    (
+        &["delays", "S", "T1", "5", "T9", "0", "T8", "0"],
+        "run \"T9\" is no train of section \"S\": those use a block of it and enter within the window \
+            from 0 to 3600",
+    ),
+    (
+        &["fill", "S", ""],
+        "the word of a run is no name, so it names no train of section \"S\"",
+    ),
+    (
+        &["delays", "S", "T1", "5", "", "0"],
+        "the word of a run is no name, so it names no train of section \"S\"",
+    ),
+    (&["delays", "X", "T9", "0"], ""),
+];
+
+#[test]
+fn a_run_that_is_no_train_is_told(rt: HostRuntime) -> Result<(), Fail> {
+    let input = joined(rt.alloc(), &[LINE, FIRST_RUN, REST])?;
+    for (words, sentence) in NO_MEMBERS {
+        assert_told(&rt, words, &input, sentence)?;
+    }
+    Ok(())
+}
+
 #[test]
 fn a_row_that_spells_nothing_is_told(rt: HostRuntime) -> Result<(), Fail> {
     for (input, sentence) in INPUTS {
@@ -418,6 +450,9 @@ fn told<R: AllocGlobal + Threads + Sync>(
     let mut source = source_of(alloc, input.as_bytes(), 4_096, 0)?;
     let mut sink = sink_of(alloc, WORKING)?;
     let mut told = Told::nothing();
+    if !alone(&words) {
+        return Ok(told);
+    }
     let _ = run_alone_telling(rt, &words, &mut source, &mut sink, &mut told);
     Ok(told)
 }

@@ -102,6 +102,7 @@ fn causes_have_texts(rt: HostRuntime) -> Result<(), Fail> {
         ),
         (Cause::TooLong, "the input is longer than 16,777,216 bytes"),
         (Cause::NoSection, "no section has that name"),
+        (Cause::NoMember, "no train of the section has that name"),
         (Cause::Script, "the row may not stand there"),
     ] {
         let said = format!(in rt.alloc(); "{cause}")?;

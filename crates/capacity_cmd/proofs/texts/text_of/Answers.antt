@@ -1,6 +1,7 @@
-use Rattle.std.proofs.Common.{refl, sym, subst}
+use Rattle.std.proofs.Common.{◌≡◌, refl, sym, subst}
 use Rattle.std.specs.Prelude.{IfOk, MatchResult}
 use Rattle.capacity_cmd.specs.declared.command.Command.{Command}
+use Rattle.capacity_cmd.specs.Command.{workers_of}
 use Rattle.capacity_cmd.specs.Outcome.{Writes, Refuses}
 use Rattle.capacity_cmd.specs.Ends.{EndsOnAccepted}
 use Rattle.capacity_cmd.proofs.texts.text_of.Goals as goal
@@ -41,7 +42,23 @@ returns-in-Cut g c =
     (λ why. EndsOnAccepted which c.args.given (Refuses 0 why))))
     (sym c.in-Cut.is) c.cut_text.ensures
 
-pub returns-in_ok-session_text-in-Session : goal.returns-in_ok-session_text-in-Session
-returns-in_ok-session_text-in-Session g c =
-    let text = c.in_ok-session_text-in-Session.field-0.items in
-    subst (λ which. EndsOnAccepted which c.args.given (Writes text)) (sym c.in-Session.is) (text, c.in_ok-session_text-in-Session.ensures, refl)
+pub returns-in_ok-text_alone-in-Session : goal.returns-in_ok-text_alone-in-Session
+returns-in_ok-text_alone-in-Session g c =
+    let text = c.in_ok-text_alone-in-Session.field-0.items in
+    let none : c.in-Session.field-0 ≡ 0 = subst (λ which. workers_of which ≡ 0) c.in-Session.is c.requires.alone in
+    subst (λ which. EndsOnAccepted which c.args.given (Writes text)) (sym c.in-Session.is)
+    (text, rw none c.in_ok-text_alone-in-Session.ensures, refl)
+
+pub returns-in-Delays : goal.returns-in-Delays
+returns-in-Delays g c =
+    subst (λ (which : Command). IfOk c.delays_text.result (λ made. MatchResult made
+    (λ text. EndsOnAccepted which c.args.given (Writes text.items))
+    (λ why. EndsOnAccepted which c.args.given (Refuses 0 why))))
+    (sym c.in-Delays.is) c.delays_text.ensures
+
+pub returns-in-Fill : goal.returns-in-Fill
+returns-in-Fill g c =
+    subst (λ (which : Command). IfOk c.fill_text.result (λ made. MatchResult made
+    (λ text. EndsOnAccepted which c.args.given (Writes text.items))
+    (λ why. EndsOnAccepted which c.args.given (Refuses 0 why))))
+    (sym c.in-Fill.is) c.fill_text.ensures

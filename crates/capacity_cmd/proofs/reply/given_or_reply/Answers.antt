@@ -1,0 +1,32 @@
+use Rattle.std.proofs.Common.{ℕ, sym, ap, ◌∙◌}
+use Rattle.row_text.specs.Rows.{rows_of}
+use Rattle.capacity_cmd.specs.Input.{content_of_rows}
+use Rattle.capacity_cmd.specs.InputSoFar.{accepted_in}
+use Rattle.capacity_cmd.specs.Outcome.{Refuses}
+use Rattle.capacity_cmd.proofs.Outcomes.{ends_on_accepted, ends_refused, within_limits}
+use Rattle.capacity_cmd.proofs.reply.given_or_reply.Goals as goal
+
+pub returns-in-Ok : goal.returns-in-Ok
+returns-in-Ok c =
+    let input = c.args.input.now in
+    let made = ap (λ (n : ℕ). accepted_in (content_of_rows n (rows_of input))) (sym c.planners.ensures)
+    ∙ ap (λ rows. accepted_in (content_of_rows c.planners.result rows)) (sym c.in_ok-rows.ensures)
+    ∙ sym c.in_ok-given.ensures.same ∙ c.in-Ok.is in
+    record {
+      within = within_limits c.args.command.now c.planners.result input _ c.in-Ok.given c.planners.ensures c.in_ok-rows.ensures
+          c.requires (rw c.in-Ok.is at c.in_ok-given.ensures.within);
+      ends = λ outcome ends. ends_on_accepted c.args.command.now input c.in-Ok.given outcome c.requires made ends;
+    }
+
+pub returns : goal.returns
+returns c =
+    let input = c.args.input.now in
+    let refused = c.in-Err.refused in
+    let made = ap (λ (n : ℕ). accepted_in (content_of_rows n (rows_of input))) (sym c.planners.ensures)
+    ∙ ap (λ rows. accepted_in (content_of_rows c.planners.result rows)) (sym c.in_ok-rows.ensures)
+    ∙ sym c.in_ok-given.ensures.same ∙ c.in-Err.is in
+    record {
+      outcome = Refuses refused.row refused.cause;
+      ends = ends_refused c.args.command.now input refused c.requires made;
+      said = c.in_ok-refusal_told-in-Err.ensures;
+    }

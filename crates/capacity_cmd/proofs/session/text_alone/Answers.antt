@@ -1,0 +1,10 @@
+use Rattle.std.proofs.lemmas.Result.{IfOk-weaker}
+use Rattle.capacity_cmd.specs.Session.{IsSessionText, IsJournalText}
+use Rattle.capacity_cmd.proofs.session.text_alone.Goals as goal
+
+pub returns : goal.returns
+returns c =
+    let given = c.args.given in
+    IfOk-weaker c.text_of_book.result (λ text. IsJournalText c.in_ok-book.book text.items)
+    (λ text. IsSessionText given.tables given.at given.scripts 0 text.items)
+    (λ text is. (c.in_ok-book.book, c.in_ok-book.ensures, is)) c.text_of_book.ensures

@@ -1,0 +1,17 @@
+use Rattle.std.proofs.lemmas.Result.{IfOk-weaker}
+use Rattle.capacity_cmd.specs.Session.{IsSessionText, IsJournalText}
+use Rattle.capacity_cmd.proofs.Reports.{journal_with}
+use Rattle.capacity_cmd.proofs.session.text_on_threads.Goals as goal
+
+pub returns : goal.returns
+returns g c =
+    let given = c.args.given in
+    let journal = c.in_ok-book.book in
+    IfOk-weaker c.text_of_book.result (λ text. IsJournalText journal text.items)
+    (λ text. IsSessionText given.tables given.at given.scripts c.args.workers text.items)
+    (λ text is. (
+      journal,
+      journal_with c.args.workers given.at given.tables given.scripts journal c.requires.some c.in_ok-book.ensures,
+      is,
+    ))
+    c.text_of_book.ensures

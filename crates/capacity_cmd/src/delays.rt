@@ -1,0 +1,147 @@
+//! The command `delays`.
+ghost use Rattle.std.specs.Prelude.{◌≡◌, ◌≤◌, length, replicate, true, Some, All, IfOk, MatchResult};
+ghost use Rattle.delay_spread.specs.declared.spreading.TheConstants.{GREATEST_DELAY_S};
+ghost use Rattle.plan_model.specs.declared.limits.TheConstants.{MEMBERS};
+ghost use Rattle.plan_model.specs.Cut.{IsSoundCut};
+ghost use Rattle.plan_model.specs.Members.{member_count};
+ghost use Rattle.delay_spread.specs.Spreading.{IsSpread};
+ghost use Rattle.path_fill.specs.Filling.{IsOrdered};
+ghost use Rattle.capacity_cmd.specs.Outcome.{Writes, Refuses};
+ghost use Rattle.capacity_cmd.specs.Named.{EndsOnNamed};
+ghost use Rattle.capacity_cmd.specs.Delays.{delays_in, are_members, delayed_named, with_delays, IsDelaysText, IsSpreadText, SetsDelay};
+
+use crate::given_delay::GivenDelay;
+use crate::head::{crowded_text, head_text, is_crowded};
+use crate::member_sentence::{told_of_no_member, told_of_run};
+use crate::named::{cut_named, row_named};
+use crate::{Cause, Told};
+use delay_spread::{Spread, spread, spread_rows};
+use line_tables::LineTables;
+use plan_model::Cut;
+use rail_model::{List, Name, OutOfMemory};
+use row_text::Sheet;
+use std::alloc::Global;
+
+// The rows of the delays that are spread over the section that is named, or why there are none.
+pub(crate) fn delays_text(
+    alloc: Global,
+    tables: &LineTables,
+    section: Option<Name>,
+    given: &Option<List<GivenDelay>>,
+    told: &mut Told,
+) -> Result<Result<Vec<u8>, Cause>, OutOfMemory>
+    ensures { IfOk result (λ made.
+        let Ends = EndsOnNamed IsDelaysText (delayed_named tables.now section given.now) in
+        MatchResult made (λ text. Ends (Writes text.items)) (λ why. Ends (Refuses 0 why))) }
+{
+    match cut_named(alloc, tables, section)? {
+        Ok(cut) => text_on_cut(alloc, &cut, given, told),
+        Err(why) => Ok(Err(why)),
+    }
+}
+
+// The same on the section's cut.
+fn text_on_cut(
+    alloc: Global,
+    cut: &Cut,
+    given: &Option<List<GivenDelay>>,
+    told: &mut Told,
+) -> Result<Result<Vec<u8>, Cause>, OutOfMemory>
+    requires { IsSoundCut cut.now }
+    ensures { IfOk result (λ made.
+        let Ends = EndsOnNamed IsDelaysText (with_delays given.now cut.now) in
+        MatchResult made (λ text. Ends (Writes text.items)) (λ why. Ends (Refuses 0 why))) }
+{
+    match given {
+        Some(given) => text_of_given(alloc, cut, given.slice(), told),
+        None => {
+            *told = told_of_run(alloc, cut, None);
+            Ok(Err(Cause::NoMember))
+        }
+    }
+}
+
+// The same for delays that are given to runs by their names.
+fn text_of_given(
+    alloc: Global,
+    cut: &Cut,
+    given: &[GivenDelay],
+    told: &mut Told,
+) -> Result<Result<Vec<u8>, Cause>, OutOfMemory>
+    requires { IsSoundCut cut.now }
+    ensures { IfOk result (λ made.
+        let Ends = EndsOnNamed IsDelaysText (with_delays (Some given.now) cut.now) in
+        MatchResult made (λ text. Ends (Writes text.items)) (λ why. Ends (Refuses 0 why))) }
+{
+    let mut delays = vec![in alloc; 0u32; cut.rows.len()]?;
+    if set_delays(&mut delays, cut, given) {
+        return Ok(Ok(delayed_text(alloc, cut, &delays)?));
+    }
+    *told = told_of_no_member(alloc, cut, given);
+    Ok(Err(Cause::NoMember))
+}
+
+// Sets the delay of each member to which one is given, and stops at the first that is given to no
+// member.
+fn set_delays(delays: &mut [u32], cut: &Cut, given: &[GivenDelay]) -> bool
+    requires sound { IsSoundCut cut.now }
+    requires none { delays.old ≡ replicate (member_count cut.now) 0 }
+    ensures members { result ≡ are_members cut.now given.now }
+    ensures set { result ≡ true → delays.new ≡ delays_in cut.now given.now }
+    ensures limit { All (λ d. d ≤ GREATEST_DELAY_S) delays.new }
+{
+    for one in given {
+        if !set_delay(delays, cut, one) {
+            return false;
+        }
+    }
+    true
+}
+
+// Sets the delay of one member, if it is one.
+fn set_delay(delays: &mut [u32], cut: &Cut, one: &GivenDelay) -> bool
+    requires sound { IsSoundCut cut.now }
+    requires count { length delays.old ≡ member_count cut.now }
+    ensures { SetsDelay cut.now one.now result delays.old delays.new }
+{
+    match row_named(cut, Some(one.run)) {
+        Some(row) => {
+            delays[row] = one.delay.seconds();
+            true
+        }
+        None => false,
+    }
+}
+
+// The text of a cut with the delays of its members.
+fn delayed_text(alloc: Global, cut: &Cut, delays: &[u32]) -> Result<Vec<u8>, OutOfMemory>
+    requires sound { IsSoundCut cut.now }
+    requires count { length delays.now ≡ member_count cut.now }
+    requires limit { All (λ d. d ≤ GREATEST_DELAY_S) delays.now }
+    ensures { IfOk result (λ text. IsDelaysText (cut.now, delays.now) text.items) }
+{
+    if is_crowded(cut) {
+        return crowded_text(alloc, cut);
+    }
+    match spread(alloc, cut, delays)? {
+        Ok(spread) => spread_text(alloc, cut, delays, &spread),
+        Err(disorder) => head_text(alloc, cut, &disorder.into_answer()),
+    }
+}
+
+// The text of the delays that are spread; `_delays` are those that are given.
+fn spread_text(
+    alloc: Global,
+    cut: &Cut,
+    _delays: &[u32],
+    spread: &Spread,
+) -> Result<Vec<u8>, OutOfMemory>
+    requires sound { IsSoundCut cut.now }
+    requires ordered { IsOrdered cut.now }
+    requires spread { IsSpread cut.now _delays.now spread.now }
+    ensures { IfOk result (λ text. IsSpreadText cut.now _delays.now text.items) }
+{
+    let mut sheet = Sheet::new(alloc);
+    spread_rows(&mut sheet, cut, spread)?;
+    Ok(sheet.into_text())
+}
