@@ -1,0 +1,12 @@
+pub mod Refused
+pub mod Raised
+pub mod Laid
+pub mod Trails
+pub mod Rounded
+pub mod Behind
+pub mod Settled
+pub mod Turned
+pub mod Allowed
+pub mod Limits
+pub mod Answered
+pub mod Told

@@ -1,0 +1,10 @@
+pub mod Repeating
+pub mod Ring
+pub mod Cycle
+pub mod Laws
+pub mod Edges
+pub mod Raising
+pub mod Laying
+pub mod Rings
+pub mod Settling
+pub mod Rows

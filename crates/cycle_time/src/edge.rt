@@ -1,0 +1,64 @@
+//! Steps with their weights.
+ghost use Rattle.std.specs.Prelude.{◌≡◌, ◌+ℤ◌, ◌-ℤ◌, pos};
+ghost use Rattle.plan_model.specs.Cut.{IsMoment};
+ghost use Rattle.cycle_time.specs.Edges.{edge_on, IsLight, IsSpan};
+ghost use Rattle.cycle_time.specs.Laying.{IsVisitOf};
+
+use crate::found::Step;
+use plan_model::SoundCut;
+use train_order::Visit;
+
+/// A step, with how long after the first train the second must enter, patterns apart: seconds.
+#[derive(Clone, Copy)]
+pub(crate) struct Edge {
+    pub(crate) step: Step,
+    pub(crate) weight: i64,
+}
+
+/// The edge from the train of one visit of a place to that of another.
+pub(crate) fn edge_between(cut: &SoundCut, place: u32, one: Visit, other: Visit, next: bool) -> Edge
+    requires one { IsVisitOf cut.now place one }
+    requires other { IsVisitOf cut.now place other }
+    ensures is { result ≡ edge_on cut.now one.member other.member place next }
+    ensures light { IsLight result.weight }
+{
+    let step = Step {
+        from: one.member,
+        to: other.member,
+        block: place,
+        next,
+    };
+    let until = since(cut.row(one.member).entry, end_of(one));
+    let from = since(cut.row(other.member).entry, other.start);
+    let weight = headway(until, from);
+    Edge { step, weight }
+}
+
+// When a visit ends.
+fn end_of(visit: Visit) -> i64
+    requires { IsMoment visit.start }
+    ensures { result ≡ visit.start +ℤ pos visit.lasts_s }
+{
+    visit.start + i64::from(visit.lasts_s)
+}
+
+// How long after a train's entry it is at a moment.
+fn since(entry: i64, time: i64) -> i64
+    requires entry { IsMoment entry }
+    requires time { IsMoment time }
+    ensures is { result ≡ time -ℤ entry }
+    ensures span { IsSpan result }
+{
+    time - entry
+}
+
+// How long after a train another must enter, which starts so long after its entry as the first
+// ends after its own.
+fn headway(until: i64, from: i64) -> i64
+    requires until { IsSpan until }
+    requires from { IsSpan from }
+    ensures is { result ≡ until -ℤ from }
+    ensures light { IsLight result }
+{
+    until - from
+}

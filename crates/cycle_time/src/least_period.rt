@@ -1,0 +1,54 @@
+//! The search for the least period.
+ghost use Rattle.std.specs.Prelude.{◌≡◌, ◌<◌, [], IfOk};
+ghost use Rattle.plan_model.specs.Cut.{IsSoundCut};
+ghost use Rattle.plan_model.specs.Disorder.{remaining};
+ghost use Rattle.plan_model.specs.Members.{member_count};
+ghost use Rattle.cycle_time.specs.Edges.{AreEnough};
+ghost use Rattle.cycle_time.specs.Rings.{IsFound};
+
+use crate::edge::Edge;
+use crate::refusal::allowed;
+use crate::settling::{Settled, settle};
+use plan_model::FitCut;
+use rail_model::{List, OutOfMemory};
+use std::alloc::Global;
+
+/// The least period, the least entries that repeat in it, and a ring that refuses each lesser one.
+#[derive(Drop)]
+pub(crate) struct Found {
+    pub(crate) period: u64,
+    pub(crate) entries: List<i64>,
+    pub(crate) ring: List<Edge>,
+}
+
+/// The least period of a cut with members. Each period that is tried is the least that a ring
+/// allows; a ring that refuses it allows only more.
+pub(crate) fn least_period(
+    alloc: Global,
+    cut: &FitCut,
+    edges: &[Edge],
+) -> Result<Found, OutOfMemory>
+    requires sound { IsSoundCut cut.now }
+    requires none { remaining cut.now ≡ [] }
+    requires some { 0 < member_count cut.now }
+    requires enough { AreEnough cut.now edges.now }
+    ensures { IfOk result (IsFound cut.now) }
+{
+    let mut period = 0;
+    let mut ring = List::new(alloc);
+    loop {
+        match settle(alloc, cut, edges, period)? {
+            Settled::Repeats(entries) => {
+                return Ok(Found {
+                    period,
+                    entries,
+                    ring,
+                });
+            }
+            Settled::Refused(found) => {
+                period = allowed(found.slice());
+                ring = found;
+            }
+        }
+    }
+}

@@ -1,0 +1,59 @@
+//! What a ring of edges allows.
+ghost use Rattle.std.specs.Prelude.{◌≡◌, ◌<◌, ◌≤◌, ◌+◌, ◌≤ℤ◌, ◌<ℤ◌, ◌*ℤ◌, ◌+ℤ◌, ◌-ℤ◌, pos, All, length, slice_index_or};
+ghost use Rattle.cycle_time.specs.Edges.{IsLight};
+ghost use Rattle.cycle_time.specs.Rings as rings;
+
+use crate::edge::Edge;
+
+/// The least period that a ring allows: the sum of its weights over the number of its edges that
+/// lead to the next pattern, rounded up.
+pub(crate) fn allowed(ring: &[Edge]) -> u64
+    requires light { All (λ e. IsLight e.weight) ring.now }
+    requires few { length ring.now ≤ 768 }
+    requires some { 0 < rings.laps ring.now }
+    requires positive { pos 0 <ℤ rings.weights ring.now }
+    ensures more { (pos (rings.laps ring.now) *ℤ (pos result -ℤ pos 1))
+        <ℤ rings.weights ring.now }
+    ensures most { rings.weights ring.now ≤ℤ (pos (rings.laps ring.now) *ℤ pos result) }
+    ensures small { result ≤ 200000000000 }
+{
+    let sum = weights(ring) as u64;
+    sum.div_ceil(laps(ring))
+}
+
+// The sum of some weights.
+fn weights(edges: &[Edge]) -> i64
+    requires light { All (λ e. IsLight e.weight) edges.now }
+    requires few { length edges.now ≤ 768 }
+    ensures is { result ≡ rings.weights edges.now }
+    ensures small { result ≤ℤ pos 153600000000 }
+{
+    let mut sum = 0;
+    for k in 0..edges.len() {
+        sum = with_weight(sum, edges, k);
+    }
+    sum
+}
+
+// A sum with the weight of one edge more.
+fn with_weight(sum: i64, edges: &[Edge], k: usize) -> i64
+    requires above { (pos 0 -ℤ pos 1000000000000) ≤ℤ sum }
+    requires below { sum ≤ℤ pos 1000000000000 }
+    requires light { All (λ e. IsLight e.weight) edges.now }
+    requires there { k < length edges.now }
+    ensures { result ≡ sum +ℤ (slice_index_or edges.now k rings.no_edge).weight }
+{
+    sum + edges[k].weight
+}
+
+// How many edges lead to the next pattern.
+fn laps(edges: &[Edge]) -> u64
+    requires few { length edges.now ≤ 768 }
+    ensures { result ≡ rings.laps edges.now }
+{
+    let mut count = 0;
+    for edge in edges {
+        count += u64::from(edge.step.next);
+    }
+    count
+}

@@ -1,0 +1,149 @@
+//! Entries are raised until they repeat in a period, or a ring refuses it.
+ghost use Rattle.std.specs.Prelude.{◌≡◌, ◌<◌, ◌≤◌, ◌^◌, ◌≤ℤ◌, ◌<ℤ◌, pos, true, false, IfOk, IfSome, length, replicate, None, All, []};
+ghost use Rattle.plan_model.specs.Schedule.{window_start, entry_at};
+ghost use Rattle.plan_model.specs.Members.{member_count};
+ghost use Rattle.plan_model.specs.Cut.{IsSoundCut};
+ghost use Rattle.plan_model.specs.Disorder.{remaining};
+ghost use Rattle.plan_model.specs.declared.limits.TheConstants.{MEMBERS};
+ghost use Rattle.cycle_time.specs.Edges.{AreEnough, IsEdge};
+ghost use Rattle.cycle_time.specs.Raising.{AreEarly, AreRaised, IsRound};
+ghost use Rattle.cycle_time.specs.Rings.{IsSettling};
+
+use crate::edge::Edge;
+use crate::raising::raise;
+use crate::trail::ring_behind;
+use plan_model::FitCut;
+use rail_model::{List, OutOfMemory};
+use std::alloc::Global;
+
+/// What becomes of a period.
+#[derive(Drop)]
+pub(crate) enum Settled {
+    /// The least entries that repeat in it.
+    Repeats(List<i64>),
+    /// Edges that refuse it, each from the train to which the next leads: they ask for more than
+    /// their patterns take.
+    Refused(List<Edge>),
+}
+
+/// The least entries that repeat in a period, or a ring that refuses it.
+pub(crate) fn settle(
+    alloc: Global,
+    cut: &FitCut,
+    edges: &[Edge],
+    period: u64,
+) -> Result<Settled, OutOfMemory>
+    requires none { remaining cut.now ≡ [] }
+    requires enough { AreEnough cut.now edges.now }
+    requires period { period ≤ 2 ^ 40 }
+    ensures { IfOk result (λ settled. IsSettling cut.now period settled) }
+{
+    let count = cut.member_count() as usize;
+    let mut entries = at_start(alloc, cut.sound().window_start(), count)?;
+    let mut causes = no_causes(alloc, count)?;
+    settle_from(alloc, cut, edges, period, &mut entries, &mut causes)
+}
+
+// The same from entries that were raised so far.
+fn settle_from(
+    alloc: Global,
+    cut: &FitCut,
+    edges: &[Edge],
+    period: u64,
+    entries: &mut [i64],
+    causes: &mut [Option<Edge>],
+) -> Result<Settled, OutOfMemory>
+    requires sound { IsSoundCut cut.now }
+    requires few { member_count cut.now ≤ MEMBERS }
+    requires none { remaining cut.now ≡ [] }
+    requires enough { AreEnough cut.now edges.now }
+    requires period { period ≤ 2 ^ 40 }
+    requires raised { AreRaised cut.now period entries.old causes.old }
+    requires early { AreEarly entries.old }
+    ensures { IfOk result (λ settled. IsSettling cut.now period settled) }
+{
+    while let Some(top) = round(cut, edges, entries, causes, period) {
+        if let Some(ring) = ring_behind(alloc, causes, top)? {
+            return Ok(Settled::Refused(ring));
+        }
+    }
+    Ok(Settled::Repeats(list_of(alloc, entries)?))
+}
+
+// A list of some entries.
+fn list_of(alloc: Global, entries: &[i64]) -> Result<List<i64>, OutOfMemory>
+    ensures { IfOk result (λ list. list ≡ entries.now) }
+{
+    Ok(List::from_vec(Vec::from_slice(alloc, entries)?))
+}
+
+fn at_start(alloc: Global, start: i64, count: usize) -> Result<Vec<i64>, OutOfMemory>
+    ensures { IfOk result (λ entries. entries.items ≡ replicate count start) }
+{
+    Ok(vec![in alloc; start; count]?)
+}
+
+fn no_causes(alloc: Global, count: usize) -> Result<Vec<Option<Edge>>, OutOfMemory>
+    ensures { IfOk result (λ causes. causes.items ≡ replicate count None) }
+{
+    Ok(vec![in alloc; None; count]?)
+}
+
+// Raises along each edge once, and says which of the raised trains enters last. It stops at a train
+// that is raised past all that aren't behind a ring.
+fn round(
+    cut: &FitCut,
+    edges: &[Edge],
+    entries: &mut [i64],
+    causes: &mut [Option<Edge>],
+    period: u64,
+) -> Option<u32>
+    requires edges { All (IsEdge cut.now) edges.now }
+    requires raised { AreRaised cut.now period entries.old causes.old }
+    requires early { AreEarly entries.old }
+    requires period { period ≤ 2 ^ 40 }
+    ensures raised { AreRaised cut.now period entries.new causes.new }
+    ensures round { IsRound period edges.now entries.old entries.new result }
+{
+    let mut top = None;
+    for edge in edges {
+        if raise(entries, causes, *edge, period) {
+            let to = edge.step.to;
+            if is_late(entries, to) {
+                return Some(to);
+            }
+            top = Some(later(entries, top, to));
+        }
+    }
+    top
+}
+
+// Whether a train enters later than any that isn't behind a ring.
+fn is_late(entries: &[i64], train: u32) -> bool
+    requires there { train < length entries.now }
+    ensures late { result ≡ true → pos (2 ^ 40) <ℤ entry_at entries.now train }
+    ensures early { result ≡ false → entry_at entries.now train ≤ℤ pos (2 ^ 40) }
+{
+    entries[train as usize] > LATEST
+}
+
+// The one of two trains that enters later.
+fn later(entries: &[i64], top: Option<u32>, train: u32) -> u32
+    requires there { train < length entries.now }
+    requires top { IfSome top (λ t. t < length entries.now) }
+    ensures { result < length entries.now }
+{
+    match top {
+        Some(top) => {
+            if entries[top as usize] < entries[train as usize] {
+                train
+            } else {
+                top
+            }
+        }
+        None => train,
+    }
+}
+
+// No train enters later that isn't behind a ring.
+const LATEST: i64 = 1_099_511_627_776;

@@ -1,0 +1,45 @@
+//! The trail of edges along which trains were raised, back from a train.
+ghost use Rattle.std.specs.Prelude.{◌≡◌, ◌<◌, ◌≤◌, ◌==◌, IfOk, length, drop, map};
+ghost use Rattle.std.specs.List.{position_or_len};
+ghost use Rattle.cycle_time.specs.Rings.{AreCauses, IsBehind, to_of};
+
+use crate::edge::Edge;
+use rail_model::{List, OutOfMemory};
+use std::alloc::Global;
+
+/// The ring to which the trail back from a train leads, if it comes to one: each edge begins where
+/// the next ends, and the last where the first ends.
+pub(crate) fn ring_behind(
+    alloc: Global,
+    causes: &[Option<Edge>],
+    top: u32,
+) -> Result<Option<List<Edge>>, OutOfMemory>
+    requires causes { AreCauses causes.now }
+    requires there { top < length causes.now }
+    ensures { IfOk result (λ ring. IsBehind causes.now top ring) }
+{
+    let mut trail = Vec::new(alloc);
+    let mut train = top;
+    while let Some(edge) = causes[train as usize] {
+        let from = place_of(&trail, train);
+        if from < trail.len() {
+            let ring = Vec::from_slice(alloc, &trail[from..])?;
+            return Ok(Some(List::from_vec(ring)));
+        }
+        trail.push(edge)?;
+        train = edge.step.from;
+    }
+    Ok(None)
+}
+
+// Where an edge leads to a train, or the number of all.
+fn place_of(trail: &[Edge], train: u32) -> usize
+    ensures { result ≡ position_or_len (λ t. t == train) (map to_of trail.now) }
+{
+    for (k, edge) in trail.iter().enumerate() {
+        if edge.step.to == train {
+            return k;
+        }
+    }
+    trail.len()
+}
