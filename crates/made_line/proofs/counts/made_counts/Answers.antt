@@ -1,0 +1,5 @@
+use Rattle.made_line.proofs.HowMany.{length_base, length_scripts, all_tasks}
+use Rattle.made_line.proofs.counts.made_counts.Goals as goal
+
+pub returns : goal.returns
+returns c = record { base = length_base _; planners = length_scripts _; tasks = all_tasks _ }

@@ -1,0 +1,7 @@
+use Rattle.std.proofs.Common.{◌++◌, ◌∷◌, [], codes, refl, arith}
+use Rattle.made_line.proofs.NameTests.{named}
+use Rattle.made_line.proofs.names.block_name.Goals as goal
+
+pub name-requires : goal.name-requires
+name-requires c =
+    named (codes "b" ++ c.digit.result ∷ c.digit-2.result ∷ []) (omega arith) (omega arith) (rw (c.digit.ensures.printed, c.digit-2.ensures.printed) refl)

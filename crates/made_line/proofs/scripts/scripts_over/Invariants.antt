@@ -1,0 +1,6 @@
+use Rattle.std.proofs.Common.{◌≡◌}
+use Rattle.made_line.specs.MadeScripts.{first_scripts}
+use Rattle.made_line.proofs.scripts.scripts_over.Given as goal
+
+abbrev pub invariant-loop-i : goal.invariant-loop-i
+invariant-loop-i l = l.scripts ≡ first_scripts l.runs l.i

@@ -1,0 +1,7 @@
+use Rattle.std.proofs.Common.{◌≡◌, take}
+use Rattle.rail_model.specs.Edits.{no_tables}
+use Rattle.rail_model.specs.Edited.{after_edits}
+use Rattle.made_line.proofs.tables.tables_after.Given as goal
+
+abbrev pub invariant-loop-edit : goal.invariant-loop-edit
+invariant-loop-edit l = l.tables ≡ after_edits no_tables (take l.edit-index l.edits)

@@ -1,0 +1,132 @@
+-- The edits of the made line's base: 64 blocks, a signal at each, one route over them all, 300 runs on it and 8 sections
+-- of 8 blocks. The lengths and running times are drawn from the number n, one after the other.
+use Rattle.std.specs.Prelude.{ℕ, ◌+◌, ◌*◌, List, [], ◌∷◌, ◌++◌, map}
+use Rattle.std.specs.List.{range_with_len}
+use Rattle.rail_model.specs.declared.items.Block.{Block}
+use Rattle.rail_model.specs.declared.items.Signal.{Signal}
+use Rattle.rail_model.specs.declared.items.Route.{Route}
+use Rattle.rail_model.specs.declared.items.Leg.{Leg}
+use Rattle.rail_model.specs.declared.items.Run.{Run}
+use Rattle.rail_model.specs.declared.items.Section.{Section}
+use Rattle.rail_model.specs.declared.items.Item.TheVariants as item
+use Rattle.rail_model.specs.declared.edit.Edit.{Edit}
+use Rattle.rail_model.specs.declared.edit.Edit.TheVariants as edit
+use Rattle.made_line.specs.Draws.{next_number, draw, after_draws}
+use Rattle.made_line.specs.Names.{block_name, signal_name, route_name, run_name, section_name}
+
+-- ---- blocks, by one draw each
+
+abbrev pub made_block : ℕ → ℕ → Block
+made_block x i = record { name = block_name i; length_m = 1000 + draw x 1000 }
+
+-- the i-th block, from 0, and the first so many
+abbrev pub block_of : ℕ → ℕ → Block
+block_of n i = made_block (after_draws n i) i
+
+unfoldable pub first_blocks : ℕ → ℕ → List Block
+first_blocks n count = map (block_of n) (range_with_len 0 count)
+
+abbrev pub made_blocks : ℕ → List Block
+made_blocks n = first_blocks n 64
+
+-- ---- signals and the route
+
+abbrev pub made_signal : ℕ → Signal
+made_signal i = record {
+  name = signal_name i;
+  block = block_name i;
+  approach_m = 1000;
+  watch_s = 10;
+  form_s = 5;
+  overlap_m = 50;
+  release_s = 5;
+}
+
+unfoldable pub first_signals : ℕ → List Signal
+first_signals count = map made_signal (range_with_len 0 count)
+
+abbrev pub made_signals : List Signal
+made_signals = first_signals 64
+
+unfoldable pub signal_names : ℕ → List (List ℕ)
+signal_names count = map signal_name (range_with_len 0 count)
+
+abbrev pub made_route : Route
+made_route = record { name = route_name; signals = signal_names 64 }
+
+-- ---- runs, by 65 draws each: first the length, and then the running times of 64 legs in order
+
+abbrev pub made_leg : ℕ → Leg
+made_leg x = record { running_s = 40 + draw x 11; dwell_s = 0 }
+
+unfoldable pub first_legs : ℕ → ℕ → List Leg
+first_legs x count = map (λ j. made_leg (after_draws x j)) (range_with_len 0 count)
+
+abbrev pub made_run : ℕ → ℕ → Run
+made_run x i = record {
+  name = run_name i;
+  route = route_name;
+  length_m = 100 + draw x 300;
+  tail_s = 10;
+  start_s = 1000 + 300 * i;
+  legs = first_legs (next_number x) 64;
+}
+
+-- the i-th run, from 0: the draws of the runs before it come first
+abbrev pub run_from : ℕ → ℕ → Run
+run_from x i = made_run (after_draws x (65 * i)) i
+
+unfoldable pub first_runs : ℕ → ℕ → List Run
+first_runs x count = map (run_from x) (range_with_len 0 count)
+
+-- and before them those of the blocks
+abbrev pub run_of : ℕ → ℕ → Run
+run_of n i = run_from (after_draws n 64) i
+
+abbrev pub made_runs : ℕ → List Run
+made_runs n = first_runs (after_draws n 64) 300
+
+-- ---- sections, each of 8 blocks that follow each other
+
+unfoldable pub block_names : ℕ → ℕ → List (List ℕ)
+block_names first count = map block_name (range_with_len first count)
+
+abbrev pub made_section : ℕ → Section
+made_section j = record {
+  name = section_name j;
+  from_s = 0;
+  to_s = 86400;
+  add_percent = 33;
+  blocks = block_names (8 * j) 8;
+}
+
+unfoldable pub first_sections : ℕ → List Section
+first_sections count = map made_section (range_with_len 0 count)
+
+abbrev pub made_sections : List Section
+made_sections = first_sections 8
+
+-- ---- the base
+
+abbrev pub put_block : Block → Edit
+put_block b = edit.Put (item.Block b)
+
+abbrev pub put_signal : Signal → Edit
+put_signal s = edit.Put (item.Signal s)
+
+abbrev pub put_route : Route → Edit
+put_route r = edit.Put (item.Route r)
+
+abbrev pub put_run : Run → Edit
+put_run r = edit.Put (item.Run r)
+
+abbrev pub put_section : Section → Edit
+put_section s = edit.Put (item.Section s)
+
+unfoldable pub base_edits : ℕ → List Edit
+base_edits n =
+    map put_block (made_blocks n)
+    ++ map put_signal made_signals
+    ++ put_route made_route ∷ []
+    ++ map put_run (made_runs n)
+    ++ map put_section made_sections

@@ -1,0 +1,24 @@
+//! How much there is of the made line.
+ghost use Rattle.std.specs.Prelude.{◌≡◌, length, sum_by};
+ghost use Rattle.made_line.specs.Base.{base_edits};
+ghost use Rattle.made_line.specs.MadeScripts.{scripts_of_made};
+
+/// How many edits put the base together: the number of the last edit before the scripts.
+pub const BASE_EDITS: u64 = 437;
+
+/// How many planners have scripts.
+pub const PLANNERS: u32 = 4;
+
+/// How many workers answer meanwhile.
+pub const WORKERS: u32 = 4;
+
+/// How many of the scripts' tasks are edits.
+pub const SCRIPT_EDITS: u64 = 64;
+
+/// How many edits the base has, how many scripts there are, and how many tasks in all. This
+/// function does nothing: its contract is the law.
+pub fn made_counts(n: u32)
+    ensures base { length (base_edits n) ≡ BASE_EDITS }
+    ensures planners { length (scripts_of_made n) ≡ PLANNERS }
+    ensures tasks { sum_by length (scripts_of_made n) ≡ 128 }
+{}
