@@ -1,2 +1,2 @@
 mod Laws
-mod Taken
+pub mod Taken

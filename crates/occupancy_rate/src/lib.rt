@@ -8,4 +8,4 @@ mod spans;
 
 pub use fraction::{Fraction, consumption};
 pub use occupied::{occupancy, occupancy_of};
-pub use spans::Span;
+pub use spans::{Span, span_all};

@@ -15,9 +15,9 @@ pub struct Span {
     pub end: i64,
 }
 
-// The spans of all blocks, by all members, which enter at these moments. A use of a connection has
-// no place here.
-pub(crate) fn span_all(spans: &mut [Option<Span>], cut: &SoundCut, entries: &[i64])
+/// The spans of all blocks, by all members, which enter at these moments. There is one for each
+/// block, and none to begin with. A use of a connection has no place here.
+pub fn span_all(spans: &mut [Option<Span>], cut: &SoundCut, entries: &[i64])
     requires count { length entries.now ≡ member_count cut.now }
     requires bounded { All IsBounded entries.now }
     requires blocks { length spans.old ≡ block_count cut.now }

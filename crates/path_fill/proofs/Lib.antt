@@ -4,7 +4,7 @@ pub mod FirstCopy
 pub mod Least
 pub mod Behind
 pub mod Room
-pub mod KeptUntil
+pub mod SpanStarts
 pub mod Filled
 pub mod FoundFill
 pub mod Unique

@@ -1,11 +1,12 @@
 -- What copies ask of the blocks, and the numbers that tell the filled occupancies.
-use Rattle.std.specs.Prelude.{◌≡◌, ◌⊎◌, ℕ, zero, suc, ◌+◌, ◌*◌, ◌^◌, ◌<◌, ◌≤◌, max, ℤ, pos, ◌-ℤ◌, ◌≤ℤ◌, Bool, true, false, if◌then◌else◌, List, slice_index_or, Option, Some, None, ⊤}
+use Rattle.std.specs.Prelude.{◌≡◌, ◌⊎◌, ℕ, zero, suc, ◌+◌, ◌*◌, ◌^◌, ◌<◌, ◌≤◌, max, ℤ, pos, ◌-ℤ◌, ◌≤ℤ◌, Bool, true, false, if◌then◌else◌, List, slice_index_or, Option, Some, None, IfSome, ⊤}
 use Rattle.std.specs.Int.{int_max}
 use Rattle.rail_model.specs.declared.items.Section.{Section}
 use Rattle.plan_model.specs.declared.cut.Cut.{Cut}
 use Rattle.plan_model.specs.Members.{member, use_at}
 use Rattle.plan_model.specs.Schedule.{end_at}
 use Rattle.plan_model.specs.Occupancy.{first_start}
+use Rattle.occupancy_rate.specs.declared.spans.Span.{Span}
 use Rattle.train_placing.specs.declared.last.Last.{Last}
 use Rattle.path_fill.specs.declared.found.Fill.{Fill}
 use Rattle.path_fill.specs.declared.found.Fill.TheVariants as fill
@@ -49,10 +50,23 @@ asked cut r last block =
 abbrev pub kept_to : Cut → ℕ → List ℤ → ℤ → ℕ → ℤ
 kept_to cut r entries entry block = end_at (member cut r) entry block -ℤ first_start cut entries block
 
--- a moment at which a copy ends: from -2^51 to 2^51
+-- a moment at which a copy ends, or a block's first use starts: from -2^51 to 2^51
 pub record IsNearEnd (t : ℤ) : Type 0 where
   pub after : (pos 0 -ℤ pos (2 ^ 51)) ≤ℤ t
   pub before : t ≤ℤ pos (2 ^ 51)
+
+-- when a block's span starts
+abbrev pub start_of : Option Span → ℤ
+start_of None = pos 0
+start_of (Some span) = span.start
+
+-- a span that starts at such a moment
+abbrev pub StartsNear : Option Span → Type 0
+StartsNear span = IfSome span (λ s. IsNearEnd s.start)
+
+-- the same time from the spans of the blocks
+abbrev pub kept_by : Cut → ℕ → List (Option Span) → ℤ → ℕ → ℤ
+kept_by cut r spans entry block = end_at (member cut r) entry block -ℤ start_of (slice_index_or spans block None)
 
 -- the occupancy time with so many copies, by that of the members alone, by how long a block is kept up to the first
 -- copy's end, and by the headway of the copies

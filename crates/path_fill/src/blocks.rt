@@ -1,18 +1,19 @@
 //! What copies of a train ask of the blocks that it uses. Each is the greatest of what the blocks
 //! ask one by one.
-ghost use Rattle.std.specs.Prelude.{◌≡◌, ℕ, ◌<◌, ◌≤◌, ◌^◌, ℤ, pos, ◌+ℤ◌, ◌-ℤ◌, ◌≤ℤ◌, length, IsTrue};
+ghost use Rattle.std.specs.Prelude.{◌≡◌, ℕ, ◌<◌, ◌≤◌, ◌^◌, ℤ, pos, ◌+ℤ◌, ◌-ℤ◌, ◌≤ℤ◌, length};
 ghost use Rattle.std.specs.List.{All};
 ghost use Rattle.train_placing.specs.Last.{IsNear, IsNearLast};
 ghost use Rattle.plan_model.specs.Cut.{IsBounded, IsMoment};
 ghost use Rattle.plan_model.specs.Members.{member, member_count, uses_place};
 ghost use Rattle.plan_model.specs.Places.{block_count, place_count};
-ghost use Rattle.plan_model.specs.Schedule.{window_start, start_at};
-ghost use Rattle.plan_model.specs.Occupancy.{first_start};
+ghost use Rattle.plan_model.specs.Occupancy.{occupancy};
+ghost use Rattle.plan_model.specs.Schedule.{window_start};
 ghost use Rattle.path_fill.specs.Search as given;
 ghost use Rattle.path_fill.specs.Search.{IsGreatest};
 
+use occupancy_rate::{Span, occupancy_of, span_all};
 use plan_model::{SoundCut, shift};
-use rail_model::Use;
+use rail_model::{PATH_HOPS, Use};
 use train_placing::Last;
 
 /// The headway of a train to itself on the blocks: how long it keeps the block that it keeps
@@ -109,73 +110,71 @@ fn until(last: Option<Last>) -> i64
     }
 }
 
-/// How long a block that a train uses is kept at most, by trains that enter at these moments, up to
-/// the end of a copy that enters at another: seconds.
-pub(crate) fn kept_to(cut: &SoundCut, row: u32, entries: &[i64], entry: i64) -> i64
+/// By trains that enter at these moments, in seconds: how long the busiest block is kept, and how
+/// long a block that a train uses is kept at most up to the end of a copy that enters at another.
+pub(crate) fn times_kept(cut: &SoundCut, row: u32, entries: &[i64], entry: i64) -> (u64, i64)
     requires there { row < member_count cut.now }
     requires count { length entries.now ≡ member_count cut.now }
     requires bounded { All IsBounded entries.now }
     requires entry { IsBounded entry }
+    ensures alone { result.0 ≡ occupancy cut.now entries.now }
+    ensures first { IsGreatest (uses_place (member cut.now row))
+        (given.kept_to cut.now row entries.now entry) (block_count cut.now) (pos 0) result.1 }
+    ensures small { result.1 ≤ℤ pos (2 ^ 52) }
+{
+    let mut room = [None; PATH_HOPS];
+    let spans = &mut room[..cut.block_count() as usize];
+    span_all(spans, cut, entries);
+    let (alone, _) = occupancy_of(cut.cut(), spans);
+    (alone, kept_to(cut, row, spans, entry))
+}
+
+// How long a block that a train uses is kept at most, from the start of its span up to the end of
+// a copy that enters at a moment.
+fn kept_to(cut: &SoundCut, row: u32, spans: &[Option<Span>], entry: i64) -> i64
+    requires there { row < member_count cut.now }
+    requires count { length spans.now ≡ block_count cut.now }
+    requires near { All given.StartsNear spans.now }
+    requires entry { IsBounded entry }
     ensures greatest { IsGreatest (uses_place (member cut.now row))
-        (given.kept_to cut.now row entries.now entry) (block_count cut.now) (pos 0) result }
+        (given.kept_by cut.now row spans.now entry) (block_count cut.now) (pos 0) result }
     ensures small { result ≤ℤ pos (2 ^ 52) }
 {
     let mut greatest = 0;
     for block in 0..cut.block_count() {
-        greatest = greater(greatest, kept_at(cut, row, entries, entry, block));
+        greatest = greater(greatest, kept_at(cut, row, spans, entry, block));
     }
     greatest
 }
 
 // How long a block is kept up to the end of a copy of a train, if the train uses it.
-fn kept_at(cut: &SoundCut, row: u32, entries: &[i64], entry: i64, block: u32) -> Option<i64>
+fn kept_at(cut: &SoundCut, row: u32, spans: &[Option<Span>], entry: i64, block: u32) -> Option<i64>
     requires there { row < member_count cut.now }
-    requires count { length entries.now ≡ member_count cut.now }
-    requires bounded { All IsBounded entries.now }
+    requires block { block < length spans.now }
+    requires near { All given.StartsNear spans.now }
     requires entry { IsBounded entry }
     ensures is { result ≡ given.where_used (uses_place (member cut.now row) block)
-        (given.kept_to cut.now row entries.now entry block) }
+        (given.kept_by cut.now row spans.now entry block) }
     ensures small { given.IsAtMost (2 ^ 52) result }
 {
     match cut.use_at(row, block) {
         Some(one) => {
             let end = shift(one.end, cut.row(row).entry, entry);
-            Some(kept_until(cut, row, entries, end, block))
+            Some(from_to(start_of(spans[block as usize]), end))
         }
         None => None,
     }
 }
 
-// How long a block that a train uses is kept up to a moment.
-fn kept_until(cut: &SoundCut, row: u32, entries: &[i64], end: i64, block: u32) -> i64
-    requires there { row < member_count cut.now }
-    requires uses { IsTrue (uses_place (member cut.now row) block) }
-    requires count { length entries.now ≡ member_count cut.now }
-    requires bounded { All IsBounded entries.now }
-    requires end { given.IsNearEnd end }
-    ensures is { result ≡ end -ℤ first_start cut.now entries.now block }
-    ensures small { result ≤ℤ pos (2 ^ 52) }
+// When a span starts.
+fn start_of(span: Option<Span>) -> i64
+    requires { given.StartsNear span }
+    ensures is { result ≡ given.start_of span }
+    ensures near { given.IsNearEnd result }
 {
-    let mut kept = kept_from(cut, row, entries[row as usize], end, block).unwrap();
-    for i in 0..cut.member_count() {
-        kept = greater(kept, kept_from(cut, i, entries[i as usize], end, block));
-    }
-    kept
-}
-
-// How long it is from the start of a member, which enters at a moment, up to another, if it uses
-// the block.
-fn kept_from(cut: &SoundCut, i: u32, entry: i64, end: i64, block: u32) -> Option<i64>
-    requires there { i < member_count cut.now }
-    requires entry { IsBounded entry }
-    requires end { given.IsNearEnd end }
-    ensures is { result ≡ given.where_used (uses_place (member cut.now i) block)
-        (end -ℤ start_at (member cut.now i) entry block) }
-    ensures small { given.IsAtMost (2 ^ 52) result }
-{
-    match cut.use_at(i, block) {
-        Some(one) => Some(from_to(shift(one.start, cut.row(i).entry, entry), end)),
-        None => None,
+    match span {
+        Some(span) => span.start,
+        None => 0,
     }
 }
 

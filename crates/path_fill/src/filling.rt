@@ -8,10 +8,9 @@ ghost use Rattle.train_order.specs.Ordering.{IsOrder};
 ghost use Rattle.compression.specs.Promise.{IsTaken};
 ghost use Rattle.path_fill.specs.Filling.{IsFill, IsFilling};
 
-use crate::blocks::{first_copy, kept_to, own_headway};
+use crate::blocks::{first_copy, own_headway, times_kept};
 use crate::copies::fill_up;
 use crate::found::Fill;
-use occupancy_rate::occupancy;
 use plan_model::{Answer, Cut, FitCut, Rows, is_crowded};
 use rail_model::OutOfMemory;
 use std::alloc::Global;
@@ -66,9 +65,8 @@ fn fill_in(alloc: Global, cut: &FitCut, order: &[u32], row: u32) -> Result<Fill,
 {
     let placing = place_in_window(alloc, cut, order)?;
     let sound = cut.sound();
-    let (alone, _) = occupancy(sound.cut(), &placing.entries);
     let entry = first_copy(sound, row, &placing.last);
-    let first = kept_to(sound, row, &placing.entries, entry);
+    let (alone, first) = times_kept(sound, row, &placing.entries, entry);
     let headway = own_headway(sound, row);
     let section = &sound.cut().section;
     Ok(fill_up(section, alone, first as u64, headway as u64))

@@ -17,7 +17,7 @@ pub enum Taken {
 }
 
 /// The greatest number of bytes that one read is asked for.
-const PIECE_BYTES: usize = 8_192;
+const PIECE_BYTES: usize = 65_536;
 
 /// Takes all bytes that a source has left, at most `limit`. It stops at the end of the source, at a
 /// read that fails, after which it makes none, and at the first byte past the limit, of which it

@@ -20,7 +20,8 @@ pub(crate) fn make_room(text: &mut Vec<u8>, used: usize, room: usize) -> Result<
     grow(text, used, room)
 }
 
-// Half as much again at least, so that growing costs little for each byte.
+// An eighth more at least: little of the room is left unused, and growing costs little for each
+// byte.
 #[inline(never)]
 fn grow(text: &mut Vec<u8>, used: usize, room: usize) -> Result<(), OutOfMemory>
     requires { used ≤ length text.old.items }
@@ -32,7 +33,7 @@ fn grow(text: &mut Vec<u8>, used: usize, room: usize) -> Result<(), OutOfMemory>
         return Err(OutOfMemory);
     };
     let size = least
-        .max(text.len().saturating_add(text.len() / 2))
+        .max(text.len().saturating_add(text.len() / 8))
         .max(LEAST_ROOM);
     text.resize(size, 0)?;
     Ok(())

@@ -1,25 +1,19 @@
 -- A section that is read as not current is published, and is current then.
-use Rattle.std.proofs.Common.{◌≡◌, ℕ, ◌<◌, ◌≤◌, List, [], ◌∷◌, ◌++◌, length, Some, Ok, Err, refl, sym, ap, ◌∙◌, subst, inl, inr, arith}
-use Rattle.std.specs.Prelude.{find, option_map}
-use Rattle.std.proofs.lemmas.Bool.{cases_Bool, cases_lt}
-use Rattle.rail_model.specs.Name.{is_same}
-use Rattle.rail_model.proofs.NameOrder.{same_name, is_same-from}
-use Rattle.plan_model.specs.declared.limits.TheConstants.{MEMBERS}
+use Rattle.std.proofs.Common.{◌≡◌, ℕ, ◌<◌, List, [], ◌∷◌, ◌++◌, length, Some, Ok, Err, refl, ◌∙◌, subst, arith}
+use Rattle.rail_model.proofs.NameOrder.{is_same-from}
 use Rattle.plan_model.specs.declared.answer.Answer.{Answer}
 use Rattle.plan_model.specs.declared.answer.Done.{Done}
 use Rattle.plan_model.specs.declared.journal.Act.TheVariants as act
 use Rattle.plan_model.specs.declared.journal.Entry.{Entry}
 use Rattle.plan_model.specs.declared.outcome.NotTaken.{NotTaken}
 use Rattle.plan_model.specs.declared.outcome.NotTaken.TheVariants as not_taken
-use Rattle.plan_model.specs.Members.{member_count}
 use Rattle.plan_model.specs.Reading.{Shown}
-use Rattle.plan_model.specs.Journal.{opening, last_number, tables_at, publication_of, issued}
-use Rattle.plan_model.specs.Touch.{cut_at, cut_now, IsCurrent}
+use Rattle.plan_model.specs.Journal.{last_number, publication_of, issued}
+use Rattle.plan_model.specs.Touch.{cut_at, IsCurrent}
 use Rattle.plan_model.specs.Legal.{IsLegal}
-use Rattle.plan_model.specs.Outcome.{IsAnswerOf, section_name, IsNextReading, PublishesTo}
+use Rattle.plan_model.specs.Outcome.{IsAnswerOf, IsNextReading, PublishesTo}
 use Rattle.plan_model.proofs.Growing.{others_keep_tables, last_publication-more}
 use Rattle.plan_model.proofs.Changing.{stays_at}
-use Rattle.compression.specs.Promise.{IsTaken}
 use Rattle.plan_model.proofs.Readings.{next_name}
 use Rattle.session_run.specs.Turns.{PublishesNow}
 
@@ -27,14 +21,6 @@ use Rattle.session_run.specs.Turns.{PublishesNow}
 pub main_issued : (journal : List Entry) → 0 < issued journal
 unfolding issued
 main_issued journal = omega arith
-
--- an answer that is worked out leaves the cut and the number
-pub kept_cut : (before after : Shown) → IsTaken before after → (after.cut ≡ before.cut) × (after.at ≡ before.at)
-kept_cut before after taken =
-    elim (cases_lt MEMBERS (member_count before.cut)) [
-      | inl many ↦ let same = taken.nothing many in (ap (λ (s : Shown). s.cut) same, ap (λ (s : Shown). s.at) same)
-      | inr few ↦ let same = taken.all few in (ap (λ (s : Shown). s.cut) same, ap (λ (s : Shown). s.at) same)
-    ]
 
 -- what is read and answered is not refused
 pub not_refused : (found after : List Entry) (shown : Shown) (done : Done) (why : NotTaken) → IsNextReading 0 1 found shown

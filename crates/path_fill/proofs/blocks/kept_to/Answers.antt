@@ -3,7 +3,7 @@ use Rattle.std.specs.Prelude.{◌^◌, pos, ◌≤ℤ◌}
 use Rattle.std.proofs.lemmas.Int.{ints}
 use Rattle.plan_model.specs.Places.{block_count}
 use Rattle.plan_model.specs.Members.{member, uses_place}
-use Rattle.path_fill.specs.Search.{kept_to, greater, IsGreatest}
+use Rattle.path_fill.specs.Search.{kept_by, greater, IsGreatest}
 use Rattle.path_fill.proofs.Best.{none_yet, one_more, no_more}
 use Rattle.path_fill.proofs.blocks.kept_to.Goals as goal
 
@@ -13,7 +13,7 @@ loop-block-init c =
     let r = c.args.row in
     let entry = to_z w64 (of_z w64 c.args.entry) in
     let test = uses_place (member cut r) in
-    let f = kept_to cut r c.args.entries.now entry in
+    let f = kept_by cut r c.args.spans.now entry in
     record {
       greatest = none_yet test f (pos 0);
       small = omega (arith, ints);
@@ -25,7 +25,7 @@ loop-block-preserved c =
     let r = c.args.row in
     let entry = to_z w64 (of_z w64 c.args.entry) in
     let test = uses_place (member cut r) in
-    let f = kept_to cut r c.args.entries.now entry in
+    let f = kept_by cut r c.args.spans.now entry in
     let b = c.loop-block.block in
     let best = to_z w64 c.loop-block.greatest-bits in
     let one = c.kept_at.result in
@@ -47,7 +47,7 @@ returns c =
     let r = c.args.row in
     let entry = to_z w64 (of_z w64 c.args.entry) in
     let test = uses_place (member cut r) in
-    let f = kept_to cut r c.args.entries.now entry in
+    let f = kept_by cut r c.args.spans.now entry in
     let best = to_z w64 c.loop-block.greatest-bits in
     let cast : to_z w64 (of_z w64 c.args.entry) ≡ c.args.entry = search rules in
     let all : c.loop-block.block ≡ block_count cut =
@@ -59,7 +59,7 @@ returns c =
     ) in
     record {
       greatest =
-          subst (λ x. IsGreatest test (kept_to cut r c.args.entries.now x) (block_count cut) (pos 0) best) cast
+          subst (λ x. IsGreatest test (kept_by cut r c.args.spans.now x) (block_count cut) (pos 0) best) cast
           (subst (λ n. IsGreatest test f n (pos 0) best) all c.loop-block.invariant.greatest);
       small = c.loop-block.invariant.small;
     }

@@ -1,7 +1,7 @@
 use Rattle.std.proofs.Common.{ap, ◌∙◌}
 use Rattle.rail_model.specs.declared.items.Section.{Section}
 use Rattle.plan_model.specs.declared.cut.Cut.{Cut}
-use Rattle.session_run.proofs.Publishing.{kept_cut}
+use Rattle.compression.proofs.Taken.{kept_cut}
 use Rattle.session_run.proofs.alone.answered.Goals as goal
 
 pub returns : goal.returns

@@ -2,7 +2,7 @@ use Rattle.std.proofs.Common.{ap, ◌∙◌}
 use Rattle.rail_model.specs.declared.items.Section.{Section}
 use Rattle.plan_model.specs.declared.cut.Cut.{Cut}
 use Rattle.plan_model.proofs.Readings.{reading_done}
-use Rattle.session_run.proofs.Publishing.{kept_cut}
+use Rattle.compression.proofs.Taken.{kept_cut}
 use Rattle.acceptance_books.proofs.tests.calls.answered.Goals as goal
 
 pub returns : goal.returns
