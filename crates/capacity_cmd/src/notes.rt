@@ -112,13 +112,13 @@ fn outsiders(
     members: &[bool],
 ) -> Result<Found, OutOfMemory> {
     let blocks = block_numbers(alloc, tables, section)?;
-    let routes = tables.route_hops()?;
+    let paths = tables.paths()?;
     let mut found = Found::nothing(alloc);
     for run in 0..tables.runs() {
         if is_flagged(members, run) {
             continue;
         }
-        let path = tables.run_path(routes.slice(), run)?;
+        let path = paths.path(run)?;
         if !uses_one(path.hops.slice(), &blocks) {
             continue;
         }

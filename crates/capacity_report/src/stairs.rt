@@ -30,10 +30,10 @@ fn rows_of_runs(alloc: Global, sheet: &mut Sheet, tables: &LineTables) -> Result
 {
     sheet.drop_row();
     let names = block_names(alloc, tables)?;
-    let routes = tables.route_hops()?;
+    let paths = tables.paths()?;
     let count = tables.runs();
     for run in 0..count {
-        let path = tables.run_path(routes.slice(), run)?;
+        let path = paths.path(run)?;
         run_rows(alloc, sheet, &names, &path)?;
     }
     Ok(())

@@ -23,7 +23,10 @@ pub mod JoinedRoutes
 pub mod JoinedTrains
 pub mod JoinedBlocks
 pub mod InUse
-pub mod Paths
+pub mod TimedHops
 pub mod Numbers
 pub mod RunPaths
+pub mod KeyedPaths
+pub mod PathsOf
+pub mod Leads
 pub mod Passed

@@ -17,13 +17,13 @@ use Rattle.line_tables.specs.declared.linked.Linked.{Linked}
 use Rattle.line_tables.specs.declared.line_tables.LineTables.TheInside.{Inside}
 use Rattle.line_tables.specs.Table.{under, key_of, IsTable}
 use Rattle.line_tables.specs.Inside.{items_of, tables_of, names_of_route, names_of_run, IsJoined}
-use Rattle.line_tables.specs.Hops.{untimed_hop, route_hops, hop_of, with_legs, path_over}
+use Rattle.line_tables.specs.Hops.{hop_of, with_legs, path_over}
 use Rattle.line_tables.proofs.Filed.{some_from_map}
 use Rattle.line_tables.proofs.Found.{found_by_key}
 use Rattle.line_tables.proofs.Views.{item_named, number_of-map}
 use Rattle.line_tables.proofs.Meets.{under_passes, only_key}
 use Rattle.rail_model.proofs.Paths.{path_fits, route_stands, hops_numbered}
-use Rattle.line_tables.proofs.Paths.{looked_up_first}
+use Rattle.line_tables.proofs.TimedHops.{untimed_hop, route_hops, looked_up_first}
 
 -- what names and their keys give alike
 pub same_images : {Y : Type 0} (find : List ℕ → Option ℕ) (g : List ℕ → Y) (f : ℕ → Y) (ns : List (List ℕ)) (ks : List ℕ) → ((n : List ℕ) (q : ℕ) → find n ≡ Some q → g n ≡ f q) → map find ns ≡ map Some ks → map g ns ≡ map f ks
@@ -54,30 +54,32 @@ all_at P items n x h all =
 
 -- ---- the path over the hops of a run's route
 
-module _ (tables : Tables) (sound : IsSound tables) (run : Run) (stands : Stands tables (item.Run run)) (hops : List Hop) (right : hops ≡ route_hops tables (route_named tables run.route)) where
-  path_is : path_over run hops ≡ path_in tables run
+module _ (tables : Tables) (run : Run) (hops : List Hop) (right : hops ≡ route_hops tables (route_named tables run.route)) where
+  pub path_is : path_over run hops ≡ path_in tables run
   path_is =
       ap (λ (hops : List Hop). record (path_in tables run) { hops = hops })
       (ap (λ h. with_legs h run.legs) right ∙ looked_up_first tables (route_named tables run.route).signals run.legs)
 
-  numbered : All (λ (h : Hop). h.block < length tables.blocks) (path_in tables run).hops
+module _ (tables : Tables) (sound : IsSound tables) (run : Run) (stands : Stands tables (item.Run run)) where
+  pub numbered : All (λ (h : Hop). h.block < length tables.blocks) (path_in tables run).hops
   numbered =
       let route = route_stands tables sound run.route stands.known in
       hops_numbered tables sound (route_named tables run.route).signals run.legs route.known
 
-  pub same_path : {E : Type 0} (r : Result Path E) → IfOk r (λ path. path ≡ path_over run hops) → IfOk r (λ path. path ≡ path_in tables run)
-  same_path (Ok path) h = h ∙ path_is
-  same_path (Err e) h = tt
+  module _ (hops : List Hop) (right : hops ≡ route_hops tables (route_named tables run.route)) where
+    pub same_path : {E : Type 0} (r : Result Path E) → IfOk r (λ path. path ≡ path_over run hops) → IfOk r (λ path. path ≡ path_in tables run)
+    same_path (Ok path) h = h ∙ path_is tables run hops right
+    same_path (Err e) h = tt
 
-  pub fitting_path : {E : Type 0} (r : Result Path E) → IfOk r (λ path. path ≡ path_over run hops) → IfOk r Fits
-  fitting_path (Ok path) h = subst Fits (sym (h ∙ path_is)) (path_fits tables sound run stands)
-  fitting_path (Err e) h = tt
+    pub fitting_path : {E : Type 0} (r : Result Path E) → IfOk r (λ path. path ≡ path_over run hops) → IfOk r Fits
+    fitting_path (Ok path) h = subst Fits (sym (h ∙ path_is tables run hops right)) (path_fits tables sound run stands)
+    fitting_path (Err e) h = tt
 
-  pub numbered_path : {E : Type 0} (r : Result Path E) → IfOk r (λ path. path ≡ path_over run hops) → IfOk r (λ path. All (λ (h : Hop). h.block < length tables.blocks) path.hops)
-  numbered_path (Ok path) h =
-      let AreThere : Path → Type 0 = λ path. All (λ (h : Hop). h.block < length tables.blocks) path.hops in
-      subst AreThere (sym (h ∙ path_is)) numbered
-  numbered_path (Err e) h = tt
+    pub numbered_path : {E : Type 0} (r : Result Path E) → IfOk r (λ path. path ≡ path_over run hops) → IfOk r (λ path. All (λ (h : Hop). h.block < length tables.blocks) path.hops)
+    numbered_path (Ok path) h =
+        let AreThere : Path → Type 0 = λ path. All (λ (h : Hop). h.block < length tables.blocks) path.hops in
+        subst AreThere (sym (h ∙ path_is tables run hops right)) numbered
+    numbered_path (Err e) h = tt
 
 -- ---- by keys
 
@@ -128,24 +130,3 @@ module _ (t : Inside) (j : IsJoined t) where
   linked_at n r here =
       let one = all_at (λ u. map (key_of signal_name t.signals) (names_of_route u.1.item) ≡ map Some u.1.refs) t.routes n r here j.routes in
       subst (λ (r : Linked Route). map (key_of signal_name t.signals) r.item.signals ≡ map Some r.refs) one.1 one.2
-
-  -- the hops of a run's route in the list of the hops of all routes
-  pub hops_at : (all : List (List Hop)) (number : ℕ) (name : List ℕ) (hops : List Hop) → all ≡ map (route_hops (tables_of t)) (items_of t.routes) → number ≡ number_of (λ u. u.1.item.name) t.routes name → number < length t.routes → hops ≡ get_or all number hops → hops ≡ route_hops (tables_of t) (route_named (tables_of t) name)
-  hops_at all number name hops right counted within read =
-      let routes = items_of t.routes in
-      let long = length-map t.routes (λ (e : ℕ × Linked Route). e.1.item) in
-      let place : number ≡ number_of (λ (r : Route). r.name) routes name = counted ∙ sym (number_of-map (λ (e : ℕ × Linked Route). e.1.item) (λ r. r.name) t.routes name) in
-      read ∙ ap (λ l. get_or l number hops) right
-      ∙ get_or-map (route_hops (tables_of t)) routes number no_route hops (omega arith)
-      ∙ ap (λ k. route_hops (tables_of t) (get_or routes k no_route)) place
-
-  -- the hops of one route more
-  pub hops_more : (all : List (List Hop)) (number : ℕ) (r : Linked Route) (hops : List Hop) → option_map (λ e. e.1) (slice_get t.routes number) ≡ Some r → all ≡ map (route_hops (tables_of t)) (take number (items_of t.routes)) → hops ≡ route_hops (tables_of t) r.item → all ++ hops ∷ [] ≡ map (route_hops (tables_of t)) (take (number + 1) (items_of t.routes))
-  hops_more all number r hops here so_far right =
-      let f : Route → List Hop = route_hops (tables_of t) in
-      let routes = items_of t.routes in
-      let u = read_entry t.routes number r here in
-      let long = length-map t.routes (λ (e : ℕ × Linked Route). e.1.item) in
-      let l : number < length t.routes = u.3 in
-      let item = get_or-map (λ (e : ℕ × Linked Route). e.1.item) t.routes number u.0 no_route l ∙ ap (λ (u : ℕ × Linked Route). u.1.item) u.1 ∙ ap (λ (e : Linked Route). e.item) u.2 in
-      rw (so_far, right, map_more f routes number no_route (omega arith), item) refl

@@ -1,5 +1,5 @@
 -- The hops of routes and of runs.
-use Rattle.std.specs.Prelude.{ℕ, List, map}
+use Rattle.std.specs.Prelude.{ℕ, ◌<◌, List, [], map, length, All, slice_index, slice_index_or}
 use Rattle.std.specs.List.{zip}
 use Rattle.rail_model.specs.declared.items.Leg.{Leg}
 use Rattle.rail_model.specs.declared.items.Route.{Route}
@@ -8,21 +8,14 @@ use Rattle.rail_model.specs.declared.items.Block.{Block}
 use Rattle.rail_model.specs.declared.items.Signal.{Signal}
 use Rattle.rail_model.specs.declared.path.Hop.{Hop}
 use Rattle.rail_model.specs.declared.path.Path.{Path}
-use Rattle.rail_model.specs.declared.tables.Tables.{Tables}
 use Rattle.std.specs.Option.{option_map_or}
-use Rattle.rail_model.specs.Tables.{no_signal, signal_named, hop_beyond}
+use Rattle.rail_model.specs.Path.{no_hop, Fits}
+use Rattle.rail_model.specs.Tables.{no_signal, hop_beyond}
 use Rattle.rail_model.specs.Edits.{no_tables}
 use Rattle.line_tables.specs.declared.linked.Linked.{Linked}
 use Rattle.line_tables.specs.Table.{under}
+use Rattle.line_tables.specs.Links.{IsKey}
 use Rattle.rail_model.specs.Within.{no_leg}
-
--- the hop beyond the signal of a name, before any run has timed it
-abbrev pub untimed_hop : Tables → List ℕ → Hop
-untimed_hop tables name = hop_beyond tables (signal_named tables name) no_leg
-
--- the hops of a route, one for each of its signals, before any run has timed them
-abbrev pub route_hops : Tables → Route → List Hop
-route_hops tables route = map (untimed_hop tables) route.signals
 
 -- a hop with the times of a leg
 abbrev pub with_leg : Hop → Leg → Hop
@@ -41,12 +34,41 @@ abbrev pub hop_of : List (ℕ × Block) → List (ℕ × Linked Signal) → ℕ 
 hop_of blocks signals k =
     hop_beyond (record no_tables { blocks = map (λ e. e.1) blocks }) (signal_under signals k) no_leg
 
--- the path of a run over the hops of its route
-abbrev pub path_over : Run → List Hop → Path
-path_over run hops = record {
+-- the path of a run with these hops
+abbrev pub path_with : Run → List Hop → Path
+path_with run hops = record {
   run = run.name;
   length_m = run.length_m;
   tail_s = run.tail_s;
   start_s = run.start_s;
-  hops = with_legs hops run.legs;
+  hops = hops;
 }
+
+-- the path of a run over the hops of its route
+abbrev pub path_over : Run → List Hop → Path
+path_over run hops = path_with run (with_legs hops run.legs)
+
+-- ---- paths by a list of hops, which has the hop beyond each signal at its key
+
+-- the hops at these keys, in their order
+abbrev pub hops_at : List Hop → List ℕ → List Hop
+hops_at hops keys = map (λ k. slice_index_or hops k no_hop) keys
+
+-- the keys of the signals of the route that a run refers to
+abbrev pub keys_along : List (ℕ × Linked Route) → Linked Run → List ℕ
+keys_along routes run = option_map_or (λ r. r.refs) (under routes (slice_index run.refs 0)) []
+
+-- the path of a run
+abbrev pub path_by_keys : List (ℕ × Linked Route) → List Hop → Linked Run → Path
+path_by_keys routes hops run = path_over run.item (hops_at hops (keys_along routes run))
+
+-- the path of each run, in their order
+abbrev pub paths_by_keys : List (ℕ × Linked Run) → List (ℕ × Linked Route) → List Hop → List Path
+paths_by_keys runs routes hops = map (λ u. path_by_keys routes hops u.1) runs
+
+-- each run refers to a route, there is a hop at each key of a route's signals, and the paths fit
+pub record ArePaths (runs : List (ℕ × Linked Run)) (routes : List (ℕ × Linked Route)) (hops : List Hop) : Type 0 where
+  pub refers : All (λ u. 0 < length u.1.refs) runs
+  pub there : All (λ u. IsKey routes (slice_index u.1.refs 0)) runs
+  pub within : All (λ u. All (λ k. k < length hops) u.1.refs) routes
+  pub fits : All Fits (paths_by_keys runs routes hops)

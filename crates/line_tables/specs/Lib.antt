@@ -6,5 +6,6 @@ pub mod RouteSets
 pub mod References
 pub mod Inside
 pub mod Hops
+pub mod Paths
 pub mod AnswersEdit
 pub mod Passing

@@ -18,9 +18,13 @@ module _ {X : Type 0} where
   abbrev pub with_change : List (ℕ × X) → ℕ → X → List (ℕ × X)
   with_change items k x = map (λ e. if e.0 == k then (k, x) else e) items
 
+  -- at the key of each of the first n items stands what f makes of its number and its key
+  abbrev pub AreAtKeys : {Y : Type 0} → (ℕ → ℕ → Y) → ℕ → List (ℕ × X) → List Y → Type 0
+  AreAtKeys f n items ys = (i : ℕ) (e : ℕ × X) → i < n → slice_get items i ≡ Some e → slice_get ys e.0 ≡ Some (f i e.0)
+
   -- each of the first n items has its number at its key
   abbrev pub AreNumbered : ℕ → List (ℕ × X) → List ℕ → Type 0
-  AreNumbered n items numbers = (i : ℕ) (e : ℕ × X) → i < n → slice_get items i ≡ Some e → slice_get numbers e.0 ≡ Some i
+  AreNumbered n items numbers = AreAtKeys (λ i k. i) n items numbers
 
   module _ (name : X → List ℕ) where
     -- the name of an item that stands under a key

@@ -15,5 +15,7 @@ mod remove;
 mod replace;
 mod route_sets;
 mod rules;
+mod run_paths;
 
 pub use line_tables::LineTables;
+pub use run_paths::Paths;

@@ -1,7 +1,4 @@
 //! The path of a run: its route's signals and their blocks, by the keys that were found once.
-//!
-//! What a signal and its block say of a hop is the same for every run over a route, so `route_hops`
-//! makes it once for each route, and `run_path` adds the times of a run's legs.
 ghost use Rattle.std.specs.Prelude.{◌≡◌, ◌≤◌, ◌<◌, IfOk, length, map, All};
 ghost use Rattle.rail_model.specs.Path.{Fits};
 ghost use Rattle.rail_model.specs.Tables.{path_in, run_at};
@@ -17,7 +14,7 @@ use crate::named_table::NamedTable;
 use rail_model::{BLOCKS, Block, Hop, Leg, List, OutOfMemory, Path, Run, Signal};
 use std::alloc::Global;
 
-// The number of each block, at its key: a list that reaches up to the greatest key.
+/// The number of each block, at its key: a list that reaches up to the greatest key.
 pub(crate) fn numbers_by_key(
     alloc: Global,
     blocks: &NamedTable<Block>,
@@ -33,8 +30,8 @@ pub(crate) fn numbers_by_key(
     Ok(numbers)
 }
 
-// The hop beyond the signal under a key, before any run has timed it.
-fn untimed_hop(
+/// The hop beyond the signal under a key, before any run has timed it.
+pub(crate) fn untimed_hop(
     blocks: &NamedTable<Block>,
     numbers: &[usize],
     signals: &NamedTable<Linked<Signal>>,
@@ -107,13 +104,20 @@ fn path_over(alloc: Global, run: &Run, hops: &[Hop]) -> Result<Path, OutOfMemory
     ensures { IfOk result (λ path. path ≡ hops_in.path_over run.now hops.now) }
 {
     let timed = timed_hops(alloc, hops, run.legs.slice())?;
-    Ok(Path {
+    Ok(path_with(run, timed))
+}
+
+/// The path of a run with these hops.
+pub(crate) fn path_with(run: &Run, hops: List<Hop>) -> Path
+    ensures { result ≡ hops_in.path_with run.now hops }
+{
+    Path {
         run: run.name,
         length_m: run.length_m,
         tail_s: run.tail_s,
         start_s: run.start_s,
-        hops: timed,
-    })
+        hops,
+    }
 }
 
 impl LineTables {
@@ -133,34 +137,5 @@ impl LineTables {
         let keys = route.refs.slice();
         let hops = untimed_hops(self.alloc, &self.blocks, &numbers, &self.signals, keys)?;
         path_over(self.alloc, &entry.item, hops.slice())
-    }
-
-    /// The hops of each route, in the order of the routes, before any run has timed them.
-    pub fn route_hops(&self) -> Result<List<List<Hop>>, OutOfMemory>
-        ensures { IfOk result (λ all. all ≡ map (hops_in.route_hops self.now) self.now.routes) }
-    {
-        self.signals.learn_order();
-        let numbers = numbers_by_key(self.alloc, &self.blocks)?;
-        let mut all = List::from_vec(Vec::with_capacity(self.alloc, self.routes.len())?);
-        for number in 0..self.routes.len() {
-            let route = self.routes.nth(number);
-            let keys = route.refs.slice();
-            all.push(untimed_hops(self.alloc, &self.blocks, &numbers, &self.signals, keys)?)?;
-        }
-        Ok(all)
-    }
-
-    /// The same path by the hops of all routes, which are made once for many runs.
-    pub fn run_path(&self, routes: &[List<Hop>], run: u32) -> Result<Path, OutOfMemory>
-        requires there { run < length self.now.runs }
-        requires routes { routes.now ≡ map (hops_in.route_hops self.now) self.now.routes }
-        ensures same { IfOk result (λ path. path ≡ path_in self.now (run_at self.now run)) }
-        ensures fits { IfOk result Fits }
-        ensures numbered { IfOk result
-            (λ path. All (λ h. h.block < length self.now.blocks) path.hops) }
-    {
-        let entry = self.runs.nth(run as usize);
-        let number = self.routes.number_of(&entry.item.route).unwrap();
-        path_over(self.alloc, &entry.item, routes[number].slice())
     }
 }

@@ -14,7 +14,7 @@ use Rattle.rail_model.specs.Blocking.{use_of, stairway, stair_of}
 use Rattle.rail_model.specs.Tables.{no_run, run_at, path_in}
 use Rattle.rail_model.specs.Sound.{IsSound}
 use Rattle.rail_model.proofs.Lists.{All-from_one}
-use Rattle.line_tables.specs.Hops.{route_hops}
+use Rattle.line_tables.specs.Paths.{paths_of}
 use Rattle.plan_model.specs.SectionCut.{use_in_section, section_uses, is_member}
 use Rattle.rail_model.specs.Timetable.{timetable}
 use Rattle.section_cut.specs.Late.{IsLead, bare_stair, stair_to, IsStairFor, AreStairsFor}
@@ -70,8 +70,8 @@ module _ (tables : Tables) (section : Section) where
               ∙ no_row stamp positions bare.1
         ]
 
-  module _ (lead : ℕ) (is : IsLead (map (route_hops tables) tables.routes) lead) where
-    module _ (n : ℕ) (late : section.to_s + lead ≤ (run_at tables n).start_s) where
+  module _ (lead : ℕ) (is : IsLead (paths_of tables) lead) where
+    module _ (n : ℕ) (l : n < length tables.runs) (late : section.to_s + lead ≤ (run_at tables n).start_s) where
       uses_from : All (λ (u : Use). pos section.to_s ≤ℤ u.start) (section_uses tables section (run_at tables n))
       uses_from =
           let path = path_in tables (run_at tables n) in
@@ -79,7 +79,7 @@ module _ (tables : Tables) (section : Section) where
           All-filter _ From (map (use_in_section tables section) (stairway path))
           (All-map From (use_in_section tables section) (stairway path)
           (All-from_one From (use_of path) (hop_count path)
-          (λ k some on. blocking_from path k section.to_s lead on late (path_lead tables lead is n k some on))))
+          (λ k some on. blocking_from path k section.to_s lead on late (path_lead tables lead is n k l some on))))
 
       not_both : (entry to : ℤ) → to ≤ℤ entry → entry <ℤ to → ⊥
       not_both entry to p q = omega (arith, ints)
@@ -97,10 +97,10 @@ module _ (tables : Tables) (section : Section) where
         | inr outside ↦ outside
       ]
 
-    one_stair : (n : ℕ) (b : Bool) → b ≡ leb (section.to_s + lead) (run_at tables n).start_s
+    one_stair : (n : ℕ) → n < length tables.runs → (b : Bool) → b ≡ leb (section.to_s + lead) (run_at tables n).start_s
         → IsStairFor tables section (run_at tables n) (cond b (bare_stair (run_at tables n)) (stair_of (path_in tables (run_at tables n))))
-    one_stair n true e = inr (refl, late_outside n (leb-true (section.to_s + lead) (run_at tables n).start_s (sym e)))
-    one_stair n false e = inl refl
+    one_stair n l true e = inr (refl, late_outside n l (leb-true (section.to_s + lead) (run_at tables n).start_s (sym e)))
+    one_stair n l false e = inl refl
 
     -- the stairs for the section's window are such stairs
     pub late_stairs : (stairs : List Stair) → stairs ≡ map (stair_to tables section.to_s lead) tables.runs
@@ -110,5 +110,5 @@ module _ (tables : Tables) (section : Section) where
       each = λ n d l.
           subst (IsStairFor tables section (run_at tables n))
           (sym (ap (λ s. get_or s n d) at ∙ get_or-map (stair_to tables section.to_s lead) tables.runs n no_run d l))
-          (one_stair n (leb (section.to_s + lead) (run_at tables n).start_s) refl);
+          (one_stair n l (leb (section.to_s + lead) (run_at tables n).start_s) refl);
     }

@@ -12,7 +12,7 @@ use Rattle.rail_model.specs.declared.stair.Stair.{Stair}
 use Rattle.section_cut.specs.declared.all_stairways.Starts.{Starts}
 use Rattle.rail_model.specs.Timetable.{no_stair}
 use Rattle.section_cut.specs.Starts.{StartsBetween, AreStartsOf, StartsOutside}
-use Rattle.section_cut.proofs.Leads.{all_more}
+use Rattle.line_tables.proofs.Leads.{all_more}
 
 -- one use more
 within : (a b c d s : ℤ) → a ≤ℤ b → b ≤ℤ s → s ≤ℤ c → c ≤ℤ d → (a ≤ℤ s) × (s ≤ℤ d)

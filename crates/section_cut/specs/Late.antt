@@ -2,16 +2,16 @@
 use Rattle.std.specs.Prelude.{◌≡◌, ◌⊎◌, ℕ, ◌+◌, ◌<◌, ◌≤◌, nat_le, false, if◌then◌else◌, List, [], length, All, slice_index_or}
 use Rattle.rail_model.specs.declared.items.Run.{Run}
 use Rattle.rail_model.specs.declared.items.Section.{Section}
-use Rattle.rail_model.specs.declared.path.Hop.{Hop}
+use Rattle.rail_model.specs.declared.path.Path.{Path}
 use Rattle.rail_model.specs.declared.stair.Stair.{Stair}
 use Rattle.rail_model.specs.declared.tables.Tables.{Tables}
 use Rattle.rail_model.specs.Blocking.{stair_of}
 use Rattle.rail_model.specs.Tables.{run_at, path_in}
 use Rattle.plan_model.specs.SectionCut.{is_member}
 
--- forming and watching take no longer than this at any hop of these routes
-abbrev pub IsLead : List (List Hop) → ℕ → Type 0
-IsLead routes lead = All (λ hops. All (λ h. h.watch_s + h.form_s ≤ lead) hops) routes
+-- forming and watching take no longer than this at any hop of these paths
+abbrev pub IsLead : List Path → ℕ → Type 0
+IsLead paths lead = All (λ path. All (λ h. h.watch_s + h.form_s ≤ lead) path.hops) paths
 
 -- a run's stair without its uses
 abbrev pub bare_stair : Run → Stair

@@ -13,10 +13,10 @@ use std::marker::Model;
 pub fn stairways(alloc: Global, tables: &LineTables) -> Result<List<Stair>, OutOfMemory>
     ensures { IfOk result (λ all. all ≡ timetable tables.now) }
 {
-    let routes = tables.route_hops()?;
+    let paths = tables.paths()?;
     let mut all = List::new(alloc);
     for run in 0..tables.runs() {
-        let path = tables.run_path(routes.slice(), run)?;
+        let path = paths.path(run)?;
         all.push(stairs(alloc, &path)?)?;
     }
     Ok(all)

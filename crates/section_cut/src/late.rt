@@ -1,13 +1,13 @@
 //! The stairways of a line's runs, without the uses of runs that start too late to enter a section.
-ghost use Rattle.std.specs.Prelude.{◌≡◌, ◌+◌, ◌<◌, ◌≤◌, All, IfOk, length, map, nat_le};
-ghost use Rattle.line_tables.specs.Hops as hops;
+ghost use Rattle.std.specs.Prelude.{◌≡◌, ◌+◌, ◌<◌, IfOk, length, nat_le};
+ghost use Rattle.line_tables.specs.Paths.{paths_of};
 ghost use Rattle.rail_model.specs.Tables.{run_at};
 ghost use Rattle.rail_model.specs.Tables.{section_at};
-ghost use Rattle.section_cut.specs.Late.{AreStairsFor, IsLead, stair_to};
+ghost use Rattle.section_cut.specs.Late.{AreStairsFor, stair_to};
 
 use blocking_time::stairs;
-use line_tables::LineTables;
-use rail_model::{Hop, List, OutOfMemory, Stair};
+use line_tables::{LineTables, Paths};
+use rail_model::{List, OutOfMemory, Stair};
 use std::alloc::Global;
 
 // The stair of each run, in the order of the runs' names, without its uses where the run starts too
@@ -21,11 +21,11 @@ pub(crate) fn stairways_to(
     ensures { IfOk result (λ all. AreStairsFor tables.now (section_at tables.now section) all) }
 {
     let to_s = tables.section(section).to_s;
-    let routes = tables.route_hops()?;
-    let lead = most_lead(routes.slice());
+    let paths = tables.paths()?;
+    let lead = paths.most_lead();
     let mut all = List::new(alloc);
     for run in 0..tables.runs() {
-        all.push(stair_to(alloc, tables, routes.slice(), run, to_s, lead)?)?;
+        all.push(stair_to(alloc, tables, &paths, run, to_s, lead)?)?;
     }
     Ok(all)
 }
@@ -35,13 +35,13 @@ pub(crate) fn stairways_to(
 fn stair_to(
     alloc: Global,
     tables: &LineTables,
-    routes: &[List<Hop>],
+    paths: &Paths<'_>,
     run: u32,
     to_s: u32,
     lead: u64,
 ) -> Result<Stair, OutOfMemory>
     requires there { run < length tables.now.runs }
-    requires routes { routes.now ≡ map (hops.route_hops tables.now) tables.now.routes }
+    requires paths { paths.now ≡ paths_of tables.now }
     ensures { IfOk result
         (λ stair. stair ≡ stair_to tables.now to_s lead (run_at tables.now run)) }
 {
@@ -52,7 +52,7 @@ fn stair_to(
             uses: List::new(alloc),
         });
     }
-    let path = tables.run_path(routes, run)?;
+    let path = paths.path(run)?;
     stairs(alloc, &path)
 }
 
@@ -62,26 +62,4 @@ fn is_late(start_s: u32, to_s: u32, lead: u64) -> bool
     ensures { result ≡ nat_le (to_s + lead) start_s }
 {
     start_s >= to_s && u64::from(start_s - to_s) >= lead
-}
-
-// At least the time that forming and watching take at any hop of these routes: seconds.
-fn most_lead(routes: &[List<Hop>]) -> u64
-    ensures { IsLead routes.now result }
-{
-    let mut lead = 0;
-    for route in routes {
-        lead = lead.max(lead_of(route.slice()));
-    }
-    lead
-}
-
-// At least the time that forming and watching take at any of these hops: seconds.
-fn lead_of(hops: &[Hop]) -> u64
-    ensures { All (λ h. h.watch_s + h.form_s ≤ result) hops.now }
-{
-    let mut lead = 0;
-    for hop in hops {
-        lead = lead.max(u64::from(hop.watch_s) + u64::from(hop.form_s));
-    }
-    lead
 }

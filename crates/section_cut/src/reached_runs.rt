@@ -2,7 +2,7 @@
 //! connections: it reaches the rows of the runs whose paths it changes, and no other.
 ghost use Rattle.std.specs.Prelude.{◌≡◌, ◌↔◌, ◌<◌, ◌≤◌, ◌+◌, ◌++◌, true, false, Bool, option_map, if◌then◌else◌, IsTrue, All, length, map, IfOk, IfSome, OnOk, Some, None, slice_index_or};
 ghost use Rattle.std.specs.Option.{option_to_list};
-ghost use Rattle.line_tables.specs.Hops as hops;
+ghost use Rattle.line_tables.specs.Paths.{paths_of};
 ghost use Rattle.plan_model.specs.Cut.{stamped, stamped_row};
 ghost use Rattle.plan_model.specs.Members.{no_member};
 ghost use Rattle.plan_model.specs.SectionCut.{cut_of};
@@ -27,12 +27,12 @@ use crate::same_value::{same_name, same_row};
 use crate::stamps::place_of;
 use crate::timed_stair::TimedStair;
 use blocking_time::stairs;
-use line_tables::LineTables;
+use line_tables::{LineTables, Paths};
 use plan_model::{Cut, CutRow};
-use rail_model::{Edit, Hop, Item, List, Name, OutOfMemory, PATH_HOPS, Path, Section, Use};
+use rail_model::{Edit, Item, List, Name, OutOfMemory, PATH_HOPS, Path, Section, Use};
 use std::alloc::Global;
 
-// How many reached runs each get a path of their own: for more, the hops of all routes are made once.
+// How many reached runs each get a path of their own: for more, the paths of all runs are made.
 const FEW: usize = 32;
 
 // For each run, in the order of the runs' names, its stair after an edit, where the edit may change its
@@ -49,11 +49,11 @@ pub(crate) fn reached_runs(
     ensures { IfOk result (λ stairs. AreReachedRuns before.now after.now stairs.items) }
 {
     let passing = passing_runs(alloc, after, edit)?;
-    let found = hops_for(after, &passing)?;
-    let routes = &found;
+    let found = paths_for(after, &passing)?;
+    let paths = &found;
     let mut all = Vec::with_capacity(alloc, after.runs() as usize)?;
     for run in 0..after.runs() {
-        let stair = stair_if_passing(alloc, after, routes, run, passing[run as usize])?;
+        let stair = stair_if_passing(alloc, after, paths, run, passing[run as usize])?;
         all.push(stair)?;
     }
     Ok(all)
@@ -125,15 +125,14 @@ fn all_runs(alloc: Global, after: &LineTables) -> Result<Vec<bool>, OutOfMemory>
     Ok(told)
 }
 
-// The hops of all routes, where they serve more than a few runs.
-fn hops_for(after: &LineTables, passing: &[bool]) -> Result<Option<List<List<Hop>>>, OutOfMemory>
-    ensures { IfOk result (λ routes. IfSome routes (λ all. all
-        ≡ map (hops.route_hops after.now) after.now.routes)) }
+// The paths of all runs, where more than a few of them are wanted.
+fn paths_for<'a>(after: &'a LineTables, passing: &[bool]) -> Result<Option<Paths<'a>>, OutOfMemory>
+    ensures { IfOk result (λ paths. IfSome paths (λ all. all ≡ paths_of after.now)) }
 {
     if are_few(passing) {
         return Ok(None);
     }
-    Ok(Some(after.route_hops()?))
+    Ok(Some(after.paths()?))
 }
 
 // Whether no more than a few of these are `true`.
@@ -154,37 +153,31 @@ fn are_few(passing: &[bool]) -> bool {
 fn stair_if_passing(
     alloc: Global,
     after: &LineTables,
-    routes: &Option<List<List<Hop>>>,
+    paths: &Option<Paths<'_>>,
     run: u32,
     passes: bool,
 ) -> Result<Option<TimedStair>, OutOfMemory>
     requires there { run < length after.now.runs }
-    requires routes { IfSome routes.now
-        (λ all. all ≡ map (hops.route_hops after.now) after.now.routes) }
+    requires paths { IfSome paths.now (λ all. all ≡ paths_of after.now) }
     ensures { IfOk result (λ stair. stair
         ≡ (if passes then Some (stair_of (path_in after.now (run_at after.now run))) else None)) }
 {
     if !passes {
         return Ok(None);
     }
-    let path = path_by(after, routes, run)?;
+    let path = path_by(after, paths, run)?;
     Ok(Some(TimedStair::of(stairs(alloc, &path)?)))
 }
 
-// The path of the run of a number, by the hops of all routes where these are there.
-fn path_by(
-    after: &LineTables,
-    routes: &Option<List<List<Hop>>>,
-    run: u32,
-) -> Result<Path, OutOfMemory>
+// The path of the run of a number, by the paths of all runs where these are there.
+fn path_by(after: &LineTables, paths: &Option<Paths<'_>>, run: u32) -> Result<Path, OutOfMemory>
     requires there { run < length after.now.runs }
-    requires routes { IfSome routes.now
-        (λ all. all ≡ map (hops.route_hops after.now) after.now.routes) }
+    requires paths { IfSome paths.now (λ all. all ≡ paths_of after.now) }
     ensures same { IfOk result (λ path. path ≡ path_in after.now (run_at after.now run)) }
     ensures fits { IfOk result Fits }
 {
-    match routes {
-        Some(all) => after.run_path(all.slice(), run),
+    match paths {
+        Some(all) => all.path(run),
         None => after.path(run),
     }
 }

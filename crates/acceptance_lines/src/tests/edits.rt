@@ -88,13 +88,12 @@ fn look_ups(rt: HostRuntime) -> Result<(), Fail> {
 }
 
 // The second hop of the second run: its block, the block's length, and its running time, where the
-// path by the hops of routes is the same.
+// path among those of all runs is the same.
 fn second_hop(line: &LineTables) -> Result<Option<(u32, u32, u32)>, OutOfMemory> {
     if line.runs() != 2 {
         return Ok(None);
     }
-    let routes = line.route_hops()?;
-    let one = line.run_path(routes.slice(), 1)?.hops;
+    let one = line.paths()?.path(1)?.hops;
     let other = line.path(1)?.hops;
     let (Some(hop), Some(same)) = (one.get(1), other.get(1)) else {
         return Ok(None);

@@ -4,7 +4,7 @@ use Rattle.std.proofs.lemmas.Slice.Zip.{zip_turn, zip_end}
 use Rattle.rail_model.specs.Path.{no_hop}
 use Rattle.rail_model.specs.Within.{no_leg}
 use Rattle.line_tables.specs.Hops.{with_leg, with_legs}
-use Rattle.line_tables.proofs.Paths.{with_legs_more, length-with_legs}
+use Rattle.line_tables.proofs.TimedHops.{with_legs_more, length-with_legs}
 use Rattle.line_tables.proofs.path.timed_hops.Goals as goal
 
 pub loop-hop-preserved : goal.loop-hop-preserved

@@ -13,8 +13,7 @@ returns c =
     let section = section_at tables c.args.section in
     let same : section ≡ c.section.result.now = get_or_from_slice_get tables.sections c.args.section c.section.result.now no_section c.section.ensures in
     let lead = c.most_lead-lead.result in
-    let routes = c.slice.ensures ∙ c.in_ok-routes.ensures in
     let all = c.loop-run.invariant
     ∙ ap (map (stair_to tables c.section.result.now.to_s lead)) (take_all c.loop-run.run tables.runs (omega (arith, c.loop-run-test.false, c.runs-run-end.ensures.count)))
     ∙ ap (λ (s : Section). map (stair_to tables s.to_s lead) tables.runs) (sym same) in
-    late_stairs tables section lead (subst (λ rs. IsLead rs lead) routes c.most_lead-lead.ensures) c.loop-run.all all
+    late_stairs tables section lead (subst (λ ps. IsLead ps lead) c.in_ok-paths.ensures.same c.most_lead-lead.ensures) c.loop-run.all all

@@ -14,5 +14,5 @@ loop-run-preserved c =
     c.in_ok-push.ensures.items c.loop-run.invariant
     (stair_told earlier later c.args.edit.now c.requires.after c.requires.keeps c.in_ok-passing.passing.items c.in_ok-passing.ensures n below c.index.result.now c.index.ensures c.in_ok-stair.stair c.in_ok-stair.ensures)
 
-pub stair_if_passing-requires-clause-routes : goal.stair_if_passing-requires-clause-routes
-stair_if_passing-requires-clause-routes c = c.in_ok-found.ensures
+pub stair_if_passing-requires-clause-paths : goal.stair_if_passing-requires-clause-paths
+stair_if_passing-requires-clause-paths c = c.in_ok-found.ensures

@@ -4,9 +4,9 @@ use Rattle.rail_model.specs.declared.items.Signal.{Signal}
 use Rattle.rail_model.specs.Tables.{route_named}
 use Rattle.line_tables.specs.declared.linked.Linked.{Linked}
 use Rattle.line_tables.specs.Inside.{tables_of}
-use Rattle.line_tables.specs.Hops.{route_hops}
 use Rattle.line_tables.proofs.Found.{found_by_key}
 use Rattle.line_tables.proofs.Meets.{only_key, all_keys}
+use Rattle.line_tables.proofs.TimedHops.{route_hops}
 use Rattle.line_tables.proofs.RunPaths.{same_path, fitting_path, numbered_path, run_is, run_stands, route_key, route_is, hops_are, linked_under}
 use Rattle.line_tables.proofs.line_tables.LineTables.path.Goals as goal
 

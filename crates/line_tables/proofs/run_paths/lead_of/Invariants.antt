@@ -1,6 +1,6 @@
 use Rattle.std.proofs.Common.{◌+◌, ◌≤◌, All, take}
 use Rattle.rail_model.specs.declared.path.Hop.{Hop}
-use Rattle.section_cut.proofs.late.lead_of.Given as goal
+use Rattle.line_tables.proofs.run_paths.lead_of.Given as goal
 
 -- a lead for the hops so far
 abbrev pub invariant-loop-hop : goal.invariant-loop-hop

@@ -4,13 +4,22 @@ use Rattle.std.specs.List.{zip}
 use Rattle.std.proofs.lemmas.List.{take_more, length-map, get_or-map}
 use Rattle.std.proofs.lemmas.Slice.Zip.{length-zip, get_or-zip}
 use Rattle.rail_model.specs.declared.items.Leg.{Leg}
+use Rattle.rail_model.specs.declared.items.Route.{Route}
 use Rattle.rail_model.specs.declared.tables.Tables.{Tables}
 use Rattle.rail_model.specs.declared.path.Hop.{Hop}
 use Rattle.rail_model.specs.Path.{no_hop}
 use Rattle.rail_model.specs.Tables.{signal_named, hop_beyond}
 use Rattle.rail_model.specs.Within.{no_leg}
 use Rattle.rail_model.proofs.Paths.{hops_in}
-use Rattle.line_tables.specs.Hops.{untimed_hop, with_leg, with_legs}
+use Rattle.line_tables.specs.Hops.{with_leg, with_legs}
+
+-- the hop beyond the signal of a name, before any run has timed it
+abbrev pub untimed_hop : Tables → List ℕ → Hop
+untimed_hop tables name = hop_beyond tables (signal_named tables name) no_leg
+
+-- the hops of a route, one for each of its signals, before any run has timed them
+abbrev pub route_hops : Tables → Route → List Hop
+route_hops tables route = map (untimed_hop tables) route.signals
 
 -- hops that are looked up first and timed then
 pub looked_up_first : (tables : Tables) (names : List (List ℕ)) (legs : List Leg) → with_legs (map (untimed_hop tables) names) legs ≡ hops_in tables names legs

@@ -2,8 +2,8 @@ use Rattle.std.proofs.Common.{◌+◌, ◌≤◌, All, subst, arith}
 use Rattle.std.proofs.lemmas.List.{take_all}
 use Rattle.rail_model.specs.declared.path.Hop.{Hop}
 use Rattle.rail_model.specs.Path.{no_hop}
-use Rattle.section_cut.proofs.Leads.{greater_of_two, all_more}
-use Rattle.section_cut.proofs.late.lead_of.Goals as goal
+use Rattle.line_tables.proofs.Leads.{greater_of_two, all_more}
+use Rattle.line_tables.proofs.run_paths.lead_of.Goals as goal
 
 pub loop-hop-preserved : goal.loop-hop-preserved
 loop-hop-preserved c =
