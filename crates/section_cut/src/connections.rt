@@ -17,8 +17,9 @@ use plan_model::CutRow;
 use rail_model::{Connection, List, Name, OutOfMemory, Run, Section, Use};
 use std::alloc::Global;
 
-// What binds two members: the rows of the first and the second run, the first run's entry, the moment
-// until which it keeps the connection, and the second run's start: seconds from the timetable's origin.
+// What binds two members: the rows of the first and the second run, the first run's entry, the
+// moment until which it keeps the connection, and the second run's start: seconds from the
+// timetable's origin.
 #[derive(Clone, Copy)]
 pub(crate) struct Bound {
     pub(crate) first_row: usize,
@@ -58,8 +59,8 @@ pub(crate) fn connections(
     Ok(names)
 }
 
-// What a connection binds, where it does: both its runs are members, and the first run's entry comes
-// before the second run's start.
+// What a connection binds, where it does: both its runs are members, and the first run's entry
+// comes before the second run's start.
 fn bound_by(
     tables: &LineTables,
     section: &Section,
@@ -122,15 +123,16 @@ fn member(
     of_run[number as usize]
 }
 
-// Whether the first run's entry comes before the second run's start: of two at one moment, the lesser
-// name does.
+// Whether the first run's entry comes before the second run's start: of two at one moment, the
+// lesser name does.
 fn comes_before(entry: i64, first: &Name, start: i64, second: &Name) -> bool
     ensures { result ≡ comes_before entry first.now start second.now }
 {
     entry < start || (entry == start && first < second)
 }
 
-// When the run of a number comes to the end of its path: its start, and its running and dwell times.
+// When the run of a number comes to the end of its path: its start, and its running and dwell
+// times.
 fn last_arrival(tables: &LineTables, number: u32) -> u64
     requires { number < length tables.now.runs }
     ensures same { result ≡ cuts.last_arrival tables.now (run_at tables.now number) }

@@ -159,7 +159,8 @@ fn cut_after_section(
     Ok(changed(cut, later, number))
 }
 
-// What the edit of a number makes of a cut, where all rows of the cut after it have the edit's number.
+// What the edit of a number makes of a cut, where all rows of the cut after it have the edit's
+// number.
 fn changed(cut: Option<&Cut>, later: Option<Cut>, number: u64) -> CutChange
     requires old_sound { IfSome (option_copied cut) IsSoundCut }
     requires sound { IfSome later IsSoundCut }
@@ -198,8 +199,8 @@ fn cut_anew(
     Ok(Some(cut_among(alloc, tables, stairs, place, stamp)?))
 }
 
-// What the edit of a number makes of a cut that is there before it and after it, where all rows of the
-// later one have its number.
+// What the edit of a number makes of a cut that is there before it and after it, where all rows of
+// the later one have its number.
 pub(crate) fn compared(old: &Cut, later: Cut, number: u64) -> CutChange
     requires old_sound { IsSoundCut old.now }
     requires sound { IsSoundCut later }

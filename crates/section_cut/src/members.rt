@@ -58,8 +58,8 @@ pub(crate) fn members(
     Ok(all)
 }
 
-// The row of the run of the stairway at a place, if it is a member. The uses of the section's blocks
-// are gathered in a list that serves run after run.
+// The row of the run of the stairway at a place, if it is a member. The uses of the section's
+// blocks are gathered in a list that serves run after run.
 fn row_at(
     alloc: Global,
     section: &Section,

@@ -24,7 +24,8 @@ use plan_model::{Cut, CutRow};
 use rail_model::{Edit, Item, Kind, Name, OutOfMemory, PATH_HOPS, Section};
 use std::alloc::Global;
 
-// The run that an edit puts, changes or drops: its name, and its stair after the edit, if it is there.
+// The run that an edit puts, changes or drops: its name, and its stair after the edit, if it is
+// there.
 #[derive(Drop)]
 pub(crate) struct EditedRun {
     pub(crate) name: Name,
@@ -42,8 +43,8 @@ pub(crate) fn run_edited(edit: &Edit) -> Option<Name>
     }
 }
 
-// The row that the edited run has in a section, which has this name, if it is there and a member. Where
-// the run passes by the section's window or its blocks, no table is made for it.
+// The row that the edited run has in a section, which has this name, if it is there and a member.
+// Where the run passes by the section's window or its blocks, no table is made for it.
 fn row_of_run(
     alloc: Global,
     tables: &LineTables,
@@ -151,7 +152,8 @@ pub(crate) fn cut_after_run(
     with_row(alloc, old, &run.name, row, number)
 }
 
-// What the edit of a number makes of a cut, where the row of this name is this one after it, if it is there.
+// What the edit of a number makes of a cut, where the row of this name is this one after it, if it
+// is there.
 fn with_row(
     alloc: Global,
     old: &Cut,

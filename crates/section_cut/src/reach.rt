@@ -3,8 +3,7 @@
 //!
 //! An edit of a section reaches its own rows. Where there are connections, any other edit may reach
 //! any row. Where there are none, an edit of a run reaches its row, a put or drop of a block, a
-//! signal or a route reaches none, and a change of one reaches the rows of the runs whose paths it
-//! changes.
+//! signal or a route reaches none, and a change of one reaches the rows of the runs that pass it.
 ghost use Rattle.std.specs.Prelude.{◌≡◌, ◌≢◌, true, false, All, IfOk, None};
 ghost use Rattle.rail_model.specs.Edits as edits;
 ghost use Rattle.section_cut.specs.ReachedRuns.{KeepsBlocks, AreReachedRuns};
@@ -122,7 +121,8 @@ fn keeps_blocks(edit: &Edit) -> bool
     }
 }
 
-// What rows an edit can reach by the stairs of the runs that it reaches: none, where no run is reached.
+// What rows an edit can reach by the stairs of the runs that it reaches: none, where no run is
+// reached.
 fn reach_of_runs(before: &LineTables, after: &LineTables, stairs: Vec<Option<TimedStair>>) -> Reach
     requires { AreReachedRuns before.now after.now stairs.items }
     ensures { IsReach before.now after.now result }

@@ -35,8 +35,8 @@ use std::alloc::Global;
 // How many reached runs each get a path of their own: for more, the paths of all runs are made.
 const FEW: usize = 32;
 
-// For each run, in the order of the runs' names, its stair after an edit, where the edit may change its
-// path: only the runs that pass what is put or changed are looked at.
+// For each run, in the order of the runs' names, its stair after an edit, where the edit may change
+// its path: only the runs that pass what is put or changed are looked at.
 pub(crate) fn reached_runs(
     alloc: Global,
     before: &LineTables,
@@ -245,8 +245,8 @@ fn rows_differ(
     Ok(false)
 }
 
-// Whether the row of the run of a name differs after an edit from the one before it. Of a run that isn't
-// reached nothing is looked at.
+// Whether the row of the run of a name differs after an edit from the one before it. Of a run that
+// isn't reached nothing is looked at.
 fn row_differs(
     alloc: Global,
     section: &Section,
@@ -353,8 +353,8 @@ fn row_after(
     Ok(Some(old[at].copy(alloc)?))
 }
 
-// The row of the run of a stair, if it is a member. The uses of the section's blocks are gathered in a
-// list that serves run after run.
+// The row of the run of a stair, if it is a member. The uses of the section's blocks are gathered
+// in a list that serves run after run.
 fn row_made(
     alloc: Global,
     section: &Section,

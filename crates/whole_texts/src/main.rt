@@ -11,8 +11,8 @@
 //! !block,A          bytes without a line end
 //! ```
 //!
-//! Any other line is a row. For each call the line of its words is written again, then the number of
-//! its status after `=`, then its text.
+//! Any other line is a row. For each call the line of its words is written again, then the number
+//! of its status after `=`, then its text.
 #![tactic(auto)]
 
 mod call;

@@ -170,7 +170,8 @@ fn ask(alloc: Global, book: &mut Book, held: &Vec<Done>, name: &str) -> Result<S
     })
 }
 
-// The first call that answers something else than is told here, with what it answers, if there is one.
+// The first call that answers something else than is told here, with what it answers, if there is
+// one.
 fn first_other(
     alloc: Global,
     calls: &[(Call, &str)],

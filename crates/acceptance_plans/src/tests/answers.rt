@@ -1,5 +1,5 @@
-//! Answers of sections: how much of a reading they take, and which of them the checker takes for the
-//! answer.
+//! Answers of sections: how much of a reading they take, and which of them the checker takes for
+//! the answer.
 use super::runs;
 use compression::answer;
 use critical_chain::is_answer;
@@ -45,8 +45,8 @@ fn plan_of_two(alloc: Global) -> Result<Option<Plan>, OutOfMemory> {
     }
 }
 
-// Whether the checker takes the compressed timetable for the answer where its last train enters at a
-// moment with a tie.
+// Whether the checker takes the compressed timetable for the answer where its last train enters at
+// a moment with a tie.
 fn is_taken(alloc: Global, entry: i64, tie: Tie) -> Result<bool, OutOfMemory> {
     let Some(mut plan) = plan_of_two(alloc)? else {
         return Ok(false);

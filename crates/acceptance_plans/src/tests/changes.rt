@@ -14,8 +14,8 @@ use small_lines::{FIRST_RUN, LINE, REST, edit_of, joined, tables_of};
 use std::alloc::Global;
 use std::test::Fail;
 
-// Edits of the line with its two runs and its section, whose rows are stamped 8 before all: for each its
-// number, whether it touches the section, and the section's cut after it.
+// Edits of the line with its two runs and its section, whose rows are stamped 8 before all: for
+// each its number, whether it touches the section, and the section's cut after it.
 const CHANGES: [(u64, &str, bool, &str); 12] = [
     (9, "drop-run,T2\n", true, "cut\n0,85,171,1,85,235,85,8,T1\n"),
     (
@@ -98,7 +98,8 @@ fn rows_of(alloc: Global, cut: &Option<Cut>) -> Result<Sheet, OutOfMemory> {
     Ok(sheet)
 }
 
-// Makes the edit of a row, and the section's cut that of the tables after it; whether it touches the section.
+// Makes the edit of a row, and the section's cut that of the tables after it; whether it touches
+// the section.
 fn edited(
     alloc: Global,
     tables: &mut LineTables,

@@ -1,5 +1,5 @@
-//! The order of a section's trains, their disorder, and the occupancy time, by rows that were worked
-//! out by hand.
+//! The order of a section's trains, their disorder, and the occupancy time, by rows that were
+//! worked out by hand.
 ghost use Rattle.plan_model.specs.Cut.{IsSoundCut};
 
 use super::push_names;
@@ -97,7 +97,8 @@ fn orders_and_disorders(rt: HostRuntime) -> Result<(), Fail> {
     Ok(())
 }
 
-// What is answered of a line with these rows; nothing where there is no section S, or too many trains.
+// What is answered of a line with these rows; nothing where there is no section S, or too many
+// trains.
 fn order_of(alloc: Global, line: &str, rows: &str) -> Result<Sheet, OutOfMemory> {
     match cut(alloc, line, rows)? {
         Some(cut) if cut.rows.len() <= MEMBERS => told(alloc, &order(alloc, &cut)?),

@@ -8,8 +8,8 @@ use small_lines::{LINE, joined, tables_of};
 use std::alloc::Global;
 use std::test::Fail;
 
-// The rows of a cut: its connections; then for each train the place, start and end of each use, and its
-// entry, stamp and name.
+// The rows of a cut: its connections; then for each train the place, start and end of each use, and
+// its entry, stamp and name.
 pub(super) fn told(alloc: Global, cut: &Cut) -> Result<Sheet, OutOfMemory> {
     let mut sheet = Sheet::new(alloc);
     for name in cut.connections.slice() {
@@ -59,7 +59,8 @@ const CUTS: [(&str, &str); 8] = [
          connect,C,T1,T2,60\n",
         "C,cut\n0,85,171,1,85,235,2,85,280,85,7,T1\n0,385,471,1,385,535,2,400,401,385,7,T2\n",
     ),
-    // T1 starts before T2 enters, so C doesn't bind; D does, and is the first place after the blocks.
+    // T1 starts before T2 enters, so C doesn't bind; D does, and is the first place after the
+    // blocks.
     (
         "run,T1,R,100,10,100,60,0,60\nrun,T2,R,100,10,400,60,0,60\nsection,S,0,3600,33,A,B\n\
          connect,C,T2,T1,0\nconnect,D,T1,T2,0\n",
