@@ -10,3 +10,5 @@ pub mod Allowed
 pub mod Limits
 pub mod Answered
 pub mod Told
+pub mod Kept
+pub mod Led

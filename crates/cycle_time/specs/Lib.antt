@@ -8,3 +8,4 @@ pub mod Laying
 pub mod Rings
 pub mod Settling
 pub mod Rows
+pub mod Checking

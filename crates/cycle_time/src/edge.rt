@@ -42,8 +42,8 @@ fn end_of(visit: Visit) -> i64
     visit.start + i64::from(visit.lasts_s)
 }
 
-// How long after a train's entry it is at a moment.
-fn since(entry: i64, time: i64) -> i64
+/// How long after a train's entry it is at a moment.
+pub(crate) fn since(entry: i64, time: i64) -> i64
     requires entry { IsMoment entry }
     requires time { IsMoment time }
     ensures is { result ≡ time -ℤ entry }
@@ -52,9 +52,9 @@ fn since(entry: i64, time: i64) -> i64
     time - entry
 }
 
-// How long after a train another must enter, which starts so long after its entry as the first
-// ends after its own.
-fn headway(until: i64, from: i64) -> i64
+/// How long after a train another must enter, which starts so long after its entry as the first
+/// ends after its own.
+pub(crate) fn headway(until: i64, from: i64) -> i64
     requires until { IsSpan until }
     requires from { IsSpan from }
     ensures is { result ≡ until -ℤ from }
