@@ -1,0 +1,113 @@
+/* Preloaded into the program (LD_PRELOAD): refuses allocations or the starts of threads.
+ *
+ * REFUSED_MEMORY   the number, from 1, of the call of malloc, calloc or realloc that finds no memory; 0 or nothing: none
+ * REFUSED_THREAD   the number, from 1, of the thread that isn't made; 0 or nothing: none; all: no thread is made
+ * REFUSED_TOLD     a file into which three numbers are written at the end: the allocations that were asked for, the
+ *                  threads that were asked for, and the blocks of memory that the program didn't give back
+ *
+ * The program takes memory by malloc and realloc. The C library takes some for each thread by calloc: where that is
+ * refused it makes no thread, and what it keeps of it isn't counted among the blocks.
+ */
+#define _GNU_SOURCE
+#include <dlfcn.h>
+#include <errno.h>
+#include <fcntl.h>
+#include <pthread.h>
+#include <stdio.h>
+#include <stdlib.h>
+#include <string.h>
+#include <sys/syscall.h>
+#include <unistd.h>
+
+extern void *__libc_malloc(size_t size);
+extern void *__libc_calloc(size_t count, size_t size);
+extern void *__libc_realloc(void *block, size_t size);
+extern void __libc_free(void *block);
+
+enum { KEPT = 1024 };
+
+typedef int create(pthread_t *, const pthread_attr_t *, void *(*)(void *), void *);
+
+static long refused_memory, refused_thread, all_threads;
+static long allocations, threads, blocks;
+static void *kept[KEPT]; /* what was taken by calloc */
+static create *real_create;
+
+static long number_in(const char *name) {
+  const char *word = getenv(name);
+  return word == NULL ? 0 : atol(word);
+}
+
+__attribute__((constructor)) static void start(void) {
+  const char *word = getenv("REFUSED_THREAD");
+  real_create = (create *)dlsym(RTLD_NEXT, "pthread_create");
+  all_threads = word != NULL && strcmp(word, "all") == 0;
+  refused_thread = number_in("REFUSED_THREAD");
+  refused_memory = number_in("REFUSED_MEMORY");
+  __atomic_store_n(&allocations, 0, __ATOMIC_SEQ_CST);
+  __atomic_store_n(&blocks, 0, __ATOMIC_SEQ_CST);
+}
+
+static int is_refused(void) {
+  long number = __atomic_add_fetch(&allocations, 1, __ATOMIC_SEQ_CST);
+  if (number != refused_memory)
+    return 0;
+  errno = ENOMEM;
+  return 1;
+}
+
+static void *counted(void *block) {
+  if (block != NULL)
+    __atomic_add_fetch(&blocks, 1, __ATOMIC_SEQ_CST);
+  return block;
+}
+
+void *malloc(size_t size) { return is_refused() ? NULL : counted(__libc_malloc(size)); }
+
+static int is_replaced(void *old, void *new) {
+  for (int i = 0; i < KEPT; i++) {
+    void *expected = old;
+    if (__atomic_compare_exchange_n(&kept[i], &expected, new, 0, __ATOMIC_SEQ_CST, __ATOMIC_SEQ_CST))
+      return 1;
+  }
+  return 0;
+}
+
+void *calloc(size_t count, size_t size) {
+  void *block = is_refused() ? NULL : __libc_calloc(count, size);
+  if (block != NULL)
+    is_replaced(NULL, block);
+  return block;
+}
+
+void *realloc(void *block, size_t size) {
+  if (is_refused())
+    return NULL;
+  return block == NULL ? counted(__libc_realloc(block, size)) : __libc_realloc(block, size);
+}
+
+void free(void *block) {
+  if (block != NULL && !is_replaced(block, NULL))
+    __atomic_sub_fetch(&blocks, 1, __ATOMIC_SEQ_CST);
+  __libc_free(block);
+}
+
+int pthread_create(pthread_t *thread, const pthread_attr_t *how, void *(*work)(void *), void *on) {
+  long number = __atomic_add_fetch(&threads, 1, __ATOMIC_SEQ_CST);
+  return all_threads || number == refused_thread ? EAGAIN : real_create(thread, how, work, on);
+}
+
+__attribute__((destructor)) static void tell(void) {
+  const char *path = getenv("REFUSED_TOLD");
+  char line[96];
+  int length = snprintf(line, sizeof line, "%ld %ld %ld\n", allocations, threads, blocks);
+  int file = path == NULL ? -1 : open(path, O_WRONLY | O_CREAT | O_TRUNC, 0600);
+  if (file >= 0 && write(file, line, length) != length)
+    abort();
+}
+
+void _exit(int status) {
+  tell();
+  syscall(SYS_exit_group, status);
+  __builtin_unreachable();
+}
