@@ -1,9 +1,12 @@
-/* Preloaded into the program (LD_PRELOAD): refuses allocations or the starts of threads.
+/* Preloaded into the program (LD_PRELOAD): refuses allocations, starts of threads, reads or writes.
  *
  * REFUSED_MEMORY   the number, from 1, of the call of malloc, calloc or realloc that finds no memory; 0 or nothing: none
  * REFUSED_THREAD   the number, from 1, of the thread that isn't made; 0 or nothing: none; all: no thread is made
- * REFUSED_TOLD     a file into which three numbers are written at the end: the allocations that were asked for, the
- *                  threads that were asked for, and the blocks of memory that the program didn't give back
+ * REFUSED_READ     the number, from 1, of the read of standard input that fails; 0 or nothing: none
+ * REFUSED_WRITE    the number, from 1, of the write to standard output that fails; 0 or nothing: none
+ * REFUSED_PIECE    the most bytes of a read or a write of these; 0 or nothing: as many as are asked for
+ * REFUSED_TOLD     a file into which five numbers are written at the end: the allocations that were asked for, the
+ *                  threads, the reads and the writes, and the blocks of memory that the program didn't give back
  *
  * The program takes memory by malloc and realloc. The C library takes some for each thread by calloc: where that is
  * refused it makes no thread, and what it keeps of it isn't counted among the blocks.
@@ -28,8 +31,8 @@ enum { KEPT = 1024 };
 
 typedef int create(pthread_t *, const pthread_attr_t *, void *(*)(void *), void *);
 
-static long refused_memory, refused_thread, all_threads;
-static long allocations, threads, blocks;
+static long refused_memory, refused_thread, all_threads, refused_read, refused_write, piece;
+static long allocations, threads, reads, writes, blocks;
 static void *kept[KEPT]; /* what was taken by calloc */
 static create *real_create;
 
@@ -44,6 +47,9 @@ __attribute__((constructor)) static void start(void) {
   all_threads = word != NULL && strcmp(word, "all") == 0;
   refused_thread = number_in("REFUSED_THREAD");
   refused_memory = number_in("REFUSED_MEMORY");
+  refused_read = number_in("REFUSED_READ");
+  refused_write = number_in("REFUSED_WRITE");
+  piece = number_in("REFUSED_PIECE");
   __atomic_store_n(&allocations, 0, __ATOMIC_SEQ_CST);
   __atomic_store_n(&blocks, 0, __ATOMIC_SEQ_CST);
 }
@@ -97,10 +103,26 @@ int pthread_create(pthread_t *thread, const pthread_attr_t *how, void *(*work)(v
   return all_threads || number == refused_thread ? EAGAIN : real_create(thread, how, work, on);
 }
 
+/* How many bytes a call moves, or none where it is refused. */
+static size_t granted(long number, long refused, size_t count) {
+  errno = EIO;
+  return number == refused ? 0 : piece > 0 && count > (size_t)piece ? (size_t)piece : count;
+}
+
+ssize_t read(int file, void *into, size_t count) {
+  size_t most = file == 0 ? granted(++reads, refused_read, count) : count;
+  return most == 0 && count > 0 ? -1 : syscall(SYS_read, file, into, most);
+}
+
+ssize_t write(int file, const void *from, size_t count) {
+  size_t most = file == 1 ? granted(++writes, refused_write, count) : count;
+  return most == 0 && count > 0 ? -1 : syscall(SYS_write, file, from, most);
+}
+
 __attribute__((destructor)) static void tell(void) {
   const char *path = getenv("REFUSED_TOLD");
-  char line[96];
-  int length = snprintf(line, sizeof line, "%ld %ld %ld\n", allocations, threads, blocks);
+  char line[160];
+  int length = snprintf(line, sizeof line, "%ld %ld %ld %ld %ld\n", allocations, threads, reads, writes, blocks);
   int file = path == NULL ? -1 : open(path, O_WRONLY | O_CREAT | O_TRUNC, 0600);
   if (file >= 0 && write(file, line, length) != length)
     abort();

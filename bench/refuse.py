@@ -1,12 +1,13 @@
 #!/usr/bin/env python3
-"""Refuses each allocation of a call of the program in turn, and each start of a thread: bench/refuse.py [PROGRAM]
+"""Refuses each allocation, start of a thread, read and write of calls of the program in turn: bench/refuse.py [PROGRAM]
 
 Builds the program unless it is given, and bench/refuse.c, which is preloaded into it. Each call is made once with ample
 memory, and then with its first, second, .. allocation refused, one a run. A run has to end with status 5 and nothing
 written, or as the call ends with ample memory: with its status and its whole text. Prints how many allocations the call
 makes, how many runs ended in each way, and the most blocks of memory that a run didn't give back. Calls whose threads
 make a number of allocations that differs from run to run go on past the greatest number that was seen, several times.
-Where the start of a thread is refused, the call has to end as ever. Ends with status 1 where a run ended otherwise.
+Where the start of a thread is refused, the call has to end as ever; where a read fails, with status 3 and nothing
+written; where a write fails, with status 4 and what was written before it. Ends with status 1 where a run ended otherwise.
 """
 import os
 import pathlib
@@ -17,6 +18,7 @@ import tempfile
 TOP = pathlib.Path(__file__).resolve().parent.parent
 PROGRAM = TOP / "crates" / "capacity" / "out" / "capacity"
 ROUNDS = 5  # of calls on threads
+PIECE = 10  # the bytes of a read or a write, where they are refused
 
 LINE = (TOP / "examples" / "two-blocks.csv").read_text()
 TASKS = "planner,1\nchange-run,T2,R,100,10,100,60,0,60\nask,S\n"
@@ -69,14 +71,14 @@ class Runs:
         whole = self.run()
         self.status, self.texts = whole[0], [text.encode() for text in texts or []] or [whole[1]]
         self.is_raced = texts is not None
-        self.allocations, self.threads, self.blocks = whole[2]
+        self.allocations, self.threads, _, _, self.blocks = whole[2]
         if not self.is_whole(*whole[:2]):
             sys.exit("%s: another text than one of those that it may have" % words)
 
-    def run(self, memory=0, thread="0"):
-        """A run's status, its text, and the allocations, threads and blocks that were told of it."""
+    def run(self, **refused):
+        """A run's status, its text, and the allocations, threads, reads, writes and blocks that were told of it."""
         env = {"LD_PRELOAD": str(self.folder / "refuse.so"), "REFUSED_TOLD": str(self.told)}
-        env.update(REFUSED_MEMORY=str(memory), REFUSED_THREAD=thread)
+        env.update(("REFUSED_" + what.upper(), str(number)) for what, number in refused.items())
         ended = subprocess.run([self.program, *self.words], input=self.given, capture_output=True, env=env, timeout=60)
         return ended.returncode, ended.stdout, [int(word) for word in self.told.read_text().split()]
 
@@ -89,7 +91,7 @@ class Runs:
         while number < self.allocations + (20 if self.is_raced else 0):
             number += 1
             status, text, told = self.run(memory=number)
-            self.allocations, self.blocks = max(self.allocations, told[0]), max(self.blocks, told[2])
+            self.allocations, self.blocks = max(self.allocations, told[0]), max(self.blocks, told[4])
             if status == 5 and not text:
                 without += 1
             elif not self.is_whole(status, text):
@@ -102,10 +104,21 @@ class Runs:
         wrong = []
         for thread in [str(number + 1) for number in range(self.threads)] + ["all"] * (self.threads > 0):
             status, text, told = self.run(thread=thread)
-            self.blocks = max(self.blocks, told[2])
+            self.blocks = max(self.blocks, told[4])
             if not self.is_whole(status, text):
                 wrong.append("thread %s: status %d, %d bytes" % (thread, status, len(text)))
         return wrong
+
+    def refuse_calls(self, what, place, status):
+        """How many reads or writes a run makes, and what went wrong where one of them failed."""
+        wrong, made = [], self.run(piece=PIECE)[2][place]
+        for number in range(1, made + 2):
+            ended, text, told = self.run(piece=PIECE, **{what: number})
+            written = PIECE * (number - 1) if what == "write" else 0
+            is_broken_off = ended == status and text in [whole[:written] for whole in self.texts]
+            if not (is_broken_off if number <= told[place] else self.is_whole(ended, text)):
+                wrong.append("%s %d: status %d, %d bytes" % (what, number, ended, len(text)))
+        return made, wrong
 
 
 def build(folder, program):
@@ -129,6 +142,10 @@ def refuse_all(folder, program):
             all_wrong += tell_wrong(wrong)
         all_wrong += tell_wrong(runs.refuse_threads())
         print("    %d threads, each refused once, and all; %d blocks not given back at most" % (runs.threads, runs.blocks))
+        reads, wrong_reads = runs.refuse_calls("read", 2, 3)
+        writes, wrong_writes = runs.refuse_calls("write", 3, 4)
+        all_wrong += tell_wrong(wrong_reads + wrong_writes)
+        print("    %d reads and %d writes, each refused once" % (reads, writes))
     return all_wrong
 
 
