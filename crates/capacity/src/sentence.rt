@@ -10,8 +10,9 @@ pub(crate) fn explain(rt: &impl Eprint, status: Status, told: &str) -> io::Resul
         Status::BadWords => {
             eprintln!(rt;
                 "usage: capacity COMMAND < LINE.csv, COMMAND being stairs, check, report, \
-                compress NAME, headways NAME, cut NAME, delays NAME RUN SECONDS .., fill NAME RUN \
-                or session W, W from 0 to 16"
+                compress NAME, headways NAME, cut NAME, cycle NAME, delays NAME RUN SECONDS .., \
+                fill NAME RUN or session W, W from 0 to 16; or capacity made N, N of one to nine \
+                digits, which reads no line"
             )
         }
         Status::ReadFault => eprintln!(rt; "the input could not be read"),

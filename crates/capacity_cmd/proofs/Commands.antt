@@ -66,6 +66,7 @@ asks_session (Some (command.Compress section)) workers is some = absurd (omega (
 asks_session (Some command.Report) workers is some = absurd (omega (arith, is, some))
 asks_session (Some (command.Headways section)) workers is some = absurd (omega (arith, is, some))
 asks_session (Some (command.Cut section)) workers is some = absurd (omega (arith, is, some))
+asks_session (Some (command.Cycle section)) workers is some = absurd (omega (arith, is, some))
 asks_session (Some (command.Delays section given)) workers is some = absurd (omega (arith, is, some))
 asks_session (Some (command.Fill section run)) workers is some = absurd (omega (arith, is, some))
 asks_session (Some (command.Session asked)) workers is some = ap (λ w. Some (command.Session w)) is

@@ -7,3 +7,4 @@ pub mod Commands
 pub mod Members
 pub mod GivenDelays
 pub mod Reports
+pub mod Counted

@@ -116,6 +116,7 @@ few_planners (command.Compress section) = omega arith
 few_planners command.Report = omega arith
 few_planners (command.Headways section) = omega arith
 few_planners (command.Cut section) = omega arith
+few_planners (command.Cycle section) = omega arith
 few_planners (command.Delays section delays) = omega arith
 few_planners (command.Fill section run) = omega arith
 few_planners (command.Session workers) = omega arith

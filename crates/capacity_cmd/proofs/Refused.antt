@@ -154,6 +154,7 @@ on_accepted (command.Compress section) given outcome ends = on_named _ _ outcome
 on_accepted command.Report given outcome ends = in_text _ outcome ends
 on_accepted (command.Headways section) given outcome ends = on_named _ _ outcome (cut_other given.tables section) ends
 on_accepted (command.Cut section) given outcome ends = on_named _ _ outcome (cut_other given.tables section) ends
+on_accepted (command.Cycle section) given outcome ends = on_named _ _ outcome (cut_other given.tables section) ends
 on_accepted (command.Delays section delays) given outcome ends =
     on_named _ _ outcome (delayed_other given.tables section delays) ends
 on_accepted (command.Fill section run) given outcome ends =

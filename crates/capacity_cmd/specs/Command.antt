@@ -1,7 +1,7 @@
 -- Which command the words of a call spell.
 use Rattle.std.specs.Prelude.{◌≡◌, ℕ, nat_le, Bool, ◌&&◌, if◌then◌else◌, List, [], ◌∷◌, length, codes, Option, Some, None, option_map, Result, IfOk}
 use Rattle.rail_model.specs.Name.{is_same, name_of}
-use Rattle.row_text.specs.Sorts.{value_of, is_number}
+use Rattle.row_text.specs.Sorts.{value_of, is_number, number_of}
 use Rattle.plan_book.specs.declared.book.TheConstants.{PLANNERS}
 use Rattle.session_run.specs.declared.threads.TheConstants.{WORKERS}
 use Rattle.capacity_cmd.specs.declared.command.Command.{Command}
@@ -26,6 +26,7 @@ short_command_of (word ∷ section ∷ []) =
     if is_same word (codes "compress") then Some (command.Compress (name_of section))
     else if is_same word (codes "headways") then Some (command.Headways (name_of section))
     else if is_same word (codes "cut") then Some (command.Cut (name_of section))
+    else if is_same word (codes "cycle") then Some (command.Cycle (name_of section))
     else if is_same word (codes "session") then option_map command.Session (workers_in section)
     else None
 short_command_of (word ∷ section ∷ run ∷ []) =
@@ -53,6 +54,7 @@ workers_of (command.Compress section) = 0
 workers_of command.Report = 0
 workers_of (command.Headways section) = 0
 workers_of (command.Cut section) = 0
+workers_of (command.Cycle section) = 0
 workers_of (command.Delays section given) = 0
 workers_of (command.Fill section run) = 0
 workers_of (command.Session workers) = workers
@@ -62,9 +64,15 @@ abbrev pub workers_asked : Option Command → ℕ
 workers_asked None = 0
 workers_asked (Some command) = workers_of command
 
--- a call with these words waits for nobody: they ask for no workers
-abbrev pub IsAlone : List (List ℕ) → Type 0
-IsAlone words = workers_asked (command_of words) ≡ 0
+-- the number, in one to nine digits, from which words ask for a line to be made, if they do: a call that runs no command
+abbrev pub made_of : List (List ℕ) → Option ℕ
+made_of (word ∷ number ∷ []) = if is_same word (codes "made") then number_of number else None
+made_of words = None
+
+-- a call with these words waits for nobody: they ask for no line to be made, whose session has workers, and for no workers
+pub record IsAlone (words : List (List ℕ)) : Type 0 where
+  pub not_made : made_of words ≡ None
+  pub no_workers : workers_asked (command_of words) ≡ 0
 
 -- how many planners' scripts a command takes: a session up to 16, any other none
 abbrev pub planners_of : Command → ℕ
@@ -74,6 +82,7 @@ planners_of (command.Compress section) = 0
 planners_of command.Report = 0
 planners_of (command.Headways section) = 0
 planners_of (command.Cut section) = 0
+planners_of (command.Cycle section) = 0
 planners_of (command.Delays section given) = 0
 planners_of (command.Fill section run) = 0
 planners_of (command.Session workers) = PLANNERS

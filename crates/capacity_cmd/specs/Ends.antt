@@ -14,6 +14,7 @@ use Rattle.capacity_cmd.specs.Compress.{IsCompressText}
 use Rattle.capacity_cmd.specs.Report.{IsReportText}
 use Rattle.capacity_cmd.specs.Headways.{IsHeadwaysText}
 use Rattle.capacity_cmd.specs.Cut.{IsCutText}
+use Rattle.capacity_cmd.specs.Cycle.{IsCycleText}
 use Rattle.capacity_cmd.specs.Delays.{delayed_named, IsDelaysText}
 use Rattle.capacity_cmd.specs.Fill.{member_named, IsFillText}
 use Rattle.capacity_cmd.specs.Session.{IsSessionText}
@@ -26,6 +27,7 @@ EndsOnAccepted (command.Compress section) given = EndsOnNamed IsCompressText (cu
 EndsOnAccepted command.Report given = EndsInText (IsReportText given.tables)
 EndsOnAccepted (command.Headways section) given = EndsOnNamed IsHeadwaysText (cut_named given.tables section)
 EndsOnAccepted (command.Cut section) given = EndsOnNamed IsCutText (cut_named given.tables section)
+EndsOnAccepted (command.Cycle section) given = EndsOnNamed IsCycleText (cut_named given.tables section)
 EndsOnAccepted (command.Delays section delays) given =
     EndsOnNamed IsDelaysText (delayed_named given.tables section delays)
 EndsOnAccepted (command.Fill section run) given = EndsOnNamed IsFillText (member_named given.tables section run)

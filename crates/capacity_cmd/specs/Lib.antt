@@ -11,9 +11,11 @@ pub mod Report
 pub mod Headways
 pub mod Cut
 pub mod Head
+pub mod Cycle
 pub mod Delays
 pub mod Fill
 pub mod Session
+pub mod Made
 pub mod Ends
 pub mod InputSoFar
 pub mod Reply

@@ -7,8 +7,9 @@ use Rattle.capacity_cmd.specs.declared.status.Cause.{Cause}
 use Rattle.capacity_cmd.specs.declared.status.Cause.TheVariants.{TooLong}
 use Rattle.capacity_cmd.specs.declared.status.Status.{Status}
 use Rattle.capacity_cmd.specs.declared.status.Status.TheVariants.{Done, Refused, BadWords, ReadFault, WriteFault, OutOfMemory}
-use Rattle.capacity_cmd.specs.Command.{command_of}
-use Rattle.capacity_cmd.specs.Outcome.{Outcome, Writes, Refuses, outcome_text, outcome_status}
+use Rattle.capacity_cmd.specs.Command.{command_of, made_of}
+use Rattle.capacity_cmd.specs.Outcome.{Outcome, Writes, Refuses, EndsInText, outcome_text, outcome_status}
+use Rattle.capacity_cmd.specs.Made.{IsMadeText}
 use Rattle.capacity_cmd.specs.Ends.{IsOutcome}
 
 module _ {S K : Type 0} (status : Status) (source : SourceInCall S) (sink : SinkInCall K) where
@@ -36,6 +37,10 @@ module _ {K : Type 0} (MayEnd : Outcome → Type 0) (status : Status) (sink : Si
     pub nothing_written : status ≡ ReadFault → IsUnwritten sink
     pub no_memory : status ≡ OutOfMemory → IsUnwritten sink
 
+-- the status of a call that reads no input, and so refuses nothing and has no read that fails
+abbrev pub EndsUnread : Status → Type 0
+EndsUnread status = (status ≡ Done) ⊎ (status ≡ WriteFault) ⊎ (status ≡ OutOfMemory)
+
 -- how far a source is read for an outcome: for an input that is too long one byte past the limit, and else to its end
 abbrev pub IsReadFor : {S : Type 0} → SourceInCall S → Outcome → Type 0
 IsReadFor source (Refuses row TooLong) = HasGiven source (INPUT_BYTES + 1)
@@ -62,10 +67,28 @@ module _ {S K : Type 0} (command : Command) (status : Status)
         → ((outcome : Outcome) × IsEnd command source outcome × (status ≡ outcome_status outcome))
         ⊎ (status ≡ OutOfMemory)
 
--- the promise: the command that the words spell is run, and words that spell none are rejected
-abbrev pub Answers : {S K : Type 0}
+module _ {S K : Type 0} (n : ℕ) (status : Status)
+    (source : SourceInCall S) (sink : SinkInCall K) where
+  -- the line that is made from a number is counted; whatever the source holds, nothing is read
+  pub record WritesMade : Type 0 where
+    pub ends : EndsUnread status
+    pub unread : IsUnread source
+    pub writes : WritesOutcome (EndsInText (IsMadeText n)) status sink
+    -- where the counts show that no call failed, the text is written, or memory ran out
+    pub complete : ShowsNoWriteFailed sink → (status ≡ Done) ⊎ (status ≡ OutOfMemory)
+
+-- the command that words spell is run, and words that spell none are rejected
+abbrev pub AnswersSpelled : {S K : Type 0}
     → List (List ℕ) → Status → SourceInCall S → SinkInCall K → Type 0
-Answers words status source sink =
+AnswersSpelled words status source sink =
     MatchOption (command_of words)
     (RejectsWords status source sink)
     (λ command. RunsCommand command status source sink)
+
+-- the promise: a line is made and counted, where the words ask for it; else it goes by the command that they spell
+abbrev pub Answers : {S K : Type 0}
+    → List (List ℕ) → Status → SourceInCall S → SinkInCall K → Type 0
+Answers words status source sink =
+    MatchOption (made_of words)
+    (AnswersSpelled words status source sink)
+    (λ n. WritesMade n status source sink)

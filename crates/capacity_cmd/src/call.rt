@@ -2,19 +2,21 @@
 ghost use Rattle.std.specs.Prelude.{◌≡◌, ◌≢◌, ◌≤◌, ◌⊎◌, ◌↔◌, map, IsTrue, IfOk, IfErr, MatchResult};
 ghost use Rattle.std.specs.String.{string_bytes};
 ghost use Rattle.std.specs.Io.KnownBytes.{IsAtEnd};
-ghost use Rattle.rail_outside.specs.InCall.{source_call, sink_call, ReadFailed, NoReadFailed};
+ghost use Rattle.rail_outside.specs.InCall.{source_call, sink_call, ReadFailed, NoReadFailed, ShowsNoWriteFailed};
 ghost use Rattle.session_run.specs.declared.threads.TheConstants.{WORKERS};
 ghost use Rattle.capacity_cmd.specs.declared.command.Command.TheVariants as command;
 ghost use Rattle.capacity_cmd.specs.declared.status.Status.TheVariants as status;
-ghost use Rattle.capacity_cmd.specs.Command.{workers_of, IsAlone};
+ghost use Rattle.capacity_cmd.specs.Command.{command_of, workers_of, workers_asked, IsAlone};
+ghost use Rattle.capacity_cmd.specs.Outcome.{EndsInText};
+ghost use Rattle.capacity_cmd.specs.Made.{IsMadeText};
 ghost use Rattle.capacity_cmd.specs.Reply.{IsReply};
 ghost use Rattle.capacity_cmd.specs.Given.{GivesOrRefuses};
-ghost use Rattle.capacity_cmd.specs.Promise.{IsEnd, RunsCommand, Answers};
+ghost use Rattle.capacity_cmd.specs.Promise.{IsEnd, EndsUnread, WritesOutcome, RunsCommand, AnswersSpelled, Answers};
 
 use crate::accepted::Accepted;
-use crate::command::{command_of, workers_asked};
+use crate::command::{command_of, made_of, workers_asked};
 use crate::limit::INPUT_BYTES;
-use crate::reply::{Reply, given_or_reply, refusal, reply_alone, reply_on_threads};
+use crate::reply::{Reply, given_or_reply, made_reply, refusal, reply_alone, reply_on_threads};
 use crate::send::send;
 use crate::{Cause, Command, Status, Told};
 use rail_model::OutOfMemory;
@@ -22,16 +24,18 @@ use rail_outside::{Gate, Sink, Source, Taken, take_all};
 use std::sync::Wait;
 use std::thread::Threads;
 
-/// Whether a call with these words waits for nobody: all but a session with workers.
+/// Whether a call with these words waits for nobody: all but a session with workers, which a line
+/// that is made has, too.
 pub fn alone(words: &[String]) -> bool
     ensures { IsTrue result ↔ IsAlone (map string_bytes words.now) }
 {
-    workers_asked(words) == 0
+    made_of(words).is_none() && workers_asked(words) == 0
 }
 
-/// Runs a command. The words are those after the program's name. A session with workers has a
-/// thread for each planner and each worker, where one can be made; its planners and workers wait for
-/// one another, and pass the gate at the points of their work.
+/// Runs a command, or makes a line and counts it. The words are those after the program's name. A
+/// session with workers has a thread for each planner and each worker, where one can be made; its
+/// planners and workers wait for one another, and pass the gate at the points of their work. Nothing
+/// is read of the source where a line is made.
 pub fn run<R: AllocGlobal + Threads + Wait + Sync, S: Source, K: Sink, G: Gate>(
     rt: &R,
     words: &[String],
@@ -64,13 +68,55 @@ pub fn run_telling<R: AllocGlobal + Threads + Wait + Sync, S: Source, K: Sink, G
         (source_call S.left S.faults S.at_fault source.old source.new)
         (sink_call K.written K.flushed K.faults sink.old sink.new) }
 {
+    match made_of(words) {
+        Some(n) => run_made(rt, n, sink, gate),
+        None => run_spelled(rt, words, source, sink, gate, told),
+    }
+}
+
+// Runs the command that the words spell.
+fn run_spelled<R: AllocGlobal + Threads + Wait + Sync, S: Source, K: Sink, G: Gate>(
+    rt: &R,
+    words: &[String],
+    source: &mut S,
+    sink: &mut K,
+    gate: &G,
+    told: &mut Told,
+) -> Status
+    ensures { AnswersSpelled
+        (map string_bytes words.now)
+        result
+        (source_call S.left S.faults S.at_fault source.old source.new)
+        (sink_call K.written K.flushed K.faults sink.old sink.new) }
+{
     let workers = workers_asked(words);
     if workers == 0 {
-        return run_alone_telling(rt, words, source, sink, told);
+        return run_spelled_alone(rt, words, source, sink, told);
     }
     match session_reply(rt, workers, source, gate, told) {
         Ok(reply) => send(sink, reply),
         Err(status) => status,
+    }
+}
+
+// Makes a line from a number, and writes what is counted of it.
+fn run_made<R: AllocGlobal + Threads + Wait + Sync, K: Sink, G: Gate>(
+    rt: &R,
+    n: u32,
+    sink: &mut K,
+    gate: &G,
+) -> Status
+    ensures ends { EndsUnread result }
+    ensures writes { WritesOutcome
+        (EndsInText (IsMadeText n))
+        result
+        (sink_call K.written K.flushed K.faults sink.old sink.new) }
+    ensures complete { ShowsNoWriteFailed (sink_call K.written K.flushed K.faults sink.old sink.new)
+        → (result ≡ status.Done) ⊎ (result ≡ status.OutOfMemory) }
+{
+    match made_reply(rt, n, gate) {
+        Ok(reply) => send(sink, reply),
+        Err(OutOfMemory) => Status::OutOfMemory,
     }
 }
 
@@ -103,6 +149,24 @@ pub fn run_alone_telling<R: AllocGlobal + Threads + Sync, S: Source, K: Sink>(
 ) -> Status
     requires { IsAlone (map string_bytes words.now) }
     ensures { Answers
+        (map string_bytes words.now)
+        result
+        (source_call S.left S.faults S.at_fault source.old source.new)
+        (sink_call K.written K.flushed K.faults sink.old sink.new) }
+{
+    run_spelled_alone(rt, words, source, sink, told)
+}
+
+// Runs the command that the words spell, which is one without workers.
+fn run_spelled_alone<R: AllocGlobal + Threads + Sync, S: Source, K: Sink>(
+    rt: &R,
+    words: &[String],
+    source: &mut S,
+    sink: &mut K,
+    told: &mut Told,
+) -> Status
+    requires { workers_asked (command_of (map string_bytes words.now)) ≡ 0 }
+    ensures { AnswersSpelled
         (map string_bytes words.now)
         result
         (source_call S.left S.faults S.at_fault source.old source.new)

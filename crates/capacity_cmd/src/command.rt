@@ -3,7 +3,7 @@ ghost use Rattle.std.specs.Prelude.{◌≡◌, ◌≤◌, map, IfOk, IfSome};
 ghost use Rattle.std.specs.String.{string_bytes};
 ghost use Rattle.rail_model.specs.Name.{name_of};
 ghost use Rattle.session_run.specs.declared.threads.TheConstants.{WORKERS};
-ghost use Rattle.capacity_cmd.specs.Command.{command_of, short_command_of, workers_in, workers_of, workers_asked, planners_of, IsRead};
+ghost use Rattle.capacity_cmd.specs.Command.{command_of, short_command_of, workers_in, workers_of, workers_asked, planners_of, made_of, IsRead};
 ghost use Rattle.capacity_cmd.specs.declared.command.Command.TheVariants as command;
 ghost use Rattle.capacity_cmd.specs.GivenDelays.{delays_of};
 
@@ -33,6 +33,9 @@ pub enum Command {
     /// Writes the fewest orderly pieces of a section, or of a crowded one how many trains it has:
     /// the words `cut` and NAME.
     Cut(Option<Name>),
+    /// Writes the least time after which a section's trains can come again and again, with a ring of
+    /// trains that allows no less: the words `cycle` and NAME.
+    Cycle(Option<Name>),
     /// Spreads delays over the planned timetable of a section, and writes the knock-on delays: the
     /// words `delays`, NAME and 1 to 64 pairs of RUN and SECONDS.
     Delays(Option<Name>, Option<List<GivenDelay>>),
@@ -54,7 +57,7 @@ impl Command {
             Command::Session(_) => PLANNERS,
             Command::Stairs | Command::Check | Command::Report => 0,
             Command::Compress(_) | Command::Headways(_) | Command::Cut(_) => 0,
-            Command::Delays(_, _) | Command::Fill(_, _) => 0,
+            Command::Cycle(_) | Command::Delays(_, _) | Command::Fill(_, _) => 0,
         }
     }
 
@@ -66,7 +69,7 @@ impl Command {
             Command::Session(workers) => *workers,
             Command::Stairs | Command::Check | Command::Report => 0,
             Command::Compress(_) | Command::Headways(_) | Command::Cut(_) => 0,
-            Command::Delays(_, _) | Command::Fill(_, _) => 0,
+            Command::Cycle(_) | Command::Delays(_, _) | Command::Fill(_, _) => 0,
         }
     }
 }
@@ -110,6 +113,7 @@ fn short_command_of(words: &[String]) -> Option<Command>
         [word, section] if word.as_str() == "compress" => Some(Command::Compress(name_of(section))),
         [word, section] if word.as_str() == "headways" => Some(Command::Headways(name_of(section))),
         [word, section] if word.as_str() == "cut" => Some(Command::Cut(name_of(section))),
+        [word, section] if word.as_str() == "cycle" => Some(Command::Cycle(name_of(section))),
         [word, workers] if word.as_str() == "session" => {
             workers_in(workers).map(Command::Session)
         }
@@ -129,6 +133,16 @@ pub(crate) fn workers_asked(words: &[String]) -> u32
     match short_command_of(words) {
         Some(command) => command.workers(),
         None => 0,
+    }
+}
+
+// The number from which the words ask for a line to be made, if they do.
+pub(crate) fn made_of(words: &[String]) -> Option<u32>
+    ensures { result ≡ made_of (map string_bytes words.now) }
+{
+    match words {
+        [word, n] if word.as_str() == "made" => number(n.as_bytes()),
+        _ => None,
     }
 }
 

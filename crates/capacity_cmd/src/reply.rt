@@ -3,7 +3,8 @@ ghost use Rattle.std.specs.Prelude.{◌≡◌, ◌≤◌, length, IfOk};
 ghost use Rattle.session_run.specs.declared.threads.TheConstants.{WORKERS};
 ghost use Rattle.capacity_cmd.specs.declared.command.Command.TheVariants as command;
 ghost use Rattle.capacity_cmd.specs.Command.{workers_of};
-ghost use Rattle.capacity_cmd.specs.Outcome.{Refuses, cause_text, form_text};
+ghost use Rattle.capacity_cmd.specs.Outcome.{Refuses, EndsInText, cause_text, form_text};
+ghost use Rattle.capacity_cmd.specs.Made.{IsMadeText};
 ghost use Rattle.capacity_cmd.specs.Outcome as outcome;
 ghost use Rattle.capacity_cmd.specs.InputSoFar.{IsWithin};
 ghost use Rattle.capacity_cmd.specs.Ends.{EndsOnAccepted, EndsOn};
@@ -14,6 +15,7 @@ ghost use Rattle.capacity_cmd.specs.Given.{GivesOrRefuses};
 use crate::accepted::Accepted;
 use crate::input::accepted_of_rows;
 use crate::limit::INPUT_BYTES;
+use crate::made::made_text;
 use crate::refusal::Refusal;
 use crate::sentence::told_of;
 use crate::session::text_on_threads;
@@ -108,6 +110,20 @@ pub(crate) fn reply_on_threads<R: Threads + Wait + Sync, G: Gate>(
 {
     Ok(Reply {
         text: text_on_threads(rt, alloc, given, workers, gate)?,
+        status: Status::Done,
+    })
+}
+
+// The reply to one who asks for a line to be made from a number.
+pub(crate) fn made_reply<R: AllocGlobal + Threads + Wait + Sync, G: Gate>(
+    rt: &R,
+    n: u32,
+    gate: &G,
+) -> Result<Reply, OutOfMemory>
+    ensures { IfOk result (IsReply (EndsInText (IsMadeText n))) }
+{
+    Ok(Reply {
+        text: made_text(rt, rt.alloc(), n, gate)?,
         status: Status::Done,
     })
 }

@@ -2,12 +2,15 @@
 ghost use Rattle.std.specs.Prelude.{◌≡◌, ◌<◌, [], length, IfOk, OnOk};
 ghost use Rattle.rail_model.specs.Tables.{section_at};
 ghost use Rattle.rail_model.specs.Timetable.{timetable};
-ghost use Rattle.capacity_report.specs.Total.{total_of};
+ghost use Rattle.plan_model.specs.SectionCut.{section_cut};
+ghost use Rattle.plan_model.specs.Answer.{IsAnswer};
+ghost use Rattle.capacity_report.specs.Total.{total_of, IsAnswerOfSome};
 ghost use Rattle.capacity_cmd.specs.Report.{IsReportText, AddsReport, HasHeads, AddsHead};
 
 use crate::compress::answer_of;
 use capacity_report::{Detail, Tally, answer_rows, total_row};
 use line_tables::LineTables;
+use plan_model::Answer;
 use rail_model::OutOfMemory;
 use row_text::Sheet;
 use section_cut::{AllStairways, cut_among, stairways};
@@ -75,10 +78,26 @@ fn add_head(
         tally.old
         tally.new) }
 {
-    let cut = cut_among(alloc, tables, stairs, number, 0)?;
-    let answer = answer_of(alloc, cut)?;
+    let answer = answer_among(alloc, tables, stairs, number)?;
     let section = tables.section(number).name;
     answer_rows(alloc, sheet, &section, &answer, Detail::Head)?;
     tally.add(&answer);
     Ok(())
+}
+
+// The answer of the section of a number.
+pub(crate) fn answer_among(
+    alloc: Global,
+    tables: &LineTables,
+    stairs: &AllStairways,
+    number: u32,
+) -> Result<Answer, OutOfMemory>
+    requires stairs { stairs.now ≡ timetable tables.now }
+    requires there { number < length tables.now.sections }
+    ensures answer { IfOk result
+        (IsAnswer (section_cut tables.now (section_at tables.now number))) }
+    ensures of_some { IfOk result IsAnswerOfSome }
+{
+    let cut = cut_among(alloc, tables, stairs, number, 0)?;
+    answer_of(alloc, cut)
 }

@@ -11,6 +11,7 @@ use crate::accepted::Accepted;
 use crate::check::check_text;
 use crate::compress::compress_text;
 use crate::cut::cut_text;
+use crate::cycle::cycle_text;
 use crate::delays::delays_text;
 use crate::fill::fill_text;
 use crate::headways::headways_text;
@@ -44,6 +45,7 @@ pub(crate) fn text_of(
         Command::Report => Ok(Ok(report_text(alloc, &given.tables)?)),
         Command::Headways(section) => headways_text(rt, alloc, &given.tables, *section),
         Command::Cut(section) => cut_text(alloc, &given.tables, *section),
+        Command::Cycle(section) => cycle_text(alloc, &given.tables, *section),
         Command::Delays(section, delays) => {
             delays_text(alloc, &given.tables, *section, delays, told)
         }

@@ -1,26 +1,19 @@
-use Rattle.std.proofs.Common.{◌++◌, sym, ap, ◌∙◌, subst}
+use Rattle.std.proofs.Common.{◌++◌, sym, ap, ◌∙◌}
 use Rattle.std.proofs.lemmas.Option.{get_or_from_slice_get}
 use Rattle.rail_model.specs.declared.items.Section.{Section}
-use Rattle.plan_model.specs.declared.cut.Cut.{Cut}
-use Rattle.plan_model.specs.Answer.{IsAnswer}
-use Rattle.rail_model.specs.Tables.{no_section, section_at}
+use Rattle.rail_model.specs.Tables.{no_section}
 use Rattle.capacity_report.specs.declared.answers.Detail.TheVariants as detail
 use Rattle.capacity_report.specs.Answers.{answer_rows}
-use Rattle.capacity_cmd.proofs.Cuts.{stamped_none}
 use Rattle.capacity_cmd.proofs.report.add_head.Goals as goal
-
-pub answer_rows-requires : goal.answer_rows-requires
-answer_rows-requires c = record { cut = c.in_ok-cut.cut; sound = c.in_ok-cut.ensures.sound; is = c.in_ok-answer.ensures }
 
 pub returns : goal.returns
 returns c =
     let tables = c.args.tables.now in
     let answer = c.in_ok-answer.answer in
-    let cut_is = c.in_ok-cut.ensures.same ∙ stamped_none tables (section_at tables c.args.number) in
     let section_is = get_or_from_slice_get tables.sections c.args.number c.section.result.now no_section c.section.ensures in
     record {
       answer = answer;
-      is = subst (λ (cut : Cut). IsAnswer cut answer) cut_is c.in_ok-answer.ensures;
+      is = c.in_ok-answer.ensures.answer;
       head = c.in_ok-answer_rows.ensures.ok
           ∙ ap (λ (section : Section). c.args.sheet.now.rows ++ answer_rows section.name answer detail.Head) (sym section_is);
       counted = c.add.ensures;

@@ -42,6 +42,13 @@ returns-in-Cut g c =
     (λ why. EndsOnAccepted which c.args.given (Refuses 0 why))))
     (sym c.in-Cut.is) c.cut_text.ensures
 
+pub returns-in-Cycle : goal.returns-in-Cycle
+returns-in-Cycle g c =
+    subst (λ (which : Command). IfOk c.cycle_text.result (λ made. MatchResult made
+    (λ text. EndsOnAccepted which c.args.given (Writes text.items))
+    (λ why. EndsOnAccepted which c.args.given (Refuses 0 why))))
+    (sym c.in-Cycle.is) c.cycle_text.ensures
+
 pub returns-in_ok-text_alone-in-Session : goal.returns-in_ok-text_alone-in-Session
 returns-in_ok-text_alone-in-Session g c =
     let text = c.in_ok-text_alone-in-Session.field-0.items in

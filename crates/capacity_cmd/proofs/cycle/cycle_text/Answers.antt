@@ -1,0 +1,14 @@
+use Rattle.std.proofs.Common.{sym, ◌∙◌}
+use Rattle.capacity_cmd.specs.Named.{cut_named}
+use Rattle.capacity_cmd.specs.Cycle.{IsCycleText}
+use Rattle.capacity_cmd.proofs.Cuts.{writes_for_named, refuses_unnamed}
+use Rattle.capacity_cmd.proofs.cycle.cycle_text.Goals as goal
+
+pub returns-in_ok-text_of_cut-in-Ok : goal.returns-in_ok-text_of_cut-in-Ok
+returns-in_ok-text_of_cut-in-Ok c =
+    writes_for_named IsCycleText (cut_named c.args.tables.now c.args.section) c.in-Ok.cut c.in_ok-text_of_cut-in-Ok.field-0.items
+    (sym c.in_ok-cut.ensures.same ∙ c.in-Ok.is) c.in_ok-text_of_cut-in-Ok.ensures
+
+pub returns-in-Err : goal.returns-in-Err
+returns-in-Err c =
+    refuses_unnamed IsCycleText (cut_named c.args.tables.now c.args.section) c.in-Err.why (sym c.in_ok-cut.ensures.same ∙ c.in-Err.is)
