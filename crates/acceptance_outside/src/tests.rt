@@ -1,19 +1,22 @@
 //! A call of the program over bytes in memory, whose reads and writes may fail.
+mod calls;
 mod faults;
+mod hostile_rows;
 mod long_texts;
 mod notes;
 mod sentences;
 mod statuses;
 mod streams;
+mod worn;
 
 use capacity_cmd::{Status, run};
 use rail_model::{List, OutOfMemory};
 use rail_outside::{MemorySink, MemorySource, OpenGate};
+use small_lines::{FIRST_RUN, LINE, REST, joined};
 use std::alloc::Global;
-use std::process::Abort;
 use std::sync::Wait;
-use std::test::Fail;
 use std::thread::Threads;
+use worn::{WornSink, WornSource};
 
 // The blocking times of the two runs of a small line.
 const USES: &str = "use,T1,A,85,171,5,10,0,60,6,5\n\
@@ -32,6 +35,8 @@ struct Outside {
     // The number of the read that fails, and of the write or flush, from 1. 0 for none.
     failing_read: u64,
     failing_write: u64,
+    // Whether the counts of faults stand at their last value.
+    is_worn: bool,
 }
 
 // An outside that works.
@@ -41,34 +46,64 @@ const WORKING: Outside = Outside {
     room: 4_096,
     failing_read: 0,
     failing_write: 0,
+    is_worn: false,
 };
 
-// Calls the program with the word `stairs`, and compares its status and the bytes that it wrote.
-fn assert_ends<R: Abort + AllocGlobal + Threads + Wait + Sync>(
+// Whether a call with these words ends with a status and with these bytes written.
+fn ends<R: AllocGlobal + Threads + Wait + Sync>(
     rt: &R,
-    input: &str,
+    words: &[&str],
+    input: &[u8],
     outside: Outside,
     status: Status,
     text: &[u8],
-) -> Result<(), Fail> {
-    let (ended, sink) = called(rt, "stairs", input.as_bytes(), outside)?;
-    assert!(rt; ended == status && sink.bytes() == text, "{ended:?}");
-    Ok(())
+) -> Result<bool, OutOfMemory> {
+    let (ended, sink) = called(rt, words, input, outside)?;
+    Ok(ended == status && sink.bytes() == text)
 }
 
-// Calls the program with one word. Gives its status, and the sink with the bytes written.
+// Calls the program with these words. Gives its status, and the sink with the bytes written.
 fn called<R: AllocGlobal + Threads + Wait + Sync>(
     rt: &R,
-    word: &str,
+    words: &[&str],
     input: &[u8],
     outside: Outside,
 ) -> Result<(Status, MemorySink), OutOfMemory> {
     let alloc = rt.alloc();
-    let words = words_of(alloc, &[word])?;
-    let mut source = source_of(alloc, input, outside.source_piece, outside.failing_read)?;
-    let mut sink = sink_of(alloc, outside)?;
-    let status = run(rt, &words, &mut source, &mut sink, &OpenGate);
-    Ok((status, sink))
+    let words = words_of(alloc, words)?;
+    let source = source_of(alloc, input, outside.source_piece, outside.failing_read)?;
+    let sink = sink_of(alloc, outside)?;
+    if outside.is_worn {
+        return Ok(run_worn(rt, &words, source, sink));
+    }
+    Ok(run_on(rt, &words, source, sink))
+}
+
+fn run_on<R: AllocGlobal + Threads + Wait + Sync>(
+    rt: &R,
+    words: &[String],
+    mut source: MemorySource,
+    mut sink: MemorySink,
+) -> (Status, MemorySink) {
+    let status = run(rt, words, &mut source, &mut sink, &OpenGate);
+    (status, sink)
+}
+
+fn run_worn<R: AllocGlobal + Threads + Wait + Sync>(
+    rt: &R,
+    words: &[String],
+    source: MemorySource,
+    sink: MemorySink,
+) -> (Status, MemorySink) {
+    let mut source = WornSource { source };
+    let mut sink = WornSink { sink };
+    let status = run(rt, words, &mut source, &mut sink, &OpenGate);
+    (status, sink.sink)
+}
+
+// The line of two blocks with its runs and section, and further rows below it.
+fn input_of(alloc: Global, rows: &str) -> Result<String, OutOfMemory> {
+    joined(alloc, &[LINE, FIRST_RUN, REST, rows])
 }
 
 fn source_of(

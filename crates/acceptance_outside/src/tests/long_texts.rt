@@ -1,9 +1,11 @@
 //! Inputs and texts too long for a table of texts.
-use super::{Outside, WORKING, called};
+use super::{Outside, WORKING, called, ends};
 use capacity_cmd::{Cause, INPUT_BYTES, Status};
 use rail_model::OutOfMemory;
 use std::alloc::Global;
+use std::sync::Wait;
 use std::test::Fail;
+use std::thread::Threads;
 
 // One block that 142 runs block at one time: 10,011 pairs.
 const SHARED_BLOCK: &str = "block,A,1000\n\
@@ -21,7 +23,7 @@ fn ten_thousand_conflicts_are_listed(rt: HostRuntime) -> Result<(), Fail> {
         room: 1_000_000,
         ..WORKING
     };
-    let (status, sink) = called(&rt, "check", input.as_bytes(), outside)?;
+    let (status, sink) = called(&rt, &["check"], input.as_bytes(), outside)?;
     assert_eq!(rt; (status, is_whole(sink.bytes())), (Status::Done, true));
     Ok(())
 }
@@ -43,33 +45,89 @@ fn shared_by(alloc: Global, runs: u32) -> Result<String, OutOfMemory> {
     Ok(input)
 }
 
-// Line feeds, the read that would fail, and what is answered and written.
-const LONGEST: [(usize, u64, Status, &[u8]); 2] = [
-    (INPUT_BYTES, 0, Status::Done, b""),
+// The read after the one that finds the end would fail, and is not made.
+#[test]
+fn as_many_bytes_as_may_be_are_read(rt: HostRuntime) -> Result<(), Fail> {
+    assert_eq!(rt; INPUT_BYTES, 16_777_216);
+    let outside = of_line_feeds(2_050);
+    let input = vec![in rt.alloc(); b'\n'; INPUT_BYTES]?;
+    assert!(rt; ends(&rt, &["stairs"], &input, outside, Status::Done, b"")?);
+    Ok(())
+}
+
+// An outside whose reads take 8,192 bytes, and of which one fails.
+fn of_line_feeds(failing_read: u64) -> Outside {
+    Outside {
+        source_piece: 8_192,
+        failing_read,
+        ..WORKING
+    }
+}
+
+const TOO_LONG: Status = Status::Refused {
+    row: 0,
+    cause: Cause::TooLong,
+};
+
+// The words of a call on one line feed too many, the read that would fail, and what the call ends
+// with.
+const TOO_MANY: [(&[&str], u64, Status, &str); 3] = [
     // The read after the first byte past the limit would fail, and is not made.
+    (&["session", "1"], 2_050, TOO_LONG, "refused,0,too-long\n"),
+    // The section isn't there, which would be told of a shorter input.
     (
-        INPUT_BYTES + 1,
+        &["fill", "X", "T1"],
         2_050,
-        Status::Refused {
-            row: 0,
-            cause: Cause::TooLong,
-        },
-        b"refused,0,too-long\n",
+        TOO_LONG,
+        "refused,0,too-long\n",
     ),
+    // The read of the first byte past the limit fails.
+    (&["stairs"], 2_049, Status::ReadFault, ""),
 ];
 
 #[test]
 fn one_byte_too_many_is_too_long(rt: HostRuntime) -> Result<(), Fail> {
-    assert_eq!(rt; INPUT_BYTES, 16_777_216);
-    for (count, failing_read, status, text) in LONGEST {
-        let outside = Outside {
-            source_piece: 8_192,
-            failing_read,
-            ..WORKING
-        };
-        let input = vec![in rt.alloc(); b'\n'; count]?;
-        let (ended, sink) = called(&rt, "stairs", &input, outside)?;
-        assert!(rt; ended == status && sink.bytes() == text, "{ended:?}");
-    }
+    assert_eq!(rt; first_other(&rt)?, None);
     Ok(())
+}
+
+// The first call that ends otherwise than it must, if there is one.
+fn first_other<R: AllocGlobal + Threads + Wait + Sync>(
+    rt: &R,
+) -> Result<Option<usize>, OutOfMemory> {
+    let input = vec![in rt.alloc(); b'\n'; INPUT_BYTES + 1]?;
+    for place in 0..TOO_MANY.len() {
+        let (words, failing_read, status, text) = TOO_MANY[place];
+        let outside = of_line_feeds(failing_read);
+        if !ends(rt, words, &input, outside, status, text.as_bytes())? {
+            return Ok(Some(place));
+        }
+    }
+    Ok(None)
+}
+
+// The row of the refusal of an input that is too long is written in two pieces, and then flushed.
+#[test]
+fn writes_of_what_is_too_long_fail(rt: HostRuntime) -> Result<(), Fail> {
+    assert_eq!(rt; first_other_write(&rt)?, None);
+    Ok(())
+}
+
+// The first write or flush that, where it fails, doesn't end the call with the pieces before it
+// written.
+fn first_other_write<R: AllocGlobal + Threads + Wait + Sync>(
+    rt: &R,
+) -> Result<Option<u64>, OutOfMemory> {
+    let input = vec![in rt.alloc(); b'\n'; INPUT_BYTES + 1]?;
+    for (failing_write, text) in [(1, ""), (2, "refused,0,"), (3, "refused,0,too-long\n")] {
+        let outside = Outside {
+            failing_write,
+            ..of_line_feeds(0)
+        };
+        let status = Status::WriteFault;
+        if !ends(rt, &["stairs"], &input, outside, status, text.as_bytes())? {
+            return Ok(Some(failing_write));
+        }
+    }
+    Ok(None)
 }

@@ -163,8 +163,8 @@ const INPUTS: [(&str, &str); 34] = [
     ),
 ];
 
-// Rows below the eight of the line of two blocks, the number of one of them, and what is said of the
-// rule that it breaks.
+// Rows below the eight of the line of two blocks, the number of one of them, and what is said of
+// the rule that it breaks.
 const RULES: [(&str, u32, &str); 31] = [
     (
         "connect,C,100000,T2,90000",

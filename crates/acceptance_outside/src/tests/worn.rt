@@ -1,0 +1,42 @@
+//! A source and a sink whose counts of faults stand at their last value, where they show no fault.
+ghost use Rattle.std.specs.Prelude.{◌-◌, ◌^◌};
+
+use rail_outside::{Failed, Sink, Source};
+
+#[derive(Drop)]
+pub(super) struct WornSource<S> {
+    pub(super) source: S,
+}
+
+impl<S: Source> Source for WornSource<S> {
+    ghost left = { λ s. S.left s.source };
+
+    ghost faults = { λ s. 2 ^ 64 - 1 };
+
+    ghost at_fault = { λ s. S.at_fault s.source };
+
+    fn read(&mut self, into: &mut [u8]) -> Result<usize, Failed> {
+        self.source.read(into)
+    }
+}
+
+#[derive(Drop)]
+pub(super) struct WornSink<K> {
+    pub(super) sink: K,
+}
+
+impl<K: Sink> Sink for WornSink<K> {
+    ghost written = { λ s. K.written s.sink };
+
+    ghost flushed = { λ s. K.flushed s.sink };
+
+    ghost faults = { λ s. 2 ^ 64 - 1 };
+
+    fn write(&mut self, from: &[u8]) -> Result<usize, Failed> {
+        self.sink.write(from)
+    }
+
+    fn flush(&mut self) -> Result<(), Failed> {
+        self.sink.flush()
+    }
+}
