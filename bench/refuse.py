@@ -50,6 +50,7 @@ CALLS = [
     ("headways S", LINE, None),
     ("report", LINE, None),
     ("cut S", LINE, None),
+    ("cycle S", LINE, None),
     ("delays S T1 200", LINE, None),
     ("fill S T2", LINE, None),
     ("session 0", LINE + TASKS, None),
