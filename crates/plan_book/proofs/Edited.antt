@@ -25,8 +25,8 @@ use Rattle.plan_book.specs.declared.changes.ShelfChange.TheVariants as change
 use Rattle.section_cut.specs.Change.{IsChange}
 use Rattle.section_cut.proofs.Rows.{found_at}
 use Rattle.plan_book.specs.declared.shelf.Shelf.{Shelf}
-use Rattle.plan_book.specs.Shelves.{blank, shelf_of, IsShelf, AreShelves}
-use Rattle.plan_book.specs.Changes.{WillChange, HaveCuts, changed, AreChanges, AreChanged, Widens, HaveAll, HasCutOf, cut_change_of}
+use Rattle.plan_book.specs.Shelves.{blank, kept_cut, shelf_of, IsShelf, AreShelves}
+use Rattle.plan_book.specs.Changes.{WillChange, HaveCuts, changed, AreChanges, AreChanged, Widens, HaveAll, HasCutOf, HoldsOfEach, IsReady, cut_change_of}
 use Rattle.plan_book.specs.Kept.{MayDo, IsCounted, IsBook, AreDone}
 use Rattle.plan_book.proofs.Found.{found_name}
 use Rattle.plan_book.proofs.Starting.{found_of_all}
@@ -38,9 +38,10 @@ use Rattle.plan_book.proofs.Editing.{last_number-edited, tables_of-edited, cut_t
 changed_name : (number : ℕ) (s : Shelf) (c : ShelfChange) → (changed number s c).name ≡ s.name
 changed_name number s change.Untouched = refl
 changed_name number s (change.Touched cut) = refl
+changed_name number s (change.Row place row) = refl
 
 -- the shelf of a name stands at one place of shelves and of others with the same names
-found_beside : (xs ys : List Shelf) (name : List ℕ) (d : Shelf) → length ys ≡ length xs
+pub found_beside : (xs ys : List Shelf) (name : List ℕ) (d : Shelf) → length ys ≡ length xs
     → ((k : ℕ) → k < length xs → (get_or ys k d).name ≡ (get_or xs k d).name)
     → ((k : ℕ) × (k < length xs) × (find (λ s. is_same s.name name) xs ≡ Some (get_or xs k d)) × (find (λ s. is_same s.name name) ys ≡ Some (get_or ys k d)))
     ⊎ ((find (λ s. is_same s.name name) xs ≡ None) × (find (λ s. is_same s.name name) ys ≡ None))
@@ -96,7 +97,7 @@ no_cut tables shelves name all none =
     (found_of_all (λ (x : Section). is_named (λ (s : Shelf). s.name) shelves x.name ≡ true) (λ s. is_same s.name name) tables.sections all)
     refl (unnamed shelves name none)
 
-module _ (journal : List Entry) (e : Entry) (edit : Edit) (some : 0 < length journal) (is : edit_of e.act ≡ Some edit) (quiet : (name : List ℕ) → publication_of name e.act ≡ None) (order : (opening journal).at ≤ last_number journal) (first : ℕ) (shelves later : List Shelf) (changes : List ShelfChange) (are : AreShelves journal first shelves) (all : HaveAll (after (tables_of journal) edit) shelves) (made : AreChanges (tables_of journal) (after (tables_of journal) edit) (last_number journal + 1) shelves changes) (new : AreChanged (last_number journal + 1) shelves changes later) where
+module _ (journal : List Entry) (e : Entry) (edit : Edit) (some : 0 < length journal) (is : edit_of e.act ≡ Some edit) (quiet : (name : List ℕ) → publication_of name e.act ≡ None) (order : (opening journal).at ≤ last_number journal) (first : ℕ) (shelves later : List Shelf) (changes : List ShelfChange) (are : AreShelves journal first shelves) (all : HaveAll (after (tables_of journal) edit) shelves) (made : AreChanges (tables_of journal) (after (tables_of journal) edit) (last_number journal + 1) shelves changes) (ready : HoldsOfEach IsReady shelves changes) (new : AreChanged (last_number journal + 1) shelves changes later) where
   names : (k : ℕ) (d : Shelf) → k < length shelves → (get_or later k d).name ≡ (get_or shelves k d).name
   names k d below =
       ap (λ (s : Shelf). s.name) (new.each k d change.Untouched below)
@@ -112,19 +113,20 @@ module _ (journal : List Entry) (e : Entry) (edit : Edit) (some : 0 < length jou
             let c = get_or changes k change.Untouched in
             let named : s.name ≡ name = found_name shelves name s there.2 in
             let made_here =
-            subst (λ n. IsChange (cut_of (tables_of journal) n) (cut_of (after (tables_of journal) edit) n) (last_number journal + 1) s.cut (cut_change_of c)) named
+            subst (λ n. IsChange (cut_of (tables_of journal) n) (cut_of (after (tables_of journal) edit) n) (last_number journal + 1) (kept_cut s) (cut_change_of c)) named
             (made.each k none change.Untouched there.1) in
             let is_changed : shelf_of first later name ≡ changed (last_number journal + 1) s c =
             ap (λ o. unwrap_or o none) there.3 ∙ new.each k none change.Untouched there.1 in
             subst (IsShelf (journal ++ e ∷ []) name) (sym is_changed)
-            (shelf-edited journal e edit some is name s order (quiet name) (shelf_found journal first shelves name are s there.2) c made_here)
+            (shelf-edited journal e edit some is name s order (quiet name) (shelf_found journal first shelves name are s there.2) c made_here
+            (ready k none change.Untouched there.1))
         | inr missing ↦
             let known = none_found journal first shelves name are missing.0 in
             let before : cut_of (tables_of journal) name ≡ None = sym (cut_then journal e edit some is name) ∙ known.cut.value in
             let same : cut_of (after (tables_of journal) edit) name ≡ cut_of (tables_of journal) name =
             no_cut (after (tables_of journal) edit) shelves name all missing.0 ∙ sym before in
             subst (IsShelf (journal ++ e ∷ []) name) (sym (ap (λ o. unwrap_or o none) missing.1))
-            (shelf-edited journal e edit some is name none order (quiet name) known change.Untouched same)
+            (shelf-edited journal e edit some is name none order (quiet name) known change.Untouched same tt)
       ]
 
   pub shelves-edited : AreShelves (journal ++ e ∷ []) first later
@@ -166,12 +168,12 @@ pub each_has_cut : (tables : Tables) (first : ℕ) (shelves : List Shelf) → Na
 each_has_cut tables first shelves rise cuts k d l =
     let s = get_or shelves k d in
     cuts s.name
-    ∙ ap (λ (o : Option Shelf). option_map (stamped 0) (unwrap_or o (blank first s.name)).cut)
+    ∙ ap (λ (o : Option Shelf). option_map (stamped 0) (kept_cut (unwrap_or o (blank first s.name))))
     (found_at (λ (s : Shelf). s.name) shelves k d rise l)
 
 pub cuts_wider : (tables : Tables) (first : ℕ) (old new : List Shelf) → Widens first old new → HaveCuts tables first old → HaveCuts tables first new
 cuts_wider tables first old new wider cuts name =
-    cuts name ∙ ap (λ (s : Shelf). option_map (stamped 0) s.cut) (sym (wider.known name))
+    cuts name ∙ ap (λ (s : Shelf). option_map (stamped 0) (kept_cut s)) (sym (wider.known name))
 
 edit_count : (o : Option Edit) (rest : List Edit) → length (cons_option o rest) ≤ 1 + length rest
 edit_count None rest = omega arith
@@ -196,9 +198,9 @@ pub book-edited : (journal : List Entry) (tables : Tables) (first at passes : �
     (e : Entry) (edit : Edit) → IsBook journal tables first at passes shelves done → IsJournal (journal ++ e ∷ [])
     → edit_of e.act ≡ Some edit → ((name : List ℕ) → publication_of name e.act ≡ None) → issues e.act ≡ false → AreDone (journal ++ e ∷ []) counts
     → HaveAll (after tables edit) shelves → AreChanges tables (after tables edit) (at + 1) shelves changes
-    → AreChanged (at + 1) shelves changes later
+    → HoldsOfEach IsReady shelves changes → AreChanged (at + 1) shelves changes later
     → IsBook (journal ++ e ∷ []) (after tables edit) first (at + 1) passes later counts
-book-edited journal tables first at passes shelves later changes done counts e edit held is_journal is quiet no_pass tasks all made new =
+book-edited journal tables first at passes shelves later changes done counts e edit held is_journal is quiet no_pass tasks all made ready new =
     let some = legal_has_one journal held.is_journal.legal in
     record {
       is_journal = is_journal;
@@ -209,7 +211,7 @@ book-edited journal tables first at passes shelves later changes done counts e e
       passes_are = held.passes_are ∙ sym (issued-same journal e no_pass);
       shelves_are =
           shelves-edited journal e edit some is quiet (from_opening journal) first shelves later changes held.shelves_are
-          (rw (← held.tables_are) all) (rw (← held.tables_are, ← held.at_is) made) (rw (← held.at_is) new);
+          (rw (← held.tables_are) all) (rw (← held.tables_are, ← held.at_is) made) ready (rw (← held.at_is) new);
       done_are = tasks;
     }
 
@@ -218,9 +220,9 @@ pub book-accepted : (journal : List Entry) (tables : Tables) (first at passes : 
     (done counts : List ℕ) (who planner : ℕ) (edit : Edit) (number : ℕ) (next : Tables) → IsBook journal tables first at passes shelves done
     → IsNext journal (record { pass = who; act = act.Edited planner number edit }) → MayDo journal planner (task.Edit edit)
     → number ≡ at + 1 → next ≡ after tables edit
-    → WillChange tables next number shelves changes → AreChanged number shelves changes later → IsCounted planner done counts
+    → WillChange tables next number shelves changes → HoldsOfEach IsReady shelves changes → AreChanged number shelves changes later → IsCounted planner done counts
     → IsBook (journal ++ record { pass = who; act = act.Edited planner number edit } ∷ []) next first number passes later counts
-book-accepted journal tables first at passes shelves later changes done counts who planner edit number next held may may_do number_is next_is will new counted =
+book-accepted journal tables first at passes shelves later changes done counts who planner edit number next held may may_do number_is next_is will ready new counted =
     let e : Entry = record { pass = who; act = act.Edited planner number edit } in
     let longer = journal ++ e ∷ [] in
     let is_journal : IsJournal longer =
@@ -231,4 +233,4 @@ book-accepted journal tables first at passes shelves later changes done counts w
     subst (λ n. IsBook longer next first n passes later counts) (sym number_is)
     (subst (λ t. IsBook longer t first (at + 1) passes later counts) (sym next_is)
     (book-edited journal tables first at passes shelves later changes done counts e edit held is_journal refl (λ name. refl) refl tasks
-    (subst (λ t. HaveAll t shelves) next_is will.all) made (subst (λ n. AreChanged n shelves changes later) number_is new)))
+    (subst (λ t. HaveAll t shelves) next_is will.all) made ready (subst (λ n. AreChanged n shelves changes later) number_is new)))

@@ -18,11 +18,14 @@ use Rattle.plan_book.specs.declared.changes.ShelfChange.TheVariants as change
 use Rattle.section_cut.specs.Change.{IsRestamped, IsCutAfter, IsChange}
 use Rattle.section_cut.proofs.Rows.{found_at}
 use Rattle.plan_book.specs.declared.shelf.Shelf.{Shelf}
-use Rattle.plan_book.specs.Shelves.{IsShelf}
-use Rattle.plan_book.specs.Changes.{changed, cut_change_of}
+use Rattle.plan_book.specs.Stored.{cut_in}
+use Rattle.plan_book.specs.Shelves.{kept_cut, IsShelf, IsKeptCut}
+use Rattle.section_cut.specs.Change.{with_row}
+use Rattle.plan_book.specs.Changes.{changed, cut_change_of, IsReady}
 use Rattle.plan_book.proofs.LastChanges.{last_change_too, last_change_on, last_change_new}
 use Rattle.plan_book.proofs.Others.{knows_last-more}
 use Rattle.plan_book.proofs.Starting.{found_of_all}
+use Rattle.plan_book.proofs.Own.{own_kept}
 
 -- the row of a run in a cut without stamps
 row_bare : (run : List ℕ) (cut : Option Cut) → row_named run (option_map (stamped 0) cut) ≡ option_map (stamped_row 0) (row_named run cut)
@@ -99,7 +102,7 @@ module _ (journal : List Entry) (e : Entry) (edit : Edit) (some : 0 < length jou
         (λ same. differs (sym (row_later row.name) ∙ same ∙ row_before row.name)))
 
     module _ (s : Shelf) (order : (opening journal).at ≤ last_number journal) (no_publication : publication_of name e.act ≡ None) (h : IsShelf journal name s) where
-      old_cut : cut_of (tables_of journal) name ≡ option_map (stamped 0) s.cut
+      old_cut : cut_of (tables_of journal) name ≡ option_map (stamped 0) (kept_cut s)
       old_cut = sym cut_then ∙ h.cut.value
 
       same_stamps : (cut : Option Cut) → cut_of (after (tables_of journal) edit) name ≡ cut_of (tables_of journal) name
@@ -115,43 +118,52 @@ module _ (journal : List Entry) (e : Entry) (edit : Edit) (some : 0 < length jou
           subst (λ o. IfSome o (IsStamp journal name)) there (found_of_all (IsStamp journal name) (λ r. is_same r.name row.name) c.rows stamps)
 
       restamped : (cut : Cut) → cut_of (after (tables_of journal) edit) name ≡ Some (stamped 0 cut) → IsSoundCut cut
-          → All (IsRestamped (last_number journal + 1) s.cut) cut.rows → All (IsStamp longer name) cut.rows
+          → All (IsRestamped (last_number journal + 1) (kept_cut s)) cut.rows → All (IsStamp longer name) cut.rows
       restamped cut value sound each k d l =
           let row = get_or cut.rows k d in
           let now : row_named row.name (cut_of (after (tables_of journal) edit) name) ≡ Some (stamped_row 0 row) =
           ap (row_named row.name) value ∙ row_there cut k d sound l in
-          let before : row_named row.name (cut_of (tables_of journal) name) ≡ option_map (stamped_row 0) (row_named row.name s.cut) =
-          ap (row_named row.name) old_cut ∙ row_bare row.name s.cut in
+          let before : row_named row.name (cut_of (tables_of journal) name) ≡ option_map (stamped_row 0) (row_named row.name (kept_cut s)) =
+          ap (row_named row.name) old_cut ∙ row_bare row.name (kept_cut s) in
           elim (each k d l) [
             | inl stands ↦
-                stamp_on row (now ∙ sym (before ∙ ap (option_map (stamped_row 0)) stands)) (old_stamp row s.cut h.cut.stamps stands)
+                stamp_on row (now ∙ sym (before ∙ ap (option_map (stamped_row 0)) stands)) (old_stamp row (kept_cut s) h.cut.stamps stands)
             | inr new ↦ stamp_new row order new.0 (λ same. new.1 (sym before ∙ sym same ∙ now))
           ]
 
-      new_stamps : (cut : Option Cut) → IsCutAfter (cut_of (after (tables_of journal) edit) name) (last_number journal + 1) s.cut cut
+      new_stamps : (cut : Option Cut) → IsCutAfter (cut_of (after (tables_of journal) edit) name) (last_number journal + 1) (kept_cut s) cut
           → IfSome cut (λ c. All (IsStamp longer name) c.rows)
       new_stamps None made = tt
       new_stamps (Some c) made = restamped c made.same made.sound made.stamps
 
       -- what is known of a section after the edit
       pub shelf-edited : (c : ShelfChange)
-          → IsChange (cut_of (tables_of journal) name) (cut_of (after (tables_of journal) edit) name) (last_number journal + 1) s.cut (cut_change_of c)
-          → IsShelf longer name (changed (last_number journal + 1) s c)
-      shelf-edited change.Untouched same = record {
+          → IsChange (cut_of (tables_of journal) name) (cut_of (after (tables_of journal) edit) name) (last_number journal + 1) (kept_cut s) (cut_change_of c)
+          → IsReady s c → IsShelf longer name (changed (last_number journal + 1) s c)
+      shelf-edited change.Untouched same ready = record {
         touched = touched_on s.touched same h.touched;
         published = knows_last-more journal e some name s.published no_publication h.published;
         cut = record {
           value = rw last_number-edited (cut_later ∙ same ∙ old_cut);
-          stamps = same_stamps s.cut same h.cut.stamps;
+          stamps = same_stamps (kept_cut s) same h.cut.stamps;
           sound = h.cut.sound;
         };
       }
-      shelf-edited (change.Touched cut) made = record {
+      shelf-edited (change.Touched cut) made ready = record {
         touched = touched_new order made.0;
         published = knows_last-more journal e some name s.published no_publication h.published;
         cut = record {
           value = rw last_number-edited (cut_later ∙ made.1.same);
-          stamps = new_stamps cut made.1;
+          stamps = new_stamps (option_map cut_in cut) made.1;
           sound = made.1.sound;
         };
+      }
+      shelf-edited (change.Row place row) made ready = record {
+        touched = touched_new order made.1;
+        published = knows_last-more journal e some name s.published no_publication h.published;
+        cut = subst (IsKeptCut longer name) (sym (own_kept place row s.cut ready)) (record {
+          value = rw last_number-edited (cut_later ∙ made.2.same);
+          stamps = new_stamps (option_map (with_row place row) (kept_cut s)) made.2;
+          sound = made.2.sound;
+        });
       }

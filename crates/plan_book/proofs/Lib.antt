@@ -5,8 +5,11 @@ pub mod Adding
 pub mod Publications
 pub mod Starting
 pub mod Widening
+pub mod Own
 pub mod Editing
 pub mod Edited
+pub mod Alike
+pub mod AtPlace
 pub mod Latest
 pub mod Sections
 pub mod Left

@@ -10,7 +10,7 @@ use Rattle.plan_model.specs.Touch.{cut_at, row_at, IsLastTouching, IsStamp}
 use Rattle.plan_model.proofs.Growing.{opening-more, last_publication-more, others_keep_tables}
 use Rattle.plan_book.specs.declared.shelf.Published.{Published}
 use Rattle.plan_book.specs.declared.shelf.Shelf.{Shelf}
-use Rattle.plan_book.specs.Shelves.{answer_of, answer_at, IsPublished, KnowsLast, IsKeptCut, IsShelf, shelf_of, AreShelves}
+use Rattle.plan_book.specs.Shelves.{kept_cut, answer_of, answer_at, IsPublished, KnowsLast, IsKeptCut, IsShelf, shelf_of, AreShelves}
 use Rattle.plan_book.proofs.LastChanges.{last_change_too}
 
 -- what an entry publishes stays in its place in a longer journal
@@ -75,7 +75,7 @@ module _ (journal : List Entry) (e : Entry) (some : 0 < length journal) where
     shelf-more name s quiet h = record {
       touched = touched-more name s.touched h.touched;
       published = knows_last-more name s.published quiet h.published;
-      cut = cut-more name s.cut h.cut;
+      cut = cut-more name (kept_cut s) h.cut;
     }
 
     -- and what is known of all, by an entry that publishes nothing
@@ -92,5 +92,5 @@ module _ (journal : List Entry) (e : Entry) (some : 0 < length journal) where
     shelf-published name s p is h = record {
       touched = touched-more name s.touched h.touched;
       published = is;
-      cut = cut-more name s.cut h.cut;
+      cut = cut-more name (kept_cut s) h.cut;
     }

@@ -23,7 +23,7 @@ use Rattle.plan_model.proofs.Changing.{stays_at}
 use Rattle.plan_model.proofs.Growing.{tables_at-past}
 use Rattle.plan_book.specs.declared.book.TheConstants.{PLANNERS, TASKS, FIRST_NUMBER}
 use Rattle.plan_book.specs.declared.shelf.Shelf.{Shelf}
-use Rattle.plan_book.specs.Shelves.{blank, IsShelf, AreShelves}
+use Rattle.plan_book.specs.Shelves.{blank, kept_cut, IsShelf, AreShelves}
 use Rattle.plan_book.specs.First.{first_shelf, AreFirst}
 use Rattle.plan_book.specs.Kept.{IsBook}
 
@@ -77,7 +77,7 @@ module _ (tables : Tables) (at : ℕ) (scripts : List (List Task)) where
       (sym (map-map (stamped_row 0) (stamped_row at) rows ∙ map-map (stamped_row 0) (row_of tables s) (filter (is_member tables s) tables.runs)))
 
   each_of : (name : List ℕ) (o : Option Section) → find (λ s. is_same s.name name) tables.sections ≡ o
-      → IfSome (option_map (first_shelf tables at) o) (λ s. IfSome s.cut IsSoundCut)
+      → IfSome (option_map (first_shelf tables at) o) (λ s. IfSome (kept_cut s) IsSoundCut)
       → IsShelf journal name (unwrap_or (option_map (first_shelf tables at) o) (blank at name))
   each_of name None found sound = record {
     touched = untouched (cut_at journal name);
@@ -104,8 +104,8 @@ module _ (tables : Tables) (at : ℕ) (scripts : List (List Task)) where
     each = λ name.
         let found : find (λ x. is_same x.name name) shelves ≡ option_map (first_shelf tables at) (find (λ s. is_same s.name name) tables.sections) =
         ap (find (λ x. is_same x.name name)) are.same ∙ find-map (first_shelf tables at) (λ x. is_same x.name name) tables.sections in
-        let known = subst (λ o. IfSome o (λ s. IfSome s.cut IsSoundCut)) found
-        (found_of_all (λ (s : Shelf). IfSome s.cut IsSoundCut) (λ x. is_same x.name name) shelves are.sound) in
+        let known = subst (λ o. IfSome o (λ s. IfSome (kept_cut s) IsSoundCut)) found
+        (found_of_all (λ (s : Shelf). IfSome (kept_cut s) IsSoundCut) (λ x. is_same x.name name) shelves are.sound) in
         subst (λ o. IsShelf journal name (unwrap_or o (blank at name))) (sym found)
         (each_of name (find (λ s. is_same s.name name) tables.sections) refl known);
   }

@@ -9,44 +9,77 @@ use Rattle.section_cut.specs.declared.cut_changes.CutChange.{CutChange}
 use Rattle.section_cut.specs.declared.cut_changes.CutChange.TheVariants as cut_change
 use Rattle.plan_book.specs.declared.changes.ShelfChange.{ShelfChange}
 use Rattle.plan_book.specs.declared.changes.ShelfChange.TheVariants as change
-use Rattle.section_cut.specs.Change.{IsChange}
+use Rattle.section_cut.specs.Change.{IsChange, HasPlace}
 use Rattle.plan_book.specs.declared.shelf.Shelf.{Shelf}
-use Rattle.plan_book.specs.Shelves.{shelf_of}
+use Rattle.plan_book.specs.Stored.{cut_in, own_with, IsOwn, IsOwnAt}
+use Rattle.plan_book.specs.Shelves.{shelf_of, kept_cut}
 
 -- what an edit makes of a shelf's cut is what it makes of the section's cut
 abbrev pub cut_change_of : ShelfChange → CutChange
 cut_change_of change.Untouched = cut_change.Untouched
-cut_change_of (change.Touched cut) = cut_change.Touched cut
+cut_change_of (change.Touched cut) = cut_change.Touched (option_map cut_in cut)
+cut_change_of (change.Row place row) = cut_change.Row place row
 
 -- the cut that it makes, if it makes one, is sound
 abbrev pub IsSoundChange : CutChange → Type 0
 IsSoundChange cut_change.Untouched = Unit {0}
 IsSoundChange (cut_change.Touched cut) = IfSome cut IsSoundCut
+IsSoundChange (cut_change.Row place row) = Unit {0}
 
--- a shelf after the edit of a number: where the edit touches its section, it has the section's new cut
+-- a shelf after the edit of a number: where the edit touches its section, it has the section's new cut, or the new row
+-- in its cut
 abbrev pub changed : ℕ → Shelf → ShelfChange → Shelf
 changed number s change.Untouched = s
 changed number s (change.Touched cut) = record s { touched = number; cut = cut }
+changed number s (change.Row place row) = record s { touched = number; cut = option_map (own_with place row) s.cut }
 
 -- a shelf has its section's cut by these tables
 abbrev pub HasCutOf : Tables → Shelf → Type 0
-HasCutOf tables s = cut_of tables s.name ≡ option_map (stamped 0) s.cut
+HasCutOf tables s = cut_of tables s.name ≡ option_map (stamped 0) (kept_cut s)
 
 -- what is known of each name has its section's cut by these tables
 abbrev pub HaveCuts : Tables → ℕ → List Shelf → Type 0
 HaveCuts tables first shelves =
-    (name : List ℕ) → cut_of tables name ≡ option_map (stamped 0) (shelf_of first shelves name).cut
+    (name : List ℕ) → cut_of tables name ≡ option_map (stamped 0) (kept_cut (shelf_of first shelves name))
 
 -- what the edit of a number, between two tables, makes of the cut of a shelf's section
 abbrev pub IsChangeOf : Tables → Tables → ℕ → Shelf → ShelfChange → Type 0
 IsChangeOf before after number s c =
-    IsChange (cut_of before s.name) (cut_of after s.name) number s.cut (cut_change_of c)
+    IsChange (cut_of before s.name) (cut_of after s.name) number (kept_cut s) (cut_change_of c)
 
 -- what it makes of the cut of each shelf
 pub record AreChanges (before after : Tables) (number : ℕ) (shelves : List Shelf) (changes : List ShelfChange) : Type 0 where
   pub count : length changes ≡ length shelves
   pub each : (k : ℕ) (s : Shelf) (c : ShelfChange) → k < length shelves
       → IsChangeOf before after number (slice_index_or shelves k s) (slice_index_or changes k c)
+
+-- shelves that differ at most in who may hold their cuts
+pub record IsAlike (old new : Shelf) : Type 0 where
+  pub name : new.name ≡ old.name
+  pub touched : new.touched ≡ old.touched
+  pub published : new.published ≡ old.published
+  pub cut : kept_cut new ≡ kept_cut old
+
+pub record AreAlike (old new : List Shelf) : Type 0 where
+  pub count : length new ≡ length old
+  pub each : (k : ℕ) (s : Shelf) → k < length old → IsAlike (slice_index_or old k s) (slice_index_or new k s)
+
+-- the cut of a shelf can be changed so: where a row is put in, the cut has its place, and nobody else holds it
+abbrev pub HasItsPlace : Shelf → ShelfChange → Type 0
+HasItsPlace s change.Untouched = Unit {0}
+HasItsPlace s (change.Touched cut) = Unit {0}
+HasItsPlace s (change.Row place row) = IfSome (kept_cut s) (HasPlace place)
+
+abbrev pub IsReady : Shelf → ShelfChange → Type 0
+IsReady s change.Untouched = Unit {0}
+IsReady s (change.Touched cut) = Unit {0}
+IsReady s (change.Row place row) = IfSome s.cut (IsOwnAt place)
+
+-- what holds of each shelf and its change
+abbrev pub HoldsOfEach : (Shelf → ShelfChange → Type 0) → List Shelf → List ShelfChange → Type 0
+HoldsOfEach holds shelves changes =
+    (k : ℕ) (s : Shelf) (c : ShelfChange) → k < length shelves
+    → holds (slice_index_or shelves k s) (slice_index_or changes k c)
 
 -- each shelf is changed
 pub record AreChanged (number : ℕ) (shelves : List Shelf) (changes : List ShelfChange) (later : List Shelf) : Type 0 where

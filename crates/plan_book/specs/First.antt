@@ -5,6 +5,8 @@ use Rattle.rail_model.specs.declared.tables.Tables.{Tables}
 use Rattle.plan_model.specs.Cut.{stamped, IsSoundCut}
 use Rattle.plan_model.specs.SectionCut.{section_cut}
 use Rattle.plan_book.specs.declared.shelf.Shelf.{Shelf}
+use Rattle.plan_book.specs.declared.stored.Stored.TheVariants as stored
+use Rattle.plan_book.specs.Shelves.{kept_cut}
 
 -- the shelf of a section that no edit touched since the one of a number: each row of its cut has this number
 abbrev pub first_shelf : Tables → ℕ → Section → Shelf
@@ -12,10 +14,10 @@ first_shelf tables at section = record {
   name = section.name;
   touched = at;
   published = None;
-  cut = Some (stamped at (section_cut tables section));
+  cut = Some (stored.Shared (stamped at (section_cut tables section)));
 }
 
 -- each section of the tables has its shelf, in their order, with a sound cut
 pub record AreFirst (tables : Tables) (at : ℕ) (shelves : List Shelf) : Type 0 where
   pub same : shelves ≡ map (first_shelf tables at) tables.sections
-  pub sound : All (λ s. IfSome s.cut IsSoundCut) shelves
+  pub sound : All (λ s. IfSome (kept_cut s) IsSoundCut) shelves

@@ -1,3 +1,4 @@
+pub mod Stored
 pub mod Shelves
 pub mod First
 pub mod Kept

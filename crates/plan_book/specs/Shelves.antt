@@ -14,6 +14,7 @@ use Rattle.plan_model.specs.Journal.{last_publication}
 use Rattle.plan_model.specs.Touch.{cut_now, IsLastTouching, IsStamp}
 use Rattle.plan_book.specs.declared.shelf.Published.{Published}
 use Rattle.plan_book.specs.declared.shelf.Shelf.{Shelf}
+use Rattle.plan_book.specs.Stored.{cut_in}
 
 -- the answer that an act publishes, if it publishes one
 abbrev pub answer_of : Act → Option Answer
@@ -27,6 +28,10 @@ answer_of (act.Published section at answer) = Some answer
 -- the answer that the entry at a place publishes
 abbrev pub answer_at : List Entry → ℕ → Option Answer
 answer_at journal place = option_and_then (λ e. answer_of e.act) (slice_get journal place)
+
+-- the cut that is kept of a section, if the section is there
+abbrev pub kept_cut : Shelf → Option Cut
+kept_cut s = option_map cut_in s.cut
 
 -- what is known of a section that has no shelf: no edit touched it, nothing was published of it, and it isn't there
 abbrev pub blank : ℕ → List ℕ → Shelf
@@ -77,7 +82,7 @@ module _ (journal : List Entry) (name : List ℕ) where
   pub record IsShelf (s : Shelf) : Type 0 where
     pub touched : IsLastTouching journal name s.touched
     pub published : KnowsLast s.published
-    pub cut : IsKeptCut s.cut
+    pub cut : IsKeptCut (kept_cut s)
 
 -- shelves stand in the order of names, and what they say of each name is right
 pub record AreShelves (journal : List Entry) (first : ℕ) (shelves : List Shelf) : Type 0 where

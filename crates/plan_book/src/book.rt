@@ -14,7 +14,7 @@ ghost use Rattle.plan_model.specs.declared.journal.Act.TheVariants as acts;
 ghost use Rattle.plan_model.specs.declared.scripts.Task.TheVariants as tasks;
 ghost use Rattle.plan_book.specs.Kept.{IsQuiet, IsBy, MayDo, IsAnswered, IsNotTaken};
 
-use crate::changes::{change_shelves, changes_for};
+use crate::changes::{change_shelves, changes_for, make_ready, share_cuts};
 use crate::first::first_shelves;
 use crate::shelf::{Published, Shelf, asked_of, place_of, shelf_of, verdict_of};
 use crate::tasks::count_task;
@@ -225,7 +225,11 @@ impl Book {
     {
         let mut next = self.next_tables()?;
         match next.apply(&edit)? {
-            Ok(()) => Ok(Ok(self.accept(who, planner, edit, next)?)),
+            Ok(()) => {
+                let number = self.accept(who, planner, edit, next)?;
+                self.share();
+                Ok(Ok(number))
+            }
             Err(rule) => {
                 self.tables.give_back(next);
                 self.refuse(who, planner, edit, rule)?;
@@ -291,12 +295,20 @@ impl Book {
             number,
         )?;
         let again = edit.copy(self.alloc)?;
+        make_ready(self.alloc, &mut self.shelves, changes.slice())?;
         self.journal.push(edited_entry(who, planner, number, edit))?;
         count_task(&mut self.done, planner);
         change_shelves(&mut self.shelves, changes, number);
         self.at = number;
         self.tables.replace(next, again);
         Ok(number)
+    }
+
+    // Shares the cuts that were changed with readings to come.
+    fn share(&mut self)
+        ensures { self.new ≡ self.old }
+    {
+        share_cuts(self.alloc, &mut self.shelves);
     }
 
     // The number of the next edit.

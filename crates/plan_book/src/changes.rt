@@ -6,8 +6,9 @@ ghost use Rattle.plan_book.specs.Changes.{changed, HasCutOf, HaveCuts, WillChang
 ghost use Rattle.plan_book.specs.Changes.{AreChanged, Widens, HaveAll, IsSoundChange, cut_change_of};
 
 use crate::shelf::{Shelf, place_of};
+use crate::stored::{Stored, make_own, make_shared, put_row};
 use line_tables::LineTables;
-use plan_model::{Cut, SharedCut};
+use plan_model::{Cut, CutRow, SharedCut};
 use rail_model::{Edit, List, Name, OutOfMemory};
 use section_cut::{CutChange, CutChanges};
 use std::alloc::Global;
@@ -19,7 +20,10 @@ pub(crate) enum ShelfChange {
     /// The edit doesn't touch the section.
     Untouched,
     /// The edit touches the section, whose cut is this one after it, if the section is there.
-    Touched(Option<SharedCut>),
+    Touched(Option<Stored>),
+    /// The edit touches the section, whose cut has this row at a place after it, and else the rows
+    /// that it has.
+    Row { place: usize, row: CutRow },
 }
 
 /// What the edit of a number makes of the cut of each section. A shelf is put in for each section
@@ -118,7 +122,7 @@ ghost use Rattle.std.specs.Option.{option_copied};
 
 // The cut of a shelf's section, if the section is there.
 fn cut_of(shelf: &Shelf) -> Option<&Cut>
-    ensures { option_copied result ≡ shelf.now.cut }
+    ensures { option_copied result ≡ kept_cut shelf.now }
 {
     match &shelf.cut {
         Some(cut) => Some(cut.cut()),
@@ -135,14 +139,17 @@ fn shelf_change(alloc: Global, change: CutChange) -> Result<ShelfChange, OutOfMe
         CutChange::Untouched => Ok(ShelfChange::Untouched),
         CutChange::Touched(None) => Ok(ShelfChange::Touched(None)),
         CutChange::Touched(Some(cut)) => {
-            Ok(ShelfChange::Touched(Some(SharedCut::of(alloc, cut)?)))
+            let shared = SharedCut::of(alloc, cut)?;
+            Ok(ShelfChange::Touched(Some(Stored::Shared(shared))))
         }
+        CutChange::Row { place, row } => Ok(ShelfChange::Row { place, row }),
     }
 }
 
 /// Changes each shelf by what the edit of a number made of its section's cut.
 pub(crate) fn change_shelves(shelves: &mut List<Shelf>, changes: List<ShelfChange>, number: u64)
-    requires { length changes ≡ length shelves.old }
+    requires count { length changes ≡ length shelves.old }
+    requires ready { HoldsOfEach IsReady shelves.old changes }
     ensures { AreChanged number shelves.old changes shelves.new }
 {
     let mut changes = changes.into_vec();
@@ -154,10 +161,74 @@ pub(crate) fn change_shelves(shelves: &mut List<Shelf>, changes: List<ShelfChang
 
 // Changes a shelf.
 fn change_shelf(shelf: &mut Shelf, change: ShelfChange, number: u64)
+    requires { IsReady shelf.old change }
     ensures { shelf.new ≡ changed number shelf.old change }
 {
-    if let ShelfChange::Touched(cut) = change {
-        shelf.touched = number;
-        shelf.cut = cut;
+    match change {
+        ShelfChange::Untouched => {}
+        ShelfChange::Touched(cut) => {
+            shelf.touched = number;
+            shelf.cut = cut;
+        }
+        ShelfChange::Row { place, row } => {
+            shelf.touched = number;
+            put_row(&mut shelf.cut, place, row);
+        }
     }
+}
+
+ghost use Rattle.plan_book.specs.Changes.{AreAlike, IsAlike, HoldsOfEach, HasItsPlace, IsReady};
+ghost use Rattle.plan_book.specs.Shelves.{kept_cut};
+ghost use Rattle.plan_model.specs.Cut.{IsSoundCut};
+ghost use Rattle.std.specs.Prelude.{IfSome};
+
+/// Makes those cuts the book's own into which rows are to be put. Each cut stays the same, also
+/// without memory.
+pub(crate) fn make_ready(
+    alloc: Global,
+    shelves: &mut List<Shelf>,
+    changes: &[ShelfChange],
+) -> Result<(), OutOfMemory>
+    requires count { length changes.now ≡ length shelves.old }
+    requires places { HoldsOfEach HasItsPlace shelves.old changes.now }
+    ensures same { AreAlike shelves.old shelves.new }
+    ensures ready { OnOk result (HoldsOfEach IsReady shelves.new changes.now) }
+{
+    for place in 0..changes.len() {
+        make_shelf_ready(alloc, shelves.get_mut(place), &changes[place])?;
+    }
+    Ok(())
+}
+
+fn make_shelf_ready(
+    alloc: Global,
+    shelf: &mut Shelf,
+    change: &ShelfChange,
+) -> Result<(), OutOfMemory>
+    requires { HasItsPlace shelf.old change.now }
+    ensures same { IsAlike shelf.old shelf.new }
+    ensures ready { OnOk result (IsReady shelf.new change.now) }
+{
+    match change {
+        ShelfChange::Row { .. } => make_own(alloc, &mut shelf.cut),
+        _ => Ok(()),
+    }
+}
+
+/// Makes each cut one that readings can share, where there is memory for it. Each cut stays the
+/// same.
+pub(crate) fn share_cuts(alloc: Global, shelves: &mut List<Shelf>)
+    requires { All (λ s. IfSome (kept_cut s) IsSoundCut) shelves.old }
+    ensures { AreAlike shelves.old shelves.new }
+{
+    for place in 0..shelves.len() {
+        share_cut(alloc, shelves.get_mut(place));
+    }
+}
+
+fn share_cut(alloc: Global, shelf: &mut Shelf)
+    requires { IfSome (kept_cut shelf.old) IsSoundCut }
+    ensures { IsAlike shelf.old shelf.new }
+{
+    make_shared(alloc, &mut shelf.cut);
 }

@@ -4,8 +4,10 @@ ghost use Rattle.rail_model.specs.Tables.{section_at};
 ghost use Rattle.rail_model.specs.Timetable.{timetable};
 ghost use Rattle.plan_model.specs.Cut.{IsSoundCut};
 ghost use Rattle.plan_book.specs.First as firsts;
+ghost use Rattle.plan_book.specs.Shelves.{kept_cut};
 
 use crate::shelf::Shelf;
+use crate::stored::Stored;
 use line_tables::LineTables;
 use plan_model::SharedCut;
 use rail_model::{List, OutOfMemory};
@@ -41,13 +43,13 @@ fn first_shelf(
     requires there { section < length tables.now.sections }
     ensures same { IfOk result
         (λ s. s ≡ firsts.first_shelf tables.now at (section_at tables.now section)) }
-    ensures sound { IfOk result (λ s. IfSome s.cut IsSoundCut) }
+    ensures sound { IfOk result (λ s. IfSome (kept_cut s) IsSoundCut) }
 {
     let cut = cut_among(alloc, tables, stairs, section, at)?;
     Ok(Shelf {
         name: tables.section(section).name,
         touched: at,
         published: None,
-        cut: Some(SharedCut::of(alloc, cut)?),
+        cut: Some(Stored::Shared(SharedCut::of(alloc, cut)?)),
     })
 }

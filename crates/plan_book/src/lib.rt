@@ -12,6 +12,7 @@ mod first;
 mod kept;
 mod reading;
 mod shelf;
+mod stored;
 mod tasks;
 mod twin;
 

@@ -64,7 +64,7 @@ impl Book {
         let Some(cut) = &self.shelf(number).cut else {
             unreachable!();
         };
-        Ok(Reading::shared(cut.share()?, self.at()))
+        Ok(Reading::shared(cut.share(self.alloc)?, self.at()))
     }
 
     // The shelf of the section of a number.

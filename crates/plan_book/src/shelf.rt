@@ -6,7 +6,8 @@ ghost use Rattle.plan_model.specs.Legal.{IsLegal};
 ghost use Rattle.plan_book.specs.Shelves.{answer_at, IsShelf, IsPlaceOf, IsPlaceFor, IsVerdict};
 ghost use Rattle.plan_book.specs.Kept.{IsAnswered};
 
-use plan_model::{Act, Answer, Asked, Entry, NotTaken, SharedCut};
+use crate::stored::Stored;
+use plan_model::{Act, Answer, Asked, Entry, NotTaken};
 use rail_model::{Name, OutOfMemory};
 use std::alloc::Global;
 
@@ -19,14 +20,13 @@ pub(crate) struct Published {
 }
 
 /// What is known of the section of a name: the last edit that touched it, its last publication, and
-/// its cut, with a stamp on each row, which readings share. There is no cut where the section isn't
-/// there.
+/// its cut, with a stamp on each row. There is no cut where the section isn't there.
 #[derive(Drop)]
 pub(crate) struct Shelf {
     pub(crate) name: Name,
     pub(crate) touched: u64,
     pub(crate) published: Option<Published>,
-    pub(crate) cut: Option<SharedCut>,
+    pub(crate) cut: Option<Stored>,
 }
 
 /// The place of the shelf of a name, or the place at which one is to be put in.

@@ -1,5 +1,5 @@
 //! A cut that several hold.
-ghost use Rattle.std.specs.Prelude.{◌≡◌, IfOk};
+ghost use Rattle.std.specs.Prelude.{◌≡◌, IfOk, MatchResult};
 ghost use Rattle.plan_model.specs.Cut.{IsSoundCut};
 
 use crate::Cut;
@@ -8,8 +8,8 @@ use std::alloc::Global;
 use std::marker::Model;
 use std::sync::Arc;
 
-/// A sound cut that several hold at one time, and that nobody changes meanwhile. Contracts see the
-/// cut.
+/// A sound cut that several hold at one time, and that nobody changes while others hold it.
+/// Contracts see the cut.
 #[derive(Drop)]
 pub struct SharedCut {
     cut: Arc<Cut, Global>,
@@ -36,6 +36,30 @@ impl SharedCut {
         Ok(SharedCut {
             cut: Arc::new(alloc, cut)?,
         })
+    }
+
+    /// A cut that can be shared; without memory, the cut itself.
+    pub fn or_own(alloc: Global, cut: Cut) -> Result<SharedCut, Cut>
+        requires { IsSoundCut cut }
+        ensures { MatchResult result (λ shared. shared ≡ cut) (λ own. own ≡ cut) }
+    {
+        match Arc::new(alloc, cut) {
+            Ok(cut) => Ok(SharedCut { cut }),
+            Err(refused) => Err(refused.value),
+        }
+    }
+
+    /// The cut itself, where nobody else holds it, so that it can be changed; else the same shared
+    /// cut.
+    pub fn into_own(self) -> Result<Cut, SharedCut>
+        ensures same { MatchResult result (λ own. own ≡ self) (λ shared. shared ≡ self) }
+        ensures sound { IsSoundCut self }
+    {
+        let SharedCut { cut } = self;
+        match Arc::try_unwrap(cut) {
+            Ok(own) => Ok(own),
+            Err(cut) => Err(SharedCut { cut }),
+        }
     }
 
     /// The same cut for one holder more. None of it is copied.

@@ -1,5 +1,5 @@
 -- What an edit makes of a section's cut: whether it touches the section, and the stamps of the cut's rows.
-use Rattle.std.specs.Prelude.{◌≡◌, ◌≢◌, ◌⊎◌, ℕ, List, Option, Some, option_map, IfSome, All}
+use Rattle.std.specs.Prelude.{◌≡◌, ◌≢◌, ◌⊎◌, ℕ, ◌<◌, List, length, slice_set, Option, Some, option_map, IfSome, All}
 use Rattle.rail_model.specs.declared.tables.Tables.{Tables}
 use Rattle.plan_model.specs.declared.cut.CutRow.{CutRow}
 use Rattle.plan_model.specs.declared.cut.Cut.{Cut}
@@ -23,11 +23,21 @@ pub record IsCutAfter (value : Option Cut) (number : ℕ) (old cut : Option Cut)
   pub stamps : IfSome cut (λ c. All (IsRestamped number old) c.rows)
   pub sound : IfSome cut IsSoundCut
 
+-- a cut has a row at this place
+abbrev pub HasPlace : ℕ → Cut → Type 0
+HasPlace place cut = place < length cut.rows
+
+-- a cut with this row at a place, in place of the one that stands there
+abbrev pub with_row : ℕ → CutRow → Cut → Cut
+with_row place row cut = record cut { rows = slice_set cut.rows place row }
+
 -- what an edit makes of a section's cut: it touches the section exactly where the cut's values before and after it
 -- differ, where that of a section that isn't there is none
 abbrev pub IsChange : Option Cut → Option Cut → ℕ → Option Cut → CutChange → Type 0
 IsChange before after number old change.Untouched = after ≡ before
 IsChange before after number old (change.Touched cut) = (after ≢ before) × IsCutAfter after number old cut
+IsChange before after number old (change.Row place row) =
+    IfSome old (HasPlace place) × (after ≢ before) × IsCutAfter after number old (option_map (with_row place row) old)
 
 -- tables before and after an edit
 pub record TwoTables : Type 0 where

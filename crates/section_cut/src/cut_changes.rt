@@ -5,7 +5,7 @@ ghost use Rattle.rail_model.specs.Edits as edits;
 ghost use Rattle.rail_model.specs.Timetable.{timetable};
 ghost use Rattle.plan_model.specs.Cut.{stamped, IsSoundCut};
 ghost use Rattle.plan_model.specs.SectionCut.{cut_of};
-ghost use Rattle.section_cut.specs.Change.{IsChange, IsCutAfter};
+ghost use Rattle.section_cut.specs.Change.{IsChange, IsCutAfter, HasPlace, with_row};
 ghost use Rattle.section_cut.specs.Reach.{IsOneSection};
 
 use crate::all_stairways::AllStairways;
@@ -16,7 +16,7 @@ use crate::reached_runs::cut_after_runs;
 use crate::same_value::{same_cut, same_name};
 use crate::stamps::keep_stamps;
 use line_tables::LineTables;
-use plan_model::Cut;
+use plan_model::{Cut, CutRow};
 use rail_model::{Edit, Name, OutOfMemory};
 use std::alloc::Global;
 use std::marker::Model;
@@ -29,6 +29,9 @@ pub enum CutChange {
     /// The edit touches the section, whose cut is this one after it, or none where the section
     /// isn't there.
     Touched(Option<Cut>),
+    /// The edit touches the section, whose cut has this row at a place after it, and else the rows
+    /// that it has.
+    Row { place: usize, row: CutRow },
 }
 
 /// The tables before and after an edit, with what is made of them once for the cuts of many
@@ -252,5 +255,19 @@ pub fn cut_change(
             *cut = later;
             Ok(true)
         }
+        CutChange::Row { place, row } => {
+            put_row(cut, place, row);
+            Ok(true)
+        }
+    }
+}
+
+// Puts a row at a place of a cut, if there is one, in place of the one that stands there.
+fn put_row(cut: &mut Option<Cut>, place: usize, row: CutRow)
+    requires { IfSome cut.old (HasPlace place) }
+    ensures { cut.new ≡ option_map (with_row place row) cut.old }
+{
+    if let Some(cut) = cut {
+        *cut.rows.get_mut(place) = row;
     }
 }

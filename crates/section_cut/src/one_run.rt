@@ -1,6 +1,6 @@
 //! What an edit of one run makes of a section's cut, where there are no connections: it reaches the
 //! run's own row alone.
-ghost use Rattle.std.specs.Prelude.{◌≡◌, ◌<◌, ◌≤◌, ◌↔◌, false, IsTrue, All, length, IfOk, IfSome, Some, find, option_map, insert, remove, slice_set};
+ghost use Rattle.std.specs.Prelude.{◌≡◌, ◌<◌, ◌≤◌, ◌↔◌, false, IsTrue, All, length, IfOk, IfSome, Some, find, option_map, insert, remove};
 ghost use Rattle.plan_model.specs.Cut.{stamped, IsSoundCut};
 ghost use Rattle.section_cut.specs.Change.{IsChange};
 ghost use Rattle.section_cut.specs.Members.{member_row};
@@ -182,7 +182,7 @@ fn with_row(
     if same_row(&old.rows.slice()[at], &row) {
         return Ok(CutChange::Untouched);
     }
-    Ok(CutChange::Touched(Some(row_replaced(alloc, old, at, row)?)))
+    Ok(CutChange::Row { place: at, row })
 }
 
 // Whether the row at a place has this name.
@@ -209,15 +209,5 @@ fn row_inserted(alloc: Global, old: &Cut, at: usize, row: CutRow) -> Result<Cut,
 {
     let mut cut = old.copy(alloc)?;
     cut.rows.insert(at, row)?;
-    Ok(cut)
-}
-
-// A copy of a cut with this row at a place.
-fn row_replaced(alloc: Global, old: &Cut, at: usize, row: CutRow) -> Result<Cut, OutOfMemory>
-    requires { at < length old.now.rows }
-    ensures { IfOk result (λ cut. cut ≡ record old.now { rows = slice_set old.now.rows at row }) }
-{
-    let mut cut = old.copy(alloc)?;
-    *cut.rows.get_mut(at) = row;
     Ok(cut)
 }

@@ -2,6 +2,7 @@ use Rattle.std.proofs.Common.{sym, subst, arith, length-append, ◌∷◌, []}
 use Rattle.std.specs.Option.{option_copied}
 use Rattle.section_cut.specs.Change.{TwoTables, IsChange}
 use Rattle.plan_model.specs.SectionCut.{cut_of}
+use Rattle.plan_book.specs.Shelves.{kept_cut}
 use Rattle.plan_book.specs.Changes.{IsChangeOf}
 use Rattle.plan_book.proofs.Widening.{each_more}
 use Rattle.plan_book.proofs.changes.changes_of.Goals as goal
@@ -20,7 +21,7 @@ loop-shelf-preserved c =
     (subst (λ (t : TwoTables). IsChange (cut_of t.before shelf.name) (cut_of t.after shelf.name) c.args.number (option_copied c.cut_of.result) change)
     c.in_ok-made.ensures c.in_ok-change.ensures) in
     let made : IsChangeOf c.args.before.now c.args.after.now c.args.number shelf new =
-    subst (IsChange before after c.args.number shelf.cut) (sym c.in_ok-shelf_change.ensures) told in
+    subst (IsChange before after c.args.number (kept_cut shelf)) (sym c.in_ok-shelf_change.ensures) told in
     rw c.in_ok-push.ensures.ok
     (record {
       count = rw (length-append old (new ∷ [])) (omega (arith, c.loop-shelf.invariant.count));

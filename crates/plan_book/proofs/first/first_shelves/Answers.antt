@@ -5,6 +5,7 @@ use Rattle.std.proofs.lemmas.List.Elements.{All-append, All-cons, All-nil}
 use Rattle.rail_model.specs.Tables.{no_section}
 use Rattle.plan_model.specs.Cut.{IsSoundCut}
 use Rattle.plan_book.specs.declared.shelf.Shelf.{Shelf}
+use Rattle.plan_book.specs.Shelves.{kept_cut}
 use Rattle.plan_book.specs.First.{first_shelf}
 use Rattle.plan_book.proofs.first.first_shelves.Goals as goal
 
@@ -20,9 +21,9 @@ loop-section-preserved c =
           ∙ ap (λ s. map f (take n tables.sections) ++ s ∷ []) c.in_ok-first_shelf.ensures.same
           ∙ sym (map_more f tables.sections n no_section (omega (arith, c.loop-section-test.true, c.sections-section-end.ensures.count)));
       sound =
-          subst (All (λ (s : Shelf). IfSome s.cut IsSoundCut)) (sym c.in_ok-push.ensures.ok)
-          (All-append (λ (s : Shelf). IfSome s.cut IsSoundCut) c.loop-section.shelves (shelf ∷ []) c.loop-section.invariant.sound
-          (All-cons (λ (s : Shelf). IfSome s.cut IsSoundCut) shelf [] c.in_ok-first_shelf.ensures.sound (All-nil (λ (s : Shelf). IfSome s.cut IsSoundCut))));
+          subst (All (λ (s : Shelf). IfSome (kept_cut s) IsSoundCut)) (sym c.in_ok-push.ensures.ok)
+          (All-append (λ (s : Shelf). IfSome (kept_cut s) IsSoundCut) c.loop-section.shelves (shelf ∷ []) c.loop-section.invariant.sound
+          (All-cons (λ (s : Shelf). IfSome (kept_cut s) IsSoundCut) shelf [] c.in_ok-first_shelf.ensures.sound (All-nil (λ (s : Shelf). IfSome (kept_cut s) IsSoundCut))));
     }
 
 pub returns : goal.returns

@@ -97,7 +97,7 @@ returns c =
     let there = told.0 c.if-not-there-2.false in
     let is : c.index-slice-at.result ≡ get_or old.rows at no_member =
     c.index-slice-at.is ∙ ap (λ rs. get_or rs at c.index-slice-at.result) c.slice-3.ensures ∙ get_or_default old.rows at c.index-slice-at.result no_member there.0 in
-    with_this old n c.args.number c.args.row (Some row) (change.Touched (Some c.in_ok-row_replaced.field-0)) c.in-Some.is
-    (with_cut old n c.args.number (Some row) c.in_ok-row_replaced.field-0 _ c.in_ok-row_replaced.ensures
-    (changed old n at c.args.number c.requires.old_sound reached row named stamp there
-    (λ same. both_ways c.same_row.result c.if-same_row.false (c.same_row.ensures.1 (subst (λ r. stamped_row 0 r ≡ stamped_row 0 row) (sym is) same))) sound))
+    let made =
+    changed old n at c.args.number c.requires.old_sound reached row named stamp there
+    (λ same. both_ways c.same_row.result c.if-same_row.false (c.same_row.ensures.1 (subst (λ r. stamped_row 0 r ≡ stamped_row 0 row) (sym is) same))) sound in
+    with_this old n c.args.number c.args.row (Some row) (change.Row at row) c.in-Some.is (there.0, made.0, made.1)

@@ -1,0 +1,121 @@
+-- Shelves that differ at most in who may hold their cuts.
+use Rattle.std.proofs.Common.{◌≡◌, ℕ, suc, ◌<◌, List, [], ◌∷◌, length, get_or, Option, refl, sym, ap, ◌∙◌, subst, inl, inr, arith}
+use Rattle.std.specs.Prelude.{unwrap_or, All, IfSome}
+use Rattle.rail_model.specs.declared.tables.Tables.{Tables}
+use Rattle.rail_model.specs.Rules.{is_named}
+use Rattle.plan_model.specs.declared.journal.Entry.{Entry}
+use Rattle.plan_model.specs.Cut.{IsSoundCut}
+use Rattle.plan_model.specs.SectionCut.{cut_of}
+use Rattle.plan_model.specs.Touch.{IsLastTouching}
+use Rattle.section_cut.specs.Change.{IsChange}
+use Rattle.section_cut.proofs.Rows.{found_at}
+use Rattle.plan_book.specs.declared.changes.ShelfChange.{ShelfChange}
+use Rattle.plan_book.specs.declared.changes.ShelfChange.TheVariants as change
+use Rattle.plan_book.specs.declared.shelf.Shelf.{Shelf}
+use Rattle.plan_book.specs.Shelves.{blank, kept_cut, shelf_of, IsShelf, IsKeptCut, KnowsLast, AreShelves}
+use Rattle.plan_book.specs.Changes.{IsAlike, AreAlike, AreChanges, IsChangeOf, HaveAll, HasItsPlace, HoldsOfEach, cut_change_of}
+use Rattle.plan_book.specs.Kept.{IsBook}
+use Rattle.plan_book.proofs.Publications.{names_rise_too}
+use Rattle.plan_book.proofs.Edited.{found_beside}
+
+pub alike_itself : (s : Shelf) → IsAlike s s
+alike_itself s = record { name = refl; touched = refl; published = refl; cut = refl }
+
+pub shelf_alike : (journal : List Entry) (name : List ℕ) (old new : Shelf) → IsAlike old new → IsShelf journal name old → IsShelf journal name new
+shelf_alike journal name old new same h = record {
+  touched = subst (IsLastTouching journal name) (sym same.touched) h.touched;
+  published = subst (KnowsLast journal name) (sym same.published) h.published;
+  cut = subst (IsKeptCut journal name) (sym same.cut) h.cut;
+}
+
+module _ (old new : List Shelf) (alike : AreAlike old new) where
+  -- what is known of each name
+  known_alike : (first : ℕ) (name : List ℕ) → IsAlike (shelf_of first old name) (shelf_of first new name)
+  known_alike first name =
+      let none = blank first name in
+      elim (found_beside old new name none alike.count (λ k below. (alike.each k none below).name)) [
+        | inl there ↦
+            let one = ap (λ o. unwrap_or o none) there.2 in
+            let other = ap (λ o. unwrap_or o none) there.3 in
+            subst (IsAlike (shelf_of first old name)) (sym other)
+            (subst (λ s. IsAlike s (get_or new there.0 none)) (sym one) (alike.each there.0 none there.1))
+        | inr missing ↦
+            let one = ap (λ o. unwrap_or o none) missing.0 in
+            let other = ap (λ o. unwrap_or o none) missing.1 in
+            subst (IsAlike (shelf_of first old name)) (sym other)
+            (subst (λ s. IsAlike s none) (sym one) (alike_itself none))
+      ]
+
+  pub shelves_alike : (journal : List Entry) (first : ℕ) → AreShelves journal first old → AreShelves journal first new
+  shelves_alike journal first are = record {
+    rise = names_rise_too old new alike.count (λ k d below. (alike.each k d below).name) are.rise;
+    each = λ name. shelf_alike journal name (shelf_of first old name) (shelf_of first new name) (known_alike first name) (are.each name);
+  }
+
+  -- what an edit makes of their cuts
+  pub changes_alike : (before after : Tables) (number : ℕ) (changes : List ShelfChange)
+      → AreChanges before after number old changes → AreChanges before after number new changes
+  changes_alike before after number changes made = record {
+    count = made.count ∙ sym alike.count;
+    each = λ k s c below.
+        let within : k < length old = omega (arith, below, alike.count) in
+        let same = alike.each k s within in
+        let change = cut_change_of (get_or changes k c) in
+        subst (λ n. IsChange (cut_of before n) (cut_of after n) number (kept_cut (get_or new k s)) change) (sym same.name)
+        (subst (λ cut. IsChange (cut_of before (get_or old k s).name) (cut_of after (get_or old k s).name) number cut change) (sym same.cut)
+        (made.each k s c within));
+  }
+
+  pub all_alike : (tables : Tables) → HaveAll tables old → HaveAll tables new
+  all_alike tables all k d l =
+      let name = (get_or tables.sections k d).name in
+      named_too old new name alike.count (λ k s below. (alike.each k s below).name) ∙ all k d l
+    where
+      named_too : (xs ys : List Shelf) (name : List ℕ) → length ys ≡ length xs
+          → ((k : ℕ) (s : Shelf) → k < length xs → (get_or ys k s).name ≡ (get_or xs k s).name)
+          → is_named (λ (s : Shelf). s.name) ys name ≡ is_named (λ (s : Shelf). s.name) xs name
+      named_too [] [] name long same = refl
+      named_too [] (y ∷ ys) name long same = absurd (omega (arith, long))
+      named_too (x ∷ xs) [] name long same = absurd (omega (arith, long))
+      named_too (x ∷ xs) (y ∷ ys) name long same =
+          rw (same 0 x (omega arith), named_too xs ys name (omega (arith, long)) (λ k s below. same (suc k) s (omega (arith, below)))) refl
+
+-- the book with shelves that are right, too
+pub book_with : (journal : List Entry) (tables : Tables) (first at passes : ℕ) (old new : List Shelf) (done : List ℕ)
+    → IsBook journal tables first at passes old done → AreShelves journal first new → IsBook journal tables first at passes new done
+book_with journal tables first at passes old new done held are =
+    record {
+      is_journal = held.is_journal;
+      within = held.within;
+      tables_are = held.tables_are;
+      first_is = held.first_is;
+      at_is = held.at_is;
+      passes_are = held.passes_are;
+      shelves_are = are;
+      done_are = held.done_are;
+    }
+
+pub book_alike : (journal : List Entry) (tables : Tables) (first at passes : ℕ) (old new : List Shelf) (done : List ℕ)
+    → IsBook journal tables first at passes old done → AreAlike old new → IsBook journal tables first at passes new done
+book_alike journal tables first at passes old new done held alike =
+    book_with journal tables first at passes old new done held (shelves_alike old new alike journal first held.shelves_are)
+
+-- each cut is sound
+pub sound_cuts : (journal : List Entry) (first : ℕ) (shelves : List Shelf) → AreShelves journal first shelves
+    → All (λ s. IfSome (kept_cut s) IsSoundCut) shelves
+sound_cuts journal first shelves are k d l =
+    let s = get_or shelves k d in
+    subst (λ (o : Option Shelf). IfSome (kept_cut (unwrap_or o (blank first s.name))) IsSoundCut)
+    (found_at (λ (s : Shelf). s.name) shelves k d are.rise l)
+    (are.each s.name).cut.sound
+
+-- a row is put in where the cut has its place
+has_its_place : (before after : Tables) (number : ℕ) (s : Shelf) (c : ShelfChange) → IsChangeOf before after number s c → HasItsPlace s c
+has_its_place before after number s change.Untouched made = tt
+has_its_place before after number s (change.Touched cut) made = tt
+has_its_place before after number s (change.Row place row) made = made.0
+
+pub have_their_places : (before after : Tables) (number : ℕ) (shelves : List Shelf) (changes : List ShelfChange)
+    → AreChanges before after number shelves changes → HoldsOfEach HasItsPlace shelves changes
+have_their_places before after number shelves changes made k s c below =
+    has_its_place before after number (get_or shelves k s) (get_or changes k c) (made.each k s c below)

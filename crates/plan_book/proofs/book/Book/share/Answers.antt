@@ -1,0 +1,12 @@
+use Rattle.plan_book.proofs.Alike.{book_alike, sound_cuts}
+use Rattle.plan_book.proofs.book.Book.share.Goals as goal
+
+pub share_cuts-requires : goal.share_cuts-requires
+share_cuts-requires c =
+    let b = c.self.inside in
+    sound_cuts b.journal b.first b.shelves c.self.invariant.shelves_are
+
+pub invariant_of-self : goal.invariant_of-self
+invariant_of-self c =
+    let b = c.self.inside in
+    book_alike b.journal b.tables b.first b.at b.passes b.shelves c.share_cuts.new.shelves b.done.items c.self.invariant c.share_cuts.ensures
