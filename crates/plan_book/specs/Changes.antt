@@ -11,7 +11,7 @@ use Rattle.plan_book.specs.declared.changes.ShelfChange.{ShelfChange}
 use Rattle.plan_book.specs.declared.changes.ShelfChange.TheVariants as change
 use Rattle.section_cut.specs.Change.{IsChange, HasPlace}
 use Rattle.plan_book.specs.declared.shelf.Shelf.{Shelf}
-use Rattle.plan_book.specs.Stored.{cut_in, own_with, IsOwn, IsOwnAt}
+use Rattle.plan_book.specs.Stored.{cut_in, own_with, IsOwnAt}
 use Rattle.plan_book.specs.Shelves.{shelf_of, kept_cut}
 
 -- what an edit makes of a shelf's cut is what it makes of the section's cut

@@ -1,8 +1,7 @@
 //! A section's cut as a book keeps it.
-ghost use Rattle.std.specs.Prelude.{◌≡◌, IfOk, IfSome, OnOk, option_map};
+ghost use Rattle.std.specs.Prelude.{◌≡◌, IfOk, IfSome, OnOk, Some, option_map};
 ghost use Rattle.plan_model.specs.Cut.{IsSoundCut};
-ghost use Rattle.section_cut.specs.Change.{HasPlace};
-ghost use Rattle.plan_book.specs.Stored.{cut_in, own_with, IsOwnAt};
+ghost use Rattle.plan_book.specs.Stored.{cut_in, own_with, IsOwn, IsOwnAt};
 
 use plan_model::{Cut, CutRow, SharedCut};
 use rail_model::OutOfMemory;
@@ -38,8 +37,8 @@ impl Stored {
     }
 }
 
-/// Makes a cut that has a place one's own, so that it can be changed there. It is copied only where
-/// others hold it. The cut stays the same, also without memory.
+/// Makes a cut one's own, so that it can be changed. It is copied only where others hold it. The cut
+/// stays the same, also without memory.
 pub(crate) fn make_own(alloc: Global, stored: &mut Option<Stored>) -> Result<(), OutOfMemory>
     ensures same { option_map cut_in stored.new ≡ option_map cut_in stored.old }
     ensures own { OnOk result (IfSome stored.new IsOwn) }
@@ -52,9 +51,6 @@ pub(crate) fn make_own(alloc: Global, stored: &mut Option<Stored>) -> Result<(),
         }
     }
 }
-
-ghost use Rattle.std.specs.Prelude.{Some};
-ghost use Rattle.plan_book.specs.Stored.{IsOwn};
 
 // Puts a shared cut in as one's own; without memory, as the shared one.
 fn own_of(alloc: Global, stored: &mut Option<Stored>, shared: SharedCut) -> Result<(), OutOfMemory>
