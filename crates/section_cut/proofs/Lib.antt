@@ -36,3 +36,6 @@ pub mod ReachedRuns
 pub mod KeptBlocks
 pub mod PathsStay
 pub mod PassedBy
+mod RowTimes
+mod Whole
+mod WholeRow

@@ -6,5 +6,7 @@ pub mod Bound
 pub mod Change
 pub mod Stamps
 pub mod OneRun
+pub mod EditedRun
+pub mod Times
 pub mod ReachedRuns
 pub mod Reach

@@ -13,7 +13,8 @@ use Rattle.plan_model.specs.SectionCut.{cut_of}
 use Rattle.section_cut.specs.declared.reach.Reach.{Reach}
 use Rattle.section_cut.specs.declared.reach.Reach.TheVariants as reach
 use Rattle.section_cut.specs.ReachedRuns.{AreReachedRuns}
-use Rattle.section_cut.specs.OneRun.{before, behind, IsOneRun}
+use Rattle.section_cut.specs.OneRun.{before, behind}
+use Rattle.section_cut.specs.EditedRun.{IsEditedRun}
 
 -- the section that an item is, and that items of a kind are, by its name
 abbrev pub section_of_item : Item → Option (List ℕ)
@@ -76,6 +77,6 @@ AreSameCuts earlier later = (section : List ℕ) → cut_of later section ≡ cu
 abbrev pub IsReach : Tables → Tables → Reach → Type 0
 IsReach earlier later reach.Nothing = AreSameCuts earlier later
 IsReach earlier later (reach.All stairs) = stairs ≡ timetable later
-IsReach earlier later (reach.Run run) = IsOneRun earlier later run.name run.stair
+IsReach earlier later (reach.Run run) = IsEditedRun earlier later run
 IsReach earlier later (reach.Runs stairs) = AreReachedRuns earlier later stairs.items
 IsReach earlier later (reach.Section name) = IsOneSection earlier later name

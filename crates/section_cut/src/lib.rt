@@ -22,6 +22,7 @@ mod reached_runs;
 mod same_value;
 mod stamps;
 mod timed_stair;
+mod times;
 
 pub use all_stairways::{AllStairways, stairways};
 pub use cut_changes::{CutChange, CutChanges, cut_change};

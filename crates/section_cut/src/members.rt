@@ -107,6 +107,28 @@ pub(crate) fn member_row(
     }))
 }
 
+// The same row, which takes the uses, by their least start.
+pub(crate) fn row_with(
+    section: &Section,
+    name: Name,
+    stamp: u64,
+    entry: i64,
+    uses: List<Use>,
+) -> Option<CutRow>
+    requires { entry ≡ least (map (λ u. u.start) uses) }
+    ensures { result ≡ rows.member_row section.now name stamp uses }
+{
+    if !enters(section, uses.slice(), entry) {
+        return None;
+    }
+    Some(CutRow {
+        name,
+        stamp,
+        entry,
+        uses,
+    })
+}
+
 // Whether a run with these uses and this entry is a member.
 fn enters(section: &Section, uses: &[Use], entry: i64) -> bool
     requires { entry ≡ least (map (λ u. u.start) uses.now) }

@@ -1,35 +1,76 @@
 //! What an edit of one run makes of a section's cut, where there are no connections: it reaches the
 //! run's own row alone.
-ghost use Rattle.std.specs.Prelude.{◌≡◌, ◌<◌, ◌≤◌, ◌↔◌, false, IsTrue, All, length, IfOk, IfSome, Some, find, option_map, insert, remove};
+ghost use Rattle.std.specs.Prelude.{◌≡◌, ◌<◌, ◌≤◌, ◌↔◌, true, false, IsTrue, All, length, IfOk, IfSome, Some, find, option_map, insert, remove, slice_index_or};
 ghost use Rattle.plan_model.specs.Cut.{stamped, IsSoundCut};
 ghost use Rattle.section_cut.specs.Change.{IsChange};
 ghost use Rattle.section_cut.specs.Members.{member_row};
-ghost use Rattle.section_cut.specs.OneRun.{run_edited, cut_with, uses_of_section, IsOneRun, PassesBy};
+ghost use Rattle.section_cut.specs.OneRun.{run_edited, cut_with, uses_of_section, PassesBy};
+ghost use Rattle.section_cut.specs.EditedRun.{KeepsRoute, IsEntryOf, IsEditedRun, IsWhole};
+ghost use Rattle.plan_model.specs.Members.{no_member};
 ghost use Rattle.section_cut.specs.OneRun as one;
 ghost use Rattle.plan_model.specs.SectionCut.{cut_of};
 ghost use Rattle.rail_model.specs.Blocking.{stair_of};
 ghost use Rattle.rail_model.specs.Tables.{path_in, section_at};
 ghost use Rattle.rail_model.specs.Name.{is_same};
-ghost use Rattle.section_cut.specs.Stamps.{IsThere};
+ghost use Rattle.section_cut.specs.Stamps.{IsReached, IsThere};
 
 use crate::cut_changes::CutChange;
-use crate::members::member_row;
+use crate::members::{member_row, row_with};
 use crate::positions::{gather, positions};
-use crate::same_value::same_row;
+use crate::same_value::{same_name, same_row};
 use crate::stamps::place_of;
+use crate::times::{same_times, with_times};
 use crate::timed_stair::TimedStair;
 use blocking_time::stairs;
 use line_tables::LineTables;
-use plan_model::{Cut, CutRow};
+use plan_model::{Cut, CutRow, least_start};
 use rail_model::{Edit, Item, Kind, Name, OutOfMemory, PATH_HOPS, Section};
 use std::alloc::Global;
 
-// The run that an edit puts, changes or drops: its name, and its stair after the edit, if it is
-// there.
+// The run that an edit puts, changes or drops: its name; its stair after the edit, if it is there,
+// and the least start of that; and whether it is known to be on one route before and after the edit.
 #[derive(Drop)]
 pub(crate) struct EditedRun {
     pub(crate) name: Name,
     pub(crate) stair: Option<TimedStair>,
+    pub(crate) entry: i64,
+    pub(crate) keeps_route: bool,
+}
+
+// The run of this name by the tables before an edit of it and after it.
+pub(crate) fn edited_run(
+    alloc: Global,
+    before: &LineTables,
+    after: &LineTables,
+    name: Name,
+) -> Result<EditedRun, OutOfMemory>
+    ensures name { IfOk result (λ run. run.name ≡ name) }
+    ensures stair { IfOk result
+        (λ run. run.stair ≡ option_map (λ r. stair_of (path_in after.now r))
+            (find (λ r. is_same r.name name) after.now.runs)) }
+    ensures entry { IfOk result (λ run. IfSome run.stair (IsEntryOf run.entry)) }
+    ensures route { IfOk result (λ run. run.keeps_route ≡ true
+        → KeepsRoute before.now after.now name) }
+{
+    let stair = stair_named(alloc, after, &name)?;
+    let entry = entry_of(&stair);
+    let keeps_route = keeps_route(before, after, &name);
+    Ok(EditedRun {
+        name,
+        stair,
+        entry,
+        keeps_route,
+    })
+}
+
+// The least start of a stair, if it is there.
+fn entry_of(stair: &Option<TimedStair>) -> i64
+    ensures { IfSome stair.now (IsEntryOf result) }
+{
+    match stair {
+        Some(stair) => least_start(stair.stair().uses.slice()),
+        None => 0,
+    }
 }
 
 // The name of the run that an edit puts, changes or drops, if it is an edit of a run.
@@ -116,7 +157,7 @@ fn row_by(
 }
 
 // The stair of the run of a name, if it is there.
-pub(crate) fn stair_named(
+fn stair_named(
     alloc: Global,
     tables: &LineTables,
     name: &Name,
@@ -131,6 +172,20 @@ pub(crate) fn stair_named(
     Ok(Some(TimedStair::of(stairs(alloc, &path)?)))
 }
 
+// Whether the run of a name is on one route by both tables; `false` also where one of them doesn't
+// have the run.
+fn keeps_route(before: &LineTables, after: &LineTables, name: &Name) -> bool
+    ensures { result ≡ true → KeepsRoute before.now after.now name.now }
+{
+    let Some(old) = before.run_number(name) else {
+        return false;
+    };
+    let Some(new) = after.run_number(name) else {
+        return false;
+    };
+    same_name(&before.run(old).route, &after.run(new).route)
+}
+
 // What the edit of a run makes of the cut of a section that is there.
 pub(crate) fn cut_after_run(
     alloc: Global,
@@ -141,15 +196,70 @@ pub(crate) fn cut_after_run(
     section: &Name,
     number: u64,
 ) -> Result<CutChange, OutOfMemory>
-    requires one { IsOneRun before.now after.now run.now.name run.now.stair }
+    requires edited { IsEditedRun before.now after.now run.now }
     requires cut { cut_of before.now section.now ≡ Some (stamped 0 old.now) }
     ensures { IfOk result (IsChange (cut_of before.now section.now) (cut_of after.now section.now)
         number (Some old.now)) }
 {
     before.learn_sound();
     after.learn_sound();
+    let rows = old.rows.slice();
+    let at = place_of(rows, &run.name);
+    let there = stands_at(rows, &run.name, at);
+    if there && is_whole(&rows[at], run) {
+        return cut_with_times(alloc, before, after, run, old, section, at, number);
+    }
     let row = row_of_run(alloc, after, section, &old.section, run, number)?;
-    with_row(alloc, old, &run.name, row, number)
+    with_row(alloc, old, &run.name, at, there, row, number)
+}
+
+// Whether the row of the edited run before the edit has a use for each block of its path after it,
+// and so the positions of these blocks.
+fn is_whole(row: &CutRow, run: &EditedRun) -> bool
+    ensures { result ≡ true → IsWhole row.now run.now }
+{
+    let Some(stair) = &run.stair else {
+        return false;
+    };
+    if !run.keeps_route {
+        return false;
+    }
+    row.uses.len() == stair.stair().uses.len()
+}
+
+// What the edit of a number makes of a cut, where the row of the edited run at a place has a use
+// for each block of its path: only the times of these uses change.
+fn cut_with_times(
+    alloc: Global,
+    before: &LineTables,
+    after: &LineTables,
+    run: &EditedRun,
+    old: &Cut,
+    section: &Name,
+    at: usize,
+    number: u64,
+) -> Result<CutChange, OutOfMemory>
+    requires edited { IsEditedRun before.now after.now run.now }
+    requires cut { cut_of before.now section.now ≡ Some (stamped 0 old.now) }
+    requires reached { IsReached old.now.rows run.now.name at }
+    requires there { IsThere old.now.rows run.now.name at }
+    requires whole { IsWhole (slice_index_or old.now.rows at no_member) run.now }
+    ensures { IfOk result (IsChange (cut_of before.now section.now) (cut_of after.now section.now)
+        number (Some old.now)) }
+{
+    before.learn_sound();
+    after.learn_sound();
+    let Some(stair) = &run.stair else {
+        unreachable!();
+    };
+    let places = old.rows.slice()[at].uses.slice();
+    let times = stair.stair().uses.slice();
+    if same_times(places, times) {
+        return Ok(CutChange::Untouched);
+    }
+    let uses = with_times(alloc, places, times)?;
+    let row = row_with(&old.section, run.name, number, run.entry, uses);
+    with_row(alloc, old, &run.name, at, true, row, number)
 }
 
 // What the edit of a number makes of a cut, where the row of this name is this one after it, if it
@@ -158,9 +268,13 @@ fn with_row(
     alloc: Global,
     old: &Cut,
     name: &Name,
+    at: usize,
+    there: bool,
     row: Option<CutRow>,
     number: u64,
 ) -> Result<CutChange, OutOfMemory>
+    requires reached { IsReached old.now.rows name.now at }
+    requires there { IsTrue there ↔ IsThere old.now.rows name.now at }
     requires old_sound { IsSoundCut old.now }
     requires sound { IsSoundCut (cut_with name.now row old.now) }
     requires named { IfSome row (λ r. r.name ≡ name.now) }
@@ -168,8 +282,6 @@ fn with_row(
     ensures { IfOk result (IsChange (Some (stamped 0 old.now))
         (Some (stamped 0 (cut_with name.now row old.now))) number (Some old.now)) }
 {
-    let at = place_of(old.rows.slice(), name);
-    let there = stands_at(old.rows.slice(), name, at);
     let Some(row) = row else {
         if !there {
             return Ok(CutChange::Untouched);

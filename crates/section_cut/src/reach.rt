@@ -11,7 +11,7 @@ ghost use Rattle.section_cut.specs.Reach.{IsReach, ReachesNoRun, section_edited}
 ghost use Rattle.rail_model.specs.Timetable.{timetable};
 
 use crate::all_stairways::{AllStairways, stairways};
-use crate::one_run::{EditedRun, run_edited, stair_named};
+use crate::one_run::{EditedRun, edited_run, run_edited};
 use crate::reached_runs::reached_runs;
 use crate::same_value::same_name;
 use crate::timed_stair::TimedStair;
@@ -51,8 +51,7 @@ pub(crate) fn reach_of(
         return Ok(Reach::All(stairs_of_all(alloc, after)?));
     }
     if let Some(name) = run_edited(edit) {
-        let stair = stair_named(alloc, after, &name)?;
-        return Ok(Reach::Run(EditedRun { name, stair }));
+        return Ok(Reach::Run(edited_run(alloc, before, after, name)?));
     }
     after.learn_sound();
     if reaches_no_run(before, edit) {

@@ -34,19 +34,19 @@ pub returns-then-not-there : goal.returns-then-not-there
 returns-then-not-there c =
     let old = c.args.old.now in
     let n = c.args.name.now in
-    let at = c.place_of-at.result in
-    let reached = subst (λ rs. IsReached rs n at) c.slice.ensures c.place_of-at.ensures in
-    let told = subst (λ rs. IsTrue c.stands_at-there.result ↔ IsThere rs n at) c.slice-2.ensures c.stands_at-there.ensures in
+    let at = c.args.at in
+    let reached = c.requires.reached in
+    let told = c.requires.there in
     with_this old n c.args.number c.args.row None change.Untouched c.in_default.is
-    (ap Some (none_there old n at c.args.number c.requires.old_sound reached (gone old.rows n at c.stands_at-there.result told c.if-not-there.true)))
+    (ap Some (none_there old n at c.args.number c.requires.old_sound reached (gone old.rows n at c.args.there told c.if-not-there.true)))
 
 pub returns-in_default : goal.returns-in_default
 returns-in_default c =
     let old = c.args.old.now in
     let n = c.args.name.now in
-    let at = c.place_of-at.result in
-    let reached = subst (λ rs. IsReached rs n at) c.slice.ensures c.place_of-at.ensures in
-    let told = subst (λ rs. IsTrue c.stands_at-there.result ↔ IsThere rs n at) c.slice-2.ensures c.stands_at-there.ensures in
+    let at = c.args.at in
+    let reached = c.requires.reached in
+    let told = c.requires.there in
     let sound = subst (λ r. IsSoundCut (cut_with n r old)) c.in_default.is c.requires.sound in
     let there = told.0 c.if-not-there.false in
     with_this old n c.args.number c.args.row None (change.Touched (Some c.in_ok-row_removed.field-0)) c.in_default.is
@@ -57,28 +57,28 @@ pub returns-then-not-there-2 : goal.returns-then-not-there-2
 returns-then-not-there-2 c =
     let old = c.args.old.now in
     let n = c.args.name.now in
-    let at = c.place_of-at.result in
+    let at = c.args.at in
     let row = c.in-Some.row in
-    let reached = subst (λ rs. IsReached rs n at) c.slice.ensures c.place_of-at.ensures in
-    let told = subst (λ rs. IsTrue c.stands_at-there.result ↔ IsThere rs n at) c.slice-2.ensures c.stands_at-there.ensures in
+    let reached = c.requires.reached in
+    let told = c.requires.there in
     let sound = subst (λ r. IsSoundCut (cut_with n r old)) c.in-Some.is c.requires.sound in
     let named = subst (λ o. IfSome o (λ (r : CutRow). r.name ≡ n)) c.in-Some.is c.requires.named in
     let stamp = subst (λ o. IfSome o (λ (r : CutRow). r.stamp ≡ c.args.number)) c.in-Some.is c.requires.stamp in
     with_this old n c.args.number c.args.row (Some row) (change.Touched (Some c.in_ok-row_inserted.field-0)) c.in-Some.is
     (with_cut old n c.args.number (Some row) c.in_ok-row_inserted.field-0 _ c.in_ok-row_inserted.ensures
-    (added old n at c.args.number c.requires.old_sound reached row named stamp (gone old.rows n at c.stands_at-there.result told c.if-not-there-2.true) sound))
+    (added old n at c.args.number c.requires.old_sound reached row named stamp (gone old.rows n at c.args.there told c.if-not-there-2.true) sound))
 
 pub returns-then-same_row : goal.returns-then-same_row
 returns-then-same_row c =
     let old = c.args.old.now in
     let n = c.args.name.now in
-    let at = c.place_of-at.result in
+    let at = c.args.at in
     let row = c.in-Some.row in
-    let reached = subst (λ rs. IsReached rs n at) c.slice.ensures c.place_of-at.ensures in
-    let told = subst (λ rs. IsTrue c.stands_at-there.result ↔ IsThere rs n at) c.slice-2.ensures c.stands_at-there.ensures in
+    let reached = c.requires.reached in
+    let told = c.requires.there in
     let there = told.0 c.if-not-there-2.false in
     let is : c.index-slice-at.result ≡ get_or old.rows at no_member =
-    c.index-slice-at.is ∙ ap (λ rs. get_or rs at c.index-slice-at.result) c.slice-3.ensures ∙ get_or_default old.rows at c.index-slice-at.result no_member there.0 in
+    c.index-slice-at.is ∙ ap (λ rs. get_or rs at c.index-slice-at.result) c.slice.ensures ∙ get_or_default old.rows at c.index-slice-at.result no_member there.0 in
     with_this old n c.args.number c.args.row (Some row) change.Untouched c.in-Some.is
     (ap Some (same_there old n at c.args.number c.requires.old_sound reached there row
     (subst (λ r. stamped_row 0 r ≡ stamped_row 0 row) is (c.same_row.ensures.0 c.if-same_row.true))))
@@ -87,16 +87,16 @@ pub returns : goal.returns
 returns c =
     let old = c.args.old.now in
     let n = c.args.name.now in
-    let at = c.place_of-at.result in
+    let at = c.args.at in
     let row = c.in-Some.row in
-    let reached = subst (λ rs. IsReached rs n at) c.slice.ensures c.place_of-at.ensures in
-    let told = subst (λ rs. IsTrue c.stands_at-there.result ↔ IsThere rs n at) c.slice-2.ensures c.stands_at-there.ensures in
+    let reached = c.requires.reached in
+    let told = c.requires.there in
     let sound = subst (λ r. IsSoundCut (cut_with n r old)) c.in-Some.is c.requires.sound in
     let named = subst (λ o. IfSome o (λ (r : CutRow). r.name ≡ n)) c.in-Some.is c.requires.named in
     let stamp = subst (λ o. IfSome o (λ (r : CutRow). r.stamp ≡ c.args.number)) c.in-Some.is c.requires.stamp in
     let there = told.0 c.if-not-there-2.false in
     let is : c.index-slice-at.result ≡ get_or old.rows at no_member =
-    c.index-slice-at.is ∙ ap (λ rs. get_or rs at c.index-slice-at.result) c.slice-3.ensures ∙ get_or_default old.rows at c.index-slice-at.result no_member there.0 in
+    c.index-slice-at.is ∙ ap (λ rs. get_or rs at c.index-slice-at.result) c.slice.ensures ∙ get_or_default old.rows at c.index-slice-at.result no_member there.0 in
     let made =
     changed old n at c.args.number c.requires.old_sound reached row named stamp there
     (λ same. both_ways c.same_row.result c.if-same_row.false (c.same_row.ensures.1 (subst (λ r. stamped_row 0 r ≡ stamped_row 0 row) (sym is) same))) sound in

@@ -1,4 +1,6 @@
-use Rattle.std.proofs.Common.{◌≡◌, [], sym, ◌∙◌, arith}
+use Rattle.std.proofs.Common.{◌≡◌, [], sym, ◌∙◌, subst, arith}
+use Rattle.section_cut.specs.OneRun.{IsOneRun}
+use Rattle.section_cut.specs.EditedRun.{KeepsRoute}
 use Rattle.std.proofs.lemmas.List.{nil_from_length}
 use Rattle.section_cut.proofs.KeptBlocks.{same_traffic}
 use Rattle.section_cut.proofs.NoRun.{cuts_stay}
@@ -13,8 +15,16 @@ pub returns-in-Some-run_edited : goal.returns-in-Some-run_edited
 returns-in-Some-run_edited c =
     let before = c.args.before.now in
     let none : before.connections ≡ [] = nil_from_length before.connections (omega (arith, c.connections.ensures.count)) in
-    one_run before c.args.after.now c.args.edit.now c.in-Some-run_edited.name c.in_ok-stair.stair c.requires
-    (sym c.run_edited.ensures ∙ c.in-Some-run_edited.is) none c.in_ok-stair.ensures
+    let name = c.in-Some-run_edited.name in
+    let run = c.in_ok-edited_run.field-0 in
+    let named = c.in_ok-edited_run.ensures.name in
+    record {
+      one = subst (λ n. IsOneRun before c.args.after.now n run.stair) (sym named)
+          (one_run before c.args.after.now c.args.edit.now name run.stair c.requires
+          (sym c.run_edited.ensures ∙ c.in-Some-run_edited.is) none c.in_ok-edited_run.ensures.stair);
+      entry = c.in_ok-edited_run.ensures.entry;
+      route = λ e. subst (KeepsRoute before c.args.after.now) (sym named) (c.in_ok-edited_run.ensures.route e);
+    }
 
 pub returns-then-reaches_no_run : goal.returns-then-reaches_no_run
 returns-then-reaches_no_run c =
