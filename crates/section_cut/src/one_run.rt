@@ -19,8 +19,8 @@ use crate::members::{member_row, row_with};
 use crate::positions::{gather, positions};
 use crate::same_value::{same_name, same_row};
 use crate::stamps::place_of;
-use crate::times::{same_times, with_times};
 use crate::timed_stair::TimedStair;
+use crate::times::{same_times, with_times};
 use blocking_time::stairs;
 use line_tables::LineTables;
 use plan_model::{Cut, CutRow, least_start};
@@ -47,7 +47,7 @@ pub(crate) fn edited_run(
     ensures name { IfOk result (λ run. run.name ≡ name) }
     ensures stair { IfOk result
         (λ run. run.stair ≡ option_map (λ r. stair_of (path_in after.now r))
-            (find (λ r. is_same r.name name) after.now.runs)) }
+        (find (λ r. is_same r.name name) after.now.runs)) }
     ensures entry { IfOk result (λ run. IfSome run.stair (IsEntryOf run.entry)) }
     ensures route { IfOk result (λ run. run.keeps_route ≡ true
         → KeepsRoute before.now after.now name) }
