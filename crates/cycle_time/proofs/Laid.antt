@@ -1,16 +1,15 @@
 -- Visits in turn: who keeps the edges from each to the next, and from the last to the first, keeps the place.
-use Rattle.std.proofs.Common.{◌≡◌, ℕ, zero, suc, ◌+◌, ◌-◌, ◌<◌, true, false, List, [], ◌∷◌, ◌++◌, length, get_or, inl, inr, refl, sym, ap, subst, ◌∙◌, arith, length-append}
-use Rattle.std.specs.Prelude.{ℤ, pos, nat_abs, ◌+ℤ◌, ◌-ℤ◌, ◌≤ℤ◌, ◌<ℤ◌, All, IsTrue, ⊤, filter}
+use Rattle.std.proofs.Common.{◌≡◌, ℕ, zero, suc, ◌+◌, ◌-◌, ◌<◌, true, List, length, get_or, inl, inr, sym, ap, subst, ◌∙◌, arith}
+use Rattle.std.specs.Prelude.{ℤ, pos, nat_abs, ◌+ℤ◌, ◌-ℤ◌, ◌≤ℤ◌, ◌<ℤ◌, filter}
 use Rattle.std.specs.List.{Contains}
 use Rattle.std.proofs.lemmas.Bool.{cases_eq, cases_lt}
 use Rattle.std.proofs.lemmas.Int.{ints}
-use Rattle.std.proofs.lemmas.List.{get_or_default, get_or_append_left, get_or-map, length-map}
-use Rattle.std.proofs.lemmas.List.Elements.{All-push, All-from_get_or, All-get_or}
+use Rattle.std.proofs.lemmas.List.{get_or_default, get_or-map, length-map}
+use Rattle.std.proofs.lemmas.List.Elements.{All-from_get_or}
 use Rattle.std.proofs.lemmas.List.Sorted.{Contains-permutation}
 use Rattle.plan_model.specs.declared.cut.Cut.{Cut}
 use Rattle.plan_model.specs.Places.{block_count}
 use Rattle.plan_model.specs.Members.{member, member_count, members, uses_place, use_at}
-use Rattle.plan_model.specs.Precedence.{precedes}
 use Rattle.plan_model.specs.Cut.{IsSoundCut, IsMoment}
 use Rattle.plan_model.specs.Schedule.{entry_at, start_by, end_by}
 use Rattle.plan_model.proofs.MemberTests.{has-range, has-filter}
@@ -20,55 +19,8 @@ use Rattle.train_order.specs.declared.visits.Visit.{Visit}
 use Rattle.train_order.specs.Visits.{no_visit, visit_at, visits, AreInTurn}
 use Rattle.train_order.proofs.Among.{stands_at}
 use Rattle.train_order.proofs.InTurn.{IsVisit, is_visit, goes_first, in_order}
-use Rattle.cycle_time.specs.declared.edge.Edge.{Edge}
-use Rattle.cycle_time.specs.Ring.{IsStep, weight}
-use Rattle.cycle_time.specs.Edges.{edge_on, IsEdge, IsLight, Keeps, KeepsPlace, KeepFirst}
-use Rattle.cycle_time.specs.Laying.{IsVisitOf, train_at, AreTurns, KeepsTurn, KeepTurns, KeepsAgain, HasMore, IsLaid}
-
--- ---- lists of edges
-
-last_is : (edges : List Edge) (e : Edge) → get_or (edges ++ e ∷ []) (length edges) e ≡ e
-last_is [] e = refl
-last_is (d ∷ edges) e = last_is edges e
-
-module _ (cut : Cut) (before edges : List Edge) (P : ℕ → List ℤ → Type 0) (so_far : HasMore cut before edges P) where
-  -- with one edge more
-  pub pushed : (e : Edge) → IsEdge cut e → (after : List Edge) → after ≡ edges ++ e ∷ [] → (Q : ℕ → List ℤ → Type 0)
-      → ((period : ℕ) (entries : List ℤ) → P period entries → Keeps period entries e → Q period entries)
-      → HasMore cut before after Q
-  pushed e is after same Q then =
-      let old : (period : ℕ) (entries : List ℤ) → All (Keeps period entries) after → All (Keeps period entries) edges =
-      λ period entries keep. All-from_get_or (Keeps period entries) edges e (λ k l.
-      subst (Keeps period entries) (ap (λ es. get_or es k e) same ∙ get_or_append_left edges (e ∷ []) e k l)
-      (keep k e (omega (arith, l, ap length same, length-append edges (e ∷ []))))) in
-      let new : (period : ℕ) (entries : List ℤ) → All (Keeps period entries) after → Keeps period entries e =
-      λ period entries keep.
-      subst (Keeps period entries) (ap (λ es. get_or es (length edges) e) same ∙ last_is edges e)
-      (keep (length edges) e (omega (arith, ap length same, length-append edges (e ∷ [])))) in
-      record {
-        each = λ all. subst (All (IsEdge cut)) (sym same) (All-push (IsEdge cut) edges e (so_far.each all) is);
-        kept = λ period entries keep. so_far.kept period entries (old period entries keep);
-        more = λ period entries keep. then period entries (so_far.more period entries (old period entries keep)) (new period entries keep);
-      }
-
-  -- with edges that are added in two steps
-  pub then_more : (after : List Edge) (Q R : ℕ → List ℤ → Type 0) → HasMore cut edges after Q
-      → ((period : ℕ) (entries : List ℤ) → P period entries → Q period entries → R period entries)
-      → HasMore cut before after R
-  then_more after Q R more both = record {
-    each = λ all. more.each (so_far.each all);
-    kept = λ period entries keep. so_far.kept period entries (more.kept period entries keep);
-    more = λ period entries keep.
-        both period entries (so_far.more period entries (more.kept period entries keep)) (more.more period entries keep);
-  }
-
-pub nothing_more : (cut : Cut) (edges : List Edge) (P : ℕ → List ℤ → Type 0) → ((period : ℕ) (entries : List ℤ) → P period entries)
-    → HasMore cut edges edges P
-nothing_more cut edges P h = record {
-  each = λ all. all;
-  kept = λ period entries keep. keep;
-  more = λ period entries keep. h period entries;
-}
+use Rattle.cycle_time.specs.Edges.{KeepsPlace}
+use Rattle.cycle_time.specs.Laying.{IsVisitOf, train_at, AreTurns, KeepTurns, KeepsAgain}
 
 -- ---- a visit
 
@@ -206,64 +158,3 @@ module _ (cut : Cut) (sound : IsSoundCut cut) (place : ℕ) where
               subst (λ m. end_by cut entries m place ≤ℤ (start_by cut entries j place +ℤ pos period)) (ap by one.2)
               (subst (λ m. until one.0 ≤ℤ (start_by cut entries m place +ℤ pos period)) (ap by other.2) d);
         }
-
--- a list with the edges of one place more
-pub first_more : (cut : Cut) (edges after : List Edge) (place : ℕ) → KeepFirst cut edges place → IsLaid cut place edges after
-    → KeepFirst cut after (place + 1)
-first_more cut edges after place first laid period entries keep p l =
-    elim (cases_eq p place) [
-      | inl e ↦ subst (KeepsPlace cut period entries) (sym e) (laid.more period entries keep)
-      | inr ne ↦ first period entries (laid.kept period entries keep) p (omega (arith, l, ne))
-    ]
-
--- ---- the edges of a place
-
-module _ (cut : Cut) (place : ℕ) (some : List Visit) (turns : AreTurns cut place some) (before edges : List Edge) where
-  -- the edge from a visit to the next one
-  pub turn_pushed : (k : ℕ) → 0 < k → k < length some → HasMore cut before edges (KeepTurns cut place some k)
-      → (e : Edge) → e ≡ edge_on cut (train_at some (k - 1)) (train_at some k) place false → IsLight e.weight
-      → (after : List Edge) → after ≡ edges ++ e ∷ [] → HasMore cut before after (KeepTurns cut place some (k + 1))
-  turn_pushed k first_k l so_far e is light after same =
-      let b : k - 1 + 1 ≡ k = omega (arith, first_k) in
-      let v = All-get_or (IsVisitOf cut place) some (k - 1) no_visit (omega (arith, l)) turns.each in
-      let w = All-get_or (IsVisitOf cut place) some k no_visit l turns.each in
-      let goes = subst (λ m. IsTrue (precedes (member cut (train_at some (k - 1))) (member cut (train_at some m)) place)) b
-      (turns.goes (k - 1) (omega (arith, b, l))) in
-      let on = edge_on cut (train_at some (k - 1)) (train_at some k) place false in
-      let step : IsStep cut on.step = record { one_there = v.there; other_there = w.there; same = λ e. goes; next = λ e. absurd (cc) } in
-      let edge : IsEdge cut e = record {
-        is_step = subst (λ (d : Edge). IsStep cut d.step) (sym is) step;
-        weight_is = subst (λ (d : Edge). d.weight ≡ weight cut d.step) (sym is) refl;
-        light = light;
-      } in
-      pushed cut before edges (KeepTurns cut place some k) so_far e edge after same (KeepTurns cut place some (k + 1))
-      (λ period entries first keep m lm. elim (cases_eq (m + 1) k) [
-        | inr ne ↦ first m (omega (arith, lm, ne))
-        | inl e2 ↦
-            let mk : m ≡ k - 1 = omega (arith, e2) in
-            subst (λ n. KeepsTurn cut place some period entries n) (sym mk)
-            (subst (λ n. Keeps period entries (edge_on cut (train_at some (k - 1)) (train_at some n) place false)) (sym b)
-            (subst (Keeps period entries) is keep))
-      ])
-
-  -- the edge from the last visit to the first one of the next pattern
-  pub again_pushed : place < block_count cut → 0 < length some
-      → (e : Edge) → e ≡ edge_on cut (train_at some (length some - 1)) (train_at some 0) place true → IsLight e.weight
-      → (after : List Edge) → after ≡ edges ++ e ∷ [] → HasMore cut edges after (KeepsAgain cut place some)
-  again_pushed block there e is light after same =
-      let v = All-get_or (IsVisitOf cut place) some (length some - 1) no_visit (omega (arith, there)) turns.each in
-      let w = All-get_or (IsVisitOf cut place) some 0 no_visit there turns.each in
-      let on = edge_on cut (train_at some (length some - 1)) (train_at some 0) place true in
-      let step : IsStep cut on.step = record {
-        one_there = v.there;
-        other_there = w.there;
-        same = λ e. absurd (cc);
-        next = λ e. record { block_there = block; one = v.used; other = w.used };
-      } in
-      let edge : IsEdge cut e = record {
-        is_step = subst (λ (d : Edge). IsStep cut d.step) (sym is) step;
-        weight_is = subst (λ (d : Edge). d.weight ≡ weight cut d.step) (sym is) refl;
-        light = light;
-      } in
-      pushed cut edges edges (λ period entries. ⊤) (nothing_more cut edges (λ period entries. ⊤) (λ period entries. tt)) e edge after same
-      (KeepsAgain cut place some) (λ period entries first keep b s. subst (Keeps period entries) is keep)

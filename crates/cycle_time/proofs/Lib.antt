@@ -1,6 +1,8 @@
 pub mod Refused
 pub mod Raised
 pub mod Laid
+pub mod Merged
+pub mod Along
 pub mod Trails
 pub mod Rounded
 pub mod Behind

@@ -1,14 +1,19 @@
--- The edges of a place, by its visits in the order of precedence.
-use Rattle.std.specs.Prelude.{◌≡◌, ℕ, ◌+◌, ◌-◌, ◌<◌, ℤ, pos, ◌+ℤ◌, true, false, IsTrue, List, length, slice_index_or, All}
+-- The edges of a cut's places: on one place by its visits in the order of precedence, and on all along an order.
+use Rattle.std.specs.Prelude.{◌≡◌, ℕ, ◌+◌, ◌-◌, ◌<◌, ℤ, pos, ◌+ℤ◌, ◌-ℤ◌, ◌≤ℤ◌, Bool, true, false, if◌then◌else◌, ◌==◌, IsTrue, Option, None, Some, IfSome, List, length, slice_index_or, All}
+use Rattle.std.specs.List.{list_any}
+use Rattle.rail_model.specs.declared.stair.Use.{Use}
 use Rattle.plan_model.specs.declared.cut.Cut.{Cut}
-use Rattle.plan_model.specs.Places.{block_count}
+use Rattle.plan_model.specs.Places.{block_count, place_count, is_among}
 use Rattle.plan_model.specs.Members.{member, member_count, uses_place, use_at}
 use Rattle.plan_model.specs.Cut.{IsMoment}
 use Rattle.plan_model.specs.Precedence.{precedes}
+use Rattle.plan_model.specs.Schedule.{start_by, end_by}
 use Rattle.train_order.specs.declared.visits.Visit.{Visit}
 use Rattle.train_order.specs.Visits.{no_visit}
 use Rattle.cycle_time.specs.declared.edge.Edge.{Edge}
-use Rattle.cycle_time.specs.Edges.{edge_on, IsEdge, Keeps, KeepsPlace}
+use Rattle.cycle_time.specs.declared.stay.Stay.{Stay}
+use Rattle.cycle_time.specs.declared.stay.Ends.{Ends}
+use Rattle.cycle_time.specs.Edges.{step_on, edge_on, IsSpan, IsEdge, Keeps}
 
 -- a visit of a place by one of its users
 pub record IsVisitOf (cut : Cut) (place : ℕ) (v : Visit) : Type 0 where
@@ -46,12 +51,101 @@ KeepsAgain cut place visits period entries =
     place < block_count cut → 0 < length visits
     → Keeps period entries (edge_on cut (train_at visits (length visits - 1)) (train_at visits 0) place true)
 
--- a list of edges of a cut with some more: entries that keep all of them keep those that there were, and have a property
-pub record HasMore (cut : Cut) (before after : List Edge) (P : ℕ → List ℤ → Type 0) : Type 0 where
-  pub each : All (IsEdge cut) before → All (IsEdge cut) after
-  pub kept : (period : ℕ) (entries : List ℤ) → All (Keeps period entries) after → All (Keeps period entries) before
-  pub more : (period : ℕ) (entries : List ℤ) → All (Keeps period entries) after → P period entries
+-- ---- the edges of all places, along an order
 
--- the same with the edges of a place
-abbrev pub IsLaid : Cut → ℕ → List Edge → List Edge → Type 0
-IsLaid cut place before after = HasMore cut before after (λ period entries. KeepsPlace cut period entries place)
+-- a train's use of a place by its entry
+abbrev pub stay_by : ℕ → ℤ → Use → Stay
+stay_by train entry u = record { train = train; from = u.start -ℤ entry; until = u.«end» -ℤ entry }
+
+-- the first and the last use with one use more
+abbrev pub with_stay : Option Ends → Stay → Ends
+with_stay None stay = record { first = stay; last = stay }
+with_stay (Some ends) stay = record { first = ends.first; last = stay }
+
+-- the edge from the train of one use of a place to that of another
+abbrev pub edge_to : Stay → Stay → ℕ → Bool → Edge
+edge_to one other place next =
+    record { step = step_on one.train other.train place next; weight = one.until -ℤ other.from }
+
+-- two edges are between the same trains, of the same patterns
+pub record AreBetweenSame (one other : Edge) : Type 0 where
+  pub from : one.step.from ≡ other.step.from
+  pub to : one.step.to ≡ other.step.to
+  pub next : one.step.next ≡ other.step.next
+
+-- some edges and one more: who keeps those that there are keeps those that there were, and the one
+pub record IsAdded (before after : List Edge) (e : Edge) : Type 0 where
+  pub each : (cut : Cut) → All (IsEdge cut) before → IsEdge cut e → All (IsEdge cut) after
+  pub kept : (period : ℕ) (entries : List ℤ) → All (Keeps period entries) after → All (Keeps period entries) before
+  pub more : (period : ℕ) (entries : List ℤ) → All (Keeps period entries) after → Keeps period entries e
+
+-- the same of the edge from the last use of a place so far, if there is one
+abbrev pub IsLedTo : Option Ends → Stay → ℕ → List Edge → List Edge → Type 0
+IsLedTo None stay place before after = after ≡ before
+IsLedTo (Some ends) stay place before after = IsAdded before after (edge_to ends.last stay place false)
+
+-- and of that to the first use by the next pattern
+abbrev pub IsLedOn : Option Ends → ℕ → List Edge → List Edge → Type 0
+IsLedOn None place before after = after ≡ before
+IsLedOn (Some ends) place before after = IsAdded before after (edge_to ends.last ends.first place true)
+
+pub record HaveSpans (ends : Ends) : Type 0 where
+  pub first : IsSpan ends.first.from
+  pub last : IsSpan ends.last.until
+
+-- a use of a place by one of its users
+pub record IsStayOf (cut : Cut) (place : ℕ) (s : Stay) : Type 0 where
+  pub there : s.train < member_count cut
+  pub used : IsTrue (uses_place (member cut s.train) place)
+  pub is : s ≡ stay_by s.train (member cut s.train).entry (use_at (member cut s.train) place)
+
+-- entries keep a place for some trains, of which the first and the last to use it are known
+pub record KeepSome (cut : Cut) (place : ℕ) (some : List ℕ) (ends : Ends) (entries : List ℤ) : Type 0 where
+  pub order : (i j : ℕ) → IsTrue (is_among some i) → IsTrue (is_among some j)
+      → IsTrue (precedes (member cut i) (member cut j) place)
+      → end_by cut entries i place ≤ℤ start_by cut entries j place
+  pub first : (i : ℕ) → IsTrue (is_among some i) → IsTrue (uses_place (member cut i) place)
+      → start_by cut entries ends.first.train place ≤ℤ start_by cut entries i place
+  pub last : (i : ℕ) → IsTrue (is_among some i) → IsTrue (uses_place (member cut i) place)
+      → end_by cut entries i place ≤ℤ end_by cut entries ends.last.train place
+
+-- the first and the last use of a place by some trains: entries that keep the edges keep the place for these trains
+pub record AreEnds (cut : Cut) (place : ℕ) (some : List ℕ) (edges : List Edge) (ends : Ends) : Type 0 where
+  pub spans : HaveSpans ends
+  pub first : IsStayOf cut place ends.first
+  pub last : IsStayOf cut place ends.last
+  pub among : IsTrue (is_among some ends.last.train)
+  pub kept : (period : ℕ) (entries : List ℤ) → All (Keeps period entries) edges → KeepSome cut place some ends entries
+
+abbrev pub AreSeen : Cut → ℕ → List ℕ → List Edge → Option Ends → Type 0
+AreSeen cut place some edges None = (i : ℕ) → IsTrue (is_among some i) → uses_place (member cut i) place ≡ false
+AreSeen cut place some edges (Some ends) = AreEnds cut place some edges ends
+
+-- the ends of a place, in a table of all places
+abbrev pub ends_at : List (Option Ends) → ℕ → Option Ends
+ends_at ends place = slice_index_or ends place None
+
+-- the edges of some trains are laid, and the ends of each place are known
+pub record AreLaid (cut : Cut) (some : List ℕ) (edges : List Edge) (ends : List (Option Ends)) : Type 0 where
+  pub each : All (IsEdge cut) edges
+  pub count : length ends ≡ place_count cut
+  pub seen : (place : ℕ) → place < place_count cut → AreSeen cut place some edges (ends_at ends place)
+
+-- of these trains, those with whom the edges of a place are laid: one train more on those that it uses so far
+abbrev pub gone : List ℕ → List ℕ → List Use → ℕ → List ℕ
+gone some more uses place = if list_any (λ u. u.block == place) uses then more else some
+
+-- the same where of one train more some uses are laid
+pub record AreLaidSoFar (cut : Cut) (some more : List ℕ) (uses : List Use) (edges : List Edge) (ends : List (Option Ends))
+    : Type 0 where
+  pub each : All (IsEdge cut) edges
+  pub count : length ends ≡ place_count cut
+  pub seen : (place : ℕ) → place < place_count cut
+      → AreSeen cut place (gone some more uses place) edges (ends_at ends place)
+
+-- all are laid, and on the first blocks the edges to the next pattern
+pub record AreLaidAgain (cut : Cut) (some : List ℕ) (edges : List Edge) (ends : List (Option Ends)) (n : ℕ) : Type 0 where
+  pub laid : AreLaid cut some edges ends
+  pub again : (block : ℕ) → block < n
+      → IfSome (ends_at ends block) (λ e. (period : ℕ) (entries : List ℤ) → All (Keeps period entries) edges
+      → Keeps period entries (edge_to e.last e.first block true))

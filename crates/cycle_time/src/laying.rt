@@ -1,95 +1,158 @@
 //! The edges of a cut: on each place from each train to the one that follows it, and on each block
-//! from the last to the first of the next pattern.
-ghost use Rattle.std.specs.Prelude.{◌≡◌, ◌<◌, ◌≤◌, IfOk, OnOk, length, take};
+//! from the last to the first of the next pattern. Of edges between the same trains that are laid
+//! one after the other only the heaviest stays: who keeps it keeps them all.
+ghost use Rattle.std.specs.Prelude.{◌≡◌, ◌+◌, ◌<◌, [], None, Some, IfOk, IfSome, OnOk, length, replicate, slice_index, slice_set, take};
 ghost use Rattle.plan_model.specs.Cut.{IsSoundCut};
-ghost use Rattle.plan_model.specs.Members.{member_count};
 ghost use Rattle.plan_model.specs.Places.{place_count};
-ghost use Rattle.train_order.specs.Visits.{AreInTurn};
-ghost use Rattle.cycle_time.specs.Edges.{AreEnough};
-ghost use Rattle.cycle_time.specs.Laying as given;
-ghost use Rattle.cycle_time.specs.Laying.{AreTurns, HasMore, IsLaid};
+ghost use Rattle.train_order.specs.Laws.{ComesNext};
+ghost use Rattle.train_order.specs.Ordering.{IsOrder};
+ghost use Rattle.cycle_time.specs.Edges.{AreEnough, IsSpan};
+ghost use Rattle.cycle_time.specs.Laying.{AreLaid, ends_at, HaveSpans, IsLedOn, IsLedTo, with_stay as ends_with};
 
-use crate::edge::{Edge, edge_between};
-use plan_model::{FitCut, MEMBERS, SoundCut};
+use crate::edge::Edge;
+use crate::merging::add;
+use crate::stay::{Ends, Stay, edge_to, stay_of, with_stay};
+use plan_model::{FitCut, SoundCut};
 use rail_model::OutOfMemory;
 use std::alloc::Global;
-use train_order::{Visit, visits_at};
 
-/// Edges that are enough: entries that keep them keep all places, whatever the period.
-pub(crate) fn edges(alloc: Global, cut: &FitCut) -> Result<Vec<Edge>, OutOfMemory>
+/// Edges that are enough: entries that keep them keep all places, whatever the period. They stand
+/// in the order of the trains to which they lead, an order of the cut, and those to the next
+/// pattern last.
+pub(crate) fn edges(alloc: Global, cut: &FitCut, order: &[u32]) -> Result<Vec<Edge>, OutOfMemory>
+    requires { IsOrder cut.now order.now }
     ensures { IfOk result (λ edges. AreEnough cut.now edges.items) }
 {
+    let sound = cut.sound();
+    let mut ends = vec![in alloc; None; sound.place_count() as usize]?;
     let mut edges = Vec::new(alloc);
-    for place in 0..cut.sound().place_count() {
-        lay_place(&mut edges, cut, place)?;
-    }
+    lay_all(&mut edges, sound, &mut ends, order)?;
     Ok(edges)
 }
 
-// Adds the edges of a place.
-fn lay_place(edges: &mut Vec<Edge>, cut: &FitCut, place: u32) -> Result<(), OutOfMemory>
-    requires { place < place_count cut.now }
-    ensures { OnOk result (IsLaid cut.now place edges.old.items edges.new.items) }
-{
-    let nothing = Visit {
-        start: 0,
-        lasts_s: 0,
-        member: 0,
-    };
-    let mut room = [nothing; MEMBERS];
-    let sound = cut.sound();
-    let count = visits_at(sound, place, &mut room);
-    lay_visits(edges, sound, place, &room[..count])
-}
-
-// The same where the visits of the place are known.
-fn lay_visits(
+// Adds all edges, with a place for the first and the last use of each of the cut's places.
+fn lay_all(
     edges: &mut Vec<Edge>,
     cut: &SoundCut,
-    place: u32,
-    visits: &[Visit],
+    ends: &mut [Option<Ends>],
+    order: &[u32],
 ) -> Result<(), OutOfMemory>
     requires sound { IsSoundCut cut.now }
-    requires visits { AreInTurn cut.now place visits.now }
-    requires few { length visits.now ≤ MEMBERS }
-    ensures { OnOk result (IsLaid cut.now place edges.old.items edges.new.items) }
+    requires order { IsOrder cut.now order.now }
+    requires none { edges.old.items ≡ [] }
+    requires unused { ends.old ≡ replicate (place_count cut.now) None }
+    ensures { OnOk result (AreEnough cut.now edges.new.items) }
 {
-    lay_in_turn(edges, cut, place, visits)?;
-    lay_again(edges, cut, place, visits)?;
+    lay_in_turn(edges, cut, ends, order)?;
+    lay_again(edges, cut, ends, order)?;
     Ok(())
 }
 
-// Adds the edges from each train to the next.
+// Adds the edges from each train to those that follow it.
 fn lay_in_turn(
     edges: &mut Vec<Edge>,
     cut: &SoundCut,
-    place: u32,
-    visits: &[Visit],
+    ends: &mut [Option<Ends>],
+    order: &[u32],
 ) -> Result<(), OutOfMemory>
-    requires turns { AreTurns cut.now place visits.now }
-    ensures { OnOk result (HasMore cut.now edges.old.items edges.new.items
-        (given.KeepTurns cut.now place visits.now (length visits.now))) }
+    requires sound { IsSoundCut cut.now }
+    requires order { IsOrder cut.now order.now }
+    requires none { edges.old.items ≡ [] }
+    requires unused { ends.old ≡ replicate (place_count cut.now) None }
+    ensures { OnOk result (AreLaid cut.now order.now edges.new.items ends.new) }
 {
-    for k in 1..visits.len() {
-        edges.push(edge_between(cut, place, visits[k - 1], visits[k], false))?;
+    for k in 0..order.len() {
+        lay_train(edges, cut, ends, order, k)?;
     }
     Ok(())
 }
 
-// Adds the edge from the last train on a block to the first of the next pattern.
+// Adds the edges to the next train of an order, on each of its places from the last train so far.
+fn lay_train(
+    edges: &mut Vec<Edge>,
+    cut: &SoundCut,
+    ends: &mut [Option<Ends>],
+    order: &[u32],
+    k: usize,
+) -> Result<(), OutOfMemory>
+    requires sound { IsSoundCut cut.now }
+    requires there { k < length order.now }
+    requires next { ComesNext cut.now (take k order.now) (slice_index order.now k) }
+    requires laid { AreLaid cut.now (take k order.now) edges.old.items ends.old }
+    ensures { OnOk result (AreLaid cut.now (take (k + 1) order.now) edges.new.items ends.new) }
+{
+    let train = order[k];
+    let row = cut.row(train);
+    for one in row.uses.slice() {
+        let stay = stay_of(train, row.entry, one);
+        lay_stay(edges, ends, one.block, stay)?;
+    }
+    Ok(())
+}
+
+// Adds the edge to a train on a place, which it is the last to use from then on.
+fn lay_stay(
+    edges: &mut Vec<Edge>,
+    ends: &mut [Option<Ends>],
+    place: u32,
+    stay: Stay,
+) -> Result<(), OutOfMemory>
+    requires there { place < length ends.old }
+    requires seen { IfSome (ends_at ends.old place) HaveSpans }
+    requires from { IsSpan stay.from }
+    ensures edges { OnOk result
+        (IsLedTo (ends_at ends.old place) stay place edges.old.items edges.new.items) }
+    ensures ends { OnOk result
+        (ends.new ≡ slice_set ends.old place (Some (ends_with (ends_at ends.old place) stay))) }
+{
+    let seen = ends[place as usize];
+    lead_to(edges, seen, stay, place)?;
+    ends[place as usize] = Some(with_stay(seen, stay));
+    Ok(())
+}
+
+// Adds the edge to a train from the last one on a place, if there is one.
+fn lead_to(
+    edges: &mut Vec<Edge>,
+    seen: Option<Ends>,
+    stay: Stay,
+    place: u32,
+) -> Result<(), OutOfMemory>
+    requires seen { IfSome seen HaveSpans }
+    requires from { IsSpan stay.from }
+    ensures { OnOk result (IsLedTo seen stay place edges.old.items edges.new.items) }
+{
+    if let Some(ends) = seen {
+        add(edges, edge_to(ends.last, stay, place, false))?;
+    }
+    Ok(())
+}
+
+// Adds the edges from the last train on each block to the first of the next pattern.
 fn lay_again(
     edges: &mut Vec<Edge>,
     cut: &SoundCut,
-    place: u32,
-    visits: &[Visit],
+    ends: &[Option<Ends>],
+    order: &[u32],
 ) -> Result<(), OutOfMemory>
-    requires turns { AreTurns cut.now place visits.now }
-    ensures { OnOk result (HasMore cut.now edges.old.items edges.new.items
-        (given.KeepsAgain cut.now place visits.now)) }
+    requires sound { IsSoundCut cut.now }
+    requires order { IsOrder cut.now order.now }
+    requires laid { AreLaid cut.now order.now edges.old.items ends.now }
+    ensures { OnOk result (AreEnough cut.now edges.new.items) }
 {
-    let count = visits.len();
-    if place < cut.block_count() && 0 < count {
-        edges.push(edge_between(cut, place, visits[count - 1], visits[0], true))?;
+    for block in 0..cut.block_count() {
+        lead_on(edges, ends[block as usize], block)?;
+    }
+    Ok(())
+}
+
+// Adds the edge from the last train on a block to the first of the next pattern, if there is one.
+fn lead_on(edges: &mut Vec<Edge>, seen: Option<Ends>, block: u32) -> Result<(), OutOfMemory>
+    requires { IfSome seen HaveSpans }
+    ensures { OnOk result (IsLedOn seen block edges.old.items edges.new.items) }
+{
+    if let Some(ends) = seen {
+        add(edges, edge_to(ends.last, ends.first, block, true))?;
     }
     Ok(())
 }

@@ -4,6 +4,7 @@ ghost use Rattle.plan_model.specs.declared.limits.TheConstants.{MEMBERS};
 ghost use Rattle.plan_model.specs.Cut.{IsSoundCut};
 ghost use Rattle.plan_model.specs.Disorder.{remaining};
 ghost use Rattle.plan_model.specs.Members.{member_count};
+ghost use Rattle.train_order.specs.Ordering.{IsOrder};
 ghost use Rattle.cycle_time.specs.Cycle.{IsAnswered, IsCycle, IsStill, HasNoLesserPeriod};
 
 use crate::found::Cycle;
@@ -26,21 +27,22 @@ pub fn cycle(alloc: Global, cut: &Cut) -> Result<Result<Cycle, Disorder>, OutOfM
     ensures least { IfOk result (HasNoLesserPeriod cut.now) }
 {
     match order(alloc, cut)? {
-        Ok(_) => Ok(Ok(cycle_of(alloc, &FitCut::of(cut))?)),
+        Ok(order) => Ok(Ok(cycle_of(alloc, &FitCut::of(cut), order.positions.slice())?)),
         Err(disorder) => Ok(Err(disorder)),
     }
 }
 
-// The cycle of a cut whose trains have an order.
-fn cycle_of(alloc: Global, cut: &FitCut) -> Result<Cycle, OutOfMemory>
+// The cycle of a cut whose trains have this order.
+fn cycle_of(alloc: Global, cut: &FitCut, order: &[u32]) -> Result<Cycle, OutOfMemory>
     requires sound { IsSoundCut cut.now }
     requires none { remaining cut.now ≡ [] }
+    requires order { IsOrder cut.now order.now }
     ensures { IfOk result (IsCycle cut.now) }
 {
     if cut.member_count() == 0 {
         return Ok(still(alloc));
     }
-    let edges = edges(alloc, cut)?;
+    let edges = edges(alloc, cut, order)?;
     let Found {
         period,
         entries,

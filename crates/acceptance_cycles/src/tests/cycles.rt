@@ -1,5 +1,5 @@
 //! Cycle times as text, by rows that were worked out by hand.
-use super::{AHEAD, CONNECTED, FOLLOWING};
+use super::{AHEAD, CONNECTED, CROSSED, FOLLOWING, FOURTH};
 use cycle_time::{cycle, cycle_rows};
 use plan_model::MEMBERS;
 use rail_model::OutOfMemory;
@@ -24,7 +24,7 @@ fn told(alloc: Global, line: &str, rows: &str) -> Result<Sheet, OutOfMemory> {
 }
 
 // A line, its rows, and the cycle of S.
-const CYCLES: [(&str, &str, &str); 6] = [
+const CYCLES: [(&str, &str, &str); 8] = [
     (
         LINE,
         FOLLOWING,
@@ -48,6 +48,20 @@ const CYCLES: [(&str, &str, &str); 6] = [
         "",
         CONNECTED,
         "period,S,90,1\nslot,T1,0\nslot,T2,180\nstep,T1,A,T1,next\n",
+    ),
+    // Four steps of 290 s each, two of which lead to the next pattern: 1,160 s in two patterns.
+    (
+        CROSSED,
+        FOURTH,
+        "period,S,580,4\nslot,T1,0\nslot,T2,0\nslot,T3,290\nslot,T4,290\n\
+         step,T1,X,T3,same\nstep,T3,B,T2,next\nstep,T2,Y,T4,same\nstep,T4,A,T1,next\n",
+    ),
+    // T4 takes a second longer over Y, so these are 1,161 s.
+    (
+        CROSSED,
+        "run,T4,YA,100,10,1000,201,0,60\n",
+        "period,S,581,4\nslot,T1,0\nslot,T2,0\nslot,T3,290\nslot,T4,290\n\
+         step,T1,X,T3,same\nstep,T3,B,T2,next\nstep,T2,Y,T4,same\nstep,T4,A,T1,next\n",
     ),
     // The window has no train.
     (

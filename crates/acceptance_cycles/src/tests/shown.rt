@@ -1,5 +1,5 @@
 //! What shows a cycle: cycles that were worked out by hand, and the same with one number changed.
-use super::{AHEAD, CONNECTED, FOLLOWING};
+use super::{AHEAD, CONNECTED, CROSSED, FOLLOWING, FOURTH};
 use cycle_time::{Cycle, Step, shows};
 use plan_model::MEMBERS;
 use rail_model::{List, OutOfMemory};
@@ -165,6 +165,41 @@ const CONNECTION: [Row; 6] = [
     (186, &[0, 180], &[(0, 0, 2, true)], false),
 ];
 
+// Four steps of 290 s each of `CROSSED` with T4, two of which lead to the next pattern.
+const ROUND: &[Told] = &[
+    (0, 2, 2, false),
+    (2, 1, 1, true),
+    (1, 3, 3, false),
+    (3, 0, 0, true),
+];
+
+// With the first step to the next pattern: three patterns of 579 s give more than it asks for.
+const THREE: &[Told] = &[
+    (0, 2, 2, true),
+    (2, 1, 1, true),
+    (1, 3, 3, false),
+    (3, 0, 0, true),
+];
+
+// Of `CROSSED` with T4.
+const TWICE_ROUND: [Row; 9] = [
+    (580, &[0, 0, 290, 290], ROUND, true),
+    (579, &[0, 0, 290, 290], ROUND, false),
+    (581, &[0, 0, 290, 290], ROUND, false),
+    // As if the ring led to one pattern.
+    (1160, &[0, 0, 290, 290], ROUND, false),
+    (580, &[0, 0, 290, 290], THREE, false),
+    (
+        580,
+        &[0, 0, 290, 290],
+        &[(0, 2, 2, false), (2, 1, 1, true)],
+        false,
+    ),
+    (580, &[1, 1, 291, 291], ROUND, true),
+    (580, &[0, 1, 290, 291], ROUND, false),
+    (580, &[0, 0, 291, 290], ROUND, false),
+];
+
 // Of a window without trains.
 const NOTHING: [Row; 4] = [
     (0, &[], &[], true),
@@ -176,10 +211,11 @@ const NOTHING: [Row; 4] = [
 const EMPTY: &str = "section,S,0,3600,33,A,B\n";
 
 // A line, the rows after its own, and what shows a cycle of them.
-const SHOWN: [(&str, &str, &[Row]); 4] = [
+const SHOWN: [(&str, &str, &[Row]); 5] = [
     (LINE, FOLLOWING, &FOLLOW),
     (TRACK, AHEAD, &OVERLAP),
     ("", CONNECTED, &CONNECTION),
+    (CROSSED, FOURTH, &TWICE_ROUND),
     (LINE, EMPTY, &NOTHING),
 ];
 

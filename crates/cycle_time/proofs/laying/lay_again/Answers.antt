@@ -1,10 +1,16 @@
-use Rattle.std.proofs.Common.{rules}
-use Rattle.cycle_time.proofs.Laid.{again_pushed}
+use Rattle.std.proofs.Common.{arith, length-append}
+use Rattle.cycle_time.proofs.Along.{again_more, all_laid}
 use Rattle.cycle_time.proofs.laying.lay_again.Goals as goal
 
-pub returns-in_ok-push : goal.returns-in_ok-push
-returns-in_ok-push c =
-    again_pushed c.args.cut.now c.args.place c.args.visits.now c.requires.turns c.args.edges.now.items
-    c.args.edges.now.items (search rules) (search rules)
-    c.edge_between.result c.edge_between.ensures.is c.edge_between.ensures.light c.push.new.self.items
-    c.in_ok-push.ensures.items
+pub loop-block-preserved : goal.loop-block-preserved
+loop-block-preserved c =
+    let cut = c.args.cut.now in
+    again_more cut c.args.order.now c.args.ends.now c.loop-block.block
+    (omega (arith, c.loop-block-test.true, c.block_count-block-end.ensures.count))
+    (omega (arith, c.loop-block-test.true, c.block_count-block-end.ensures.count, length-append cut.section.blocks cut.connections))
+    c.loop-block.edges.items c.lead_on.new.edges.items c.loop-block.invariant c.in_ok-lead_on.ensures
+
+pub returns : goal.returns
+returns c =
+    all_laid c.args.cut.now c.args.order.now c.requires.order c.loop-block.edges.items c.args.ends.now c.loop-block.block
+    (omega (arith, c.loop-block-test.false, c.block_count-block-end.ensures.count)) c.loop-block.invariant

@@ -1,5 +1,6 @@
-use Rattle.cycle_time.specs.Laying.{KeepTurns, HasMore}
+use Rattle.std.proofs.Common.{take}
+use Rattle.cycle_time.specs.Laying.{AreLaid}
 use Rattle.cycle_time.proofs.laying.lay_in_turn.Given as goal
 
 abbrev pub invariant-loop-k : goal.invariant-loop-k
-invariant-loop-k l = HasMore l.cut l.fn.edges.items l.edges.items (KeepTurns l.cut l.place l.visits l.k)
+invariant-loop-k l = AreLaid l.cut (take l.k l.order) l.edges.items l.ends

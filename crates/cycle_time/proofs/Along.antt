@@ -1,0 +1,513 @@
+-- Edges that are laid along an order: who keeps them keeps each place for the trains so far.
+use Rattle.std.proofs.Common.{◌≡◌, ◌≢◌, ℕ, ◌+◌, ◌<◌, ◌≤◌, Bool, true, false, ◌==◌, ◌||◌, List, [], ◌∷◌, length, get_or, set, take, ◌⊎◌, inl, inr, refl, sym, ap, subst, ◌∙◌, arith, length-set}
+use Rattle.std.specs.Prelude.{ℤ, pos, ◌+ℤ◌, ◌-ℤ◌, ◌≤ℤ◌, ◌<ℤ◌, All, IsTrue, Option, None, Some, IfSome, if◌then◌else◌, replicate, unwrap_or}
+use Rattle.std.specs.List.{list_any}
+use Rattle.std.proofs.lemmas.Bool.{cases_Bool, cases_eq, both_ways, eq-eqb, ne_eqb, or_left, or_right, or_from}
+use Rattle.std.proofs.lemmas.Int.{ints}
+use Rattle.std.proofs.lemmas.List.{get_or-set_same, get_or-set_other, get_or-replicate, length-replicate, take_more}
+use Rattle.std.proofs.lemmas.List.Elements.{All-nil}
+use Rattle.std.proofs.lemmas.List.Folds.{list_any-append, list_any_at}
+use Rattle.rail_model.specs.declared.stair.Use.{Use}
+use Rattle.plan_model.specs.declared.cut.Cut.{Cut}
+use Rattle.plan_model.specs.Places.{block_count, place_count, is_among}
+use Rattle.plan_model.specs.Members.{member, member_count, no_member, no_use, uses_place, use_at}
+use Rattle.plan_model.specs.Precedence.{precedes}
+use Rattle.plan_model.specs.Cut.{IsSoundCut}
+use Rattle.plan_model.specs.Schedule.{entry_at, start_by, end_by}
+use Rattle.plan_model.proofs.Order.{one_precedes}
+use Rattle.plan_model.proofs.Sound.{differ}
+use Rattle.plan_model.proofs.UseFound.{found_at}
+use Rattle.plan_model.proofs.Uses.{takes_time}
+use Rattle.train_order.specs.Laws.{ComesNext}
+use Rattle.train_order.specs.Ordering.{IsOrder}
+use Rattle.train_order.proofs.Among.{among_first, first_among, among_more}
+use Rattle.train_order.proofs.Following.{apart}
+use Rattle.train_order.proofs.Next.{is_there}
+use Rattle.train_order.proofs.Users.{users}
+use Rattle.cycle_time.specs.declared.edge.Edge.{Edge}
+use Rattle.cycle_time.specs.declared.stay.Stay.{Stay}
+use Rattle.cycle_time.specs.declared.stay.Ends.{Ends}
+use Rattle.cycle_time.specs.Ring.{IsStep, weight}
+use Rattle.cycle_time.specs.Edges.{step_on, IsSpan, IsLight, IsEdge, Keeps, KeepsPlace, AreEnough}
+use Rattle.cycle_time.specs.Laying.{stay_by, with_stay, edge_to, IsAdded, IsLedTo, IsLedOn, HaveSpans, IsStayOf, KeepSome, AreEnds, AreSeen, ends_at, AreLaid, gone, AreLaidSoFar, AreLaidAgain}
+
+-- ---- at first
+
+pub none_laid : (cut : Cut) (some : List ℕ) (edges : List Edge) (ends : List (Option Ends)) → some ≡ [] → edges ≡ []
+    → ends ≡ replicate (place_count cut) None → AreLaid cut some edges ends
+none_laid cut some edges ends s e is = record {
+  each = subst (All (IsEdge cut)) (sym e) (All-nil (IsEdge cut));
+  count = ap length is ∙ length-replicate (place_count cut) None;
+  seen = λ place l.
+      let none : ends_at ends place ≡ None = ap (λ es. ends_at es place) is ∙ get_or-replicate (place_count cut) place None None l in
+      subst (AreSeen cut place some edges) (sym none)
+      (λ i h. absurd (let a : is_among [] i ≡ true = subst (λ is. is_among is i ≡ true) s h in (cc)));
+}
+
+-- ---- with more edges
+
+-- entries that keep the edges that there are keep those that there were
+abbrev IsKept : List Edge → List Edge → Type 0
+IsKept before after = (period : ℕ) (entries : List ℤ) → All (Keeps period entries) after → All (Keeps period entries) before
+
+seen_kept : (cut : Cut) (place : ℕ) (some : List ℕ) (before after : List Edge) → IsKept before after → (o : Option Ends)
+    → AreSeen cut place some before o → AreSeen cut place some after o
+seen_kept cut place some before after kept None seen = seen
+seen_kept cut place some before after kept (Some ends) seen = record {
+  spans = seen.spans;
+  first = seen.first;
+  last = seen.last;
+  among = seen.among;
+  kept = λ period entries keep. seen.kept period entries (kept period entries keep);
+}
+
+-- ---- an edge between two uses of a place
+
+light : (until from : ℤ) → IsSpan until → IsSpan from → IsLight (until -ℤ from)
+light until from u f = record {
+  above = omega (arith, ints, u.above, f.below);
+  below = omega (arith, ints, u.below, f.above);
+}
+
+keeps_is : (e s ei ej x y : ℤ) → (x +ℤ ((e -ℤ ei) -ℤ (s -ℤ ej))) ≤ℤ y → (e -ℤ ei +ℤ x) ≤ℤ (s -ℤ ej +ℤ y)
+keeps_is e s ei ej x y h = omega (arith, ints, h)
+
+again_is : (e s ei ej x y t : ℤ) → (x +ℤ ((e -ℤ ei) -ℤ (s -ℤ ej) -ℤ t)) ≤ℤ y → (e -ℤ ei +ℤ x) ≤ℤ (s -ℤ ej +ℤ y +ℤ t)
+again_is e s ei ej x y t h = omega (arith, ints, h)
+
+moved : (s f e y : ℤ) → s <ℤ f → (s -ℤ e +ℤ y) <ℤ (f -ℤ e +ℤ y)
+moved s f e y h = omega (arith, ints, h)
+
+module _ (cut : Cut) (place : ℕ) (one other : Stay) (first : IsStayOf cut place one) (second : IsStayOf cut place other) where
+  abbrev i : ℕ
+  i = one.train
+
+  abbrev j : ℕ
+  j = other.train
+
+  until_is : one.until ≡ ((use_at (member cut i) place).«end» -ℤ (member cut i).entry)
+  until_is = ap (λ (s : Stay). s.until) first.is
+
+  from_is : other.from ≡ ((use_at (member cut j) place).start -ℤ (member cut j).entry)
+  from_is = ap (λ (s : Stay). s.from) second.is
+
+  weight_is : (next : Bool) → (one.until -ℤ other.from) ≡ weight cut (step_on i j place next)
+  weight_is next = ap (λ u. u -ℤ other.from) until_is
+      ∙ ap (λ f. ((use_at (member cut i) place).«end» -ℤ (member cut i).entry) -ℤ f) from_is
+
+  is_edge : (next : Bool) → IsSpan one.until → IsSpan other.from → IsStep cut (step_on i j place next)
+      → IsEdge cut (edge_to one other place next)
+  is_edge next until from step =
+      record { is_step = step; weight_is = weight_is next; light = light one.until other.from until from }
+
+  module _ (period : ℕ) (entries : List ℤ) where
+    abbrev x : ℤ
+    x = entry_at entries i
+
+    abbrev y : ℤ
+    y = entry_at entries j
+
+    clear : Keeps period entries (edge_to one other place false) → end_by cut entries i place ≤ℤ start_by cut entries j place
+    clear keep =
+        keeps_is (use_at (member cut i) place).«end» (use_at (member cut j) place).start (member cut i).entry
+        (member cut j).entry x y (subst (λ w. (x +ℤ w) ≤ℤ y) (weight_is false) keep)
+
+    clear_again : Keeps period entries (edge_to one other place true)
+        → end_by cut entries i place ≤ℤ (start_by cut entries j place +ℤ pos period)
+    clear_again keep =
+        again_is (use_at (member cut i) place).«end» (use_at (member cut j) place).start (member cut i).entry
+        (member cut j).entry x y (pos period) (subst (λ w. (x +ℤ (w -ℤ pos period)) ≤ℤ y) (weight_is true) keep)
+
+takes : (cut : Cut) → IsSoundCut cut → (place i : ℕ) → i < member_count cut → IsTrue (uses_place (member cut i) place)
+    → (entries : List ℤ) → start_by cut entries i place <ℤ end_by cut entries i place
+takes cut sound place i l used entries =
+    moved (use_at (member cut i) place).start (use_at (member cut i) place).«end» (member cut i).entry (entry_at entries i)
+    (takes_time cut sound i place l used)
+
+-- ---- one train more
+
+-- a list of trains with one more
+pub record IsMore (some more : List ℕ) (j : ℕ) : Type 0 where
+  pub old : (i : ℕ) → IsTrue (is_among some i) → IsTrue (is_among more i)
+  pub new : IsTrue (is_among more j)
+  pub either : (i : ℕ) → IsTrue (is_among more i) → IsTrue (is_among some i) ⊎ (i ≡ j)
+
+pub next_more : (order : List ℕ) (k : ℕ) → k < length order → IsMore (take k order) (take (k + 1) order) (get_or order k 0)
+next_more order k l = record {
+  old = λ i h. among_more order k (k + 1) i (omega arith) (omega (arith, l)) h;
+  new = among_first order (k + 1) k (get_or order k 0) (omega (arith, l)) (omega arith) refl;
+  either = λ i h.
+      let at = first_among order (k + 1) i (omega (arith, l)) h in
+      elim (cases_eq at.0 k) [
+        | inl e ↦ inr (sym (ap (λ m. get_or order m 0) (sym e) ∙ at.2))
+        | inr ne ↦ inl (among_first order k at.0 i (omega (arith, l)) (omega (arith, at.1, ne)) at.2)
+      ];
+}
+
+module _ (cut : Cut) (sound : IsSoundCut cut) (some more : List ℕ) (j : ℕ) (is_more : IsMore some more j)
+    (next : ComesNext cut some j) where
+  not_itself : (i k place : ℕ) → i ≡ j → k ≡ j → IsTrue (precedes (member cut i) (member cut k) place) → ⊥
+  not_itself i k place e f p =
+      let itself : IsTrue (precedes (member cut j) (member cut j) place) =
+      subst (λ m. IsTrue (precedes (member cut j) (member cut m) place)) f
+      (subst (λ m. IsTrue (precedes (member cut m) (member cut k) place)) e p) in
+      both_ways _ next.not_yet (next.before j place itself)
+
+  -- a place that the train doesn't use
+  unused : (place : ℕ) → uses_place (member cut j) place ≡ false → (edges : List Edge) (o : Option Ends)
+      → AreSeen cut place some edges o → AreSeen cut place more edges o
+  unused place free edges None seen = λ i h. elim (is_more.either i h) [
+    | inl a ↦ seen i a
+    | inr e ↦ ap (λ m. uses_place (member cut m) place) e ∙ free
+  ]
+  unused place free edges (Some ends) seen =
+      let among : (i : ℕ) → IsTrue (is_among more i) → IsTrue (uses_place (member cut i) place) → IsTrue (is_among some i) =
+      λ i h u. elim (is_more.either i h) [
+        | inl a ↦ a
+        | inr e ↦ absurd (both_ways _ (ap (λ m. uses_place (member cut m) place) e ∙ free) u)
+      ] in record {
+        spans = seen.spans;
+        first = seen.first;
+        last = seen.last;
+        among = is_more.old ends.last.train seen.among;
+        kept = λ period entries keep.
+            let old = seen.kept period entries keep in record {
+              order = λ i k hi hk p.
+                  let both = users cut i k place p in
+                  old.order i k (among i hi both.0) (among k hk both.1) p;
+              first = λ i h u. old.first i (among i h u) u;
+              last = λ i h u. old.last i (among i h u) u;
+            };
+      }
+
+  -- a place that it uses
+  module _ (place : ℕ) (stay : Stay) (its : IsStayOf cut place stay) (train : stay.train ≡ j) (from : IsSpan stay.from)
+      (until : IsSpan stay.until) (before after : List Edge) where
+    -- what there is after an edge from the last train on the place
+    record IsSeenNow (o : Option Ends) : Type 0 where
+      each : All (IsEdge cut) before → All (IsEdge cut) after
+      kept : IsKept before after
+      seen : AreSeen cut place more after (Some (with_stay o stay))
+
+    alone : (o : Option Ends) → o ≡ None → AreSeen cut place some before o → after ≡ before → IsSeenNow None
+    alone o e seen same =
+        let none = subst (AreSeen cut place some before) e seen in
+        let only : (i : ℕ) → IsTrue (is_among more i) → IsTrue (uses_place (member cut i) place) → i ≡ j =
+        λ i h u. elim (is_more.either i h) [
+          | inl a ↦ absurd (both_ways _ (none i a) u)
+          | inr e ↦ e
+        ] in record {
+          each = λ all. subst (All (IsEdge cut)) (sym same) all;
+          kept = λ period entries keep. subst (All (Keeps period entries)) same keep;
+          seen = record {
+            spans = record { first = from; last = until };
+            first = its;
+            last = its;
+            among = subst (λ m. IsTrue (is_among more m)) (sym train) is_more.new;
+            kept = λ period entries keep. record {
+              order = λ i k hi hk p.
+                  let both = users cut i k place p in
+                  absurd (not_itself i k place (only i hi both.0) (only k hk both.1) p);
+              first = λ i h u.
+                  subst (λ m. start_by cut entries stay.train place ≤ℤ start_by cut entries m place)
+                  (train ∙ sym (only i h u)) (omega (arith, ints));
+              last = λ i h u.
+                  subst (λ m. end_by cut entries m place ≤ℤ end_by cut entries stay.train place)
+                  (train ∙ sym (only i h u)) (omega (arith, ints));
+            };
+          };
+        }
+
+    module _ (ends : Ends) (seen : AreEnds cut place some before ends) where
+      abbrev last : ℕ
+      last = ends.last.train
+
+      goes : IsTrue (precedes (member cut last) (member cut stay.train) place)
+      goes =
+          elim (one_precedes cut sound last stay.train place seen.last.there its.there
+          (λ e. both_ways _ next.not_yet (subst (λ m. IsTrue (is_among some m)) (e ∙ train) seen.among))
+          seen.last.used its.used) [
+            | inl p ↦ p
+            | inr p ↦ absurd (next.none_after last place seen.among
+                (subst (λ m. IsTrue (precedes (member cut m) (member cut last) place)) train p))
+          ]
+
+      step : IsStep cut (step_on last stay.train place false)
+      step = record {
+        one_there = seen.last.there;
+        other_there = its.there;
+        same = λ e. goes;
+        next = λ e. absurd (cc);
+      }
+
+      module _ (added : IsAdded before after (edge_to ends.last stay place false)) (period : ℕ) (entries : List ℤ)
+          (keep : All (Keeps period entries) after) where
+        old : KeepSome cut place some ends entries
+        old = seen.kept period entries (added.kept period entries keep)
+
+        off : end_by cut entries last place ≤ℤ start_by cut entries j place
+        off =
+            subst (λ m. end_by cut entries last place ≤ℤ start_by cut entries m place) train
+            (clear cut place ends.last stay seen.last its period entries (added.more period entries keep))
+
+        takes_now : start_by cut entries j place <ℤ end_by cut entries j place
+        takes_now =
+            takes cut sound place j next.there (subst (λ m. IsTrue (uses_place (member cut m) place)) train its.used) entries
+
+        takes_before : start_by cut entries last place <ℤ end_by cut entries last place
+        takes_before = takes cut sound place last seen.last.there seen.last.used entries
+
+        order_now : (i k : ℕ) → IsTrue (is_among more i) → IsTrue (is_among more k)
+            → IsTrue (precedes (member cut i) (member cut k) place)
+            → end_by cut entries i place ≤ℤ start_by cut entries k place
+        order_now i k hi hk p =
+            elim (is_more.either i hi) [
+              | inl a ↦ elim (is_more.either k hk) [
+                | inl b ↦ old.order i k a b p
+                | inr e ↦
+                    let by = old.last i a (users cut i k place p).0 in
+                    subst (λ m. end_by cut entries i place ≤ℤ start_by cut entries m place) (sym e)
+                    (omega (arith, ints, by, off))
+              ]
+              | inr e ↦ absurd (elim (is_more.either k hk) [
+                | inl b ↦ next.none_after k place b (subst (λ m. IsTrue (precedes (member cut m) (member cut k) place)) e p)
+                | inr f ↦ not_itself i k place e f p
+              ])
+            ]
+
+        first_now : (i : ℕ) → IsTrue (is_among more i) → IsTrue (uses_place (member cut i) place)
+            → start_by cut entries ends.first.train place ≤ℤ start_by cut entries i place
+        first_now i h u =
+            elim (is_more.either i h) [
+              | inl a ↦ old.first i a u
+              | inr e ↦
+                  let a = old.first last seen.among seen.last.used in
+                  let b = takes_before in
+                  subst (λ m. start_by cut entries ends.first.train place ≤ℤ start_by cut entries m place) (sym e)
+                  (omega (arith, ints, a, b, off))
+            ]
+
+        last_now : (i : ℕ) → IsTrue (is_among more i) → IsTrue (uses_place (member cut i) place)
+            → end_by cut entries i place ≤ℤ end_by cut entries j place
+        last_now i h u =
+            elim (is_more.either i h) [
+              | inl a ↦ let b = old.last i a u in let c = takes_now in omega (arith, ints, b, off, c)
+              | inr e ↦
+                  subst (λ m. end_by cut entries m place ≤ℤ end_by cut entries j place) (sym e) (omega (arith, ints))
+            ]
+
+        keep_now : KeepSome cut place more (record { first = ends.first; last = stay }) entries
+        keep_now = record {
+          order = order_now;
+          first = first_now;
+          last = λ i h u. subst (λ m. end_by cut entries i place ≤ℤ end_by cut entries m place) (sym train) (last_now i h u);
+        }
+
+      behind : IsAdded before after (edge_to ends.last stay place false) → IsSeenNow (Some ends)
+      behind added = record {
+        each = λ all. added.each cut all
+            (is_edge cut place ends.last stay seen.last its false seen.spans.last from step);
+        kept = added.kept;
+        seen = record {
+          spans = record { first = seen.spans.first; last = until };
+          first = seen.first;
+          last = its;
+          among = subst (λ m. IsTrue (is_among more m)) (sym train) is_more.new;
+          kept = keep_now added;
+        };
+      }
+
+    seen_now : (o : Option Ends) → AreSeen cut place some before o → IsLedTo o stay place before after → IsSeenNow o
+    seen_now None seen led = alone None refl seen led
+    seen_now (Some ends) seen led = behind ends seen led
+
+-- ---- its uses one after the other
+
+module _ (cut : Cut) (sound : IsSoundCut cut) (some more : List ℕ) (j : ℕ) (is_more : IsMore some more j)
+    (next : ComesNext cut some j) where
+  abbrev uses : List Use
+  uses = (member cut j).uses
+
+  abbrev use_of : ℕ → Use
+  use_of n = get_or uses n no_use
+
+  abbrev stay : ℕ → Stay
+  stay n = stay_by j (member cut j).entry (use_of n)
+
+  -- what it uses is a use of that place
+  is_stay : (n : ℕ) → n < length uses → IsStayOf cut (use_of n).block (stay n)
+  is_stay n l =
+      let place = (use_of n).block in
+      let found = found_at place uses n (differ cut sound j next.there) l refl in
+      let at : use_at (member cut j) place ≡ use_of n = ap (λ o. unwrap_or o no_use) found in record {
+        there = next.there;
+        used = list_any_at (λ (u : Use). u.block == place) uses n no_use l (eq-eqb place place refl);
+        is = ap (stay_by j (member cut j).entry) (sym at);
+      }
+
+  module _ (n : ℕ) (l : n < length uses) (before after : List Edge) (ends now : List (Option Ends)) where
+    abbrev place : ℕ
+    place = (use_of n).block
+
+    abbrev uses_it : List Use → ℕ → Bool
+    uses_it us p = list_any (λ (u : Use). u.block == p) us
+
+    -- the first uses, and this one
+    with_it : (p : ℕ) → uses_it (take (n + 1) uses) p ≡ (uses_it (take n uses) p || uses_it (use_of n ∷ []) p)
+    with_it p =
+        ap (λ us. uses_it us p) (take_more uses n no_use l)
+        ∙ list_any-append (λ (u : Use). u.block == p) (take n uses) (use_of n ∷ [])
+
+    here : uses_it (take (n + 1) uses) place ≡ true
+    here =
+        with_it place
+        ∙ or_right (uses_it (take n uses) place) (uses_it (use_of n ∷ []) place)
+        (or_left (place == place) false (eq-eqb place place refl))
+
+    elsewhere : (p : ℕ) → p ≢ place → uses_it (take (n + 1) uses) p ≡ uses_it (take n uses) p
+    elsewhere p ne =
+        let other : uses_it (use_of n ∷ []) p ≡ false = or_from (place == p) false (ne_eqb place p (λ e. ne (sym e))) refl in
+        with_it p ∙ ap (λ b. uses_it (take n uses) p || b) other ∙ or_none (uses_it (take n uses) p)
+      where
+        or_none : (b : Bool) → (b || false) ≡ b
+        or_none true = refl
+        or_none false = refl
+
+    module _ (laid : AreLaidSoFar cut some more (take n uses) before ends)
+        (led : IsLedTo (ends_at ends place) (stay n) place before after)
+        (is : now ≡ set ends place (Some (with_stay (ends_at ends place) (stay n)))) (from : IsSpan (stay n).from)
+        (until : IsSpan (stay n).until) where
+      there : place < place_count cut
+      there = ((sound.each j no_member next.there).each n no_use l).place
+
+      seen_before : AreSeen cut place some before (ends_at ends place)
+      seen_before =
+          subst (λ b. AreSeen cut place (if b then more else some) before (ends_at ends place))
+          (apart uses n (differ cut sound j next.there) l) (laid.seen place there)
+
+      led_now : IsSeenNow cut sound some more j is_more next place (stay n) (is_stay n l) refl from until before after (ends_at ends place)
+      led_now = seen_now cut sound some more j is_more next place (stay n) (is_stay n l) refl from until before after
+          (ends_at ends place) seen_before led
+
+      pub use_laid : AreLaidSoFar cut some more (take (n + 1) uses) after now
+      use_laid = record {
+        each = led_now.each laid.each;
+        count = ap length is ∙ length-set ends place _ ∙ laid.count;
+        seen = λ p lp. elim (cases_eq p place) [
+          | inl e ↦
+              let at : ends_at now place ≡ Some (with_stay (ends_at ends place) (stay n)) =
+              ap (λ es. ends_at es place) is ∙ get_or-set_same ends place _ None (omega (arith, there, laid.count)) in
+              subst (λ q. AreSeen cut q (gone some more (take (n + 1) uses) q) after (ends_at now q)) (sym e)
+              (subst (λ b. AreSeen cut place (if b then more else some) after (ends_at now place)) (sym here)
+              (subst (AreSeen cut place more after) (sym at) led_now.seen))
+          | inr ne ↦
+              let at : ends_at now p ≡ ends_at ends p =
+              ap (λ es. ends_at es p) is ∙ get_or-set_other ends place p _ None ne in
+              subst (λ b. AreSeen cut p (if b then more else some) after (ends_at now p)) (sym (elsewhere p ne))
+              (subst (AreSeen cut p (gone some more (take n uses) p) after) (sym at)
+              (seen_kept cut p (gone some more (take n uses) p) before after led_now.kept (ends_at ends p) (laid.seen p lp)))
+        ];
+      }
+
+  -- all of them
+  pub train_laid : (edges : List Edge) (ends : List (Option Ends)) → AreLaidSoFar cut some more uses edges ends
+      → AreLaid cut more edges ends
+  train_laid edges ends laid = record {
+    each = laid.each;
+    count = laid.count;
+    seen = λ place l.
+        let seen = laid.seen place l in
+        elim (cases_Bool (uses_place (member cut j) place)) [
+          | inl used ↦ subst (λ b. AreSeen cut place (if b then more else some) edges (ends_at ends place)) used seen
+          | inr free ↦
+              unused cut sound some more j is_more next place free edges (ends_at ends place)
+              (subst (λ b. AreSeen cut place (if b then more else some) edges (ends_at ends place)) free seen)
+        ];
+  }
+
+-- ---- the next pattern
+
+pub have_spans : (cut : Cut) (place : ℕ) (some : List ℕ) (edges : List Edge) (o : Option Ends) → AreSeen cut place some edges o
+    → IfSome o HaveSpans
+have_spans cut p some edges None seen = tt
+have_spans cut p some edges (Some ends) seen = seen.spans
+
+module _ (cut : Cut) (some : List ℕ) (ends : List (Option Ends)) (n : ℕ) (block : n < block_count cut) (there : n < place_count cut)
+    (before after : List Edge) where
+  record IsOn (o : Option Ends) : Type 0 where
+    each : All (IsEdge cut) before → All (IsEdge cut) after
+    kept : IsKept before after
+    again : IfSome o (λ e. (period : ℕ) (entries : List ℤ) → All (Keeps period entries) after
+        → Keeps period entries (edge_to e.last e.first n true))
+
+  led_on : (o : Option Ends) → AreSeen cut n some before o → IsLedOn o n before after → IsOn o
+  led_on None seen led = record {
+    each = λ all. subst (All (IsEdge cut)) (sym led) all;
+    kept = λ period entries keep. subst (All (Keeps period entries)) led keep;
+    again = tt;
+  }
+  led_on (Some e) seen led = record {
+    each = λ all. led.each cut all (is_edge cut n e.last e.first seen.last seen.first true seen.spans.last seen.spans.first (record {
+      one_there = seen.last.there;
+      other_there = seen.first.there;
+      same = λ e. absurd (cc);
+      next = λ e. record { block_there = block; one = seen.last.used; other = seen.first.used };
+    }));
+    kept = led.kept;
+    again = led.more;
+  }
+
+  again_kept : IsKept before after → (m : ℕ) (o : Option Ends)
+      → IfSome o (λ e. (period : ℕ) (entries : List ℤ) → All (Keeps period entries) before
+      → Keeps period entries (edge_to e.last e.first m true))
+      → IfSome o (λ e. (period : ℕ) (entries : List ℤ) → All (Keeps period entries) after
+      → Keeps period entries (edge_to e.last e.first m true))
+  again_kept kept m None h = tt
+  again_kept kept m (Some e) h = λ period entries keep. h period entries (kept period entries keep)
+
+  pub again_more : AreLaidAgain cut some before ends n → IsLedOn (ends_at ends n) n before after
+      → AreLaidAgain cut some after ends (n + 1)
+  again_more laid led =
+      let on = led_on (ends_at ends n) (laid.laid.seen n there) led in record {
+        laid = record {
+          each = on.each laid.laid.each;
+          count = laid.laid.count;
+          seen = λ p l. seen_kept cut p some before after on.kept (ends_at ends p) (laid.laid.seen p l);
+        };
+        again = λ m l. elim (cases_eq m n) [
+          | inl e ↦
+              subst (λ k. IfSome (ends_at ends k) (λ e. (period : ℕ) (entries : List ℤ) → All (Keeps period entries) after
+              → Keeps period entries (edge_to e.last e.first k true))) (sym e) on.again
+          | inr ne ↦ again_kept on.kept m (ends_at ends m) (laid.again m (omega (arith, l, ne)))
+        ];
+      }
+
+-- ---- all places
+
+module _ (cut : Cut) (order : List ℕ) (is : IsOrder cut order) (edges : List Edge) (place : ℕ) where
+  place_kept : (o : Option Ends) → AreSeen cut place order edges o
+      → (place < block_count cut → IfSome o (λ e. (period : ℕ) (entries : List ℤ) → All (Keeps period entries) edges
+      → Keeps period entries (edge_to e.last e.first place true)))
+      → (period : ℕ) (entries : List ℤ) → All (Keeps period entries) edges → KeepsPlace cut period entries place
+  place_kept None seen again period entries keep = record {
+    order = λ i j li lj p. absurd (both_ways _ (seen i (is_there cut order is i li)) (users cut i j place p).0);
+    again = λ block i j li lj ui uj. absurd (both_ways _ (seen i (is_there cut order is i li)) ui);
+  }
+  place_kept (Some e) seen again period entries keep =
+      let kept = seen.kept period entries keep in record {
+        order = λ i j li lj p. kept.order i j (is_there cut order is i li) (is_there cut order is j lj) p;
+        again = λ block i j li lj ui uj.
+            let a = kept.last i (is_there cut order is i li) ui in
+            let b = clear_again cut place e.last e.first seen.last seen.first period entries (again block period entries keep) in
+            let c = kept.first j (is_there cut order is j lj) uj in
+            omega (arith, ints, a, b, c);
+      }
+
+pub all_laid : (cut : Cut) (order : List ℕ) → IsOrder cut order → (edges : List Edge) (ends : List (Option Ends)) (n : ℕ)
+    → block_count cut ≤ n → AreLaidAgain cut order edges ends n → AreEnough cut edges
+all_laid cut order is edges ends n all laid = record {
+  each = laid.laid.each;
+  enough = λ period entries keep place l.
+      place_kept cut order is edges place (ends_at ends place) (laid.laid.seen place l)
+      (λ block. laid.again place (omega (arith, block, all))) period entries keep;
+}
