@@ -43,11 +43,12 @@ const CYCLES: [(&str, &str, &str); 8] = [
          connect,C,T1,T2,60\n",
         "period,S,330,2\nslot,T1,0\nslot,T2,180\nstep,T1,C,T2,same\nstep,T2,B,T1,next\n",
     ),
-    // T2 waits for the T1 of its own pattern alone.
+    // T2 waits for the T1 of its own pattern alone. Each train has a block of its own for 90 s, so
+    // the step from T1 to itself would do as well.
     (
         "",
         CONNECTED,
-        "period,S,90,1\nslot,T1,0\nslot,T2,180\nstep,T1,A,T1,next\n",
+        "period,S,90,1\nslot,T1,0\nslot,T2,180\nstep,T2,B,T2,next\n",
     ),
     // Four steps of 290 s each, two of which lead to the next pattern: 1,160 s in two patterns.
     (
