@@ -1,0 +1,17 @@
+mod Standing
+mod Nearest
+mod Solved
+mod Following
+mod Zipped
+mod Carried
+mod Touched
+mod Read
+mod Spanned
+mod Compared
+mod Filling
+mod Gathering
+mod Ahead
+mod Entered
+mod First
+mod Walking
+mod Ended

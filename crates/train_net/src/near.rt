@@ -1,0 +1,99 @@
+//! Who stands nearest before a position of an order at each place.
+ghost use Rattle.std.specs.Prelude.{◌≡◌, ℕ, ◌<◌, ◌≤◌, length, All, IsTrue, IsSome, slice_index, slice_index_or, find, ◌==◌, None, replicate, IfOk, ◌↔◌};
+ghost use Rattle.plan_model.specs.Members.{member, member_count};
+ghost use Rattle.plan_model.specs.Places.{place_count};
+ghost use Rattle.plan_model.specs.Cut.{AreOfOtherPlaces};
+ghost use Rattle.train_net.specs.Near.{filled, near_by, AreAllFound, IsNear, AreNear};
+
+use plan_model::SoundCut;
+use rail_model::{OutOfMemory, Use};
+use std::alloc::Global;
+
+/// Who stands nearest at a place, with its use of the place.
+#[derive(Clone, Copy)]
+pub(crate) struct Near {
+    /// Its position among the cut's members.
+    pub(crate) train: u32,
+    pub(crate) one: Use,
+}
+
+/// Who stands nearest before a position of an order at each of the wanted places: the table has
+/// them by the places' positions. It is looked for from the position back, until all are found.
+pub(crate) fn nearest_before(
+    alloc: Global,
+    cut: &SoundCut,
+    order: &[u32],
+    at: usize,
+    wanted: &[u32],
+) -> Result<Vec<Option<Near>>, OutOfMemory>
+    requires there { All (λ i. i < member_count cut.now) order.now }
+    requires within { at ≤ length order.now }
+    requires wanted { All (λ p. p < place_count cut.now) wanted.now }
+    ensures places { IfOk result (λ near. length near.items ≡ place_count cut.now) }
+    ensures near { IfOk result (λ near. AreNear cut.now order.now at wanted.now near.items) }
+{
+    let mut near = vec![in alloc; None; cut.place_count() as usize]?;
+    look_back(&mut near, cut, order, at, wanted);
+    Ok(near)
+}
+
+// Fills the table, which is empty, from the position back.
+fn look_back(near: &mut [Option<Near>], cut: &SoundCut, order: &[u32], at: usize, wanted: &[u32])
+    requires there { All (λ i. i < member_count cut.now) order.now }
+    requires within { at ≤ length order.now }
+    requires wanted { All (λ p. p < place_count cut.now) wanted.now }
+    requires none { near.old ≡ replicate (place_count cut.now) None }
+    ensures { AreNear cut.now order.now at wanted.now near.new }
+{
+    let mut from = at;
+    while from > 0 && !are_found(near, wanted) {
+        from -= 1;
+        let train = order[from];
+        fill(near, train, cut.row(train).uses.slice());
+    }
+}
+
+// Whether somebody is found at each of some places.
+fn are_found(near: &[Option<Near>], wanted: &[u32]) -> bool
+    requires { All (λ p. p < length near.now) wanted.now }
+    ensures { IsTrue result ↔ AreAllFound near.now wanted.now }
+{
+    wanted.iter().all(|place| near[*place as usize].is_some())
+}
+
+/// The table with a train's uses: it stands nearest at its places from then on.
+pub(crate) fn pass(near: &mut [Option<Near>], train: u32, uses: &[Use])
+    requires there { All (λ u. u.block < length near.old) uses.now }
+    requires differ { AreOfOtherPlaces uses.now }
+    ensures count { length near.new ≡ length near.old }
+    ensures all { (place : ℕ) → place < length near.old → slice_index_or near.new place None
+        ≡ near_by train (find (λ u. u.block == place) uses.now) (slice_index_or near.old place None) }
+{
+    for one in uses {
+        near[one.block as usize] = Some(Near { train, one: *one });
+    }
+}
+
+// The table with a train's uses of those places at which nobody is found yet.
+fn fill(near: &mut [Option<Near>], train: u32, uses: &[Use])
+    requires { All (λ u. u.block < length near.old) uses.now }
+    ensures count { length near.new ≡ length near.old }
+    ensures all { (place : ℕ) → place < length near.old → slice_index_or near.new place None
+        ≡ filled (slice_index_or near.old place None)
+        (near_by train (find (λ u. u.block == place) uses.now) None) }
+{
+    for one in uses {
+        let place = one.block as usize;
+        near[place] = first_found(near[place], Near { train, one: *one });
+    }
+}
+
+// Who was found first.
+fn first_found(near: Option<Near>, next: Near) -> Option<Near>
+    ensures { result ≡ filled near (Some next) }
+{
+    match near {
+        Some(first) => Some(first),
+        None => Some(next),
+    }
+}
