@@ -24,8 +24,8 @@ use rail_model::OutOfMemory;
 use std::alloc::Global;
 use train_placing::{Placing, plan_of_occupied};
 
-/// The compressed timetable of a cut by its net: the places are looked at only at the ends of the
-/// order.
+/// The compressed timetable of a cut by its net. Uses are looked at from either end of the order
+/// alone, until each place is found; where a block has no train, that is all of them.
 pub fn plan_by(alloc: Global, cut: &FitCut, net: &Net) -> Result<Plan, OutOfMemory>
     requires none { remaining cut.now ≡ [] }
     requires net { IsNetOf cut.now net.now }
