@@ -1,4 +1,5 @@
 pub mod Publishing
+pub mod Keeping
 pub mod CatchingUp
 pub mod Turns
 pub mod InTurn

@@ -1,18 +1,20 @@
 //! The session of one thread.
-ghost use Rattle.std.specs.Prelude.{◌≡◌, ◌≢◌, ◌≤◌, [], length, sum_by, IfOk, OnOk, None};
+ghost use Rattle.std.specs.Prelude.{◌≡◌, ◌≢◌, ◌≤◌, [], length, sum_by, IfOk, IfSome, OnOk, None};
 ghost use Rattle.plan_book.specs.declared.book.TheConstants.{PLANNERS, TASKS, FIRST_NUMBER};
 ghost use Rattle.plan_model.specs.Journal.{done_by, script_of};
 ghost use Rattle.plan_model.specs.Outcome.{IsPlanner, IsNextReading, IsAnswerOf, next_task};
 ghost use Rattle.plan_model.specs.Legal.{IsLegal};
 ghost use Rattle.plan_model.specs.Session.{IsSessionAlone};
+ghost use Rattle.plan_repair.specs.Kept.{AgreesWith};
+ghost use Rattle.section_worker.specs.Keeping.{kept_for, KeepsRows, KeepsWhatWasRead};
 ghost use Rattle.session_run.specs.Turns.{PublishesNow, HasCaughtUp, DoesNextTask};
 ghost use Rattle.session_run.specs.Turns.{DoesTasks, by_planner};
 
-use compression::answer;
 use line_tables::LineTables;
 use plan_book::Book;
 use plan_model::{Act, Done, Entry, Next, Reading, Scripts};
 use rail_model::OutOfMemory;
+use section_worker::Worker;
 use std::alloc::Global;
 
 // By whom everything is done: by the pass that opens the journal.
@@ -33,24 +35,27 @@ pub fn session_alone(
     ensures { IfOk result (IsSessionAlone tables at scripts) }
 {
     let mut book = Book::start(alloc, tables, at, scripts)?;
+    let mut worker = Worker::new(alloc, 0, 1, PASS);
     let planners = book.planners();
     for place in 0..planners {
-        do_script(alloc, &mut book, place + 1)?;
+        do_script(&mut worker, &mut book, place + 1)?;
     }
-    catch_up(alloc, &mut book)?;
+    catch_up(&mut worker, &mut book)?;
     let _journal = book.journal();
     Ok(book)
 }
 
 // Does the script of a planner, of which nothing is done yet.
-fn do_script(alloc: Global, book: &mut Book, planner: u32) -> Result<(), OutOfMemory>
+fn do_script(worker: &mut Worker, book: &mut Book, planner: u32) -> Result<(), OutOfMemory>
     requires planner { IsPlanner book.old planner }
     requires none { done_by book.old planner ≡ [] }
-    ensures { OnOk result
+    requires kept { KeepsWhatWasRead worker.old book.old }
+    ensures done { OnOk result
         (DoesTasks book.old (by_planner planner (script_of book.old planner)) book.new) }
+    ensures kept { OnOk result (KeepsWhatWasRead worker.new book.new) }
 {
     for _task in 0..script_length(book.journal().slice(), planner) {
-        do_task(alloc, book, planner)?;
+        do_task(worker, book, planner)?;
     }
     Ok(())
 }
@@ -68,38 +73,44 @@ fn script_length(journal: &[Entry], planner: u32) -> usize
 }
 
 // Answers the sections that are not current, and does a planner's next task.
-fn do_task(alloc: Global, book: &mut Book, planner: u32) -> Result<(), OutOfMemory>
+fn do_task(worker: &mut Worker, book: &mut Book, planner: u32) -> Result<(), OutOfMemory>
     requires planner { IsPlanner book.old planner }
     requires left { next_task book.old planner ≢ None }
-    ensures { OnOk result (DoesNextTask planner book.old book.new) }
+    requires kept { KeepsWhatWasRead worker.old book.old }
+    ensures done { OnOk result (DoesNextTask planner book.old book.new) }
+    ensures kept { OnOk result (KeepsWhatWasRead worker.new book.new) }
 {
-    catch_up(alloc, book)?;
+    catch_up(worker, book)?;
     let _stepped = book.step(PASS, planner)?;
     Ok(())
 }
 
 // Answers the sections that are not current, in the order of names.
-fn catch_up(alloc: Global, book: &mut Book) -> Result<(), OutOfMemory>
+fn catch_up(worker: &mut Worker, book: &mut Book) -> Result<(), OutOfMemory>
+    requires { KeepsWhatWasRead worker.old book.old }
     ensures ok { OnOk result (HasCaughtUp book.old book.new) }
     ensures legal { OnOk result (IsLegal book.old) }
+    ensures kept { OnOk result (KeepsWhatWasRead worker.new book.new) }
 {
     let _journal = book.journal();
     for _step in 0..book.tables().sections() {
         let Next::Reading(reading) = book.read_next(0, 1)? else {
             return Ok(());
         };
-        publish(alloc, book, reading)?;
+        publish(worker, book, reading)?;
     }
     Ok(())
 }
 
 // Answers the section of a reading, which is not current.
-fn publish(alloc: Global, book: &mut Book, reading: Reading) -> Result<(), OutOfMemory>
-    requires { IsNextReading 0 1 book.old reading }
-    ensures { OnOk result (PublishesNow reading.cut.section.name book.old book.new) }
+fn publish(worker: &mut Worker, book: &mut Book, reading: Reading) -> Result<(), OutOfMemory>
+    requires next { IsNextReading 0 1 book.old reading }
+    requires kept { KeepsWhatWasRead worker.old book.old }
+    ensures published { OnOk result (PublishesNow reading.cut.section.name book.old book.new) }
+    ensures kept { OnOk result (KeepsWhatWasRead worker.new book.new) }
 {
     let _found = book.journal();
-    let done = answered(alloc, reading)?;
+    let done = answered(worker, reading)?;
     let Ok(()) = book.publish(PASS, done)? else {
         unreachable!();
     };
@@ -107,12 +118,15 @@ fn publish(alloc: Global, book: &mut Book, reading: Reading) -> Result<(), OutOf
     Ok(())
 }
 
-// The answer of the section of a reading.
-fn answered(alloc: Global, reading: Reading) -> Result<Done, OutOfMemory>
-    ensures { IfOk result (IsAnswerOf reading) }
+// The answer of the section of a reading, by what is kept of it.
+fn answered(worker: &mut Worker, reading: Reading) -> Result<Done, OutOfMemory>
+    requires { IfSome (kept_for worker.old reading.cut.section.name)
+        (λ h. AgreesWith h.keep reading.cut) }
+    ensures answer { IfOk result (IsAnswerOf reading) }
+    ensures keeps { OnOk result (KeepsRows reading.cut reading.at worker.old worker.new) }
 {
     let mut reading = reading;
-    let answer = answer(alloc, &mut reading)?;
+    let answer = worker.answer(&mut reading)?;
     Ok(Done {
         section: reading.section().name,
         at: reading.at(),
