@@ -15,3 +15,6 @@ mod Entered
 mod First
 mod Walking
 mod Ended
+mod Marks
+mod Anew
+mod Agreeing

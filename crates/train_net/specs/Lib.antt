@@ -5,4 +5,5 @@ pub mod Read
 pub mod Reading
 pub mod Held
 pub mod Mended
+pub mod Mending
 pub mod Laws

@@ -9,9 +9,12 @@ mod ends;
 mod entering;
 mod laws;
 mod making;
+mod marking;
+mod mending;
 mod near;
 mod net;
 mod plan;
+mod reordered;
 mod tying;
 
 pub use edge::Edge;
@@ -20,5 +23,6 @@ pub use laws::{
     read_are_placed, solved_is_least, unmarked_has_none_fresh,
 };
 pub use making::net_of;
+pub use mending::mend;
 pub use net::Net;
 pub use plan::plan_by;

@@ -1,0 +1,269 @@
+//! Mending the net of a cut to one of a later cut, where few of its members change.
+ghost use Rattle.std.specs.Prelude.{◌≡◌, ◌⊎◌, ℕ, ◌<◌, ◌↔◌, true, length, All, IfOk, IfSome, IsTrue, Ok, Some, None, slice_index, slice_index_or};
+ghost use Rattle.std.specs.List.{AllZip};
+ghost use Rattle.std.specs.List.Sorted.{IsPermutation};
+ghost use Rattle.plan_model.specs.declared.cut.Cut.{Cut};
+ghost use Rattle.plan_model.specs.Members.{members, member_count};
+ghost use Rattle.plan_model.specs.Cut.{IsSoundCut};
+ghost use Rattle.train_order.specs.Ordering.{IsOrdering};
+ghost use Rattle.train_net.specs.Net.{edges_to};
+ghost use Rattle.train_net.specs.Held.{IsNetOf};
+ghost use Rattle.train_net.specs.Mended.{IsOrigin};
+ghost use Rattle.train_net.specs.Mending.{AreNow, IsMoved, AreMoved, AreAnew, AreRemade, AreAllMended, comes_ahead};
+
+use crate::edge::Edge;
+use crate::edges::edges_from;
+use crate::making::no_edges;
+use crate::marking::{marks_after_fresh, places_of};
+use crate::near::{Near, nearest_before};
+use crate::net::Net;
+use crate::reordered::{position_of, reorder};
+use plan_model::SoundCut;
+use rail_model::{List, OutOfMemory, Use};
+use std::alloc::Global;
+
+/// The net of a later cut, made of the net of an earlier one, if it can be: the members have an
+/// order then. `origin` has, for each member of the later cut, where it stood in the earlier one
+/// if it is kept.
+///
+/// Only the places of fresh members, and of those that stand next to them or next to where one is
+/// gone, are looked at. There is none where kept members don't stand as before, or a fresh one
+/// doesn't fit in where its entry is.
+pub fn mend(
+    alloc: Global,
+    cut: &SoundCut,
+    net: &Net,
+    origin: &[Option<u32>],
+) -> Result<Option<Net>, OutOfMemory>
+    requires count { length origin.now ≡ member_count cut.now }
+    ensures net { (old : Cut) → IsSoundCut old → IsNetOf old net.now → IsOrigin old cut.now origin.now
+        → IfOk result (λ r. IfSome r (IsNetOf cut.now)) }
+    ensures order { (old : Cut) → IsSoundCut old → IsNetOf old net.now
+        → IsOrigin old cut.now origin.now
+        → IfOk result (λ r. IfSome r (λ net.
+        IsOrdering cut.now (Ok (record { positions = net.order })))) }
+{
+    let now = positions_now(alloc, origin, cut.member_count(), net.edges.len())?;
+    let Some(order) = reorder(alloc, cut, net.order.slice(), origin, &now)? else {
+        return Ok(None);
+    };
+    match edges_in(alloc, cut, &order, net.edges.slice(), origin, &now)? {
+        Some(edges) => Ok(Some(Net {
+            order: List::from_vec(order),
+            edges: List::from_vec(edges),
+        })),
+        None => Ok(None),
+    }
+}
+
+// The present position of each member of before that is kept, by their positions then.
+fn positions_now(
+    alloc: Global,
+    origin: &[Option<u32>],
+    members: u32,
+    before: usize,
+) -> Result<Vec<Option<u32>>, OutOfMemory>
+    requires { length origin.now ≡ members }
+    ensures { IfOk result (λ now. AreNow origin.now now.items) }
+{
+    let mut now = vec![in alloc; None; before]?;
+    put_positions(origin, members, &mut now);
+    Ok(now)
+}
+
+// Puts in the position of each kept member.
+fn put_positions(origin: &[Option<u32>], members: u32, now: &mut [Option<u32>])
+    requires none { (old : ℕ) → slice_index_or now.old old None ≡ None }
+    requires count { length origin.now ≡ members }
+    ensures { AreNow origin.now now.new }
+{
+    for i in 0..members {
+        put_position(now, origin[i as usize], i);
+    }
+}
+
+// Puts in the position of a member, if it is kept.
+fn put_position(now: &mut [Option<u32>], old: Option<u32>, i: u32)
+    ensures { (a j : ℕ) → slice_index_or now.new a None ≡ Some j
+        → (slice_index_or now.old a None ≡ Some j) ⊎ ((old ≡ Some a) × (i ≡ j)) }
+{
+    if let Some(old) = old {
+        let at = old as usize;
+        if at < now.len() {
+            now[at] = Some(i);
+        }
+    }
+}
+
+// The edges to each member, in its order now.
+fn edges_in(
+    alloc: Global,
+    cut: &SoundCut,
+    order: &[u32],
+    old: &[List<Edge>],
+    origin: &[Option<u32>],
+    now: &[Option<u32>],
+) -> Result<Option<Vec<List<Edge>>>, OutOfMemory>
+    requires once { IsPermutation (members cut.now) order.now }
+    ensures lists { IfOk result (λ r. IfSome r (λ edges.
+        length edges.items ≡ member_count cut.now)) }
+    ensures mended { IfOk result (λ r. IfSome r (λ edges.
+        AreAllMended cut.now origin.now now.now order.now old.now edges.items)) }
+{
+    let marks = marks_after_fresh(alloc, cut, order, origin)?;
+    remade(alloc, cut, order, old, origin, now, &marks)
+}
+
+// The same where members are marked.
+fn remade(
+    alloc: Global,
+    cut: &SoundCut,
+    order: &[u32],
+    old: &[List<Edge>],
+    origin: &[Option<u32>],
+    now: &[Option<u32>],
+    marks: &[bool],
+) -> Result<Option<Vec<List<Edge>>>, OutOfMemory>
+    requires once { IsPermutation (members cut.now) order.now }
+    requires marks { length marks.now ≡ member_count cut.now }
+    ensures lists { IfOk result (λ r. IfSome r (λ edges.
+        length edges.items ≡ member_count cut.now)) }
+    ensures each { IfOk result (λ r. IfSome r (λ edges. (at : ℕ) → at < length order.now
+        → AreRemade cut.now origin.now now.now marks.now order.now old.now at
+        (edges_to edges.items (slice_index order.now at)))) }
+{
+    let mut edges = no_edges(alloc, cut.member_count())?;
+    for at in 0..order.len() {
+        let member = order[at];
+        let kept = edges_kept(alloc, old, origin, now, marks, member)?;
+        match edges_at(alloc, cut, order, at, kept)? {
+            Some(to) => edges[member as usize] = to,
+            None => return Ok(None),
+        }
+    }
+    Ok(Some(edges))
+}
+
+// The edges to who stands at a position: those that it had and may keep, or edges made anew.
+fn edges_at(
+    alloc: Global,
+    cut: &SoundCut,
+    order: &[u32],
+    at: usize,
+    kept: Option<List<Edge>>,
+) -> Result<Option<List<Edge>>, OutOfMemory>
+    requires there { All (λ i. i < member_count cut.now) order.now }
+    requires within { at < length order.now }
+    ensures { IfOk result (λ r. IfSome r (λ edges.
+        AreAnew cut.now order.now at edges ⊎ (kept ≡ Some edges))) }
+{
+    match kept {
+        Some(edges) => Ok(Some(edges)),
+        None => edges_anew(alloc, cut, order, at),
+    }
+}
+
+// The edges that a member had, if it may keep them: it isn't marked, and is kept, and so are all
+// from whom it had an edge.
+fn edges_kept(
+    alloc: Global,
+    old: &[List<Edge>],
+    origin: &[Option<u32>],
+    now: &[Option<u32>],
+    marks: &[bool],
+    member: u32,
+) -> Result<Option<List<Edge>>, OutOfMemory>
+    requires { member < length marks.now }
+    ensures { IfOk result (λ r. IfSome r
+        (AreMoved origin.now now.now marks.now old.now member)) }
+{
+    if marks[member as usize] {
+        return Ok(None);
+    }
+    match position_of(origin, member) {
+        Some(before) => {
+            let at = before as usize;
+            if at < old.len() {
+                moved_edges(alloc, old[at].slice(), now)
+            } else {
+                Ok(None)
+            }
+        }
+        None => Ok(None),
+    }
+}
+
+// Edges with the present positions of those from whom they are, if all of these are kept.
+fn moved_edges(
+    alloc: Global,
+    edges: &[Edge],
+    now: &[Option<u32>],
+) -> Result<Option<List<Edge>>, OutOfMemory>
+    ensures { IfOk result (λ r. IfSome r (AllZip (IsMoved now.now) edges.now)) }
+{
+    let mut moved = List::new(alloc);
+    for edge in edges {
+        match moved_edge(*edge, now) {
+            Some(edge) => moved.push(edge)?,
+            None => return Ok(None),
+        }
+    }
+    Ok(Some(moved))
+}
+
+fn moved_edge(edge: Edge, now: &[Option<u32>]) -> Option<Edge>
+    ensures { IfSome result (IsMoved now.now edge) }
+{
+    match position_of(now, edge.from) {
+        Some(from) => Some(Edge {
+            from,
+            weight: edge.weight,
+            place: edge.place,
+        }),
+        None => None,
+    }
+}
+
+// The edges to who stands at a position, made anew, if it follows its nearest at each of its
+// places.
+fn edges_anew(
+    alloc: Global,
+    cut: &SoundCut,
+    order: &[u32],
+    at: usize,
+) -> Result<Option<List<Edge>>, OutOfMemory>
+    requires there { All (λ i. i < member_count cut.now) order.now }
+    requires within { at < length order.now }
+    ensures { IfOk result (λ r. IfSome r (AreAnew cut.now order.now at)) }
+{
+    let train = order[at];
+    let uses = cut.row(train).uses.slice();
+    let near = nearest_before(alloc, cut, order, at, &places_of(alloc, uses)?)?;
+    if !are_ahead(&near, uses, train) {
+        return Ok(None);
+    }
+    Ok(Some(edges_from(alloc, cut, train, &near)?))
+}
+
+// Whether those who are found start before a member at each of its uses.
+fn are_ahead(near: &[Option<Near>], uses: &[Use], train: u32) -> bool
+    requires { All (λ u. u.block < length near.now) uses.now }
+    ensures { IsTrue result ↔ All (λ u. IsTrue
+        (comes_ahead (slice_index_or near.now u.block None) train u)) uses.now }
+{
+    uses.iter()
+        .all(|one| comes_ahead(near[one.block as usize], train, one))
+}
+
+// Whether who is found, if anybody is, starts before a member's use or, at one moment, has the
+// lesser name.
+fn comes_ahead(near: Option<Near>, train: u32, one: &Use) -> bool
+    ensures { result ≡ comes_ahead near train one.now }
+{
+    match near {
+        Some(near) => {
+            near.one.start < one.start || near.one.start == one.start && near.train < train
+        }
+        None => true,
+    }
+}
