@@ -1,8 +1,12 @@
 //! What is kept of a section's cut from one reading to the next.
-ghost use Rattle.std.specs.Prelude.{◌≡◌, IfOk};
-ghost use Rattle.rail_model.specs.Name.{NamesRise};
+ghost use Rattle.std.specs.Prelude.{◌≡◌, ◌≤◌, IfOk, IfSome};
+ghost use Rattle.plan_model.specs.declared.limits.TheConstants.{MEMBERS};
+ghost use Rattle.plan_model.specs.Cut.{IsSoundCut};
+ghost use Rattle.plan_model.specs.Members.{member_count};
+ghost use Rattle.plan_repair.specs.Held.{IsHeldOf};
 
-use crate::renewed::renewed;
+use crate::held::{Held, answer_held};
+use crate::renewed::{RenewedCut, renewed};
 use compression::answer_of_cut;
 use plan_model::{Answer, Cut, CutRow, Rows, is_crowded};
 use rail_model::{List, Name, OutOfMemory};
@@ -10,21 +14,24 @@ use std::alloc::Global;
 use std::marker::Model;
 
 /// What is kept of a section's cut: the section's name, and the rows with their stamps.
+// Beside them a net of the rows may be held, by which a later cut is answered where few rows
+// change.
 #[derive(Drop)]
 pub struct Keep {
     section: Name,
     rows: List<CutRow>,
+    held: Option<Held>,
 }
 
 impl Model for Keep {
-    ghost use Rattle.rail_model.specs.Name.{NamesRise};
     ghost use Rattle.plan_repair.specs.Kept.{Kept};
+    ghost use Rattle.plan_repair.specs.Held.{AreKept};
 
     ghost Value = { Kept };
 
     ghost view = { λ k. record { section = k.section; rows = k.rows } };
 
-    ghost invariant = { λ k. NamesRise (λ r. r.name) k.rows };
+    ghost invariant = { λ k. AreKept k.rows k.held };
 }
 
 impl Keep {
@@ -52,6 +59,7 @@ impl Keep {
         let nothing = Keep {
             section: reading.section().name,
             rows: List::new(alloc),
+            held: None,
         };
         nothing.repair(alloc, reading)
     }
@@ -76,22 +84,31 @@ impl Keep {
         if is_crowded(count) {
             let section = reading.section().name;
             let rows = List::new(alloc);
-            return Ok((Keep { section, rows }, Answer::Crowded { count }));
+            return Ok((Keep { section, rows, held: None }, Answer::Crowded { count }));
         }
-        let cut = renewed(alloc, self.rows, reading)?;
-        let answer = answer_of_cut(alloc, &cut)?;
-        Ok((keep_of(cut), answer))
+        let Keep { rows, held, .. } = self;
+        let first = rows.is_empty();
+        let RenewedCut { cut, origin } = renewed(alloc, rows, reading)?;
+        if first {
+            let answer = answer_of_cut(alloc, &cut)?;
+            return Ok((keep_of(cut, None), answer));
+        }
+        let (answer, held) = answer_held(alloc, &cut, held, &origin)?;
+        Ok((keep_of(cut, held), answer))
     }
 }
 
 // What is kept of a cut that isn't crowded.
-fn keep_of(cut: Cut) -> Keep
-    requires { NamesRise (λ r. r.name) cut.rows }
+fn keep_of(cut: Cut, held: Option<Held>) -> Keep
+    requires sound { IsSoundCut cut }
+    requires few { member_count cut ≤ MEMBERS }
+    requires held { IfSome held (IsHeldOf cut) }
     ensures { result ≡ record { section = cut.section.name; rows = cut.rows } }
 {
     let Cut { section, rows, .. } = cut;
     Keep {
         section: section.name,
         rows,
+        held,
     }
 }
