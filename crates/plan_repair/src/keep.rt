@@ -1,5 +1,5 @@
 //! What is kept of a section's cut from one reading to the next.
-ghost use Rattle.std.specs.Prelude.{◌≡◌, ◌≤◌, IfOk, IfSome};
+ghost use Rattle.std.specs.Prelude.{◌≡◌, ◌≤◌, [], IfOk, IfSome};
 ghost use Rattle.plan_model.specs.declared.limits.TheConstants.{MEMBERS};
 ghost use Rattle.plan_model.specs.Cut.{IsSoundCut};
 ghost use Rattle.plan_model.specs.Members.{member_count};
@@ -14,12 +14,11 @@ use std::alloc::Global;
 use std::marker::Model;
 
 /// What is kept of a section's cut: the section's name, and the rows with their stamps.
-// Beside them a net of the rows may be held, by which a later cut is answered where few rows
-// change.
 #[derive(Drop)]
 pub struct Keep {
     section: Name,
     rows: List<CutRow>,
+    // The net of these rows, by which a later cut is answered where few rows change.
     held: Option<Held>,
 }
 
@@ -56,12 +55,7 @@ impl Keep {
         ensures reading { TakesAtMost (use_count (R.shown reading.old))
             (R.shown reading.old) (R.shown reading.new) }
     {
-        let nothing = Keep {
-            section: reading.section().name,
-            rows: List::new(alloc),
-            held: None,
-        };
-        nothing.repair(alloc, reading)
+        nothing(alloc, reading.section().name).repair(alloc, reading)
     }
 
     /// The answer of the section from a later reading, and what is kept of that one.
@@ -82,9 +76,8 @@ impl Keep {
     {
         let count = reading.count();
         if is_crowded(count) {
-            let section = reading.section().name;
-            let rows = List::new(alloc);
-            return Ok((Keep { section, rows, held: None }, Answer::Crowded { count }));
+            let keep = nothing(alloc, reading.section().name);
+            return Ok((keep, Answer::Crowded { count }));
         }
         let Keep { rows, held, .. } = self;
         let first = rows.is_empty();
@@ -98,7 +91,18 @@ impl Keep {
     }
 }
 
-// What is kept of a cut that isn't crowded.
+// What is kept of a section where no rows are.
+fn nothing(alloc: Global, section: Name) -> Keep
+    ensures { result ≡ record { section = section; rows = [] } }
+{
+    Keep {
+        section,
+        rows: List::new(alloc),
+        held: None,
+    }
+}
+
+// What is kept of a cut that isn't crowded, with the net that is held of it.
 fn keep_of(cut: Cut, held: Option<Held>) -> Keep
     requires sound { IsSoundCut cut }
     requires few { member_count cut ≤ MEMBERS }

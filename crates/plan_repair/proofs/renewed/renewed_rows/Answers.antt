@@ -1,7 +1,7 @@
 use Rattle.std.proofs.Common.{◌<◌, sym, ◌∙◌, subst, arith}
 use Rattle.std.specs.Prelude.{IfSome}
 use Rattle.plan_model.specs.Members.{member_count}
-use Rattle.plan_repair.specs.Left.{IsFrom, IsRenewing}
+use Rattle.plan_repair.specs.Left.{IsFrom}
 use Rattle.plan_repair.proofs.Leaving.{part_of}
 use Rattle.plan_repair.proofs.Renewing.{renewing_first, taken_in_all, rows_more, renewing_more}
 use Rattle.plan_repair.proofs.Standing.{from_none, from_more}
@@ -10,13 +10,11 @@ use Rattle.plan_repair.proofs.renewed.renewed_rows.Goals as goal
 pub loop-i-init : goal.loop-i-init
 loop-i-init g c =
     let before = g.R.Rows.shown c.args.reading.now in
-    let all = sym (c.from_vec-left.ensures.items ∙ c.into_vec.ensures) in
     record {
       rows = c.new-rows.ensures;
       origin = rw (c.from_vec-left.ensures.items, c.into_vec.ensures, c.new-rows.ensures, c.new-origin.ensures.items)
           (from_none c.args.kept);
-      renewing = subst (λ left. IsRenewing c.args.kept before 0 left before) all
-          (renewing_first c.args.kept before c.requires.rise);
+      renewing = rw (c.from_vec-left.ensures.items, c.into_vec.ensures) (renewing_first c.args.kept before c.requires.rise);
     }
 
 pub next_row-requires-clause-agree : goal.next_row-requires-clause-agree
@@ -26,24 +24,18 @@ next_row-requires-clause-agree g c =
 
 pub returns-in_err-row-clause-reading : goal.returns-in_err-row-clause-reading
 returns-in_err-row-clause-reading g c =
-    let before = g.R.Rows.shown c.args.reading.now in
-    let below : c.loop-i.i < member_count before.cut = omega (arith, c.loop-i-test.true, c.count-i-end.ensures.count) in
-    taken_in_all c.args.kept before c.loop-i.i c.loop-i.left.items (g.R.Rows.shown c.loop-i.reading) c.loop-i.invariant.renewing
-    below (g.R.Rows.shown c.next_row.new.reading) c.next_row.ensures.reading
+    taken_in_all _ _ _ _ _ c.loop-i.invariant.renewing (omega (arith, c.loop-i-test.true, c.count-i-end.ensures.count)) _
+    c.next_row.ensures.reading
 
 pub returns-in_err-push-clause-reading : goal.returns-in_err-push-clause-reading
 returns-in_err-push-clause-reading g c =
-    let before = g.R.Rows.shown c.args.reading.now in
-    let below : c.loop-i.i < member_count before.cut = omega (arith, c.loop-i-test.true, c.count-i-end.ensures.count) in
-    taken_in_all c.args.kept before c.loop-i.i c.loop-i.left.items (g.R.Rows.shown c.loop-i.reading) c.loop-i.invariant.renewing
-    below (g.R.Rows.shown c.next_row.new.reading) c.next_row.ensures.reading
+    taken_in_all _ _ _ _ _ c.loop-i.invariant.renewing (omega (arith, c.loop-i-test.true, c.count-i-end.ensures.count)) _
+    c.next_row.ensures.reading
 
 pub returns-in_err-push-2-clause-reading : goal.returns-in_err-push-2-clause-reading
 returns-in_err-push-2-clause-reading g c =
-    let before = g.R.Rows.shown c.args.reading.now in
-    let below : c.loop-i.i < member_count before.cut = omega (arith, c.loop-i-test.true, c.count-i-end.ensures.count) in
-    taken_in_all c.args.kept before c.loop-i.i c.loop-i.left.items (g.R.Rows.shown c.loop-i.reading) c.loop-i.invariant.renewing
-    below (g.R.Rows.shown c.next_row.new.reading) c.next_row.ensures.reading
+    taken_in_all _ _ _ _ _ c.loop-i.invariant.renewing (omega (arith, c.loop-i-test.true, c.count-i-end.ensures.count)) _
+    c.next_row.ensures.reading
 
 pub loop-i-preserved : goal.loop-i-preserved
 loop-i-preserved g c =
