@@ -8,6 +8,7 @@ ghost use Rattle.train_order.specs.Ordering.{IsOrdering};
 ghost use Rattle.train_net.specs.Held.{IsNetOf};
 ghost use Rattle.plan_repair.specs.Held.{IsHeldOf, IsHeldBefore};
 
+use compression::answer_of_cut;
 use plan_model::{Answer, Cut, FitCut, SoundCut};
 use rail_model::{List, Name, OutOfMemory};
 use std::alloc::Global;
@@ -21,11 +22,12 @@ pub(crate) struct Held {
     places: List<Name>,
 }
 
-/// The answer of a cut, and the net that is held of it if its trains have an order. `origin` has,
-/// for each row of the cut, where it stood in the cut of the net that was held before, if it did.
+/// The answer of a cut, and the net that is held of it. `origin` has, for each row of the cut,
+/// where it stood in the cut of the net that was held before, if it is kept.
 ///
-/// That net is mended where at most a quarter of the rows is fresh, if it can be; else the net is
-/// made anew.
+/// Where no row is kept, the answer is from scratch, and no net is made. Where at most a quarter of
+/// the rows is fresh, the net that was held is mended, if it can be; else one is made anew, if the
+/// trains have an order.
 pub(crate) fn answer_held(
     alloc: Global,
     cut: &Cut,
@@ -39,9 +41,22 @@ pub(crate) fn answer_held(
     ensures answer { IfOk result (λ both. IsAnswer cut.now both.0) }
     ensures held { IfOk result (λ both. IfSome both.1 (IsHeldOf cut.now)) }
 {
-    if let Some(net) = mended(alloc, &SoundCut::of(cut), held, origin)? {
-        return by_net(alloc, cut, net);
+    if fresh_count(origin) == origin.len() {
+        return Ok((answer_of_cut(alloc, cut)?, None));
     }
+    match mended(alloc, &SoundCut::of(cut), held, origin)? {
+        Some(net) => by_net(alloc, cut, net),
+        None => anew(alloc, cut),
+    }
+}
+
+// The answer by a net that is made anew, if there is an order.
+fn anew(alloc: Global, cut: &Cut) -> Result<(Answer, Option<Held>), OutOfMemory>
+    requires sound { IsSoundCut cut.now }
+    requires few { member_count cut.now ≤ MEMBERS }
+    ensures answer { IfOk result (λ both. IsAnswer cut.now both.0) }
+    ensures held { IfOk result (λ both. IfSome both.1 (IsHeldOf cut.now)) }
+{
     match order(alloc, cut)? {
         Ok(found) => {
             let net = net_of(alloc, &SoundCut::of(cut), found.positions)?;

@@ -7,7 +7,6 @@ ghost use Rattle.plan_repair.specs.Held.{IsHeldOf};
 
 use crate::held::{Held, answer_held};
 use crate::renewed::{RenewedCut, renewed};
-use compression::answer_of_cut;
 use plan_model::{Answer, Cut, CutRow, Rows, is_crowded};
 use rail_model::{List, Name, OutOfMemory};
 use std::alloc::Global;
@@ -80,12 +79,7 @@ impl Keep {
             return Ok((keep, Answer::Crowded { count }));
         }
         let Keep { rows, held, .. } = self;
-        let first = rows.is_empty();
         let RenewedCut { cut, origin } = renewed(alloc, rows, reading)?;
-        if first {
-            let answer = answer_of_cut(alloc, &cut)?;
-            return Ok((keep_of(cut, None), answer));
-        }
         let (answer, held) = answer_held(alloc, &cut, held, &origin)?;
         Ok((keep_of(cut, held), answer))
     }
