@@ -1,18 +1,40 @@
 -- The kept rows that are left behind a name.
-use Rattle.std.proofs.Common.{◌≡◌, ℕ, suc, true, false, List, [], ◌∷◌, get_or, drop, None, inl, inr, refl, sym, ◌∙◌, subst, arith}
-use Rattle.std.specs.Prelude.{◌==◌, find}
+use Rattle.std.proofs.Common.{◌≡◌, ℕ, suc, true, false, List, [], ◌∷◌, ◌++◌, get_or, drop, Option, None, Some, inl, inr, refl, sym, ap, ◌∙◌, subst, append_assoc, arith}
+use Rattle.std.specs.Prelude.{◌==◌, find, option_to_list, Contains, IfSome}
+use Rattle.std.proofs.lemmas.List.Elements.{Contains-append_right}
 use Rattle.std.proofs.lemmas.Bool.{and_left, and_parts, both_ways, false_from_ne_true}
 use Rattle.rail_model.specs.Name.{IsBefore, is_before, is_same, NamesRise}
 use Rattle.rail_model.proofs.NameOrder.{same_name, is_same-before, is_same-after, IsBefore-from, IsBefore-trans, is_before-from, is_before-back, is_before-itself, same_or_after}
 use Rattle.rail_model.proofs.Lists.{find_none}
 use Rattle.plan_model.specs.declared.cut.CutRow.{CutRow}
 use Rattle.plan_repair.specs.Kept.{has}
-use Rattle.plan_repair.specs.Left.{first_is, IsLeft}
+use Rattle.plan_repair.specs.Left.{first_is, EndsWith, IsLeft}
+
+-- ---- rows that others end with
+
+pub ends_through : (a b c : List CutRow) → EndsWith a b → EndsWith b c → EndsWith a c
+ends_through a b c first second = record {
+  before = first.before ++ second.before;
+  is = first.is ∙ ap (λ rows. first.before ++ rows) second.is ∙ sym (append_assoc first.before second.before c);
+}
+
+pub part_of : (rows last : List CutRow) → EndsWith rows last → (row : CutRow) → Contains last row → Contains rows row
+part_of rows last ends row there =
+    subst (λ (all : List CutRow). Contains all row) (sym ends.is) (Contains-append_right ends.before last row there)
+
+-- the first of them, where it is taken out, stood right before those that are left
+pub first_behind : (all last after : List CutRow) (first : Option CutRow) → EndsWith all last → last ≡ option_to_list first ++ after
+    → IfSome first (λ row. EndsWith all (row ∷ after))
+first_behind all last after None ends is = tt
+first_behind all last after (Some row) ends is =
+    record { before = ends.before; is = ends.is ∙ ap (λ rows. ends.before ++ rows) is }
+
+-- ---- rows that are let go of
 
 pub left_through : (name : List ℕ) (a b c : List CutRow) → IsLeft name a b → IsLeft name b c → IsLeft name a c
 left_through name a b c first second = record {
   rise = second.rise;
-  part = λ row there. first.part row (second.part row there);
+  ends = ends_through a b c first.ends second.ends;
   later = λ row after. second.later row after ∙ first.later row after;
 }
 
@@ -27,7 +49,7 @@ pub left_behind : (name : List ℕ) (k : CutRow) (rest : List CutRow) → NamesR
     → is_before name k.name ≡ false → IsLeft name (k ∷ rest) rest
 left_behind name k rest rise h = record {
   rise = λ i j d before below. rise (suc i) (suc j) d (omega arith) (omega arith);
-  part = λ row there. (suc there.0, omega arith, there.2);
+  ends = record { before = k ∷ []; is = refl };
   later = λ row after. rw (not_same name row.name after k.name h) refl;
 }
 

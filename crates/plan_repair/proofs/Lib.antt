@@ -1,3 +1,4 @@
 mod Leaving
 mod Looking
 mod Renewing
+mod Standing

@@ -12,6 +12,7 @@ use Rattle.plan_model.specs.Reading.{Shown, after_taking}
 use Rattle.plan_repair.specs.Kept.{uses_to_take, TakesAtMost, has}
 use Rattle.plan_repair.specs.Left.{IsLeft, IsRenewing}
 use Rattle.plan_repair.proofs.Looking.{none_has}
+use Rattle.plan_repair.proofs.Leaving.{ends_through}
 
 -- what is taken of a row that isn't kept is all its uses
 pub taken_whole : (kept : List CutRow) (row : CutRow) (before : Shown)
@@ -25,7 +26,7 @@ taken_whole kept row before none =
 pub renewing_first : (kept : List CutRow) (before : Shown) → NamesRise (λ r. r.name) kept
     → IsRenewing kept before 0 kept before
 renewing_first kept before rise = record {
-  left = record { rise = rise; part = λ row there. there; later = λ j from below. refl };
+  left = record { rise = rise; ends = record { before = []; is = refl }; later = λ j from below. refl };
   taken = record { cut = refl; at = refl; taken = omega arith };
 }
 
@@ -73,7 +74,7 @@ module _ (kept : List CutRow) (before : Shown) where
           record {
             left = record {
               rise = behind.rise;
-              part = λ row there. so_far.left.part row (behind.part row there);
+              ends = ends_through kept left left_then so_far.left.ends behind.ends;
               later = λ j from there.
                   behind.later (member cut j) (sound.names_rise i j no_member (omega arith) there)
                   ∙ so_far.left.later j (omega arith) there;

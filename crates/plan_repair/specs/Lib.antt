@@ -1,2 +1,4 @@
 pub mod Kept
 pub mod Left
+pub mod Origin
+pub mod Held

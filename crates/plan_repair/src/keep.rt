@@ -1,9 +1,12 @@
 //! What is kept of a section's cut from one reading to the next.
-ghost use Rattle.std.specs.Prelude.{◌≡◌, IfOk};
-ghost use Rattle.rail_model.specs.Name.{NamesRise};
+ghost use Rattle.std.specs.Prelude.{◌≡◌, ◌≤◌, [], IfOk, IfSome};
+ghost use Rattle.plan_model.specs.declared.limits.TheConstants.{MEMBERS};
+ghost use Rattle.plan_model.specs.Cut.{IsSoundCut};
+ghost use Rattle.plan_model.specs.Members.{member_count};
+ghost use Rattle.plan_repair.specs.Held.{IsHeldOf};
 
-use crate::renewed::renewed;
-use compression::answer_of_cut;
+use crate::held::{Held, answer_held};
+use crate::renewed::{RenewedCut, renewed};
 use plan_model::{Answer, Cut, CutRow, Rows, is_crowded};
 use rail_model::{List, Name, OutOfMemory};
 use std::alloc::Global;
@@ -14,17 +17,19 @@ use std::marker::Model;
 pub struct Keep {
     section: Name,
     rows: List<CutRow>,
+    // The net of these rows, by which a later cut is answered where few rows change.
+    held: Option<Held>,
 }
 
 impl Model for Keep {
-    ghost use Rattle.rail_model.specs.Name.{NamesRise};
     ghost use Rattle.plan_repair.specs.Kept.{Kept};
+    ghost use Rattle.plan_repair.specs.Held.{AreKept};
 
     ghost Value = { Kept };
 
     ghost view = { λ k. record { section = k.section; rows = k.rows } };
 
-    ghost invariant = { λ k. NamesRise (λ r. r.name) k.rows };
+    ghost invariant = { λ k. AreKept k.rows k.held };
 }
 
 impl Keep {
@@ -49,11 +54,7 @@ impl Keep {
         ensures reading { TakesAtMost (use_count (R.shown reading.old))
             (R.shown reading.old) (R.shown reading.new) }
     {
-        let nothing = Keep {
-            section: reading.section().name,
-            rows: List::new(alloc),
-        };
-        nothing.repair(alloc, reading)
+        nothing(alloc, reading.section().name).repair(alloc, reading)
     }
 
     /// The answer of the section from a later reading, and what is kept of that one.
@@ -74,24 +75,38 @@ impl Keep {
     {
         let count = reading.count();
         if is_crowded(count) {
-            let section = reading.section().name;
-            let rows = List::new(alloc);
-            return Ok((Keep { section, rows }, Answer::Crowded { count }));
+            let keep = nothing(alloc, reading.section().name);
+            return Ok((keep, Answer::Crowded { count }));
         }
-        let cut = renewed(alloc, self.rows, reading)?;
-        let answer = answer_of_cut(alloc, &cut)?;
-        Ok((keep_of(cut), answer))
+        let Keep { rows, held, .. } = self;
+        let RenewedCut { cut, origin } = renewed(alloc, rows, reading)?;
+        let (answer, held) = answer_held(alloc, &cut, held, &origin)?;
+        Ok((keep_of(cut, held), answer))
     }
 }
 
-// What is kept of a cut that isn't crowded.
-fn keep_of(cut: Cut) -> Keep
-    requires { NamesRise (λ r. r.name) cut.rows }
+// What is kept of a section where no rows are.
+fn nothing(alloc: Global, section: Name) -> Keep
+    ensures { result ≡ record { section = section; rows = [] } }
+{
+    Keep {
+        section,
+        rows: List::new(alloc),
+        held: None,
+    }
+}
+
+// What is kept of a cut that isn't crowded, with the net that is held of it.
+fn keep_of(cut: Cut, held: Option<Held>) -> Keep
+    requires sound { IsSoundCut cut }
+    requires few { member_count cut ≤ MEMBERS }
+    requires held { IfSome held (IsHeldOf cut) }
     ensures { result ≡ record { section = cut.section.name; rows = cut.rows } }
 {
     let Cut { section, rows, .. } = cut;
     Keep {
         section: section.name,
         rows,
+        held,
     }
 }

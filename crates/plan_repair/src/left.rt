@@ -1,9 +1,9 @@
 //! The kept rows that are left while the rows of a cut are looked for among them, in the order of
 //! names.
-ghost use Rattle.std.specs.Prelude.{◌≡◌, ℕ, false, find};
+ghost use Rattle.std.specs.Prelude.{◌≡◌, ℕ, false, ◌∷◌, find, IfSome};
 ghost use Rattle.rail_model.specs.Name.{NamesRise, is_before};
 ghost use Rattle.plan_repair.specs.Kept.{has};
-ghost use Rattle.plan_repair.specs.Left.{first_is, IsLeft};
+ghost use Rattle.plan_repair.specs.Left.{first_is, EndsWith, IsLeft};
 
 use plan_model::CutRow;
 use rail_model::Name;
@@ -14,6 +14,7 @@ pub(crate) fn next_kept(left: &mut VecDeque<CutRow>, name: &Name, stamp: u64) ->
     requires { NamesRise (λ r. r.name) left.old.items }
     ensures found { result ≡ find (has name.now stamp) left.old.items }
     ensures left { IsLeft name.now left.old.items left.new.items }
+    ensures behind { IfSome result (λ row. EndsWith left.old.items (row ∷ left.new.items)) }
 {
     pass_over(left, name);
     if !stands_first(left, name, stamp) {

@@ -1,10 +1,12 @@
 //! A cut that is put together from kept rows, and from rows that are taken where none is kept.
-ghost use Rattle.std.specs.Prelude.{◌≡◌, ◌<◌, IfOk, sum_by};
+ghost use Rattle.std.specs.Prelude.{◌≡◌, ◌<◌, ◌≤◌, length, IfOk, IfSome, sum_by};
 ghost use Rattle.rail_model.specs.Name.{NamesRise};
+ghost use Rattle.plan_model.specs.declared.limits.TheConstants.{MEMBERS};
 ghost use Rattle.plan_model.specs.Cut.{IsSoundCut};
 ghost use Rattle.plan_model.specs.Members.{member, member_count};
 ghost use Rattle.plan_repair.specs.Kept.{AgreeByStamps, uses_to_take, TakesAtMost};
-ghost use Rattle.plan_repair.specs.Left.{IsLeft};
+ghost use Rattle.plan_repair.specs.Left.{IsLeft, IsFrom};
+ghost use Rattle.plan_repair.specs.Origin.{AreFrom};
 
 use crate::left::next_kept;
 use crate::taken::take_row;
@@ -13,62 +15,84 @@ use rail_model::{List, OutOfMemory};
 use std::alloc::Global;
 use std::collections::VecDeque;
 
+/// A cut, and for each of its rows where it stood among the kept rows, if it is kept.
+#[derive(Drop)]
+pub(crate) struct RenewedCut {
+    pub cut: Cut,
+    pub origin: Vec<Option<u32>>,
+}
+
 /// The cut of a reading. A kept row is moved, and its uses are neither taken nor copied.
 pub(crate) fn renewed<R: Rows>(
     alloc: Global,
     kept: List<CutRow>,
     reading: &mut R,
-) -> Result<Cut, OutOfMemory>
+) -> Result<RenewedCut, OutOfMemory>
     requires sound { IsSoundCut (R.shown reading.old).cut }
     requires rise { NamesRise (λ r. r.name) kept }
+    requires few { length kept ≤ MEMBERS }
     requires agree { AgreeByStamps kept (R.shown reading.old).cut.rows }
-    ensures cut { IfOk result (λ cut. cut ≡ (R.shown reading.old).cut) }
+    ensures cut { IfOk result (λ renewed. renewed.cut ≡ (R.shown reading.old).cut) }
+    ensures origin { IfOk result (λ renewed.
+        AreFrom kept (R.shown reading.old).cut.rows renewed.origin.items) }
     ensures reading { TakesAtMost (sum_by (uses_to_take kept) (R.shown reading.old).cut.rows)
         (R.shown reading.old) (R.shown reading.new) }
 {
     let section = reading.section().copy(alloc)?;
     let connections = reading.connections().copy(alloc)?;
-    let rows = renewed_rows(alloc, kept, reading)?;
-    Ok(Cut {
+    let (rows, origin) = renewed_rows(alloc, kept, reading)?;
+    let cut = Cut {
         section,
         connections,
         rows,
-    })
+    };
+    Ok(RenewedCut { cut, origin })
 }
 
-// Its rows. Both lists are gone through side by side, in the order of names.
+// Its rows, and where each stood. Both lists are gone through side by side, in the order of names.
 fn renewed_rows<R: Rows>(
     alloc: Global,
     kept: List<CutRow>,
     reading: &mut R,
-) -> Result<List<CutRow>, OutOfMemory>
+) -> Result<(List<CutRow>, Vec<Option<u32>>), OutOfMemory>
     requires sound { IsSoundCut (R.shown reading.old).cut }
     requires rise { NamesRise (λ r. r.name) kept }
+    requires few { length kept ≤ MEMBERS }
     requires agree { AgreeByStamps kept (R.shown reading.old).cut.rows }
-    ensures rows { IfOk result (λ rows. rows ≡ (R.shown reading.old).cut.rows) }
+    ensures rows { IfOk result (λ both. both.0 ≡ (R.shown reading.old).cut.rows) }
+    ensures origin { IfOk result (λ both. AreFrom kept both.0 both.1.items) }
     ensures reading { TakesAtMost (sum_by (uses_to_take kept) (R.shown reading.old).cut.rows)
         (R.shown reading.old) (R.shown reading.new) }
 {
+    let count = kept.len() as u32;
     let mut left = VecDeque::from_vec(kept.into_vec());
     let mut rows = List::new(alloc);
+    let mut origin = Vec::new(alloc);
     for i in 0..reading.count() {
-        rows.push(next_row(alloc, &mut left, reading, i)?)?;
+        let (row, from) = next_row(alloc, &mut left, reading, i, count)?;
+        rows.push(row)?;
+        origin.push(from)?;
     }
-    Ok(rows)
+    Ok((rows, origin))
 }
 
-// The row at a position: the kept one of its name and stamp, or else the one that is taken.
+// The row at a position: the kept one of its name and stamp, with its place among so many kept
+// rows, or else the one that is taken.
 fn next_row<R: Rows>(
     alloc: Global,
     left: &mut VecDeque<CutRow>,
     reading: &mut R,
     i: u32,
-) -> Result<CutRow, OutOfMemory>
+    count: u32,
+) -> Result<(CutRow, Option<u32>), OutOfMemory>
     requires there { i < member_count (R.shown reading.old).cut }
     requires sound { IsSoundCut (R.shown reading.old).cut }
     requires rise { NamesRise (λ r. r.name) left.old.items }
+    requires few { length left.old.items ≤ count }
     requires agree { AgreeByStamps left.old.items (R.shown reading.old).cut.rows }
-    ensures row { IfOk result (λ row. row ≡ member (R.shown reading.old).cut i) }
+    ensures row { IfOk result (λ both. both.0 ≡ member (R.shown reading.old).cut i) }
+    ensures from { IfOk result (λ both.
+        IfSome both.1 (IsFrom count left.old.items left.new.items both.0)) }
     ensures reading { TakesAtMost
         (uses_to_take left.old.items (member (R.shown reading.old).cut i))
         (R.shown reading.old) (R.shown reading.new) }
@@ -78,7 +102,7 @@ fn next_row<R: Rows>(
     let name = reading.name(i);
     let stamp = reading.stamp(i);
     match next_kept(left, &name, stamp) {
-        Some(row) => Ok(row),
-        None => take_row(alloc, reading, i),
+        Some(row) => Ok((row, Some(count - 1 - left.len() as u32))),
+        None => Ok((take_row(alloc, reading, i)?, None)),
     }
 }

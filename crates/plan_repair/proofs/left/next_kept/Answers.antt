@@ -1,7 +1,7 @@
 use Rattle.std.proofs.Common.{◌≡◌, true, false, drop, sym, ◌∙◌}
 use Rattle.plan_repair.specs.Kept.{has}
 use Rattle.plan_repair.specs.Left.{first_is}
-use Rattle.plan_repair.proofs.Leaving.{left_through, left_first, found_none}
+use Rattle.plan_repair.proofs.Leaving.{left_through, left_first, found_none, first_behind}
 use Rattle.plan_repair.proofs.left.next_kept.Goals as goal
 
 pub returns-then-not-stands_first-clause-found : goal.returns-then-not-stands_first-clause-found
@@ -22,3 +22,8 @@ returns-clause-left c =
     let left = c.pass_over.ensures.left in
     rw c.pop_front.ensures.rest
     (left_through name c.args.left.now.items rows (drop 1 rows) left (left_first name stamp rows left.rise first))
+
+pub returns-clause-behind : goal.returns-clause-behind
+returns-clause-behind c =
+    first_behind c.args.left.now.items c.pass_over.new.left.items c.pop_front.new.self.items c.pop_front.result
+    c.pass_over.ensures.left.ends c.pop_front.ensures.items

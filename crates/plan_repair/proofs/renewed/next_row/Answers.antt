@@ -16,8 +16,16 @@ returns-in-Some-clause-row g c =
     kept_is c.args.left.now.items cut.rows c.in-Some.row row c.requires.agree
     (Contains-get_or cut.rows c.args.i no_member c.requires.there) found
 
-pub returns-in-None-clause-reading : goal.returns-in-None-clause-reading
-returns-in-None-clause-reading g c =
+pub returns-in_ok-take_row-in-None-clause-reading : goal.returns-in_ok-take_row-in-None-clause-reading
+returns-in_ok-take_row-in-None-clause-reading g c =
+    let shown = g.R.Rows.shown c.args.reading.now in
+    let row = member shown.cut c.args.i in
+    let none : find (has row.name row.stamp) c.args.left.now.items ≡ None =
+    rw (← c.name-name.ensures, ← c.stamp-stamp.ensures) (sym c.in-None.ensures.found) in
+    rw c.take_row.ensures.reading (taken_whole c.args.left.now.items row shown none)
+
+pub returns-in_err-take_row-in-None-clause-reading : goal.returns-in_err-take_row-in-None-clause-reading
+returns-in_err-take_row-in-None-clause-reading g c =
     let shown = g.R.Rows.shown c.args.reading.now in
     let row = member shown.cut c.args.i in
     let none : find (has row.name row.stamp) c.args.left.now.items ≡ None =
