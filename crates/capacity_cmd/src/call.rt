@@ -34,8 +34,8 @@ pub fn alone(words: &[String]) -> bool
 
 /// Runs a command, or makes a line and counts it. The words are those after the program's name. A
 /// session with workers has a thread for each planner and each worker, where one can be made; its
-/// planners and workers wait for one another, and pass the gate at the points of their work. Nothing
-/// is read of the source where a line is made.
+/// planners and workers wait for one another, and pass the gate at the points of their work.
+/// Nothing is read of the source where a line is made.
 pub fn run<R: AllocGlobal + Threads + Wait + Sync, S: Source, K: Sink, G: Gate>(
     rt: &R,
     words: &[String],
@@ -52,8 +52,9 @@ pub fn run<R: AllocGlobal + Threads + Wait + Sync, S: Source, K: Sink, G: Gate>(
     run_telling(rt, words, source, sink, gate, &mut Told::nothing())
 }
 
-/// Runs a command as `run` does, and tells people why a row is refused, and what the answer of
-/// `compress` leaves out. A command that waits for nobody is run by a call that can't wait.
+/// Runs a command as `run` does, and tells people why a row is refused, which named run is no train
+/// of the section, and what the answer of `compress` leaves out. A command that waits for nobody is
+/// run by a call that can't wait.
 pub fn run_telling<R: AllocGlobal + Threads + Wait + Sync, S: Source, K: Sink, G: Gate>(
     rt: &R,
     words: &[String],
@@ -138,8 +139,8 @@ pub fn run_alone<R: AllocGlobal + Threads + Sync, S: Source, K: Sink>(
     run_alone_telling(rt, words, source, sink, &mut Told::nothing())
 }
 
-/// Runs a command as `run_alone` does, and tells people why a row is refused, and what the answer
-/// of `compress` leaves out.
+/// Runs a command as `run_alone` does, and tells people why a row is refused, which named run is no
+/// train of the section, and what the answer of `compress` leaves out.
 pub fn run_alone_telling<R: AllocGlobal + Threads + Sync, S: Source, K: Sink>(
     rt: &R,
     words: &[String],

@@ -33,8 +33,8 @@ pub enum Command {
     /// Writes the fewest orderly pieces of a section, or of a crowded one how many trains it has:
     /// the words `cut` and NAME.
     Cut(Option<Name>),
-    /// Writes the least time after which a section's trains can come again and again, with a ring of
-    /// trains that allows no less: the words `cycle` and NAME.
+    /// Writes the least time after which a section's trains can come again and again, with a ring
+    /// of trains that allows no less: the words `cycle` and NAME.
     Cycle(Option<Name>),
     /// Spreads delays over the planned timetable of a section, and writes the knock-on delays: the
     /// words `delays`, NAME and 1 to 64 pairs of RUN and SECONDS.

@@ -1,4 +1,5 @@
-//! The answer of a section that has no compressed timetable, as it is written where one is asked for.
+//! The answer of a section that has no compressed timetable, as it is written where one is asked
+//! for.
 ghost use Rattle.std.specs.Prelude.{◌<◌, ◌≡◌, IfOk, nat_lt};
 ghost use Rattle.plan_model.specs.declared.limits.TheConstants.{MEMBERS};
 ghost use Rattle.plan_model.specs.Cut.{IsSoundCut};

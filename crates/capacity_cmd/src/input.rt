@@ -133,7 +133,8 @@ impl InputSoFar {
         }
     }
 
-    // Takes the line of a row: an edit before the first script is one of the base, any other a task.
+    // Takes the line of a row: an edit before the first script is one of the base, any other a
+    // task.
     fn take_line(
         &mut self,
         planners: usize,

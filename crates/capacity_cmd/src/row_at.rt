@@ -152,8 +152,8 @@ pub(crate) fn row_of(rows: &RowList, place: usize, kind: Kind, name: &[u8]) -> u
     found
 }
 
-// The number of the first row below a place, and above the first script, that puts the item of a kind
-// and a name, or 0.
+// The number of the first row below a place, and above the first script, that puts the item of a
+// kind and a name, or 0.
 pub(crate) fn row_below(rows: &RowList, place: usize, kind: Kind, name: &[u8]) -> u64 {
     for i in place..rows.len() {
         if is_planner_row(rows, i) {

@@ -69,8 +69,8 @@ pub(crate) struct Limits {
     pub(crate) most: u32,
 }
 
-// The limits of the number in the field at a place: in version 2 those of a run from its sixth field
-// on are limits of the time between it and the field before.
+// The limits of the number in the field at a place: in version 2 those of a run from its sixth
+// field on are limits of the time between it and the field before.
 pub(crate) fn limits_at(kind: Kind, at: usize) -> Option<Limits> {
     match kind {
         Kind::Block if at == 2 => within("LENGTH", 1, GREATEST_LENGTH_M),

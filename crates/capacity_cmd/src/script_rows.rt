@@ -12,7 +12,8 @@ use rail_model::OutOfMemory;
 use std::alloc::Global;
 use std::marker::Model;
 
-// The scripts of planners, with the count of all their tasks. Contracts see the list of the scripts.
+// The scripts of planners, with the count of all their tasks. Contracts see the list of the
+// scripts.
 #[derive(Drop)]
 pub(crate) struct ScriptRows {
     scripts: Scripts,
@@ -67,8 +68,8 @@ impl ScriptRows {
         Ok(None)
     }
 
-    // Puts a task at the end of the last script, unless none has begun or there are as many tasks as
-    // a session takes.
+    // Puts a task at the end of the last script, unless none has begun or there are as many tasks
+    // as a session takes.
     pub(crate) fn push(&mut self, task: Task) -> Result<Option<Cause>, OutOfMemory>
         ensures { IfOk result (TakesIf
             (takes_task self.old) (with_task self.old task) self.new) }

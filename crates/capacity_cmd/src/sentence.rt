@@ -10,8 +10,8 @@ use rail_model::OutOfMemory;
 use row_text::RowList;
 use std::alloc::Global;
 
-// The sentence about the row at which an input is refused, for a command that takes the scripts of so
-// many planners. Without memory for it nothing is told.
+// The sentence about the row at which an input is refused, for a command that takes the scripts of
+// so many planners. Without memory for it nothing is told.
 pub(crate) fn told_of(
     alloc: Global,
     input: &[u8],

@@ -11,8 +11,8 @@ use line_tables::LineTables;
 use rail_model::{Edit, OutOfMemory};
 use std::alloc::Global;
 
-/// The tables of the line made from `n`: those after the edits of its base, of which no rule refuses
-/// one.
+/// The tables of the line made from `n`: those after the edits of its base, of which no rule
+/// refuses one.
 pub fn made_tables(alloc: Global, n: u32) -> Result<LineTables, OutOfMemory>
     ensures made { IfOk result (λ tables. tables ≡ after_edits no_tables (base.base_edits n)) }
     ensures accepted { AreAccepted no_tables (base.base_edits n) }

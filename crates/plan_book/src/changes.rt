@@ -1,9 +1,15 @@
 //! What an edit makes of what a book knows of sections.
-ghost use Rattle.std.specs.Prelude.{◌≡◌, ◌<◌, ◌≤◌, All, IfOk, OnOk, length};
+ghost use Rattle.std.specs.Prelude.{◌≡◌, ◌<◌, ◌≤◌, true, All, IfOk, IfSome, OnOk, length};
+ghost use Rattle.std.specs.Option.{option_copied};
 ghost use Rattle.rail_model.specs.Edits as edits;
 ghost use Rattle.rail_model.specs.Name.{NamesRise};
+ghost use Rattle.rail_model.specs.Rules.{is_named};
+ghost use Rattle.plan_model.specs.Cut.{IsSoundCut};
 ghost use Rattle.plan_book.specs.Changes.{changed, HasCutOf, HaveCuts, WillChange, AreChanges};
 ghost use Rattle.plan_book.specs.Changes.{AreChanged, Widens, HaveAll, IsSoundChange, cut_change_of};
+ghost use Rattle.plan_book.specs.Changes.{Keeps, AreAlike, IsAlike, HoldsOfEach, HasItsPlace, IsReady};
+ghost use Rattle.plan_book.specs.Shelves as shelving;
+ghost use Rattle.plan_book.specs.Shelves.{kept_cut};
 
 use crate::shelf::{Shelf, place_of};
 use crate::stored::{Stored, make_own, make_shared, put_row};
@@ -65,9 +71,6 @@ fn add_missing(
     Ok(())
 }
 
-ghost use Rattle.std.specs.Prelude.{true};
-ghost use Rattle.rail_model.specs.Rules.{is_named};
-
 // Puts a shelf in for the section of a name, if it has none.
 fn add_shelf(shelves: &mut List<Shelf>, name: &Name, first: u64) -> Result<(), OutOfMemory>
     requires { NamesRise (λ s. s.name) shelves.old }
@@ -80,9 +83,6 @@ fn add_shelf(shelves: &mut List<Shelf>, name: &Name, first: u64) -> Result<(), O
     }
     Ok(())
 }
-
-ghost use Rattle.plan_book.specs.Shelves as shelving;
-ghost use Rattle.plan_book.specs.Changes.{Keeps};
 
 // The shelf of a section that isn't there.
 fn blank(name: &Name, first: u64) -> Shelf
@@ -117,8 +117,6 @@ fn changes_of(
     }
     Ok(changes)
 }
-
-ghost use Rattle.std.specs.Option.{option_copied};
 
 // The cut of a shelf's section, if the section is there.
 fn cut_of(shelf: &Shelf) -> Option<&Cut>
@@ -176,11 +174,6 @@ fn change_shelf(shelf: &mut Shelf, change: ShelfChange, number: u64)
         }
     }
 }
-
-ghost use Rattle.plan_book.specs.Changes.{AreAlike, IsAlike, HoldsOfEach, HasItsPlace, IsReady};
-ghost use Rattle.plan_book.specs.Shelves.{kept_cut};
-ghost use Rattle.plan_model.specs.Cut.{IsSoundCut};
-ghost use Rattle.std.specs.Prelude.{IfSome};
 
 /// Makes those cuts the book's own into which rows are to be put. Each cut stays the same, also
 /// without memory.

@@ -37,8 +37,8 @@ impl Stored {
     }
 }
 
-/// Makes a cut one's own, so that it can be changed. It is copied only where others hold it. The cut
-/// stays the same, also without memory.
+/// Makes a cut one's own, so that it can be changed. It is copied only where others hold it. The
+/// cut stays the same, also without memory.
 pub(crate) fn make_own(alloc: Global, stored: &mut Option<Stored>) -> Result<(), OutOfMemory>
     ensures same { option_map cut_in stored.new ≡ option_map cut_in stored.old }
     ensures own { OnOk result (IfSome stored.new IsOwn) }

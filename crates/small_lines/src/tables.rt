@@ -43,8 +43,8 @@ pub fn tables_of(alloc: Global, text: &str) -> Result<Option<LineTables>, OutOfM
     Ok(Some(tables))
 }
 
-/// The cut of the section S of a line with these rows after its own, if all rows are taken and there
-/// is one.
+/// The cut of the section S of a line with these rows after its own, if all rows are taken and
+/// there is one.
 pub fn cut(alloc: Global, line: &str, rows: &str) -> Result<Option<Cut>, OutOfMemory>
     ensures { IfOk result (λ cut. IfSome cut IsSoundCut) }
 {
