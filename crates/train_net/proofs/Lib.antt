@@ -15,6 +15,8 @@ mod Entered
 mod First
 mod Walking
 mod Ended
+mod Used
 mod Marks
 mod Anew
+mod Remade
 mod Agreeing

@@ -22,7 +22,7 @@ use Rattle.train_order.proofs.Following.{apart}
 use Rattle.train_net.specs.declared.edge.Edge.{Edge}
 use Rattle.train_net.specs.declared.near.Near.{Near}
 use Rattle.train_net.specs.Net.{standing, IsNearest, IsEdge, Covers, AreEdges, edges_to}
-use Rattle.train_net.specs.Near.{near_by, IsNear}
+use Rattle.train_net.specs.Near.{near_by, IsNear, AreNearAt}
 use Rattle.train_net.specs.Gathered.{IsAhead, AreAhead, AreCovered}
 use Rattle.train_net.proofs.Standing.{one_standing, before_by}
 use Rattle.train_net.proofs.Filling.{found_used, not_used}
@@ -134,11 +134,7 @@ module _ (cut : Cut) (order : List ℕ) (at place : ℕ) where
 -- ---- the edges of one train
 
 module _ (cut : Cut) (order : List ℕ) (at : ℕ) (near : List (Option Near)) where
-  -- the table has who stands nearest before a position at each place of who stands there
-  abbrev pub IsTable : Type 0
-  IsTable = (place : ℕ) → uses_place (standing cut order at) place ≡ true → IsNear cut order at place (slice_index_or near place None)
-
-  pub edges_are : (edges : List Edge) → IsTable → All (IsEdge cut (slice_index order at)) edges
+  pub edges_are : (edges : List Edge) → AreNearAt cut order at near → All (IsEdge cut (slice_index order at)) edges
       → AreCovered cut (slice_index order at) near edges → AreEdges cut order at edges
   edges_are edges table real covered = record {
     real = real;
@@ -181,7 +177,7 @@ module _ (cut : Cut) (order : List ℕ) (at : ℕ) (near : List (Option Near)) w
           precedes = subst (λ n. precedes (member cut n) (member cut j) place ≡ true) (sym is.train) ahead;
         }
 
-    pub are_ahead : IsTable → AreAhead cut j near
+    pub are_ahead : AreNearAt cut order at near → AreAhead cut j near
     are_ahead table place uses = is_ahead place uses (slice_index_or near place None) (table place uses)
 
 -- ---- all trains
@@ -209,7 +205,7 @@ module _ (cut : Cut) (order : List ℕ) (sound : IsSoundCut cut) (ordered : IsOr
     abbrev train : ℕ
     train = slice_index order n
 
-    table : IsTable cut order n near
+    table : AreNearAt cut order n near
     table place uses = has.near_is place (place_there cut sound train place (below cut order ordered.each_once n 0 ln) uses)
 
     pub next_ahead : AreAhead cut train near

@@ -7,7 +7,7 @@ use Rattle.plan_model.specs.Precedence.{precedes}
 use Rattle.train_net.specs.declared.edge.Edge.{Edge}
 use Rattle.train_net.specs.declared.near.Near.{Near}
 use Rattle.train_net.specs.Net.{standing, IsNearest, AreEdges, edges_to}
-use Rattle.train_net.specs.Mended.{stood, IsNearestAfter, is_marked, AreMarked}
+use Rattle.train_net.specs.Mended.{stood, is_marked, AreMarked}
 use Rattle.rail_model.specs.declared.stair.Use.{Use}
 use Rattle.train_order.specs.Visits.{is_earlier}
 
@@ -47,11 +47,11 @@ pub record AreMoved (origin now : List (Option ℕ)) (marks : List Bool) (old_ed
 abbrev pub KeepMarks : List Bool → List Bool → Type 0
 KeepMarks before after = (i : ℕ) → is_marked before i ≡ true → is_marked after i ≡ true
 
--- where who stands at a position is fresh, the nearest after it is marked at each of its places
+-- where who stands at a position is fresh, the nearest before it is marked at each of its places
 abbrev pub IsMarkedAt : Cut → List (Option ℕ) → List ℕ → List Bool → ℕ → Type 0
 IsMarkedAt cut origin order marks at =
-    stood origin (slice_index order at) ≡ None → (place next : ℕ) → uses_place (standing cut order at) place ≡ true
-    → IsNearestAfter cut order place at next → is_marked marks (slice_index order next) ≡ true
+    stood origin (slice_index order at) ≡ None → (place near : ℕ) → uses_place (standing cut order at) place ≡ true
+    → IsNearest cut order place near at → is_marked marks (slice_index order near) ≡ true
 
 -- the edges to who stands at a position are made anew or those that it had
 abbrev pub AreRemade : Cut → List (Option ℕ) → List (Option ℕ) → List Bool → List ℕ → List (List Edge) → ℕ → List Edge → Type 0

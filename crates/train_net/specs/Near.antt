@@ -1,5 +1,5 @@
 -- Who stands nearest before a position of an order at each place, as a table of all places tells it.
-use Rattle.std.specs.Prelude.{◌≡◌, ℕ, ◌<◌, ◌≤◌, false, List, All, slice_index, slice_index_or, Option, None, Some}
+use Rattle.std.specs.Prelude.{◌≡◌, ℕ, ◌<◌, ◌≤◌, true, false, List, All, slice_index, slice_index_or, Option, None, Some}
 use Rattle.std.specs.Option.{IsSome}
 use Rattle.rail_model.specs.declared.stair.Use.{Use}
 use Rattle.plan_model.specs.declared.cut.Cut.{Cut}
@@ -41,3 +41,8 @@ IsNear cut order at place near = IsNearFrom cut order 0 at place near
 -- the table has who stands nearest at each of these places
 abbrev pub AreNear : Cut → List ℕ → ℕ → List ℕ → List (Option Near) → Type 0
 AreNear cut order at wanted near = All (λ p. IsNear cut order at p (slice_index_or near p None)) wanted
+
+-- the table has who stands nearest at each place of who stands at the position
+abbrev pub AreNearAt : Cut → List ℕ → ℕ → List (Option Near) → Type 0
+AreNearAt cut order at near =
+    (place : ℕ) → uses_place (standing cut order at) place ≡ true → IsNear cut order at place (slice_index_or near place None)

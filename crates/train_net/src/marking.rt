@@ -1,11 +1,11 @@
 //! Which members are looked at again: those that stand nearest after a fresh one at a place.
-ghost use Rattle.std.specs.Prelude.{◌≡◌, ◌<◌, true, length, map, reverse, All, IfSome, OnOk, IfOk, slice_index_or, None};
+ghost use Rattle.std.specs.Prelude.{◌≡◌, ℕ, ◌<◌, true, length, All, IfSome, OnOk, IfOk, slice_index_or, None};
 ghost use Rattle.plan_model.specs.Members.{member_count};
 ghost use Rattle.train_net.specs.Mended.{AreMarked, is_marked};
 ghost use Rattle.train_net.specs.Mending.{KeepMarks, IsMarkedAt};
 
 use crate::ends::reversed;
-use crate::near::{Near, nearest_before};
+use crate::near::{Near, near_at};
 use crate::reordered::position_of;
 use plan_model::SoundCut;
 use rail_model::{OutOfMemory, Use};
@@ -22,46 +22,42 @@ pub(crate) fn marks_after_fresh(
     ensures count { IfOk result (λ marks. length marks.items ≡ member_count cut.now) }
     ensures marked { IfOk result (λ marks. AreMarked cut.now origin.now order.now marks.items) }
 {
-    let mut marks = vec![in alloc; false; cut.member_count() as usize]?;
     let back = reversed(alloc, order)?;
-    mark_after_fresh(alloc, cut, order, &back, origin, &mut marks)?;
+    let mut marks = vec![in alloc; false; cut.member_count() as usize]?;
+    mark_before_fresh(alloc, cut, &back, origin, &mut marks)?;
     Ok(marks)
 }
 
-// Marks who stands nearest after each fresh member. `back` is the order from its end to its
-// beginning.
-fn mark_after_fresh(
+// Marks who stands nearest before each fresh member of an order.
+fn mark_before_fresh(
     alloc: Global,
     cut: &SoundCut,
     order: &[u32],
-    back: &[u32],
     origin: &[Option<u32>],
     marks: &mut [bool],
 ) -> Result<(), OutOfMemory>
     requires there { All (λ i. i < member_count cut.now) order.now }
-    requires back { back.now ≡ reverse order.now }
     requires count { length marks.old ≡ member_count cut.now }
     ensures count { length marks.new ≡ length marks.old }
-    ensures marked { OnOk result (AreMarked cut.now origin.now order.now marks.new) }
+    ensures marked { OnOk result ((at : ℕ) → at < length order.now
+        → IsMarkedAt cut.now origin.now order.now marks.new at) }
 {
     for at in 0..order.len() {
-        mark_after(alloc, cut, order, back, origin, at, marks)?;
+        mark_before(alloc, cut, order, origin, at, marks)?;
     }
     Ok(())
 }
 
-// Marks who stands nearest after the one at a position, if that one is fresh.
-fn mark_after(
+// Marks who stands nearest before the one at a position, if that one is fresh.
+fn mark_before(
     alloc: Global,
     cut: &SoundCut,
     order: &[u32],
-    back: &[u32],
     origin: &[Option<u32>],
     at: usize,
     marks: &mut [bool],
 ) -> Result<(), OutOfMemory>
     requires there { All (λ i. i < member_count cut.now) order.now }
-    requires back { back.now ≡ reverse order.now }
     requires within { at < length order.now }
     requires count { length marks.old ≡ member_count cut.now }
     ensures count { length marks.new ≡ length marks.old }
@@ -72,24 +68,9 @@ fn mark_after(
     if position_of(origin, train).is_some() {
         return Ok(());
     }
-    let uses = cut.row(train).uses.slice();
-    let near = nearest_before(
-        alloc,
-        cut,
-        back,
-        back.len() - 1 - at,
-        &places_of(alloc, uses)?,
-    )?;
-    mark_all(&near, uses, marks);
+    let near = near_at(alloc, cut, order, at)?;
+    mark_all(&near, cut.row(train).uses.slice(), marks);
     Ok(())
-}
-
-/// The places of some uses.
-pub(crate) fn places_of(alloc: Global, uses: &[Use]) -> Result<Vec<u32>, OutOfMemory>
-    ensures { IfOk result (λ places. places.items ≡ map (λ u. u.block) uses.now) }
-{
-    let places = uses.iter().map(|one| one.block).collect(alloc)?;
-    Ok(places)
 }
 
 // Marks those who are found at the places of some uses.
@@ -107,6 +88,7 @@ fn mark_all(near: &[Option<Near>], uses: &[Use], marks: &mut [bool])
     }
 }
 
+// Marks who is found, if anybody is.
 fn mark(near: Option<Near>, marks: &mut [bool])
     requires { IfSome near (λ x. x.train < length marks.old) }
     ensures count { length marks.new ≡ length marks.old }

@@ -14,8 +14,8 @@ ghost use Rattle.train_net.specs.Mending.{AreNow, IsMoved, AreMoved, AreAnew, Ar
 use crate::edge::Edge;
 use crate::edges::edges_from;
 use crate::making::no_edges;
-use crate::marking::{marks_after_fresh, places_of};
-use crate::near::{Near, nearest_before};
+use crate::marking::marks_after_fresh;
+use crate::near::{Near, near_at};
 use crate::net::Net;
 use crate::reordered::{position_of, reorder};
 use plan_model::SoundCut;
@@ -36,7 +36,8 @@ pub fn mend(
     origin: &[Option<u32>],
 ) -> Result<Option<Net>, OutOfMemory>
     requires count { length origin.now ≡ member_count cut.now }
-    ensures net { (old : Cut) → IsSoundCut old → IsNetOf old net.now → IsOrigin old cut.now origin.now
+    ensures net { (old : Cut) → IsSoundCut old → IsNetOf old net.now
+        → IsOrigin old cut.now origin.now
         → IfOk result (λ r. IfSome r (IsNetOf cut.now)) }
     ensures order { (old : Cut) → IsSoundCut old → IsNetOf old net.now
         → IsOrigin old cut.now origin.now
@@ -211,6 +212,7 @@ fn moved_edges(
     Ok(Some(moved))
 }
 
+// An edge with the present position of the one from whom it is, if that one is kept.
 fn moved_edge(edge: Edge, now: &[Option<u32>]) -> Option<Edge>
     ensures { IfSome result (IsMoved now.now edge) }
 {
@@ -237,9 +239,8 @@ fn edges_anew(
     ensures { IfOk result (λ r. IfSome r (AreAnew cut.now order.now at)) }
 {
     let train = order[at];
-    let uses = cut.row(train).uses.slice();
-    let near = nearest_before(alloc, cut, order, at, &places_of(alloc, uses)?)?;
-    if !are_ahead(&near, uses, train) {
+    let near = near_at(alloc, cut, order, at)?;
+    if !are_ahead(&near, cut.row(train).uses.slice(), train) {
         return Ok(None);
     }
     Ok(Some(edges_from(alloc, cut, train, &near)?))

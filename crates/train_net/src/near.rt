@@ -1,9 +1,9 @@
 //! Who stands nearest before a position of an order at each place.
-ghost use Rattle.std.specs.Prelude.{◌≡◌, ℕ, ◌<◌, ◌≤◌, length, All, IsTrue, IsSome, slice_index, slice_index_or, find, ◌==◌, None, replicate, IfOk, ◌↔◌};
+ghost use Rattle.std.specs.Prelude.{◌≡◌, ℕ, ◌<◌, ◌≤◌, length, All, IsTrue, IsSome, slice_index, slice_index_or, find, ◌==◌, None, replicate, IfOk, ◌↔◌, map};
 ghost use Rattle.plan_model.specs.Members.{member, member_count};
 ghost use Rattle.plan_model.specs.Places.{place_count};
 ghost use Rattle.plan_model.specs.Cut.{AreOfOtherPlaces};
-ghost use Rattle.train_net.specs.Near.{filled, near_by, AreAllFound, IsNear, AreNear};
+ghost use Rattle.train_net.specs.Near.{filled, near_by, AreAllFound, AreNear, AreNearAt};
 
 use plan_model::SoundCut;
 use rail_model::{OutOfMemory, Use};
@@ -35,6 +35,30 @@ pub(crate) fn nearest_before(
     let mut near = vec![in alloc; None; cut.place_count() as usize]?;
     look_back(&mut near, cut, order, at, wanted);
     Ok(near)
+}
+
+/// Who stands nearest before a position of an order, at the places of who stands there.
+pub(crate) fn near_at(
+    alloc: Global,
+    cut: &SoundCut,
+    order: &[u32],
+    at: usize,
+) -> Result<Vec<Option<Near>>, OutOfMemory>
+    requires there { All (λ i. i < member_count cut.now) order.now }
+    requires within { at < length order.now }
+    ensures places { IfOk result (λ near. length near.items ≡ place_count cut.now) }
+    ensures near { IfOk result (λ near. AreNearAt cut.now order.now at near.items) }
+{
+    let places = places_of(alloc, cut.row(order[at]).uses.slice())?;
+    nearest_before(alloc, cut, order, at, &places)
+}
+
+// The places of some uses.
+fn places_of(alloc: Global, uses: &[Use]) -> Result<Vec<u32>, OutOfMemory>
+    ensures { IfOk result (λ places. places.items ≡ map (λ u. u.block) uses.now) }
+{
+    let places = uses.iter().map(|one| one.block).collect(alloc)?;
+    Ok(places)
 }
 
 // Fills the table, which is empty, from the position back.

@@ -7,7 +7,7 @@ use Rattle.train_net.specs.declared.edge.Edge.{Edge}
 use Rattle.train_net.specs.Held.{IsNetOf}
 use Rattle.train_net.specs.Mended.{AgreeInOrder}
 use Rattle.train_net.specs.Mending.{AreAllMended}
-use Rattle.train_net.proofs.Anew.{mended_as, mended_net, mended_order}
+use Rattle.train_net.proofs.Remade.{mended_as, mended_net, mended_order}
 use Rattle.train_net.proofs.mending.mend.Goals as goal
 
 pub returns-in-Some-2 : goal.returns-in-Some-2

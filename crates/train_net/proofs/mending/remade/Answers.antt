@@ -2,7 +2,7 @@ use Rattle.std.proofs.Common.{◌≡◌, ◌⊎◌, inl, inr, arith, subst}
 use Rattle.std.specs.Prelude.{IfSome, Some, slice_index}
 use Rattle.train_order.proofs.Apart.{below}
 use Rattle.train_net.specs.Mending.{AreAnew, AreMoved}
-use Rattle.train_net.proofs.Anew.{next_remade}
+use Rattle.train_net.proofs.Remade.{next_remade}
 use Rattle.train_net.proofs.mending.remade.Goals as goal
 
 pub edges_at-requires-clause-there : goal.edges_at-requires-clause-there

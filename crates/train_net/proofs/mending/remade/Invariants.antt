@@ -1,4 +1,4 @@
-use Rattle.train_net.proofs.Anew.{HasRemade}
+use Rattle.train_net.proofs.Remade.{HasRemade}
 use Rattle.train_net.proofs.mending.remade.Given as goal
 
 -- the edges to the first of the order
