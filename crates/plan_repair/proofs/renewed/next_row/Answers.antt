@@ -31,3 +31,6 @@ returns-in_err-take_row-in-None-clause-reading g c =
     let none : find (has row.name row.stamp) c.args.left.now.items ≡ None =
     rw (← c.name-name.ensures, ← c.stamp-stamp.ensures) (sym c.in-None.ensures.found) in
     rw c.take_row.ensures.reading (taken_whole c.args.left.now.items row shown none)
+
+pub returns-in_ok-take_row-in-None-clause-from : goal.returns-in_ok-take_row-in-None-clause-from
+returns-in_ok-take_row-in-None-clause-from g c = tt
