@@ -8,7 +8,6 @@ ghost use Rattle.train_order.specs.Ordering.{IsOrdering};
 ghost use Rattle.train_net.specs.Held.{IsNetOf};
 ghost use Rattle.plan_repair.specs.Held.{IsHeldOf, IsHeldBefore};
 
-use compression::answer_of_cut;
 use plan_model::{Answer, Cut, FitCut, SoundCut};
 use rail_model::{List, Name, OutOfMemory};
 use std::alloc::Global;
@@ -25,9 +24,8 @@ pub(crate) struct Held {
 /// The answer of a cut, and the net that is held of it. `origin` has, for each row of the cut,
 /// where it stood in the cut of the net that was held before, if it is kept.
 ///
-/// Where no row is kept, the answer is from scratch, and no net is made. Where at most a quarter of
-/// the rows is fresh, the net that was held is mended, if it can be; else one is made anew, if the
-/// trains have an order.
+/// Where at most a quarter of the rows is fresh, the net that was held is mended, if it can be; else
+/// one is made anew, if the trains have an order.
 pub(crate) fn answer_held(
     alloc: Global,
     cut: &Cut,
@@ -41,9 +39,6 @@ pub(crate) fn answer_held(
     ensures answer { IfOk result (λ both. IsAnswer cut.now both.0) }
     ensures held { IfOk result (λ both. IfSome both.1 (IsHeldOf cut.now)) }
 {
-    if fresh_count(origin) == origin.len() {
-        return Ok((answer_of_cut(alloc, cut)?, None));
-    }
     match mended(alloc, &SoundCut::of(cut), held, origin)? {
         Some(net) => by_net(alloc, cut, net),
         None => anew(alloc, cut),
