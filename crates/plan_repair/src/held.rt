@@ -24,8 +24,8 @@ pub(crate) struct Held {
 /// The answer of a cut, and the net that is held of it. `origin` has, for each row of the cut,
 /// where it stood in the cut of the net that was held before, if it is kept.
 ///
-/// Where at most a quarter of the rows is fresh, the net that was held is mended, if it can be; else
-/// one is made anew, if the trains have an order.
+/// Where at most a quarter of the rows is fresh, the net that was held is mended, if it can be;
+/// else one is made anew, if the trains have an order.
 pub(crate) fn answer_held(
     alloc: Global,
     cut: &Cut,
