@@ -4,6 +4,7 @@ ghost use Rattle.plan_model.specs.Call.{Calls};
 ghost use Rattle.section_worker.specs.Keeping.{KeepsWhatWasRead};
 ghost use Rattle.acceptance_seats.specs.Opened.{IsJustOpened};
 
+mod drawn_edits;
 mod races;
 mod repairs;
 mod takings;

@@ -33,7 +33,7 @@ const CHANGED: [Step; 1] = [(
 )];
 
 // The next reading of a book, if a section is left.
-fn next_reading(book: &Book) -> Result<Option<Reading>, OutOfMemory>
+pub(super) fn next_reading(book: &Book) -> Result<Option<Reading>, OutOfMemory>
     ensures { IfOk result (λ r. IfSome r (IsNextReading 0 1 book.now)) }
 {
     match book.read_next(0, 1)? {
@@ -76,8 +76,8 @@ fn tell_plan(alloc: Global, told: &mut String, plan: &Plan) -> Result<(), OutOfM
     Ok(())
 }
 
-// What is kept of the first reading of a book, if that takes at most four uses.
-fn first_kept(alloc: Global, book: &Book) -> Result<Option<Keep>, OutOfMemory>
+// What is kept of the first reading of a book, if that takes at most so many uses.
+pub(super) fn first_kept(alloc: Global, book: &Book, most: u64) -> Result<Option<Keep>, OutOfMemory>
     ensures { IfOk result (λ keep. IfSome keep (IsKept book.now)) }
 {
     let _journal = book.journal();
@@ -85,7 +85,7 @@ fn first_kept(alloc: Global, book: &Book) -> Result<Option<Keep>, OutOfMemory>
         return Ok(None);
     };
     let (keep, _) = Keep::first(alloc, &mut reading)?;
-    if reading.taken() > 4 {
+    if reading.taken() > most {
         return Ok(None);
     }
     Ok(Some(keep))
@@ -109,7 +109,12 @@ fn reading_of(book: &Book, keep: &Keep) -> Result<Option<Reading>, OutOfMemory>
 }
 
 // Makes the edit of a row.
-fn edited(alloc: Global, book: &mut Book, keep: &Keep, row: &str) -> Result<(), OutOfMemory>
+pub(super) fn edited(
+    alloc: Global,
+    book: &mut Book,
+    keep: &Keep,
+    row: &str,
+) -> Result<(), OutOfMemory>
     requires { IsKept book.old keep.now }
     ensures { OnOk result (IsKept book.new keep.now) }
 {
@@ -120,27 +125,21 @@ fn edited(alloc: Global, book: &mut Book, keep: &Keep, row: &str) -> Result<(), 
     Ok(())
 }
 
-// What is kept after a repair by the next reading, with what is told of it.
-fn repaired(
+// What is kept after a repair by the next reading, with the answer, and the reading as it is then.
+pub(super) fn repaired(
     alloc: Global,
     book: &Book,
     keep: Keep,
-    most: u64,
-) -> Result<Option<(Keep, String)>, OutOfMemory>
+) -> Result<Option<(Keep, Answer, Reading)>, OutOfMemory>
     requires { IsKept book.now keep }
-    ensures { IfOk result (λ r. IfSome r (λ both. IsKept book.now both.0)) }
+    ensures { IfOk result (λ r. IfSome r (λ all. IsKept book.now all.0)) }
 {
     let _journal = book.journal();
     let Some(mut reading) = reading_of(book, &keep)? else {
         return Ok(None);
     };
     let (keep, answer) = keep.repair(alloc, &mut reading)?;
-    let told = if reading.taken() <= most {
-        told_of(alloc, &reading, &answer)?
-    } else {
-        format!(in alloc; "too many uses")?
-    };
-    Ok(Some((keep, told)))
+    Ok(Some((keep, answer, reading)))
 }
 
 // The first step that tells something else than is told here, with what it tells, if there is one.
@@ -148,14 +147,19 @@ fn first_other(alloc: Global, steps: &[Step]) -> Result<Option<(usize, String)>,
     let Some(mut book) = opened(alloc)? else {
         return Ok(Some((0, format!(in alloc; "no book")?)));
     };
-    let Some(mut keep) = first_kept(alloc, &book)? else {
+    let Some(mut keep) = first_kept(alloc, &book, 4)? else {
         return Ok(Some((0, format!(in alloc; "nothing kept")?)));
     };
     for place in 0..steps.len() {
         let (row, most, expected) = steps[place];
         edited(alloc, &mut book, &keep, row)?;
-        let Some((next, told)) = repaired(alloc, &book, keep, most)? else {
+        let Some((next, answer, reading)) = repaired(alloc, &book, keep)? else {
             return Ok(Some((place, format!(in alloc; "no reading of S")?)));
+        };
+        let told = if reading.taken() <= most {
+            told_of(alloc, &reading, &answer)?
+        } else {
+            format!(in alloc; "too many uses")?
         };
         if told.as_str() != expected {
             return Ok(Some((place, told)));
