@@ -11,14 +11,14 @@ use Rattle.plan_model.specs.Members.{no_member}
 use Rattle.plan_model.specs.Places.{place_names}
 use Rattle.train_net.specs.Mended.{stood, IsOrigin}
 use Rattle.plan_repair.specs.declared.held.Held.{Held}
-use Rattle.plan_repair.specs.Left.{EndsWith, IsFrom}
-use Rattle.plan_repair.specs.Origin.{AreFrom, AreFromBefore}
+use Rattle.plan_repair.specs.Left.{EndsWith, StoodAt}
+use Rattle.plan_repair.specs.Origin.{StoodAmong, StoodBefore}
 use Rattle.plan_repair.specs.Held.{IsHeld, IsHeldBefore}
 
 -- one more is either one of those before or the last
-stood_more : (origin : List (Option ℕ)) (one : Option ℕ) (i a : ℕ) → stood (origin ++ one ∷ []) i ≡ Some a
+stood_at_end : (origin : List (Option ℕ)) (one : Option ℕ) (i a : ℕ) → stood (origin ++ one ∷ []) i ≡ Some a
     → ((i < length origin) × (stood origin i ≡ Some a)) ⊎ ((i ≡ length origin) × (one ≡ Some a))
-stood_more origin one i a h =
+stood_at_end origin one i a h =
     elim (cases_order i (length origin)) [
       | inl same ↦
           inr (same, sym (get_or-append_seam origin one [] None) ∙ ap (λ k. get_or (origin ++ one ∷ []) k None) (sym same) ∙ h)
@@ -41,8 +41,8 @@ shorter : (rows last : List CutRow) → EndsWith rows last → length last ≤ l
 shorter rows last ends = omega (arith, ap length ends.is, length-append ends.before last)
 
 -- at first there is no row
-pub from_none : (kept : List CutRow) → AreFromBefore kept kept [] []
-from_none kept = record {
+pub stood_none : (kept : List CutRow) → StoodBefore kept kept [] []
+stood_none kept = record {
   so_far = record {
     count = refl;
     within = λ i a h. absurd (cc);
@@ -54,17 +54,17 @@ from_none kept = record {
 
 -- one row more
 module _ (kept left after rows : List CutRow) (origin : List (Option ℕ)) (row : CutRow) (one : Option ℕ)
-    (before : AreFromBefore kept left rows origin) (ends : EndsWith kept left) (behind : EndsWith left after)
-    (from : IfSome one (IsFrom (length kept) left after row)) where
-  from_at : (a : ℕ) → one ≡ Some a → IsFrom (length kept) left after row a
-  from_at a h = MatchOption-at_some _ (IsFrom (length kept) left after row) a h from
+    (before : StoodBefore kept left rows origin) (ends : EndsWith kept left) (behind : EndsWith left after)
+    (from : IfSome one (StoodAt (length kept) left after row)) where
+  from_at : (a : ℕ) → one ≡ Some a → StoodAt (length kept) left after row a
+  from_at a h = MatchOption-at_some _ (StoodAt (length kept) left after row) a h from
 
   count_is : length origin ≡ length rows
   count_is = before.so_far.count
 
   passed_more : (i a : ℕ) → stood (origin ++ one ∷ []) i ≡ Some a → a + length after < length kept
   passed_more i a h =
-      elim (stood_more origin one i a h) [
+      elim (stood_at_end origin one i a h) [
         | inl (below, old) ↦ omega (arith, before.passed i a old, shorter left after behind)
         | inr (same, is) ↦ let at = (from_at a is).at in omega arith
       ]
@@ -78,7 +78,7 @@ module _ (kept left after rows : List CutRow) (origin : List (Option ℕ)) (row 
   same_more : (i a : ℕ) → stood (origin ++ one ∷ []) i ≡ Some a
       → get_or (rows ++ row ∷ []) i no_member ≡ get_or kept a no_member
   same_more i a h =
-      elim (stood_more origin one i a h) [
+      elim (stood_at_end origin one i a h) [
         | inl (below, old) ↦
             get_or_append_left rows (row ∷ []) no_member i (omega (arith, below, count_is)) ∙ before.so_far.same i a old
         | inr (same, is) ↦
@@ -93,21 +93,21 @@ module _ (kept left after rows : List CutRow) (origin : List (Option ℕ)) (row 
 
   apart_more : (i j a : ℕ) → stood (origin ++ one ∷ []) i ≡ Some a → stood (origin ++ one ∷ []) j ≡ Some a → i ≡ j
   apart_more i j a h g =
-      elim (stood_more origin one i a h) [
+      elim (stood_at_end origin one i a h) [
         | inl (_, old) ↦
-            elim (stood_more origin one j a g) [
+            elim (stood_at_end origin one j a g) [
               | inl (_, other) ↦ before.so_far.apart i j a old other
               | inr (_, is) ↦ absurd (not_before i a old is)
             ]
         | inr (same, is) ↦
-            elim (stood_more origin one j a g) [
+            elim (stood_at_end origin one j a g) [
               | inl (_, other) ↦ absurd (not_before j a other is)
               | inr (other, _) ↦ same ∙ sym other
             ]
       ]
 
-  pub from_more : AreFromBefore kept after (rows ++ row ∷ []) (origin ++ one ∷ [])
-  from_more = record {
+  pub stood_more : StoodBefore kept after (rows ++ row ∷ []) (origin ++ one ∷ [])
+  stood_more = record {
     so_far = record {
       count = omega (arith, count_is, length-append rows (row ∷ []), length-append origin (one ∷ []));
       within = λ i a h. omega (arith, passed_more i a h);
@@ -118,7 +118,7 @@ module _ (kept left after rows : List CutRow) (origin : List (Option ℕ)) (row 
   }
 
 -- in a later cut with the same places that is the origin of its members
-is_origin : (old later : Cut) (origin : List (Option ℕ)) → AreFrom old.rows later.rows origin → place_names later ≡ place_names old
+is_origin : (old later : Cut) (origin : List (Option ℕ)) → StoodAmong old.rows later.rows origin → place_names later ≡ place_names old
     → IsOrigin old later origin
 is_origin old later origin from places = record {
   places = places;
@@ -139,11 +139,11 @@ is_origin old later origin from places = record {
 
 -- what is held beside kept rows was held before a cut whose rows stood among them
 pub held_before : (kept : List CutRow) (later : Cut) (origin : List (Option ℕ)) (beside : Option Held)
-    → AreFrom kept later.rows origin → IfSome beside (IsHeld kept) → IfSome beside (IsHeldBefore later origin)
+    → StoodAmong kept later.rows origin → IfSome beside (IsHeld kept) → IfSome beside (IsHeldBefore later origin)
 held_before kept later origin beside from held =
     IfSome_then beside held (λ one is. record {
       cut = is.cut;
       sound = is.sound;
       of = is.of;
-      origin = λ places. is_origin is.cut later origin (subst (λ rows. AreFrom rows later.rows origin) (sym is.same) from) places;
+      origin = λ places. is_origin is.cut later origin (subst (λ rows. StoodAmong rows later.rows origin) (sym is.same) from) places;
     })

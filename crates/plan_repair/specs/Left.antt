@@ -25,7 +25,7 @@ pub record IsLeft (name : List ℕ) (before after : List CutRow) : Type 0 where
   pub later : (row : CutRow) → IsBefore name row.name → is_kept after row ≡ is_kept before row
 
 -- a row stood at a position among so many, of which some were left, and then those behind it
-pub record IsFrom (count : ℕ) (before after : List CutRow) (row : CutRow) (position : ℕ) : Type 0 where
+pub record StoodAt (count : ℕ) (before after : List CutRow) (row : CutRow) (position : ℕ) : Type 0 where
   pub at : position + length after + 1 ≡ count
   pub ends : EndsWith before (row ∷ after)
 

@@ -5,8 +5,8 @@ ghost use Rattle.plan_model.specs.declared.limits.TheConstants.{MEMBERS};
 ghost use Rattle.plan_model.specs.Cut.{IsSoundCut};
 ghost use Rattle.plan_model.specs.Members.{member, member_count};
 ghost use Rattle.plan_repair.specs.Kept.{AgreeByStamps, uses_to_take, TakesAtMost};
-ghost use Rattle.plan_repair.specs.Left.{IsLeft, IsFrom};
-ghost use Rattle.plan_repair.specs.Origin.{AreFrom};
+ghost use Rattle.plan_repair.specs.Left.{IsLeft, StoodAt};
+ghost use Rattle.plan_repair.specs.Origin.{StoodAmong};
 
 use crate::left::next_kept;
 use crate::taken::take_row;
@@ -34,7 +34,7 @@ pub(crate) fn renewed<R: Rows>(
     requires agree { AgreeByStamps kept (R.shown reading.old).cut.rows }
     ensures cut { IfOk result (λ renewed. renewed.cut ≡ (R.shown reading.old).cut) }
     ensures origin { IfOk result (λ renewed.
-        AreFrom kept (R.shown reading.old).cut.rows renewed.origin.items) }
+        StoodAmong kept (R.shown reading.old).cut.rows renewed.origin.items) }
     ensures reading { TakesAtMost (sum_by (uses_to_take kept) (R.shown reading.old).cut.rows)
         (R.shown reading.old) (R.shown reading.new) }
 {
@@ -60,7 +60,7 @@ fn renewed_rows<R: Rows>(
     requires few { length kept ≤ MEMBERS }
     requires agree { AgreeByStamps kept (R.shown reading.old).cut.rows }
     ensures rows { IfOk result (λ both. both.0 ≡ (R.shown reading.old).cut.rows) }
-    ensures origin { IfOk result (λ both. AreFrom kept both.0 both.1.items) }
+    ensures origin { IfOk result (λ both. StoodAmong kept both.0 both.1.items) }
     ensures reading { TakesAtMost (sum_by (uses_to_take kept) (R.shown reading.old).cut.rows)
         (R.shown reading.old) (R.shown reading.new) }
 {
@@ -92,7 +92,7 @@ fn next_row<R: Rows>(
     requires agree { AgreeByStamps left.old.items (R.shown reading.old).cut.rows }
     ensures row { IfOk result (λ both. both.0 ≡ member (R.shown reading.old).cut i) }
     ensures from { IfOk result (λ both.
-        IfSome both.1 (IsFrom count left.old.items left.new.items both.0)) }
+        IfSome both.1 (StoodAt count left.old.items left.new.items both.0)) }
     ensures reading { TakesAtMost
         (uses_to_take left.old.items (member (R.shown reading.old).cut i))
         (R.shown reading.old) (R.shown reading.new) }

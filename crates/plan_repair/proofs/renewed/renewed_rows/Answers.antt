@@ -1,10 +1,10 @@
 use Rattle.std.proofs.Common.{◌<◌, ◌∙◌, subst, arith}
 use Rattle.std.specs.Prelude.{IfSome}
 use Rattle.plan_model.specs.Members.{member_count}
-use Rattle.plan_repair.specs.Left.{IsFrom}
+use Rattle.plan_repair.specs.Left.{StoodAt}
 use Rattle.plan_repair.proofs.Leaving.{part_of}
 use Rattle.plan_repair.proofs.Renewing.{renewing_first, taken_in_all, rows_more, renewing_more}
-use Rattle.plan_repair.proofs.Standing.{from_none, from_more}
+use Rattle.plan_repair.proofs.Standing.{stood_none, stood_more}
 use Rattle.plan_repair.proofs.renewed.renewed_rows.Goals as goal
 
 pub loop-i-init : goal.loop-i-init
@@ -13,7 +13,7 @@ loop-i-init g c =
     record {
       rows = c.new-rows.ensures;
       origin = rw (c.from_vec-left.ensures.items, c.into_vec.ensures, c.new-rows.ensures, c.new-origin.ensures.items)
-          (from_none c.args.kept);
+          (stood_none c.args.kept);
       renewing = rw (c.from_vec-left.ensures.items, c.into_vec.ensures) (renewing_first c.args.kept before c.requires.rise);
     }
 
@@ -46,14 +46,14 @@ loop-i-preserved g c =
     let left = c.loop-i.left.items in
     let so_far = c.loop-i.invariant.renewing in
     let below : i < member_count before.cut = omega (arith, c.loop-i-test.true, c.count-i-end.ensures.count) in
-    let from = subst (λ n. IfSome c.in_ok-row.from (IsFrom n left c.next_row.new.left.items c.in_ok-row.row)) c.len-count.ensures.count
+    let from = subst (λ n. IfSome c.in_ok-row.from (StoodAt n left c.next_row.new.left.items c.in_ok-row.row)) c.len-count.ensures.count
     c.in_ok-row.ensures.from in
     record {
       rows = c.in_ok-push.ensures.ok
           ∙ rows_more c.args.kept before i left now so_far below c.loop-i.rows c.in_ok-row.row c.loop-i.invariant.rows
           c.in_ok-row.ensures.row;
       origin = rw (c.in_ok-push.ensures.ok, c.in_ok-push-2.ensures.items)
-          (from_more c.args.kept left c.next_row.new.left.items c.loop-i.rows c.loop-i.origin.items c.in_ok-row.row c.in_ok-row.from
+          (stood_more c.args.kept left c.next_row.new.left.items c.loop-i.rows c.loop-i.origin.items c.in_ok-row.row c.in_ok-row.from
           c.loop-i.invariant.origin so_far.left.ends c.next_row.ensures.left.ends from);
       renewing = renewing_more c.args.kept before i left now so_far below after c.next_row.new.left.items c.requires.sound
           c.next_row.ensures.left c.next_row.ensures.reading;
