@@ -9,6 +9,7 @@ ghost use Rattle.line_cutter.specs.Laws.{IsLongest, IsCutAmong, AreDisjoint};
 ghost use Rattle.line_cutter.specs.Search.{AreCutTo};
 
 use crate::found::{Cutting, Stretch};
+use crate::line::Line;
 use crate::longest::longest_from;
 use plan_model::{Cut, FitCut};
 use rail_model::{List, OutOfMemory};
@@ -35,13 +36,14 @@ pub fn cut_line(alloc: Global, cut: &Cut) -> Result<Cutting, OutOfMemory>
         ends: List::new(alloc),
         stretches: List::new(alloc),
     };
-    cut_from(alloc, &FitCut::of(cut), 0, none)
+    let line = Line::of(alloc, FitCut::of(cut))?;
+    cut_from(alloc, &line, 0, none)
 }
 
 // The same, where the line is cut up to a block.
 fn cut_from(
     alloc: Global,
-    cut: &FitCut,
+    cut: &Line,
     first: u32,
     mut cutting: Cutting,
 ) -> Result<Cutting, OutOfMemory>

@@ -5,9 +5,11 @@
 //! block, where these have none.
 #![tactic(auto)]
 
+mod breaks;
 mod cutting;
 mod found;
 mod laws;
+mod line;
 mod longest;
 mod piece;
 mod rows;

@@ -5,6 +5,7 @@ ghost use Rattle.train_order.specs.Ordering.{IsOrdering};
 ghost use Rattle.line_cutter.specs.Piece as pieces;
 ghost use Rattle.line_cutter.specs.Search.{IsFitting, IsLongestFrom, IsTried};
 
+use crate::line::Line;
 use crate::piece::piece;
 use plan_model::{Disorder, FitCut};
 use rail_model::OutOfMemory;
@@ -20,17 +21,27 @@ pub(crate) struct Longest {
     pub(crate) disorder: Option<Disorder>,
 }
 
-/// The longest orderly piece from block a on. One of 1 block is orderly; pieces of 2, 4, 8 blocks
-/// and so on are tried up to the first that isn't orderly, and then by halves those between it and
-/// the one before.
-pub(crate) fn longest_from(alloc: Global, cut: &FitCut, a: u32) -> Result<Longest, OutOfMemory>
-    requires { a < block_count cut.now }
+/// The longest orderly piece from block a on. One of 1 block is orderly. The likely piece is tried,
+/// then that with one block more, and then pieces twice as long each, up to the first that isn't
+/// orderly; and then by halves those between it and the one before.
+pub(crate) fn longest_from(alloc: Global, line: &Line, a: u32) -> Result<Longest, OutOfMemory>
+    requires { a < block_count line.now }
+    ensures { IfOk result (IsLongestFrom line.now a) }
+{
+    let likely = line.likely_end(a);
+    longest_by(alloc, line.cut(), a, likely)
+}
+
+// The same, with the block before which it is likely to end.
+fn longest_by(alloc: Global, cut: &FitCut, a: u32, likely: u32) -> Result<Longest, OutOfMemory>
+    requires some { a < block_count cut.now }
+    requires likely { likely ≤ block_count cut.now }
     ensures { IfOk result (IsLongestFrom cut.now a) }
 {
     let count = cut.sound().block_count();
     let mut fits = a + 1;
     while fits < count {
-        let next = further(a, fits, count);
+        let next = further(a, fits, count, likely);
         match disorder_in(alloc, cut, a, next)? {
             None => fits = next,
             Some(disorder) => return narrowed(alloc, cut, a, fits, next, disorder),
@@ -42,15 +53,22 @@ pub(crate) fn longest_from(alloc: Global, cut: &FitCut, a: u32) -> Result<Longes
     })
 }
 
-// The end of a piece twice as long, or of the line.
-fn further(a: u32, fits: u32, count: u32) -> u32
+// The end of the likely piece, of one block more, and then of a piece twice as long or of the line.
+fn further(a: u32, fits: u32, count: u32, likely: u32) -> u32
     requires some { a < fits }
     requires within { fits < count }
     requires few { count ≤ 256 }
+    requires likely { likely ≤ count }
     ensures more { fits < result }
     ensures within { result ≤ count }
 {
-    count.min(fits + (fits - a))
+    if fits < likely {
+        likely
+    } else if fits == likely {
+        fits + 1
+    } else {
+        count.min(fits + (fits - a))
+    }
 }
 
 // The longest orderly piece, which ends where one fits or further on, and before where one doesn't.
