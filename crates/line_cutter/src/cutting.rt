@@ -43,15 +43,15 @@ pub fn cut_line(alloc: Global, cut: &Cut) -> Result<Cutting, OutOfMemory>
 // The same, where the line is cut up to a block.
 fn cut_from(
     alloc: Global,
-    cut: &Line,
+    line: &Line,
     first: u32,
     mut cutting: Cutting,
 ) -> Result<Cutting, OutOfMemory>
-    requires left { first < block_count cut.now }
-    requires before { AreCutTo cut.now 0 cutting.ends cutting.stretches first }
-    ensures { IfOk result (IsCutting cut.now) }
+    requires left { first < block_count line.now }
+    requires before { AreCutTo line.now 0 cutting.ends cutting.stretches first }
+    ensures { IfOk result (IsCutting line.now) }
 {
-    let found = longest_from(alloc, cut, first)?;
+    let found = longest_from(alloc, line, first)?;
     let last = found.end;
     cutting.ends.push(last)?;
     match found.disorder {
@@ -62,7 +62,7 @@ fn cut_from(
                 last,
                 disorder,
             })?;
-            cut_from(alloc, cut, last, cutting)
+            cut_from(alloc, line, last, cutting)
         }
     }
 }

@@ -11,6 +11,7 @@ mod found;
 mod laws;
 mod line;
 mod longest;
+mod opposed;
 mod piece;
 mod rows;
 
