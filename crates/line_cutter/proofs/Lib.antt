@@ -6,3 +6,6 @@ pub mod SoundPiece
 pub mod Single
 pub mod Further
 pub mod InSection
+pub mod Paired
+pub mod Ways
+pub mod Apart

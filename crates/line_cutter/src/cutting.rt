@@ -9,6 +9,7 @@ ghost use Rattle.line_cutter.specs.Laws.{IsLongest, IsCutAmong, AreDisjoint};
 ghost use Rattle.line_cutter.specs.Search.{AreCutTo};
 
 use crate::found::{Cutting, Stretch};
+use crate::line::Line;
 use crate::longest::longest_from;
 use plan_model::{Cut, FitCut};
 use rail_model::{List, OutOfMemory};
@@ -35,21 +36,22 @@ pub fn cut_line(alloc: Global, cut: &Cut) -> Result<Cutting, OutOfMemory>
         ends: List::new(alloc),
         stretches: List::new(alloc),
     };
-    cut_from(alloc, &FitCut::of(cut), 0, none)
+    let line = Line::of(alloc, FitCut::of(cut))?;
+    cut_from(alloc, &line, 0, none)
 }
 
 // The same, where the line is cut up to a block.
 fn cut_from(
     alloc: Global,
-    cut: &FitCut,
+    line: &Line,
     first: u32,
     mut cutting: Cutting,
 ) -> Result<Cutting, OutOfMemory>
-    requires left { first < block_count cut.now }
-    requires before { AreCutTo cut.now 0 cutting.ends cutting.stretches first }
-    ensures { IfOk result (IsCutting cut.now) }
+    requires left { first < block_count line.now }
+    requires before { AreCutTo line.now 0 cutting.ends cutting.stretches first }
+    ensures { IfOk result (IsCutting line.now) }
 {
-    let found = longest_from(alloc, cut, first)?;
+    let found = longest_from(alloc, line, first)?;
     let last = found.end;
     cutting.ends.push(last)?;
     match found.disorder {
@@ -60,7 +62,7 @@ fn cut_from(
                 last,
                 disorder,
             })?;
-            cut_from(alloc, cut, last, cutting)
+            cut_from(alloc, line, last, cutting)
         }
     }
 }

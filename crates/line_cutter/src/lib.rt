@@ -5,10 +5,13 @@
 //! block, where these have none.
 #![tactic(auto)]
 
+mod breaks;
 mod cutting;
 mod found;
 mod laws;
+mod line;
 mod longest;
+mod opposed;
 mod piece;
 mod rows;
 

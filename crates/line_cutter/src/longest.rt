@@ -5,11 +5,16 @@ ghost use Rattle.train_order.specs.Ordering.{IsOrdering};
 ghost use Rattle.line_cutter.specs.Piece as pieces;
 ghost use Rattle.line_cutter.specs.Search.{IsFitting, IsLongestFrom, IsTried};
 
+use crate::line::Line;
+use crate::opposed::soon_opposite;
 use crate::piece::piece;
-use plan_model::{Disorder, FitCut};
+use plan_model::{Disorder, SoundCut};
 use rail_model::OutOfMemory;
 use std::alloc::Global;
 use train_order::order;
+
+// How many blocks a piece has at most whose opposite trains are looked for pair by pair.
+const FEW: u32 = 8;
 
 /// The longest orderly piece from a block on.
 #[derive(Drop)]
@@ -20,20 +25,31 @@ pub(crate) struct Longest {
     pub(crate) disorder: Option<Disorder>,
 }
 
-/// The longest orderly piece from block a on. One of 1 block is orderly; pieces of 2, 4, 8 blocks
-/// and so on are tried up to the first that isn't orderly, and then by halves those between it and
-/// the one before.
-pub(crate) fn longest_from(alloc: Global, cut: &FitCut, a: u32) -> Result<Longest, OutOfMemory>
-    requires { a < block_count cut.now }
-    ensures { IfOk result (IsLongestFrom cut.now a) }
+/// The longest orderly piece from block a on. One of 1 block is orderly. The likely piece is tried,
+/// then that with one block more, and then pieces twice as long each, up to the first that isn't
+/// orderly; and then by halves those between it and the one before.
+pub(crate) fn longest_from(alloc: Global, line: &Line, a: u32) -> Result<Longest, OutOfMemory>
+    requires { a < block_count line.now }
+    ensures { IfOk result (IsLongestFrom line.now a) }
 {
-    let count = cut.sound().block_count();
+    let likely = line.likely_end(a);
+    longest_by(alloc, line, a, likely)
+}
+
+// The same, with the block before which it is likely to end.
+fn longest_by(alloc: Global, line: &Line, a: u32, likely: u32) -> Result<Longest, OutOfMemory>
+    requires some { a < block_count line.now }
+    requires likely { likely ≤ block_count line.now }
+    ensures { IfOk result (IsLongestFrom line.now a) }
+{
+    let count = line.block_count();
     let mut fits = a + 1;
     while fits < count {
-        let next = further(a, fits, count);
-        match disorder_in(alloc, cut, a, next)? {
+        let next = further(a, fits, count, likely);
+        let likely_over = fits >= likely;
+        match disorder_in(alloc, line, a, next, likely_over)? {
             None => fits = next,
-            Some(disorder) => return narrowed(alloc, cut, a, fits, next, disorder),
+            Some(disorder) => return narrowed(alloc, line, a, fits, next, disorder),
         }
     }
     Ok(Longest {
@@ -42,31 +58,38 @@ pub(crate) fn longest_from(alloc: Global, cut: &FitCut, a: u32) -> Result<Longes
     })
 }
 
-// The end of a piece twice as long, or of the line.
-fn further(a: u32, fits: u32, count: u32) -> u32
+// The end of the likely piece, of one block more, and then of a piece twice as long or of the line.
+fn further(a: u32, fits: u32, count: u32, likely: u32) -> u32
     requires some { a < fits }
     requires within { fits < count }
     requires few { count ≤ 256 }
+    requires likely { likely ≤ count }
     ensures more { fits < result }
     ensures within { result ≤ count }
 {
-    count.min(fits + (fits - a))
+    if fits < likely {
+        likely
+    } else if fits == likely {
+        fits + 1
+    } else {
+        count.min(fits + (fits - a))
+    }
 }
 
 // The longest orderly piece, which ends where one fits or further on, and before where one doesn't.
 fn narrowed(
     alloc: Global,
-    cut: &FitCut,
+    line: &Line,
     a: u32,
     fits: u32,
     over: u32,
     disorder: Disorder,
 ) -> Result<Longest, OutOfMemory>
-    requires fits { IsFitting cut.now a fits }
+    requires fits { IsFitting line.now a fits }
     requires more { fits < over }
-    requires within { over ≤ block_count cut.now }
-    requires over { IsOrdering (pieces.piece cut.now a over) (Err disorder) }
-    ensures { IfOk result (IsLongestFrom cut.now a) }
+    requires within { over ≤ block_count line.now }
+    requires over { IsOrdering (pieces.piece line.now a over) (Err disorder) }
+    ensures { IfOk result (IsLongestFrom line.now a) }
 {
     if over - fits == 1 {
         return Ok(Longest {
@@ -75,19 +98,31 @@ fn narrowed(
         });
     }
     let middle = fits + (over - fits) / 2;
-    match disorder_in(alloc, cut, a, middle)? {
-        None => narrowed(alloc, cut, a, middle, over, disorder),
-        Some(found) => narrowed(alloc, cut, a, fits, middle, found),
+    match disorder_in(alloc, line, a, middle, true)? {
+        None => narrowed(alloc, line, a, middle, over, disorder),
+        Some(found) => narrowed(alloc, line, a, fits, middle, found),
     }
 }
 
-// Why a piece isn't orderly, if it isn't.
-fn disorder_in(alloc: Global, cut: &FitCut, a: u32, b: u32) -> Result<Option<Disorder>, OutOfMemory>
+// Why a piece isn't orderly, if it isn't. Where that is likely, opposite trains are looked for
+// before an order is.
+fn disorder_in(
+    alloc: Global,
+    line: &Line,
+    a: u32,
+    b: u32,
+    likely: bool,
+) -> Result<Option<Disorder>, OutOfMemory>
     requires some { a < b }
-    requires within { b ≤ block_count cut.now }
-    ensures { IfOk result (IsTried cut.now a b) }
+    requires within { b ≤ block_count line.now }
+    ensures { IfOk result (IsTried line.now a b) }
 {
-    let part = piece(alloc, cut.sound().cut(), a, b)?;
+    let part = piece(alloc, line, a, b)?;
+    if likely && b - a <= FEW {
+        if let Some(disorder) = soon_opposite(alloc, &SoundCut::of(&part))? {
+            return Ok(Some(disorder));
+        }
+    }
     match order(alloc, &part)? {
         Ok(_) => Ok(None),
         Err(disorder) => Ok(Some(disorder)),

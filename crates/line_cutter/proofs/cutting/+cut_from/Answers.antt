@@ -7,7 +7,7 @@ use Rattle.line_cutter.proofs.cutting.+cut_from.Goals as goal
 
 pub cut_from-requires : goal.cut_from-requires
 cut_from-requires t c =
-    let cut = c.args.cut.now in
+    let cut = c.args.line.now in
     let first = c.args.first in
     let end = c.in_ok-found.found.end in
     let found = c.in_ok-found.ensures in
@@ -26,7 +26,7 @@ cut_from-requires t c =
 
 pub returns-in-None : goal.returns-in-None
 returns-in-None t c =
-    let cut = c.args.cut.now in
+    let cut = c.args.line.now in
     let found = c.in_ok-found.ensures in
     let ends = c.args.cutting.ends in
     let stretches = c.args.cutting.stretches in

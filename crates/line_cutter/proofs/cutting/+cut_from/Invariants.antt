@@ -3,4 +3,4 @@ use Rattle.plan_model.specs.Places.{block_count}
 use Rattle.line_cutter.proofs.cutting.+cut_from.Given as goal
 
 abbrev pub decreases-cut_from : goal.decreases-cut_from
-decreases-cut_from l = block_count l.cut.now - l.first
+decreases-cut_from l = block_count l.line.now - l.first

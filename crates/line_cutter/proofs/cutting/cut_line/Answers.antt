@@ -1,4 +1,4 @@
-use Rattle.std.proofs.Common.{◌≡◌, ◌+◌, ◌≤◌, ℕ, List, length, All, AllPairs, IfOk, subst}
+use Rattle.std.proofs.Common.{◌≡◌, ◌+◌, ◌≤◌, ℕ, List, length, All, AllPairs, IfOk, subst, ◌∙◌}
 use Rattle.std.specs.Prelude.{Result, Ok, Err}
 use Rattle.plan_model.specs.declared.cut.Cut.{Cut}
 use Rattle.line_cutter.specs.declared.found.Cutting.{Cutting}
@@ -15,27 +15,27 @@ on_ok cut found P law (Err e) same is = tt
 
 pub returns-clause-one_more : goal.returns-clause-one_more
 returns-clause-one_more c =
-    on_ok c.args.cut.now c.of.result (λ cutting. length cutting.ends ≡ length cutting.stretches + 1)
-    (one_piece_more c.args.cut.now) c.cut_from.result c.of.ensures c.cut_from.ensures
+    on_ok c.args.cut.now c.in_ok-line.line (λ cutting. length cutting.ends ≡ length cutting.stretches + 1)
+    (one_piece_more c.args.cut.now) c.cut_from.result (c.in_ok-line.ensures ∙ c.of.ensures) c.cut_from.ensures
 
 pub returns-clause-longest : goal.returns-clause-longest
 returns-clause-longest c =
-    on_ok c.args.cut.now c.of.result (λ cutting. All (IsLongest c.args.cut.now) cutting.stretches)
-    (each_is_longest c.args.cut.now) c.cut_from.result c.of.ensures c.cut_from.ensures
+    on_ok c.args.cut.now c.in_ok-line.line (λ cutting. All (IsLongest c.args.cut.now) cutting.stretches)
+    (each_is_longest c.args.cut.now) c.cut_from.result (c.in_ok-line.ensures ∙ c.of.ensures) c.cut_from.ensures
 
 pub returns-clause-disjoint : goal.returns-clause-disjoint
 returns-clause-disjoint c =
-    on_ok c.args.cut.now c.of.result (λ cutting. AllPairs AreDisjoint cutting.stretches)
-    (stretches_are_disjoint c.args.cut.now) c.cut_from.result c.of.ensures c.cut_from.ensures
+    on_ok c.args.cut.now c.in_ok-line.line (λ cutting. AllPairs AreDisjoint cutting.stretches)
+    (stretches_are_disjoint c.args.cut.now) c.cut_from.result (c.in_ok-line.ensures ∙ c.of.ensures) c.cut_from.ensures
 
 pub returns-clause-needed : goal.returns-clause-needed
 returns-clause-needed c =
-    on_ok c.args.cut.now c.of.result
+    on_ok c.args.cut.now c.in_ok-line.line
     (λ cutting. (ends : List ℕ) → AreOrderly c.args.cut.now 0 ends → All (IsCutAmong ends) cutting.stretches)
-    (λ cutting is ends. each_needs_a_cut c.args.cut.now cutting ends is) c.cut_from.result c.of.ensures c.cut_from.ensures
+    (λ cutting is ends. each_needs_a_cut c.args.cut.now cutting ends is) c.cut_from.result (c.in_ok-line.ensures ∙ c.of.ensures) c.cut_from.ensures
 
 pub returns-clause-fewest : goal.returns-clause-fewest
 returns-clause-fewest c =
-    on_ok c.args.cut.now c.of.result
+    on_ok c.args.cut.now c.in_ok-line.line
     (λ cutting. (ends : List ℕ) → AreOrderly c.args.cut.now 0 ends → length cutting.ends ≤ length ends)
-    (λ cutting is ends. no_fewer_pieces c.args.cut.now cutting ends is) c.cut_from.result c.of.ensures c.cut_from.ensures
+    (λ cutting is ends. no_fewer_pieces c.args.cut.now cutting ends is) c.cut_from.result (c.in_ok-line.ensures ∙ c.of.ensures) c.cut_from.ensures

@@ -3,5 +3,5 @@ use Rattle.std.specs.Prelude.{filter}
 use Rattle.line_cutter.specs.Piece.{uses_piece, piece_row}
 use Rattle.line_cutter.proofs.piece.piece_rows.Given as goal
 
-abbrev pub invariant-loop-row : goal.invariant-loop-row
-invariant-loop-row l = l.some ≡ map (piece_row l.a l.b) (filter (uses_piece l.a l.b) (take l.row-index l.rows))
+abbrev pub invariant-loop-k : goal.invariant-loop-k
+invariant-loop-k l = l.some ≡ map (piece_row l.a l.b) (filter (uses_piece l.a l.b) (take l.k l.rows))

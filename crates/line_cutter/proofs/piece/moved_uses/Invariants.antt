@@ -1,7 +1,7 @@
 use Rattle.std.proofs.Common.{◌≡◌, map, take}
 use Rattle.std.specs.Prelude.{filter}
 use Rattle.line_cutter.specs.Piece.{is_within, moved_use}
-use Rattle.line_cutter.proofs.piece.piece_uses.Given as goal
+use Rattle.line_cutter.proofs.piece.moved_uses.Given as goal
 
 abbrev pub invariant-loop-one : goal.invariant-loop-one
 invariant-loop-one l = l.some ≡ map (moved_use l.a) (filter (is_within l.a l.b) (take l.one-index l.uses))

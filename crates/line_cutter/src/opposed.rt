@@ -1,0 +1,176 @@
+//! The least pair of opposite trains of a cut of few blocks, where it is found soon.
+//!
+//! Trains of which one starts last before the other starts first are not opposite, so that of most
+//! pairs no more than the spans of their starts are looked at.
+ghost use Rattle.std.specs.Prelude.{◌≡◌, ◌<◌, ◌≤◌, ◌&&◌, int_le, Some, IfOk, IfSome, Err};
+ghost use Rattle.std.specs.Int.{int_min, int_max};
+ghost use Rattle.plan_model.specs.Disorder.{are_opposite, opposite_pair};
+ghost use Rattle.plan_model.specs.Members.{member, member_count};
+ghost use Rattle.plan_model.specs.Precedence as given;
+ghost use Rattle.train_order.specs.Ordering.{AreOpposed, IsOrdering};
+ghost use Rattle.line_cutter.specs.Opposed.{AreSpans, IsSpan, IsNextOpposite};
+
+use plan_model::{CutRow, Disorder, SoundCut};
+use rail_model::{OutOfMemory, Use};
+use std::alloc::Global;
+use train_order::place_of_link;
+
+// How many trains whose spans meet that of one train are tried before the search is given up.
+const TRIES: u32 = 16;
+
+/// A train's first and last start: seconds from the timetable's origin.
+#[derive(Clone, Copy)]
+pub(crate) struct Span {
+    first: i64,
+    last: i64,
+}
+
+/// The two opposite trains that a cut is answered, where it has some and they are found soon.
+pub(crate) fn soon_opposite(alloc: Global, cut: &SoundCut) -> Result<Option<Disorder>, OutOfMemory>
+    ensures { IfOk result (λ found. IfSome found (λ disorder. IsOrdering cut.now (Err disorder))) }
+{
+    let spans = spans_of(alloc, cut.rows())?;
+    match soon_opposed(cut, &spans) {
+        Some((i, j)) => Ok(Some(told(cut, i, j))),
+        None => Ok(None),
+    }
+}
+
+// Members i and j are opposite.
+fn told(cut: &SoundCut, i: u32, j: u32) -> Disorder
+    requires least { opposite_pair cut.now ≡ Some (i, j) }
+    requires opposed { AreOpposed cut.now i j }
+    ensures { IsOrdering cut.now (Err result) }
+{
+    let block1 = place_of_link(cut.cut(), i, j);
+    let block2 = place_of_link(cut.cut(), j, i);
+    Disorder::Opposite {
+        first: cut.row(i).name,
+        second: cut.row(j).name,
+        block1,
+        block2,
+    }
+}
+
+// The least pair of opposite members, where it is found soon.
+fn soon_opposed(cut: &SoundCut, spans: &[Span]) -> Option<(u32, u32)>
+    requires { AreSpans cut.now.rows spans.now }
+    ensures least { IfSome result (λ pair. opposite_pair cut.now ≡ Some pair) }
+    ensures opposed { IfSome result (λ pair. AreOpposed cut.now pair.0 pair.1) }
+{
+    for i in 0..cut.member_count() {
+        let next = next_opposite(cut, spans, i)?;
+        if next < cut.member_count() {
+            return Some((i, next));
+        }
+    }
+    None
+}
+
+// The first member after member i that is opposite to it, or the number of members; or nothing,
+// where the search is given up.
+fn next_opposite(cut: &SoundCut, spans: &[Span], i: u32) -> Option<u32>
+    requires spans { AreSpans cut.now.rows spans.now }
+    requires there { i < member_count cut.now }
+    ensures { IfSome result (IsNextOpposite cut.now i) }
+{
+    let count = cut.member_count();
+    let mut tried = 0;
+    for j in i + 1..count {
+        if meet(spans[i as usize], spans[j as usize]) {
+            if are_opposed(cut, i, j) {
+                return Some(j);
+            }
+            if tried >= TRIES {
+                return None;
+            }
+            tried += 1;
+        }
+    }
+    Some(count)
+}
+
+// Whether two spans have a moment in common.
+fn meet(one: Span, other: Span) -> bool
+    ensures { result ≡ (int_le one.first other.last && int_le other.first one.last) }
+{
+    one.first <= other.last && other.first <= one.last
+}
+
+// Whether each of two members precedes the other somewhere.
+fn are_opposed(cut: &SoundCut, i: u32, j: u32) -> bool
+    requires one { i < member_count cut.now }
+    requires other { j < member_count cut.now }
+    ensures { result ≡ are_opposite cut.now i j }
+{
+    precedes_somewhere(cut, i, j) && precedes_somewhere(cut, j, i)
+}
+
+// Whether one member precedes another somewhere.
+fn precedes_somewhere(cut: &SoundCut, i: u32, j: u32) -> bool
+    requires one { i < member_count cut.now }
+    requires other { j < member_count cut.now }
+    ensures { result ≡ given.precedes_somewhere cut.now i j }
+{
+    for place in 0..cut.place_count() {
+        if precedes(cut, i, j, place) {
+            return true;
+        }
+    }
+    false
+}
+
+// Whether one member precedes another at a place.
+fn precedes(cut: &SoundCut, i: u32, j: u32, place: u32) -> bool
+    requires one { i < member_count cut.now }
+    requires other { j < member_count cut.now }
+    ensures { result ≡ given.precedes (member cut.now i) (member cut.now j) place }
+{
+    match (cut.use_at(i, place), cut.use_at(j, place)) {
+        (Some(first), Some(second)) => { comes_before(cut.row(i), &first, cut.row(j), &second) }
+        _ => false,
+    }
+}
+
+// Whether one train starts before another or, at one moment, its name is the lesser.
+fn comes_before(row: &CutRow, first: &Use, next: &CutRow, second: &Use) -> bool
+    ensures { result
+        ≡ given.comes_before first.now.start row.now.name second.now.start next.now.name }
+{
+    first.start < second.start || first.start == second.start && row.name < next.name
+}
+
+// The span of each row.
+fn spans_of(alloc: Global, rows: &[CutRow]) -> Result<Vec<Span>, OutOfMemory>
+    ensures { IfOk result (λ spans. AreSpans rows.now spans.items) }
+{
+    let mut spans = Vec::new(alloc);
+    for row in rows {
+        spans.push(span_of(row.uses.slice()))?;
+    }
+    Ok(spans)
+}
+
+fn span_of(uses: &[Use]) -> Span
+    ensures { IsSpan uses.now result }
+{
+    let mut span = Span {
+        first: i64::MAX,
+        last: i64::MIN,
+    };
+    for one in uses {
+        span = widened(span, one);
+    }
+    span
+}
+
+// The span with one use more.
+fn widened(span: Span, one: &Use) -> Span
+    ensures first { result.first ≡ int_min span.first one.now.start }
+    ensures last { result.last ≡ int_max span.last one.now.start }
+{
+    Span {
+        first: span.first.min(one.start),
+        last: span.last.max(one.start),
+    }
+}
