@@ -5,7 +5,7 @@ ghost use Rattle.plan_model.specs.Cut.{stamped, IsSoundCut};
 ghost use Rattle.section_cut.specs.Change.{IsChange};
 ghost use Rattle.section_cut.specs.Members.{member_row};
 ghost use Rattle.section_cut.specs.OneRun.{run_edited, cut_with, uses_of_section, PassesBy};
-ghost use Rattle.section_cut.specs.EditedRun.{KeepsRoute, IsEntryOf, IsEditedRun, IsWhole};
+ghost use Rattle.section_cut.specs.EditedRun.{KeepsRoute, IsEditedRun, IsWhole};
 ghost use Rattle.plan_model.specs.Members.{no_member};
 ghost use Rattle.section_cut.specs.OneRun as one;
 ghost use Rattle.plan_model.specs.SectionCut.{cut_of};
@@ -23,17 +23,16 @@ use crate::timed_stair::TimedStair;
 use crate::times::{same_times, with_times};
 use blocking_time::stairs;
 use line_tables::LineTables;
-use plan_model::{Cut, CutRow, least_start};
+use plan_model::{Cut, CutRow};
 use rail_model::{Edit, Item, Kind, Name, OutOfMemory, PATH_HOPS, Section};
 use std::alloc::Global;
 
-// The run that an edit puts, changes or drops: its name; its stair after the edit, if it is there,
-// and the least start of that; and whether it is known to be on one route before and after the edit.
+// The run that an edit puts, changes or drops: its name; its stair after the edit, if it is there;
+// and whether it is known to be on one route before and after the edit.
 #[derive(Drop)]
 pub(crate) struct EditedRun {
     pub(crate) name: Name,
     pub(crate) stair: Option<TimedStair>,
-    pub(crate) entry: i64,
     pub(crate) keeps_route: bool,
 }
 
@@ -48,29 +47,16 @@ pub(crate) fn edited_run(
     ensures stair { IfOk result
         (λ run. run.stair ≡ option_map (λ r. stair_of (path_in after.now r))
         (find (λ r. is_same r.name name) after.now.runs)) }
-    ensures entry { IfOk result (λ run. IfSome run.stair (IsEntryOf run.entry)) }
     ensures route { IfOk result (λ run. run.keeps_route ≡ true
         → KeepsRoute before.now after.now name) }
 {
     let stair = stair_named(alloc, after, &name)?;
-    let entry = entry_of(&stair);
     let keeps_route = keeps_route(before, after, &name);
     Ok(EditedRun {
         name,
         stair,
-        entry,
         keeps_route,
     })
-}
-
-// The least start of a stair, if it is there.
-fn entry_of(stair: &Option<TimedStair>) -> i64
-    ensures { IfSome stair.now (IsEntryOf result) }
-{
-    match stair {
-        Some(stair) => least_start(stair.stair().uses.slice()),
-        None => 0,
-    }
 }
 
 // The name of the run that an edit puts, changes or drops, if it is an edit of a run.
@@ -258,7 +244,7 @@ fn cut_with_times(
         return Ok(CutChange::Untouched);
     }
     let uses = with_times(alloc, places, times)?;
-    let row = row_with(&old.section, run.name, number, run.entry, uses);
+    let row = row_with(&old.section, run.name, number, stair.entry(), uses);
     with_row(alloc, old, &run.name, at, true, row, number)
 }
 

@@ -1,16 +1,17 @@
 //! What a change of a block, a signal or a route makes of a section's cut, where there are no
 //! connections: it reaches the rows of the runs whose paths it changes, and no other.
-ghost use Rattle.std.specs.Prelude.{◌≡◌, ◌↔◌, ◌<◌, ◌≤◌, ◌+◌, ◌++◌, true, false, Bool, option_map, if◌then◌else◌, IsTrue, All, length, map, IfOk, IfSome, OnOk, Some, None, slice_index_or};
+ghost use Rattle.std.specs.Prelude.{ℕ, ◌≡◌, ◌≢◌, ◌↔◌, ◌<◌, ◌≤◌, ◌+◌, ◌++◌, true, false, Bool, option_map, if◌then◌else◌, IsTrue, All, length, map, IfOk, IfSome, OnOk, Some, None, slice_index_or};
 ghost use Rattle.std.specs.Option.{option_to_list};
 ghost use Rattle.line_tables.specs.Paths.{paths_of};
 ghost use Rattle.plan_model.specs.Cut.{stamped, stamped_row};
 ghost use Rattle.plan_model.specs.Members.{no_member};
 ghost use Rattle.plan_model.specs.SectionCut.{cut_of};
 ghost use Rattle.rail_model.specs.Tables.{run_at, section_at, path_in};
-ghost use Rattle.section_cut.specs.Change.{IsChange};
+ghost use Rattle.section_cut.specs.Change.{IsChange, IsRestamped};
 ghost use Rattle.section_cut.specs.Members.{member_row, rows_on_blocks};
-ghost use Rattle.section_cut.specs.Positions.{IsPositions, uses_in};
-ghost use Rattle.section_cut.specs.ReachedRuns.{IsSameTraffic, KeepsBlocks, IsTold, AreReachedRuns};
+ghost use Rattle.section_cut.specs.Positions.{IsPositions, with_position, uses_in};
+ghost use Rattle.section_cut.specs.ReachedRuns.{IsSameTraffic, KeepsBlocks, IsTold, AreReachedRuns, IsOwnRow, IsRowAfter, row_before, row_after};
+ghost use Rattle.section_cut.specs.Stamps.{IsReached};
 ghost use Rattle.line_tables.specs.Passing.{passes_block, passes_signal};
 ghost use Rattle.rail_model.specs.declared.items.Run.{Run};
 ghost use Rattle.rail_model.specs.Edits as edits;
@@ -19,12 +20,12 @@ ghost use Rattle.rail_model.specs.Path.{Fits};
 ghost use Rattle.rail_model.specs.Blocking.{stair_of};
 ghost use Rattle.section_cut.specs.ReachedRuns as reached;
 
-use crate::cut_changes::{CutChange, compared};
-use crate::members::member_row;
+use crate::cut_changes::CutChange;
+use crate::members::{member_row, row_with};
 use crate::one_run::stands_at;
-use crate::positions::{gather, positions};
-use crate::same_value::{same_name, same_row};
-use crate::stamps::place_of;
+use crate::positions::{gather, placed, positions, same_placed};
+use crate::same_value::{same_cut, same_name, same_row};
+use crate::stamps::stamp_of;
 use crate::timed_stair::TimedStair;
 use blocking_time::stairs;
 use line_tables::{LineTables, Paths};
@@ -212,7 +213,10 @@ pub(crate) fn cut_after_runs(
         connections: List::new(alloc),
         rows,
     };
-    Ok(compared(old, later, number))
+    if same_cut(old, &later) {
+        return Ok(CutChange::Untouched);
+    }
+    Ok(CutChange::Touched(Some(later)))
 }
 
 // Whether the row of a run that the edit reaches may differ from the one in the cut before it.
@@ -234,41 +238,47 @@ fn rows_differ(
 {
     before.learn_sound();
     let mut found = Vec::new(alloc);
+    let mut at = 0;
     for n in 0..after.runs() {
-        let name = &after.run(n).name;
-        let stair = &reached[n as usize];
         let own = old.rows.slice();
-        if row_differs(alloc, &old.section, positions, stair, own, name, &mut found)? {
+        let there = stands_at(own, &after.run(n).name, at);
+        let stair = &reached[n as usize];
+        if row_differs(alloc, positions, stair, old, at, there, &mut found)? {
             return Ok(true);
         }
+        at = place_behind(own, at, there);
     }
     Ok(false)
 }
 
-// Whether the row of the run of a name differs after an edit from the one before it. Of a run that
-// isn't reached nothing is looked at.
+// Whether a run's row may differ after an edit from the one at a place before it, if that is there.
+// Of a run that isn't reached nothing is looked at.
 fn row_differs(
     alloc: Global,
-    section: &Section,
     positions: &[u32],
     stair: &Option<TimedStair>,
-    old: &[CutRow],
-    name: &Name,
+    old: &Cut,
+    at: usize,
+    there: bool,
     found: &mut Vec<Use>,
 ) -> Result<bool, OutOfMemory>
-    requires rise { NamesRise (λ r. r.name) old.now }
     requires uses { IfSome stair.now (λ s. All (λ u. u.block < length positions.now) s.uses) }
-    requires blocks { length section.now.blocks ≤ PATH_HOPS }
+    requires blocks { length old.now.section.blocks ≤ PATH_HOPS }
+    requires own { IfSome stair.now (λ s. IsOwnRow old.now.section old.now.rows s.run at there) }
     ensures { IfOk result (λ differs. differs ≡ false
-        → IfSome stair.now (reached.IsSameThere section.now positions.now old.now name.now)) }
+        → IfSome stair.now (λ s. row_after old.now.section positions.now (Some s)
+        (row_before old.now.rows at there) ≡ row_before old.now.rows at there)) }
 {
     let Some(stair) = stair else {
         return Ok(false);
     };
-    let at = place_of(old, name);
-    let there = stands_at(old, name, at);
-    let row = row_made(alloc, section, positions, stair, 0, found)?;
-    Ok(!stands_same(&row, old, at, there))
+    let rows = old.rows.slice();
+    let stairway = stair.stair().uses.slice();
+    if there && same_placed(rows[at].uses.slice(), positions, stairway) {
+        return Ok(false);
+    }
+    let row = row_made(alloc, &old.section, positions, stair, 0, found)?;
+    Ok(!stands_same(&row, rows, at, there))
 }
 
 // Whether a row is the one at a place but for its stamp, or neither is there.
@@ -283,7 +293,8 @@ fn stands_same(row: &Option<CutRow>, old: &[CutRow], at: usize, there: bool) -> 
     }
 }
 
-// The rows of a section's cut after an edit, where the cut before it has these.
+// The rows of a section's cut after an edit of a number, where the cut before it has these: their
+// values and their stamps.
 fn rows_after(
     alloc: Global,
     before: &LineTables,
@@ -297,8 +308,10 @@ fn rows_after(
     requires rows { map (stamped_row 0) old.now.rows ≡ rows_on_blocks before.now old.now.section 0 }
     requires blocks { length old.now.section.blocks ≤ PATH_HOPS }
     requires table { IsPositions after.now old.now.section positions.now }
-    ensures { IfOk result
+    requires rise { NamesRise (λ r. r.name) old.now.rows }
+    ensures value { IfOk result
         (λ rows. map (stamped_row 0) rows ≡ rows_on_blocks after.now old.now.section 0) }
+    ensures stamps { IfOk result (All (IsRestamped number (Some old.now))) }
 {
     before.learn_sound();
     let mut found = Vec::new(alloc);
@@ -308,49 +321,125 @@ fn rows_after(
         let own = old.rows.slice();
         let there = stands_at(own, &after.run(n).name, at);
         let stair = &reached[n as usize];
-        let row = row_after(
-            alloc,
-            &old.section,
-            positions,
-            stair,
-            own,
-            at,
-            there,
-            number,
-            &mut found,
-        )?;
+        let row = row_anew(alloc, positions, stair, old, at, there, number, &mut found)?;
         push_row(&mut rows, row)?;
         at = place_behind(own, at, there);
     }
     Ok(rows)
 }
 
-// A run's row after an edit: by its stair, if the edit reaches it, and otherwise the one at a place
-// before it, if that is there.
-fn row_after(
+// A run's row after the edit of a number: by its stair, if the edit reaches it, and otherwise the
+// one at a place before it, if that is there.
+fn row_anew(
     alloc: Global,
-    section: &Section,
     positions: &[u32],
     stair: &Option<TimedStair>,
-    old: &[CutRow],
+    old: &Cut,
     at: usize,
     there: bool,
-    stamp: u64,
+    number: u64,
     found: &mut Vec<Use>,
 ) -> Result<Option<CutRow>, OutOfMemory>
     requires uses { IfSome stair.now (λ s. All (λ u. u.block < length positions.now) s.uses) }
-    requires blocks { length section.now.blocks ≤ PATH_HOPS }
-    requires at { there ≡ true → at < length old.now }
-    ensures { IfOk result (λ row. row ≡ reached.row_after section.now positions.now stamp stair.now
-        (if there then Some (slice_index_or old.now at no_member) else None)) }
+    requires blocks { length old.now.section.blocks ≤ PATH_HOPS }
+    requires rise { NamesRise (λ r. r.name) old.now.rows }
+    requires own { IfSome stair.now
+        (λ s. IsOwnRow old.now.section old.now.rows s.run at there) }
+    requires at { there ≡ true → at < length old.now.rows }
+    ensures { IfOk result (IsRowAfter (row_after old.now.section positions.now stair.now
+        (row_before old.now.rows at there)) number old.now) }
 {
-    if let Some(stair) = stair {
-        return row_made(alloc, section, positions, stair, stamp, found);
+    match stair {
+        Some(stair) => row_by_stair(alloc, positions, stair, old, at, there, number, found),
+        None => row_kept(alloc, old, at, there),
     }
+}
+
+// The row at a place before an edit, which doesn't reach it, if it is there.
+fn row_kept(alloc: Global, old: &Cut, at: usize, there: bool) -> Result<Option<CutRow>, OutOfMemory>
+    requires rise { NamesRise (λ r. r.name) old.now.rows }
+    requires at { there ≡ true → at < length old.now.rows }
+    ensures { IfOk result (λ row. (number : ℕ)
+        → IsRowAfter (row_before old.now.rows at there) number old.now row) }
+{
     if !there {
         return Ok(None);
     }
-    Ok(Some(old[at].copy(alloc)?))
+    Ok(Some(old.rows.slice()[at].copy(alloc)?))
+}
+
+// The row after the edit of a number of the run of a stair, if it is a member, where the one at a
+// place before it is this run's, if it is there.
+fn row_by_stair(
+    alloc: Global,
+    positions: &[u32],
+    stair: &TimedStair,
+    old: &Cut,
+    at: usize,
+    there: bool,
+    number: u64,
+    found: &mut Vec<Use>,
+) -> Result<Option<CutRow>, OutOfMemory>
+    requires uses { All (λ u. u.block < length positions.now) stair.now.uses }
+    requires blocks { length old.now.section.blocks ≤ PATH_HOPS }
+    requires rise { NamesRise (λ r. r.name) old.now.rows }
+    requires own { IsOwnRow old.now.section old.now.rows stair.now.run at there }
+    ensures { IfOk result (IsRowAfter (member_row old.now.section stair.now.run 0
+        (uses_in positions.now (length old.now.section.blocks) stair.now.uses)) number old.now) }
+{
+    if there {
+        let row = &old.rows.slice()[at];
+        if same_placed(row.uses.slice(), positions, stair.stair().uses.slice()) {
+            return Ok(Some(row.copy(alloc)?));
+        }
+        if let Some(row) = whole_row(alloc, positions, stair, old, at, number)? {
+            return Ok(row);
+        }
+    }
+    let row = row_made(alloc, &old.section, positions, stair, number, found)?;
+    Ok(with_own_stamp(row, old, at, number))
+}
+
+// The same row by the positions of the row before it, which is another; or `None` where that has
+// not as many uses as the stair, or a block isn't in the section.
+fn whole_row(
+    alloc: Global,
+    positions: &[u32],
+    stair: &TimedStair,
+    old: &Cut,
+    at: usize,
+    number: u64,
+) -> Result<Option<Option<CutRow>>, OutOfMemory>
+    requires uses { All (λ u. u.block < length positions.now) stair.now.uses }
+    requires blocks { length old.now.section.blocks ≤ PATH_HOPS }
+    requires rise { NamesRise (λ r. r.name) old.now.rows }
+    requires own { IsOwnRow old.now.section old.now.rows stair.now.run at true }
+    requires differs { map (with_position positions.now) stair.now.uses
+        ≢ (slice_index_or old.now.rows at no_member).uses }
+    ensures { IfOk result (λ made. IfSome made (IsRowAfter (member_row old.now.section stair.now.run 0
+        (uses_in positions.now (length old.now.section.blocks) stair.now.uses)) number old.now)) }
+{
+    let own = stair.stair();
+    if old.rows.slice()[at].uses.len() != own.uses.len() {
+        return Ok(None);
+    }
+    let blocks = old.section.blocks.len() as u32;
+    let Some(uses) = placed(alloc, positions, blocks, own.uses.slice())? else {
+        return Ok(None);
+    };
+    let entry = stair.entry();
+    Ok(Some(row_with(&old.section, own.run, number, entry, uses)))
+}
+
+// A row with its stamp after the edit of a number, by the place of its name before it.
+fn with_own_stamp(row: Option<CutRow>, old: &Cut, at: usize, number: u64) -> Option<CutRow>
+    requires rise { NamesRise (λ r. r.name) old.now.rows }
+    requires at { IfSome row (λ r. IsReached old.now.rows r.name at) }
+    ensures { IsRowAfter (option_map (stamped_row 0) row) number old.now result }
+{
+    let mut row = row?;
+    row.stamp = stamp_of(&row, old, at, number);
+    Some(row)
 }
 
 // The row of the run of a stair, if it is a member. The uses of the section's blocks are gathered
