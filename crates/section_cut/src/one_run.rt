@@ -8,11 +8,12 @@ ghost use Rattle.section_cut.specs.OneRun.{run_edited, cut_with, uses_of_section
 ghost use Rattle.section_cut.specs.EditedRun.{KeepsRoute, IsEditedRun, IsWhole};
 ghost use Rattle.plan_model.specs.Members.{no_member};
 ghost use Rattle.section_cut.specs.OneRun as one;
-ghost use Rattle.plan_model.specs.SectionCut.{cut_of};
+ghost use Rattle.plan_model.specs.SectionCut.{cut_of, position_in_section};
 ghost use Rattle.rail_model.specs.Blocking.{stair_of};
-ghost use Rattle.rail_model.specs.Tables.{path_in, section_at};
+ghost use Rattle.rail_model.specs.Tables.{number_of, path_in, section_at};
 ghost use Rattle.rail_model.specs.Name.{is_same};
 ghost use Rattle.section_cut.specs.Stamps.{IsReached, IsThere};
+ghost use Rattle.section_cut.specs.Starts.{EntersEarly};
 
 use crate::cut_changes::CutChange;
 use crate::members::{member_row, row_with};
@@ -71,7 +72,8 @@ pub(crate) fn run_edited(edit: &Edit) -> Option<Name>
 }
 
 // The row that the edited run has in a section, which has this name, if it is there and a member.
-// Where the run passes by the section's window or its blocks, no table is made for it.
+// Where the run passes by the section's window or its blocks, or its path starts in the section
+// before the window, no table is made for it.
 fn row_of_run(
     alloc: Global,
     tables: &LineTables,
@@ -94,6 +96,9 @@ fn row_of_run(
     if stair.passes_by(section) {
         return Ok(None);
     }
+    if enters_early(tables, section, stair) {
+        return Ok(None);
+    }
     let Some(place) = tables.section_number(name) else {
         unreachable!();
     };
@@ -101,6 +106,30 @@ fn row_of_run(
         return Ok(None);
     }
     row_by(alloc, tables, place, section, stair, stamp)
+}
+
+// Whether the first use of a stair is of one of a section's blocks and starts before its window.
+fn enters_early(tables: &LineTables, section: &Section, stair: &TimedStair) -> bool
+    requires { All (λ u. u.block < length tables.now.blocks) stair.now.uses }
+    ensures { result ≡ true
+        → EntersEarly section.now (position_in_section tables.now section.now) stair.now.uses }
+{
+    let Some(block) = stair.early_block(section) else {
+        return false;
+    };
+    has_name(section.blocks.slice(), &tables.block(block).name)
+}
+
+// Whether a name is one of these.
+fn has_name(names: &[Name], name: &Name) -> bool
+    ensures { result ≡ true → number_of (λ n. n) names.now name.now < length names.now }
+{
+    for one in names {
+        if same_name(one, name) {
+            return true;
+        }
+    }
+    false
 }
 
 // Whether the run of a name, if it is there, passes a block of the section of a number.

@@ -1,6 +1,6 @@
 //! What a change of a block, a signal or a route makes of a section's cut, where there are no
 //! connections: it reaches the rows of the runs whose paths it changes, and no other.
-ghost use Rattle.std.specs.Prelude.{ℕ, ◌≡◌, ◌≢◌, ◌↔◌, ◌<◌, ◌≤◌, ◌+◌, ◌++◌, true, false, Bool, option_map, if◌then◌else◌, IsTrue, All, length, map, IfOk, IfSome, OnOk, Some, None, slice_index_or};
+ghost use Rattle.std.specs.Prelude.{ℕ, ◌≡◌, ◌≢◌, ◌↔◌, ◌<◌, ◌≤◌, ◌+◌, ◌++◌, true, false, Bool, option_map, if◌then◌else◌, IsTrue, All, length, map, IfOk, IfSome, OnOk, Some, None, slice_index, slice_index_or};
 ghost use Rattle.std.specs.Option.{option_to_list};
 ghost use Rattle.line_tables.specs.Paths.{paths_of};
 ghost use Rattle.plan_model.specs.Cut.{stamped, stamped_row};
@@ -12,6 +12,7 @@ ghost use Rattle.section_cut.specs.Members.{member_row, rows_on_blocks};
 ghost use Rattle.section_cut.specs.Positions.{IsPositions, with_position, uses_in};
 ghost use Rattle.section_cut.specs.ReachedRuns.{IsSameTraffic, KeepsBlocks, IsTold, AreReachedRuns, IsOwnRow, IsRowAfter, row_before, row_after};
 ghost use Rattle.section_cut.specs.Stamps.{IsReached};
+ghost use Rattle.section_cut.specs.Starts.{EntersEarly};
 ghost use Rattle.line_tables.specs.Passing.{passes_block, passes_signal};
 ghost use Rattle.rail_model.specs.declared.items.Run.{Run};
 ghost use Rattle.rail_model.specs.Edits as edits;
@@ -460,10 +461,26 @@ fn row_made(
     if stair.passes_by(section) {
         return Ok(None);
     }
+    if enters_early(section, positions, stair) {
+        return Ok(None);
+    }
     let own = stair.stair();
     let blocks = section.blocks.len() as u32;
     gather(found, positions, blocks, own.uses.slice())?;
     member_row(alloc, section, own.run, stamp, found)
+}
+
+// Whether the first use of a stair is of one of a section's blocks and starts before its window.
+fn enters_early(section: &Section, positions: &[u32], stair: &TimedStair) -> bool
+    requires there { All (λ u. u.block < length positions.now) stair.now.uses }
+    requires blocks { length section.now.blocks ≤ PATH_HOPS }
+    ensures { result ≡ true
+        → EntersEarly section.now (slice_index positions.now) stair.now.uses }
+{
+    let Some(block) = stair.early_block(section) else {
+        return false;
+    };
+    positions[block as usize] < section.blocks.len() as u32
 }
 
 // Adds a row, if there is one.

@@ -1,6 +1,6 @@
 //! A run's stairway, between which moments it starts to keep blocks, and when it does first.
-ghost use Rattle.std.specs.Prelude.{◌≡◌, true};
-ghost use Rattle.section_cut.specs.Starts.{IsEntryOf, StartsOutside};
+ghost use Rattle.std.specs.Prelude.{◌≡◌, true, IfSome};
+ghost use Rattle.section_cut.specs.Starts.{IsEntryOf, StartsEarly, StartsOutside};
 
 use crate::all_stairways::{Starts, is_outside, starts_of};
 use plan_model::least_start;
@@ -59,5 +59,15 @@ impl TimedStair {
         ensures { result ≡ true → StartsOutside section.now self.now.uses }
     {
         is_outside(self.starts, section)
+    }
+    // The block of the first use, if that starts before a section's window.
+    pub(crate) fn early_block(&self, section: &Section) -> Option<u32>
+        ensures { IfSome result (StartsEarly section.now self.now.uses) }
+    {
+        let uses = self.stair.uses.slice();
+        if uses.is_empty() || uses[0].start >= i64::from(section.from_s) {
+            return None;
+        }
+        Some(uses[0].block)
     }
 }
