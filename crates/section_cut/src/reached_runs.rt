@@ -1,18 +1,15 @@
 //! What a change of a block, a signal or a route makes of a section's cut, where there are no
 //! connections: it reaches the rows of the runs whose paths it changes, and no other.
-ghost use Rattle.std.specs.Prelude.{ℕ, ◌≡◌, ◌≢◌, ◌↔◌, ◌<◌, ◌≤◌, ◌+◌, ◌++◌, true, false, Bool, option_map, if◌then◌else◌, IsTrue, All, length, map, IfOk, IfSome, OnOk, Some, None, slice_index, slice_index_or};
+ghost use Rattle.std.specs.Prelude.{◌≡◌, ◌<◌, ◌≤◌, ◌+◌, ◌++◌, true, false, Bool, if◌then◌else◌, All, length, map, IfOk, IfSome, OnOk, Some, None};
 ghost use Rattle.std.specs.Option.{option_to_list};
 ghost use Rattle.line_tables.specs.Paths.{paths_of};
 ghost use Rattle.plan_model.specs.Cut.{stamped, stamped_row};
-ghost use Rattle.plan_model.specs.Members.{no_member};
 ghost use Rattle.plan_model.specs.SectionCut.{cut_of};
-ghost use Rattle.rail_model.specs.Tables.{run_at, section_at, path_in};
+ghost use Rattle.rail_model.specs.Tables.{run_at, path_in};
 ghost use Rattle.section_cut.specs.Change.{IsChange, IsRestamped};
-ghost use Rattle.section_cut.specs.Members.{member_row, rows_on_blocks};
-ghost use Rattle.section_cut.specs.Positions.{IsPositions, with_position, uses_in};
-ghost use Rattle.section_cut.specs.ReachedRuns.{IsSameTraffic, KeepsBlocks, IsTold, AreReachedRuns, IsOwnRow, IsRowAfter, row_before, row_after};
-ghost use Rattle.section_cut.specs.Stamps.{IsReached};
-ghost use Rattle.section_cut.specs.Starts.{EntersEarly};
+ghost use Rattle.section_cut.specs.Members.{rows_on_blocks};
+ghost use Rattle.section_cut.specs.Positions.{IsPositions};
+ghost use Rattle.section_cut.specs.ReachedRuns.{IsSameTraffic, KeepsBlocks, IsTold, AreReachedRuns};
 ghost use Rattle.line_tables.specs.Passing.{passes_block, passes_signal};
 ghost use Rattle.rail_model.specs.declared.items.Run.{Run};
 ghost use Rattle.rail_model.specs.Edits as edits;
@@ -22,16 +19,15 @@ ghost use Rattle.rail_model.specs.Blocking.{stair_of};
 ghost use Rattle.section_cut.specs.ReachedRuns as reached;
 
 use crate::cut_changes::CutChange;
-use crate::members::{member_row, row_with};
 use crate::one_run::stands_at;
-use crate::positions::{gather, placed, positions, same_placed};
-use crate::same_value::{same_cut, same_name, same_row};
-use crate::stamps::stamp_of;
+use crate::positions::positions;
+use crate::reached_rows::{row_anew, row_differs};
+use crate::same_value::{same_cut, same_name};
 use crate::timed_stair::TimedStair;
 use blocking_time::stairs;
 use line_tables::{LineTables, Paths};
 use plan_model::{Cut, CutRow};
-use rail_model::{Edit, Item, List, Name, OutOfMemory, PATH_HOPS, Path, Section, Use};
+use rail_model::{Edit, Item, List, Name, OutOfMemory, PATH_HOPS, Path};
 use std::alloc::Global;
 
 // How many reached runs each get a path of their own: for more, the paths of all runs are made.
@@ -252,48 +248,6 @@ fn rows_differ(
     Ok(false)
 }
 
-// Whether a run's row may differ after an edit from the one at a place before it, if that is there.
-// Of a run that isn't reached nothing is looked at.
-fn row_differs(
-    alloc: Global,
-    positions: &[u32],
-    stair: &Option<TimedStair>,
-    old: &Cut,
-    at: usize,
-    there: bool,
-    found: &mut Vec<Use>,
-) -> Result<bool, OutOfMemory>
-    requires uses { IfSome stair.now (λ s. All (λ u. u.block < length positions.now) s.uses) }
-    requires blocks { length old.now.section.blocks ≤ PATH_HOPS }
-    requires own { IfSome stair.now (λ s. IsOwnRow old.now.section old.now.rows s.run at there) }
-    ensures { IfOk result (λ differs. differs ≡ false
-        → IfSome stair.now (λ s. row_after old.now.section positions.now (Some s)
-        (row_before old.now.rows at there) ≡ row_before old.now.rows at there)) }
-{
-    let Some(stair) = stair else {
-        return Ok(false);
-    };
-    let rows = old.rows.slice();
-    let stairway = stair.stair().uses.slice();
-    if there && same_placed(rows[at].uses.slice(), positions, stairway) {
-        return Ok(false);
-    }
-    let row = row_made(alloc, &old.section, positions, stair, 0, found)?;
-    Ok(!stands_same(&row, rows, at, there))
-}
-
-// Whether a row is the one at a place but for its stamp, or neither is there.
-fn stands_same(row: &Option<CutRow>, old: &[CutRow], at: usize, there: bool) -> bool
-    requires { there ≡ true → at < length old.now }
-    ensures { result ≡ true → option_map (stamped_row 0) row.now ≡ option_map (stamped_row 0)
-        (if there then Some (slice_index_or old.now at no_member) else None) }
-{
-    match row {
-        Some(row) => there && same_row(&old[at], row),
-        None => !there,
-    }
-}
-
 // The rows of a section's cut after an edit of a number, where the cut before it has these: their
 // values and their stamps.
 fn rows_after(
@@ -327,160 +281,6 @@ fn rows_after(
         at = place_behind(own, at, there);
     }
     Ok(rows)
-}
-
-// A run's row after the edit of a number: by its stair, if the edit reaches it, and otherwise the
-// one at a place before it, if that is there.
-fn row_anew(
-    alloc: Global,
-    positions: &[u32],
-    stair: &Option<TimedStair>,
-    old: &Cut,
-    at: usize,
-    there: bool,
-    number: u64,
-    found: &mut Vec<Use>,
-) -> Result<Option<CutRow>, OutOfMemory>
-    requires uses { IfSome stair.now (λ s. All (λ u. u.block < length positions.now) s.uses) }
-    requires blocks { length old.now.section.blocks ≤ PATH_HOPS }
-    requires rise { NamesRise (λ r. r.name) old.now.rows }
-    requires own { IfSome stair.now
-        (λ s. IsOwnRow old.now.section old.now.rows s.run at there) }
-    requires at { there ≡ true → at < length old.now.rows }
-    ensures { IfOk result (IsRowAfter (row_after old.now.section positions.now stair.now
-        (row_before old.now.rows at there)) number old.now) }
-{
-    match stair {
-        Some(stair) => row_by_stair(alloc, positions, stair, old, at, there, number, found),
-        None => row_kept(alloc, old, at, there),
-    }
-}
-
-// The row at a place before an edit, which doesn't reach it, if it is there.
-fn row_kept(alloc: Global, old: &Cut, at: usize, there: bool) -> Result<Option<CutRow>, OutOfMemory>
-    requires rise { NamesRise (λ r. r.name) old.now.rows }
-    requires at { there ≡ true → at < length old.now.rows }
-    ensures { IfOk result (λ row. (number : ℕ)
-        → IsRowAfter (row_before old.now.rows at there) number old.now row) }
-{
-    if !there {
-        return Ok(None);
-    }
-    Ok(Some(old.rows.slice()[at].copy(alloc)?))
-}
-
-// The row after the edit of a number of the run of a stair, if it is a member, where the one at a
-// place before it is this run's, if it is there.
-fn row_by_stair(
-    alloc: Global,
-    positions: &[u32],
-    stair: &TimedStair,
-    old: &Cut,
-    at: usize,
-    there: bool,
-    number: u64,
-    found: &mut Vec<Use>,
-) -> Result<Option<CutRow>, OutOfMemory>
-    requires uses { All (λ u. u.block < length positions.now) stair.now.uses }
-    requires blocks { length old.now.section.blocks ≤ PATH_HOPS }
-    requires rise { NamesRise (λ r. r.name) old.now.rows }
-    requires own { IsOwnRow old.now.section old.now.rows stair.now.run at there }
-    ensures { IfOk result (IsRowAfter (member_row old.now.section stair.now.run 0
-        (uses_in positions.now (length old.now.section.blocks) stair.now.uses)) number old.now) }
-{
-    if there {
-        let row = &old.rows.slice()[at];
-        if same_placed(row.uses.slice(), positions, stair.stair().uses.slice()) {
-            return Ok(Some(row.copy(alloc)?));
-        }
-        if let Some(row) = whole_row(alloc, positions, stair, old, at, number)? {
-            return Ok(row);
-        }
-    }
-    let row = row_made(alloc, &old.section, positions, stair, number, found)?;
-    Ok(with_own_stamp(row, old, at, number))
-}
-
-// The same row by the positions of the row before it, which is another; or `None` where that has
-// not as many uses as the stair, or a block isn't in the section.
-fn whole_row(
-    alloc: Global,
-    positions: &[u32],
-    stair: &TimedStair,
-    old: &Cut,
-    at: usize,
-    number: u64,
-) -> Result<Option<Option<CutRow>>, OutOfMemory>
-    requires uses { All (λ u. u.block < length positions.now) stair.now.uses }
-    requires blocks { length old.now.section.blocks ≤ PATH_HOPS }
-    requires rise { NamesRise (λ r. r.name) old.now.rows }
-    requires own { IsOwnRow old.now.section old.now.rows stair.now.run at true }
-    requires differs { map (with_position positions.now) stair.now.uses
-        ≢ (slice_index_or old.now.rows at no_member).uses }
-    ensures { IfOk result (λ made. IfSome made (IsRowAfter (member_row old.now.section stair.now.run 0
-        (uses_in positions.now (length old.now.section.blocks) stair.now.uses)) number old.now)) }
-{
-    let own = stair.stair();
-    if old.rows.slice()[at].uses.len() != own.uses.len() {
-        return Ok(None);
-    }
-    let blocks = old.section.blocks.len() as u32;
-    let Some(uses) = placed(alloc, positions, blocks, own.uses.slice())? else {
-        return Ok(None);
-    };
-    let entry = stair.entry();
-    Ok(Some(row_with(&old.section, own.run, number, entry, uses)))
-}
-
-// A row with its stamp after the edit of a number, by the place of its name before it.
-fn with_own_stamp(row: Option<CutRow>, old: &Cut, at: usize, number: u64) -> Option<CutRow>
-    requires rise { NamesRise (λ r. r.name) old.now.rows }
-    requires at { IfSome row (λ r. IsReached old.now.rows r.name at) }
-    ensures { IsRowAfter (option_map (stamped_row 0) row) number old.now result }
-{
-    let mut row = row?;
-    row.stamp = stamp_of(&row, old, at, number);
-    Some(row)
-}
-
-// The row of the run of a stair, if it is a member. The uses of the section's blocks are gathered
-// in a list that serves run after run.
-fn row_made(
-    alloc: Global,
-    section: &Section,
-    positions: &[u32],
-    stair: &TimedStair,
-    stamp: u64,
-    found: &mut Vec<Use>,
-) -> Result<Option<CutRow>, OutOfMemory>
-    requires there { All (λ u. u.block < length positions.now) stair.now.uses }
-    requires blocks { length section.now.blocks ≤ PATH_HOPS }
-    ensures { IfOk result (λ row. row ≡ member_row section.now stair.now.run stamp
-        (uses_in positions.now (length section.now.blocks) stair.now.uses)) }
-{
-    if stair.passes_by(section) {
-        return Ok(None);
-    }
-    if enters_early(section, positions, stair) {
-        return Ok(None);
-    }
-    let own = stair.stair();
-    let blocks = section.blocks.len() as u32;
-    gather(found, positions, blocks, own.uses.slice())?;
-    member_row(alloc, section, own.run, stamp, found)
-}
-
-// Whether the first use of a stair is of one of a section's blocks and starts before its window.
-fn enters_early(section: &Section, positions: &[u32], stair: &TimedStair) -> bool
-    requires there { All (λ u. u.block < length positions.now) stair.now.uses }
-    requires blocks { length section.now.blocks ≤ PATH_HOPS }
-    ensures { result ≡ true
-        → EntersEarly section.now (slice_index positions.now) stair.now.uses }
-{
-    let Some(block) = stair.early_block(section) else {
-        return false;
-    };
-    positions[block as usize] < section.blocks.len() as u32
 }
 
 // Adds a row, if there is one.

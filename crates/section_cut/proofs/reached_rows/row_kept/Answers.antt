@@ -3,7 +3,7 @@ use Rattle.std.proofs.lemmas.List.{get_or_default}
 use Rattle.plan_model.specs.Members.{no_member}
 use Rattle.section_cut.specs.ReachedRuns.{IsRowAfter, row_before}
 use Rattle.section_cut.proofs.RowsAfter.{kept_after}
-use Rattle.section_cut.proofs.reached_runs.row_kept.Goals as goal
+use Rattle.section_cut.proofs.reached_rows.row_kept.Goals as goal
 
 pub returns : goal.returns
 returns c number =

@@ -7,7 +7,7 @@ use Rattle.plan_model.specs.Members.{no_member}
 use Rattle.section_cut.specs.Positions.{with_position, uses_in}
 use Rattle.section_cut.specs.ReachedRuns.{IsOwnRow}
 use Rattle.section_cut.proofs.RowsAfter.{same_uses, same_value}
-use Rattle.section_cut.proofs.reached_runs.row_differs.Goals as goal
+use Rattle.section_cut.proofs.reached_rows.row_differs.Goals as goal
 
 pub returns-then-same_placed : goal.returns-then-same_placed
 returns-then-same_placed c _ =

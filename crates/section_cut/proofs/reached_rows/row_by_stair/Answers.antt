@@ -7,7 +7,7 @@ use Rattle.section_cut.specs.Members.{member_row}
 use Rattle.section_cut.specs.Positions.{with_position, uses_in}
 use Rattle.section_cut.specs.ReachedRuns.{IsRowAfter}
 use Rattle.section_cut.proofs.RowsAfter.{same_uses, same_after}
-use Rattle.section_cut.proofs.reached_runs.row_by_stair.Goals as goal
+use Rattle.section_cut.proofs.reached_rows.row_by_stair.Goals as goal
 
 pub returns-then-same_placed : goal.returns-then-same_placed
 returns-then-same_placed c =

@@ -9,7 +9,7 @@ use Rattle.section_cut.specs.Positions.{ArePlaced, uses_in}
 use Rattle.section_cut.specs.ReachedRuns.{IsRowAfter}
 use Rattle.section_cut.proofs.Placing.{placed_in, starts_placed}
 use Rattle.section_cut.proofs.RowsAfter.{other_after}
-use Rattle.section_cut.proofs.reached_runs.whole_row.Goals as goal
+use Rattle.section_cut.proofs.reached_rows.whole_row.Goals as goal
 
 pub row_with-requires : goal.row_with-requires
 row_with-requires c =

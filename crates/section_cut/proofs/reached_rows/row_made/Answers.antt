@@ -1,7 +1,7 @@
 use Rattle.std.proofs.Common.{length, refl}
 use Rattle.std.specs.Prelude.{slice_index}
 use Rattle.section_cut.proofs.Outside.{outside_not_entered, early_not_entered}
-use Rattle.section_cut.proofs.reached_runs.row_made.Goals as goal
+use Rattle.section_cut.proofs.reached_rows.row_made.Goals as goal
 
 pub returns-then-passes_by : goal.returns-then-passes_by
 returns-then-passes_by c =
