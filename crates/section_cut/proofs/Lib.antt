@@ -33,6 +33,7 @@ pub mod Reached
 pub mod NoRun
 pub mod RowPlaces
 pub mod ReachedRuns
+pub mod RowsAfter
 pub mod KeptBlocks
 pub mod PathsStay
 pub mod PassedBy

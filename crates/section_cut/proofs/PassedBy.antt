@@ -1,12 +1,11 @@
 -- A run that passes no block of a section has no uses there.
-use Rattle.std.proofs.Common.{◌≡◌, ℕ, ◌+◌, ◌-◌, ◌<◌, ◌≤◌, false, true, ltb, min, List, [], map, length, get_or, Option, Some, None, refl, sym, ap, ◌∙◌, subst, arith}
-use Rattle.std.specs.Prelude.{All, IfSome, filter, find, option_map, slice_get}
-use Rattle.std.specs.List.{list_any, list_all}
+use Rattle.std.proofs.Common.{◌≡◌, ℕ, ◌-◌, ◌<◌, false, true, ltb, List, [], map, length, get_or, Option, Some, None, refl, sym, ap, ◌∙◌, arith}
+use Rattle.std.specs.Prelude.{IfSome, find, option_map, slice_get}
+use Rattle.std.specs.List.{list_any}
 use Rattle.std.proofs.lemmas.Bool.{le-ltb, both_ways}
 use Rattle.std.proofs.lemmas.List.Elements.{All-map}
 use Rattle.std.proofs.lemmas.List.Folds.{list_any_none, find_at}
 use Rattle.std.proofs.lemmas.List.Sums.{passes_at_first, AllPass-from_list_all}
-use Rattle.std.proofs.lemmas.List.{get_or_default}
 use Rattle.std.proofs.lemmas.Option.{get_or_from_slice_get}
 use Rattle.rail_model.specs.declared.items.Block.{Block}
 use Rattle.rail_model.specs.declared.items.Run.{Run}
@@ -19,9 +18,8 @@ use Rattle.rail_model.specs.declared.tables.Tables.{Tables}
 use Rattle.rail_model.specs.Name.{is_same}
 use Rattle.rail_model.specs.Path.{hop, hop_count, no_hop}
 use Rattle.rail_model.specs.Blocking.{use_of, stairway, stair_of}
-use Rattle.rail_model.specs.Tables.{no_block, no_run, no_section, number_of, run_at, section_at, block_number, block_name, signal_named, route_named, path_in}
+use Rattle.rail_model.specs.Tables.{no_block, no_section, number_of, section_at, block_number, block_name, signal_named, route_named, path_in}
 use Rattle.rail_model.specs.Rules.{has_block, has_signal, has_section}
-use Rattle.rail_model.specs.Within.{no_leg}
 use Rattle.rail_model.specs.Sound.{Stands, IsSound}
 use Rattle.rail_model.proofs.Lists.{All-from_one}
 use Rattle.rail_model.proofs.Members.{none_passes}

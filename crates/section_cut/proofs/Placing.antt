@@ -1,8 +1,8 @@
 -- The table of positions: as far as it is filled, from the last name of the section's list on; and uses by it.
-use Rattle.std.proofs.Common.{◌≡◌, ℕ, ◌+◌, ◌-◌, ◌<◌, ◌≤◌, Bool, true, false, not, cond, ltb, List, [], ◌∷◌, ◌++◌, map, length, get_or, take, drop, replicate, refl, sym, ap, ◌∙◌, subst, inl, inr, arith}
-use Rattle.std.specs.Prelude.{filter, slice_set}
-use Rattle.std.proofs.lemmas.Bool.{cases_Bool, cases_eq, lt-ltb, le-ltb}
-use Rattle.std.proofs.lemmas.List.{append-nil, length-set, length-replicate, get_or-replicate, get_or-set_same, get_or-set_other, get_or-map, length-map, map_more}
+use Rattle.std.proofs.Common.{◌≡◌, ℕ, ◌+◌, ◌-◌, ◌<◌, ◌≤◌, Bool, true, false, not, cond, ltb, List, [], ◌∷◌, ◌++◌, map, length, get_or, take, drop, set, replicate, refl, sym, ap, ◌∙◌, subst, inl, inr, arith}
+use Rattle.std.specs.Prelude.{ℤ, filter, slice_set}
+use Rattle.std.proofs.lemmas.Bool.{cases_Bool, cases_eq, cases_lt, lt-ltb, le-ltb}
+use Rattle.std.proofs.lemmas.List.{append-nil, same_lists, get_or_default, length-set, length-replicate, get_or-replicate, get_or-set_same, get_or-set_other, get_or-map, length-map, map_more}
 use Rattle.std.proofs.lemmas.List.Elements.{filter-append}
 use Rattle.std.proofs.lemmas.List.Sums.{AllPass-from_list_all, passes_at_first, prefix_len-drop_yes, prefix_len-drop_no, prefix_len-drop_all}
 use Rattle.rail_model.specs.declared.items.Block.{Block}
@@ -16,7 +16,9 @@ use Rattle.rail_model.specs.Sound.{IsSound}
 use Rattle.rail_model.proofs.NameOrder.{same_name, is_same-sym, names_apart}
 use Rattle.rail_model.proofs.Paths.{place_within}
 use Rattle.section_cut.proofs.Sections.{section_stands}
-use Rattle.section_cut.specs.Positions.{IsPositions, IsPlaced, with_position, uses_in}
+use Rattle.rail_model.proofs.Places.{filter_all}
+use Rattle.plan_model.specs.Members.{no_use}
+use Rattle.section_cut.specs.Positions.{IsPositions, IsPlaced, ArePlaced, with_block, with_position, uses_in}
 
 -- from some name of the section's list on, the table has what the rest of the list says
 pub record IsFilled (tables : Tables) (section : Section) (from : ℕ) (table : List ℕ) : Type 0 where
@@ -147,3 +149,64 @@ uses_in_no positions blocks uses i d l outside =
     ∙ ap (λ b. uses_in positions blocks (take i uses) ++ cond b (with_position positions (get_or uses i d) ∷ []) [])
     (le-ltb (get_or positions (get_or uses i d).block 0) blocks outside)
     ∙ append-nil (uses_in positions blocks (take i uses))
+
+-- ---- all uses of a stairway at their positions
+
+-- the first uses are at their positions, and the others as they were
+pub record ArePlacedTo (positions : List ℕ) (blocks : ℕ) (uses : List Use) (n : ℕ) (now : List Use) : Type 0 where
+  pub long : length now ≡ length uses
+  pub done : (k : ℕ) → k < n → get_or now k no_use ≡ with_position positions (get_or uses k no_use)
+  pub inside : (k : ℕ) → k < n → (get_or now k no_use).block < blocks
+  pub rest : (k : ℕ) → n ≤ k → get_or now k no_use ≡ get_or uses k no_use
+
+module _ (positions : List ℕ) (blocks : ℕ) (uses now : List Use) (n : ℕ) (so_far : ArePlacedTo positions blocks uses n now) where
+  pub placed_next : (block : ℕ) → n < length uses → block ≡ get_or positions (get_or now n no_use).block 0 → block < blocks
+      → ArePlacedTo positions blocks uses (n + 1) (set now n (with_block block (get_or now n no_use)))
+  placed_next block below is inside =
+      let one = with_block block (get_or now n no_use) in
+      let there : n < length now = omega (arith, below, so_far.long) in
+      let here : get_or (set now n one) n no_use ≡ one = get_or-set_same now n one no_use there in
+      let other : (k : ℕ) → (k ≡ n → ⊥) → get_or (set now n one) k no_use ≡ get_or now k no_use = λ k differ. get_or-set_other now n k one no_use differ in
+      let own : one ≡ with_position positions (get_or uses n no_use) =
+      ap (λ b. with_block b (get_or now n no_use)) is ∙ ap (with_position positions) (so_far.rest n (omega arith)) in
+      record {
+        long = length-set now n one ∙ so_far.long;
+        done = λ k l. elim (cases_lt k n) [
+          | inl lt ↦ other k (λ e. omega (arith, lt, e)) ∙ so_far.done k lt
+          | inr ge ↦
+              let last : n ≡ k = omega (arith, ge, l) in
+              subst (λ j. get_or (set now n one) j no_use ≡ with_position positions (get_or uses j no_use)) last (here ∙ own)
+        ];
+        inside = λ k l. elim (cases_lt k n) [
+          | inl lt ↦ subst (λ (u : Use). u.block < blocks) (sym (other k (λ e. omega (arith, lt, e)))) (so_far.inside k lt)
+          | inr ge ↦
+              let last : n ≡ k = omega (arith, ge, l) in
+              subst (λ j. (get_or (set now n one) j no_use).block < blocks) last (subst (λ (u : Use). u.block < blocks) (sym here) inside)
+        ];
+        rest = λ k le. other k (λ e. omega (arith, le, e)) ∙ so_far.rest k (omega (arith, le));
+      }
+
+  pub placed_all : n ≡ length uses → ArePlaced positions blocks uses now
+  placed_all all = record {
+    are =
+        same_lists now (map (with_position positions) uses) (so_far.long ∙ sym (length-map uses (with_position positions)))
+        (λ k d l.
+        let below : k < length uses = omega (arith, l, so_far.long) in
+        get_or_default now k d no_use l ∙ so_far.done k (omega (arith, below, all))
+        ∙ sym (get_or-map (with_position positions) uses k no_use d below));
+    inside = λ k d l.
+        subst (λ (u : Use). u.block < blocks) (sym (get_or_default now k d no_use l)) (so_far.inside k (omega (arith, l, so_far.long, all)));
+  }
+
+-- they are its uses in the section
+pub placed_in : (positions : List ℕ) (blocks : ℕ) (uses placed : List Use) → ArePlaced positions blocks uses placed
+    → uses_in positions blocks uses ≡ placed
+placed_in positions blocks uses placed one =
+    let inside : Use → Bool = λ u. ltb u.block blocks in
+    ap (filter inside) (sym one.are)
+    ∙ filter_all inside placed (λ k d l. lt-ltb (get_or placed k d).block blocks (one.inside k d l))
+
+-- and start as it does
+pub starts_placed : (positions : List ℕ) (uses : List Use) → map (λ (u : Use). u.start) (map (with_position positions) uses) ≡ map (λ (u : Use). u.start) uses
+starts_placed positions [] = refl
+starts_placed positions (u ∷ uses) = ap (λ (ss : List ℤ). u.start ∷ ss) (starts_placed positions uses)

@@ -2,7 +2,7 @@
 use Rattle.std.proofs.Common.{◌≡◌, ◌↔◌, ℕ, zero, suc, ◌+◌, ◌<◌, ◌≤◌, Bool, true, false, cond, ltb, List, [], ◌∷◌, ◌++◌, length, map, get_or, take, Option, Some, None, IsTrue, refl, sym, ap, ◌∙◌, subst, inl, inr, arith}
 use Rattle.std.specs.Prelude.{All, filter, find, option_map, IfSome}
 use Rattle.std.specs.Option.{option_to_list}
-use Rattle.std.proofs.lemmas.Bool.{cases_Bool, cases_lt}
+use Rattle.std.proofs.lemmas.Bool.{cases_Bool, cases_lt, ltb-true}
 use Rattle.std.proofs.Math.ListN.{get_or-append}
 use Rattle.std.proofs.lemmas.List.{length-map, map-append, get_or-map, get_or_push, length-append, take_all}
 use Rattle.std.proofs.lemmas.List.Elements.{filter_more}
@@ -13,7 +13,7 @@ use Rattle.rail_model.specs.declared.stair.Use.{Use}
 use Rattle.rail_model.specs.declared.path.Path.{Path}
 use Rattle.rail_model.specs.declared.tables.Tables.{Tables}
 use Rattle.rail_model.specs.Name.{IsBefore, NamesRise, is_same}
-use Rattle.rail_model.specs.Blocking.{stairway}
+use Rattle.rail_model.specs.Blocking.{stairway, stair_of}
 use Rattle.rail_model.specs.Tables.{no_run, number_of, run_at, block_name, path_in}
 use Rattle.rail_model.specs.Sound.{IsSound}
 use Rattle.rail_model.proofs.Lists.{map_same}
@@ -24,14 +24,15 @@ use Rattle.plan_model.specs.declared.cut.Cut.{Cut}
 use Rattle.plan_model.specs.Cut.{stamped_row, stamped}
 use Rattle.plan_model.specs.Members.{no_member}
 use Rattle.plan_model.specs.SectionCut.{use_in_section, section_uses, is_member, section_cut, cut_of}
-use Rattle.section_cut.specs.Members.{enters, member_row, row_on_blocks, rows_on_blocks}
+use Rattle.section_cut.specs.Members.{member_row, row_on_blocks, rows_on_blocks}
 use Rattle.section_cut.specs.Positions.{IsPositions, uses_in}
 use Rattle.section_cut.specs.Stamps.{IsReached, IsThere}
-use Rattle.section_cut.specs.ReachedRuns.{IsStairIfReached, AreReachedRuns, IsSameThere, row_after}
+use Rattle.section_cut.specs.ReachedRuns.{IsStairIfReached, AreReachedRuns, IsBareRow, IsOwnRow, row_before, row_after}
+use Rattle.section_cut.proofs.BlockUses.{uses_inside}
 use Rattle.section_cut.proofs.Lists.{passing_at, passing_behind}
 use Rattle.section_cut.proofs.MemberRows.{rows_more, uses_by_table}
-use Rattle.section_cut.proofs.RowPlaces.{place_is}
-use Rattle.section_cut.proofs.OneRun.{bare_cut, bare_member, located}
+use Rattle.section_cut.proofs.RowPlaces.{reached_is}
+use Rattle.section_cut.proofs.OneRun.{bare_cut, located}
 
 -- a run of the same path has the same uses, where the blocks have the same names
 pub uses_by_path : (earlier later : Tables) (s : Section) (run : Run) → ((block : ℕ) → block_name later block ≡ block_name earlier block)
@@ -110,6 +111,19 @@ module _ (tables : Tables) (s : Section) (rise : NamesRise (λ (r : Run). r.name
   kept_is true e = rw (sym e) (ap Some (member_there (sym e)).1)
   kept_is false e = rw (sym e) refl
 
+-- a row of the value of a member's is bare
+bare_at : (tables : Tables) (s : Section) → IsSound tables → (n : ℕ) → n < length tables.runs → is_member tables s (run_at tables n) ≡ true
+    → (row : CutRow) → stamped_row 0 row ≡ row_on_blocks tables s 0 (run_at tables n) → IsBareRow s (run_at tables n).name row
+bare_at tables s sound n below member row is =
+    let uses : row.uses ≡ section_uses tables s (run_at tables n) = ap (λ (r : CutRow). r.uses) is in
+    let own : member_row s (run_at tables n).name 0 (section_uses tables s (run_at tables n)) ≡ Some (row_on_blocks tables s 0 (run_at tables n)) = rw member refl in
+    record {
+      member = ap (member_row s (run_at tables n).name 0) uses ∙ own ∙ ap Some (sym is);
+      inside = λ k d l.
+          ltb-true (get_or row.uses k d).block (length s.blocks)
+          (subst (All (λ (u : Use). ltb u.block (length s.blocks) ≡ true)) (sym uses) (uses_inside tables sound s n below) k d l);
+    }
+
 -- ---- the rows with the next run's
 
 -- a reached stair uses blocks of the tables
@@ -176,14 +190,12 @@ module _ (earlier later : Tables) (s : Section) (sound : IsSound earlier) (later
   abbrev rise : NamesRise (λ (r : Run). r.name) earlier.runs
   rise = sound.runs.names
 
-  made_is : (stamp : ℕ) (stair : Option Stair) (b : Bool) → IsStairIfReached earlier later (run_at later n) stair → b ≡ is_member earlier s (run_at earlier n)
-      → option_map (stamped_row 0) (row_after s positions stamp stair (cond b (Some (get_or old at no_member)) None))
-      ≡ member_row s (run_at later n).name 0 (section_uses later s (run_at later n))
-  made_is stamp (Some stair) b own e =
-      ap (λ (t : Stair). option_map (stamped_row 0) (member_row s t.run stamp (uses_in positions (length s.blocks) t.uses))) own
-      ∙ ap (λ us. option_map (stamped_row 0) (member_row s (run_at later n).name stamp us)) (uses_by_table later s later_sound positions table n below)
-      ∙ bare_member s (run_at later n).name stamp (section_uses later s (run_at later n)) (enters s (section_uses later s (run_at later n))) refl
-  made_is stamp None b own e =
+  made_is : (stair : Option Stair) (b : Bool) → IsStairIfReached earlier later (run_at later n) stair → b ≡ is_member earlier s (run_at earlier n)
+      → row_after s positions stair (row_before old at b) ≡ member_row s (run_at later n).name 0 (section_uses later s (run_at later n))
+  made_is (Some stair) b own e =
+      ap (λ (t : Stair). member_row s t.run 0 (uses_in positions (length s.blocks) t.uses)) own
+      ∙ ap (member_row s (run_at later n).name 0) (uses_by_table later s later_sound positions table n below)
+  made_is None b own e =
       kept_is earlier s rise old is n below_earlier at passed b e
       ∙ ap (λ (r : Run). member_row s r.name 0 (section_uses earlier s r)) (sym same_run)
       ∙ ap (member_row s (run_at later n).name 0) (sym (uses_by_path earlier later s (run_at later n) reached.same.names own))
@@ -196,45 +208,54 @@ module _ (earlier later : Tables) (s : Section) (sound : IsSound earlier) (later
   there_earlier b told =
       there_is earlier s rise old is n below_earlier at passed b (subst (λ (r : Run). IsTrue b ↔ IsThere old r.name at) same_run told)
 
-  pub rows_with : (rows : List CutRow) (row : Option CutRow) (stamp : ℕ) (d : Option Stair) (b : Bool) → IsTrue b ↔ IsThere old (run_at later n).name at
+  pub rows_with : (rows : List CutRow) (row : Option CutRow) (d : Option Stair) (b : Bool) → IsTrue b ↔ IsThere old (run_at later n).name at
       → map (stamped_row 0) rows ≡ map (row_on_blocks later s 0) (filter (is_member later s) (take n later.runs))
-      → row ≡ row_after s positions stamp (get_or stairs n d) (cond b (Some (get_or old at no_member)) None)
+      → option_map (stamped_row 0) row ≡ row_after s positions (get_or stairs n d) (row_before old at b)
       → map (stamped_row 0) (rows ++ option_to_list row) ≡ map (row_on_blocks later s 0) (filter (is_member later s) (take (n + 1) later.runs))
-  rows_with rows row stamp d b told so_far own =
+  rows_with rows row d b told so_far own =
       map-append (stamped_row 0) rows (option_to_list row)
       ∙ ap (λ rs. rs ++ map (stamped_row 0) (option_to_list row)) so_far
       ∙ ap (λ rs. map (row_on_blocks later s 0) (filter (is_member later s) (take n later.runs)) ++ rs)
-      (map_one row ∙ ap option_to_list (ap (option_map (stamped_row 0)) own ∙ made_is stamp (get_or stairs n d) b (reached.each n d below) (there_earlier b told)))
+      (map_one row ∙ ap option_to_list (own ∙ made_is (get_or stairs n d) b (reached.each n d below) (there_earlier b told)))
       ∙ sym (rows_more later s 0 n below)
 
   pub place_with : (b : Bool) → IsTrue b ↔ IsThere old (run_at later n).name at
       → cond b (at + 1) at ≡ length (filter (is_member earlier s) (take (n + 1) earlier.runs))
   place_with b told = place_more earlier s rise old is n below_earlier at passed b (there_earlier b told)
 
+  -- the old row at the place is the run's
+  pub own_row : (b : Bool) → IsTrue b ↔ IsThere old (run_at later n).name at → IsOwnRow s old (run_at later n).name at b
+  own_row b told = record {
+    reached = subst (λ (r : Run). IsReached old r.name at) (sym same_run) (reached_is earlier s rise old is n below_earlier at passed);
+    told = told;
+    bare = λ e.
+        let member : is_member earlier s (run_at earlier n) ≡ true = sym (there_earlier b told) ∙ e in
+        let row = (member_there earlier s rise old is n below_earlier at passed member).1 in
+        subst (λ (r : Run). IsBareRow s r.name (get_or old at no_member)) (sym same_run)
+        (bare_at earlier s sound n below_earlier member (get_or old at no_member) row);
+  }
+
+  -- and so that of its stair, if it is reached
+  pub stair_own : (stair d : Option Stair) (b : Bool) → stair ≡ get_or stairs n d → IsTrue b ↔ IsThere old (run_at later n).name at
+      → IfSome stair (λ t. IsOwnRow s old t.run at b)
+  stair_own None d b own told = tt
+  stair_own (Some stair) d b own told =
+      let its : stair ≡ stair_of (path_in later (run_at later n)) = subst (IsStairIfReached earlier later (run_at later n)) (sym own) (reached.each n d below) in
+      subst (λ (t : Stair). IsOwnRow s old t.run at b) (sym its) (own_row b told)
+
   -- a run's row is as before, where what is made is what was there
-  pub row_same : (stair : Option Stair) (d : Option Stair) (b : Bool) → stair ≡ get_or stairs n d → IsTrue b ↔ IsThere old (run_at later n).name at
-      → option_map (stamped_row 0) (row_after s positions 0 stair (cond b (Some (get_or old at no_member)) None))
-      ≡ option_map (stamped_row 0) (cond b (Some (get_or old at no_member)) None)
-      → IsSameRow earlier later s n
+  row_same : (stair : Option Stair) (d : Option Stair) (b : Bool) → stair ≡ get_or stairs n d → IsTrue b ↔ IsThere old (run_at later n).name at
+      → row_after s positions stair (row_before old at b) ≡ row_before old at b → IsSameRow earlier later s n
   row_same stair d b own told same =
       let member = there_earlier b told in
-      sym (made_is 0 stair b (subst (IsStairIfReached earlier later (run_at later n)) (sym own) (reached.each n d below)) member)
+      sym (made_is stair b (subst (IsStairIfReached earlier later (run_at later n)) (sym own) (reached.each n d below)) member)
       ∙ same ∙ kept_is earlier s rise old is n below_earlier at passed b member
 
--- the same of a run of a number, by what is told of its stair
-pub same_told : (earlier later : Tables) (s : Section) → IsSound earlier → IsSound later → (stairs : List (Option Stair)) → AreReachedRuns earlier later stairs
-    → (old : List CutRow) → map (stamped_row 0) old ≡ rows_on_blocks earlier s 0 → (positions : List ℕ) → IsPositions later s positions
-    → (n : ℕ) → n < length later.runs → (stair d : Option Stair) → stair ≡ get_or stairs n d
-    → IfSome stair (IsSameThere s positions old (run_at later n).name) → IsSameRow earlier later s n
-same_told earlier later s sound later_sound stairs reached old is positions table n below None d own told =
-    let same = subst (IsStairIfReached earlier later (run_at later n)) (sym own) (reached.each n d below) in
-    ap (member_row s (run_at later n).name 0) (uses_by_path earlier later s (run_at later n) reached.same.names same)
-    ∙ ap (λ (r : Run). member_row s r.name 0 (section_uses earlier s r)) (ap (λ runs. get_or runs n no_run) reached.same.runs)
-same_told earlier later s sound later_sound stairs reached old is positions table n below (Some stair) d own told =
-    let run : run_at later n ≡ run_at earlier n = ap (λ runs. get_or runs n no_run) reached.same.runs in
-    let early : n < length earlier.runs = omega (arith, below, ap length reached.same.runs) in
-    let at = place_is earlier s sound.runs.names old is n early told.at (subst (λ (r : Run). IsReached old r.name told.at) run told.found) in
-    row_same earlier later s sound later_sound stairs reached old is positions table n below told.at at (Some stair) d told.there own told.told told.same
+  -- the same by what is told of its stair
+  pub same_told : (stair d : Option Stair) (b : Bool) → stair ≡ get_or stairs n d → IsTrue b ↔ IsThere old (run_at later n).name at
+      → IfSome stair (λ t. row_after s positions (Some t) (row_before old at b) ≡ row_before old at b) → IsSameRow earlier later s n
+  same_told None d b own told same = row_same None d b own told refl
+  same_told (Some stair) d b own told same = row_same (Some stair) d b own told same
 
 -- ---- the cut after the edit
 

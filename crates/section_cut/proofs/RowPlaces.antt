@@ -1,6 +1,6 @@
 -- The rows of a cut stand in the order of the runs: where a run's name is found among them, those of the runs before it
 -- end.
-use Rattle.std.proofs.Common.{◌≡◌, ℕ, ◌+◌, ◌-◌, ◌<◌, Bool, true, false, List, ◌++◌, length, map, get_or, take, drop, refl, sym, ap, ◌∙◌, subst, inl, inr, arith}
+use Rattle.std.proofs.Common.{◌≡◌, ℕ, ◌+◌, ◌-◌, ◌<◌, true, false, List, ◌++◌, length, map, get_or, take, drop, refl, sym, ap, ◌∙◌, subst, inl, inr, arith}
 use Rattle.std.specs.Prelude.{All, filter}
 use Rattle.std.proofs.lemmas.Bool.{both_ways, cases_order}
 use Rattle.std.proofs.lemmas.List.{take-append-drop, get_or_default, get_or-take, get_or-drop, get_or-append_right, get_or-map, length-map, length-append, length-take, length-drop}
@@ -11,7 +11,7 @@ use Rattle.rail_model.specs.declared.items.Section.{Section}
 use Rattle.rail_model.specs.declared.tables.Tables.{Tables}
 use Rattle.rail_model.specs.Name.{is_before, NamesRise}
 use Rattle.rail_model.specs.Tables.{no_run, run_at}
-use Rattle.rail_model.proofs.NameOrder.{is_before-from, is_before-back, is_before-itself}
+use Rattle.rail_model.proofs.NameOrder.{IsBefore-from, is_before-from, is_before-back, is_before-itself}
 use Rattle.plan_model.specs.declared.cut.CutRow.{CutRow}
 use Rattle.plan_model.specs.Cut.{stamped_row}
 use Rattle.plan_model.specs.Members.{no_member}
@@ -101,3 +101,20 @@ module _ (tables : Tables) (s : Section) (rise : NamesRise (λ (r : Run). r.name
               absurd (both_ways (is_before (get_or old k no_member).name name) (ap (λ m. is_before m name) own ∙ last 0 no_run some) (is_before-from (get_or old k no_member).name name (found.before.below k gt)))
         ]
       ]
+
+  -- and that is where it is found
+  pub reached_is : (at : ℕ) → at ≡ length front → IsReached old name at
+  reached_is at is = record {
+    before = record {
+      within = omega (arith, count, is);
+      below = λ k l.
+          let early : k < length front = omega (arith, l, is) in
+          let own = name_at k (omega (arith, early, count)) ∙ ap (λ (r : Run). r.name) (get_or-append front back no_run k early) in
+          IsBefore-from (get_or old k no_member).name name (ap (λ m. is_before m name) own ∙ first k no_run early);
+    };
+    stops = λ below.
+        let some : 0 < length back = omega (arith, below, count, is) in
+        let none : at - length front ≡ 0 = omega (arith, is) in
+        let own = name_at at below ∙ ap (λ (r : Run). r.name) (get_or-append_right front back (length front) at no_run refl (omega (arith, is)) ∙ ap (λ j. get_or back j no_run) none) in
+        ap (λ m. is_before m name) own ∙ last 0 no_run some;
+  }

@@ -1,26 +1,23 @@
 -- A row with a use for each block of its run's path: where the run keeps its route, the positions stay, and only times
 -- change.
-use Rattle.std.proofs.Common.{◌≡◌, ◌↔◌, ℕ, ◌+◌, ◌-◌, ◌<◌, Bool, true, false, ltb, eqb, not, IsTrue, List, [], ◌∷◌, map, length, get_or, take, Option, Some, None, refl, sym, ap, ◌∙◌, subst, inl, inr, arith}
-use Rattle.std.specs.Prelude.{All, filter, find, option_map}
+use Rattle.std.proofs.Common.{◌≡◌, ℕ, ◌+◌, ◌-◌, ◌<◌, Bool, true, ltb, eqb, not, List, [], ◌∷◌, map, length, get_or, sym, ap, ◌∙◌, inl, inr, arith}
+use Rattle.std.specs.Prelude.{All, filter}
 use Rattle.std.proofs.lemmas.Bool.{cases_Bool, eqb-true, not-true, not-false}
 use Rattle.std.proofs.lemmas.List.{length-map, get_or-map, get_or_default}
 use Rattle.std.proofs.lemmas.List.Elements.{All-cons}
 use Rattle.std.proofs.lemmas.List.FromFn.{length-map-range_with_len, get_or-map-range_with_len}
-use Rattle.rail_model.specs.declared.items.Leg.{Leg}
 use Rattle.rail_model.specs.declared.items.Run.{Run}
 use Rattle.rail_model.specs.declared.items.Section.{Section}
 use Rattle.rail_model.specs.declared.items.Item.TheVariants as item
 use Rattle.rail_model.specs.declared.path.Hop.{Hop}
 use Rattle.rail_model.specs.declared.path.Path.{Path}
 use Rattle.rail_model.specs.declared.stair.Use.{Use}
-use Rattle.rail_model.specs.declared.stair.Stair.{Stair}
 use Rattle.rail_model.specs.declared.tables.Tables.{Tables}
-use Rattle.rail_model.specs.Name.{is_same}
 use Rattle.rail_model.specs.Path.{hop_count, no_hop}
-use Rattle.rail_model.specs.Blocking.{use_of, stairway, stair_of}
-use Rattle.rail_model.specs.Tables.{no_run, number_of, run_at, run_named, block_number, block_name, signal_named, route_named, path_in}
-use Rattle.rail_model.specs.Sound.{Stands, IsSound}
-use Rattle.rail_model.proofs.Paths.{hops_in, hop_in_at, length-hops_in, place_within}
+use Rattle.rail_model.specs.Blocking.{use_of, stairway}
+use Rattle.rail_model.specs.Tables.{number_of, block_number, block_name, signal_named, route_named, path_in}
+use Rattle.rail_model.specs.Sound.{Stands}
+use Rattle.rail_model.proofs.Paths.{hop_in_at, length-hops_in}
 use Rattle.rail_model.proofs.Places.{filter_all}
 use Rattle.plan_model.specs.Members.{no_use}
 use Rattle.plan_model.specs.SectionCut.{position_in_section, use_in_section, section_uses}

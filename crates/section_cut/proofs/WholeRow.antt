@@ -1,5 +1,5 @@
 -- The row of an edited run that keeps its route, where it has a use for each block of the path.
-use Rattle.std.proofs.Common.{◌≡◌, ◌↔◌, ℕ, ◌<◌, true, IsTrue, List, [], map, length, get_or, take, Option, Some, None, refl, sym, ap, ◌∙◌, subst, arith}
+use Rattle.std.proofs.Common.{◌≡◌, ℕ, ◌<◌, true, List, map, length, get_or, take, Some, refl, sym, ap, ◌∙◌, subst}
 use Rattle.std.specs.Prelude.{filter, find, option_map}
 use Rattle.rail_model.specs.declared.items.Run.{Run}
 use Rattle.rail_model.specs.declared.items.Section.{Section}
@@ -7,8 +7,8 @@ use Rattle.rail_model.specs.declared.stair.Use.{Use}
 use Rattle.rail_model.specs.declared.stair.Stair.{Stair}
 use Rattle.rail_model.specs.declared.tables.Tables.{Tables}
 use Rattle.rail_model.specs.Name.{is_same}
-use Rattle.rail_model.specs.Blocking.{stairway, stair_of}
-use Rattle.rail_model.specs.Tables.{no_run, number_of, run_at, run_named, block_name, path_in}
+use Rattle.rail_model.specs.Blocking.{stair_of}
+use Rattle.rail_model.specs.Tables.{no_run, number_of, run_at, block_name, path_in}
 use Rattle.rail_model.specs.Sound.{IsSound}
 use Rattle.rail_model.proofs.NameOrder.{same_name}
 use Rattle.rail_model.proofs.Paths.{place_within, run_stands}
@@ -17,11 +17,11 @@ use Rattle.plan_model.specs.declared.cut.CutRow.{CutRow}
 use Rattle.plan_model.specs.declared.cut.Cut.{Cut}
 use Rattle.plan_model.specs.Cut.{stamped_row, stamped, IsSoundCut}
 use Rattle.plan_model.specs.Members.{no_member}
-use Rattle.plan_model.specs.SectionCut.{section_uses, is_member, section_cut, cut_of}
+use Rattle.plan_model.specs.SectionCut.{section_uses, is_member, cut_of}
 use Rattle.section_cut.specs.declared.one_run.EditedRun.{EditedRun}
 use Rattle.section_cut.specs.Times.{with_times}
 use Rattle.section_cut.specs.Members.{enters, member_row, row_with, row_on_blocks, rows_on_blocks}
-use Rattle.section_cut.specs.OneRun.{cut_with, uses_of_section, row_of_stair, IsOneRun}
+use Rattle.section_cut.specs.OneRun.{uses_of_section, row_of_stair}
 use Rattle.section_cut.specs.EditedRun.{KeepsRoute, IsEditedRun, IsWhole}
 use Rattle.section_cut.specs.Stamps.{IsReached, IsThere}
 use Rattle.section_cut.proofs.OneRun.{bare_cut, located, run_found, cut_is}

@@ -1,11 +1,9 @@
 -- What is known of the run that an edit puts, changes or drops, without connections.
-use Rattle.std.specs.Prelude.{◌≡◌, ℤ, true, List, ℕ, length, map, option_map, IfSome, Some}
-use Rattle.rail_model.specs.declared.stair.Stair.{Stair}
+use Rattle.std.specs.Prelude.{◌≡◌, true, List, ℕ, length, option_map, Some}
 use Rattle.rail_model.specs.declared.tables.Tables.{Tables}
 use Rattle.rail_model.specs.Rules.{has_run}
 use Rattle.rail_model.specs.Tables.{run_named}
 use Rattle.plan_model.specs.declared.cut.CutRow.{CutRow}
-use Rattle.plan_model.specs.Cut.{least}
 use Rattle.section_cut.specs.declared.one_run.EditedRun.{EditedRun}
 use Rattle.section_cut.specs.OneRun.{IsOneRun}
 
@@ -15,14 +13,9 @@ pub record KeepsRoute (earlier later : Tables) (name : List ℕ) : Type 0 where
   pub after : has_run later name ≡ true
   pub route : (run_named later name).route ≡ (run_named earlier name).route
 
--- this is the least start of a stair
-abbrev pub IsEntryOf : ℤ → Stair → Type 0
-IsEntryOf entry stair = entry ≡ least (map (λ u. u.start) stair.uses)
-
--- the tables differ in this run alone, the stair and its least start are its own, and where it says so, its route is kept
+-- the tables differ in this run alone, the stair is its own, and where it says so, its route is kept
 pub record IsEditedRun (earlier later : Tables) (run : EditedRun) : Type 0 where
   pub one : IsOneRun earlier later run.name run.stair
-  pub entry : IfSome run.stair (IsEntryOf run.entry)
   pub route : run.keeps_route ≡ true → KeepsRoute earlier later run.name
 
 -- the run keeps its route, and a row has as many uses as its stair

@@ -1,5 +1,5 @@
 -- Where the blocks of the tables stand in a section's list, by their numbers.
-use Rattle.std.specs.Prelude.{◌≡◌, ℕ, ◌<◌, nat_lt, if◌then◌else◌, List, length, map, filter, slice_index}
+use Rattle.std.specs.Prelude.{◌≡◌, ℕ, ◌<◌, nat_lt, if◌then◌else◌, All, List, length, map, filter, slice_index}
 use Rattle.rail_model.specs.declared.items.Section.{Section}
 use Rattle.rail_model.specs.declared.tables.Tables.{Tables}
 use Rattle.rail_model.specs.declared.stair.Use.{Use}
@@ -21,6 +21,10 @@ pub record IsPlaced (tables : Tables) (name : List ℕ) (position : ℕ) (before
       → slice_index after block
       ≡ (if is_same name (block_name tables block) then position else slice_index before block)
 
+-- a use of this block
+abbrev pub with_block : ℕ → Use → Use
+with_block block u = record u { block = block }
+
 -- a use with its block by a table of positions
 abbrev pub with_position : List ℕ → Use → Use
 with_position positions u = record u { block = slice_index positions u.block }
@@ -28,3 +32,8 @@ with_position positions u = record u { block = slice_index positions u.block }
 -- of some uses those in a section of this many blocks
 abbrev pub uses_in : List ℕ → ℕ → List Use → List Use
 uses_in positions blocks uses = filter (λ u. nat_lt u.block blocks) (map (with_position positions) uses)
+
+-- these are uses by their positions, all in a section of this many blocks
+pub record ArePlaced (positions : List ℕ) (blocks : ℕ) (uses placed : List Use) : Type 0 where
+  pub are : placed ≡ map (with_position positions) uses
+  pub inside : All (λ u. u.block < blocks) placed

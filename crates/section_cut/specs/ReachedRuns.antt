@@ -1,5 +1,5 @@
 -- Changes of blocks, signals and routes, without connections: the runs whose paths they change, and these runs' rows.
-use Rattle.std.specs.Prelude.{◌≡◌, ℕ, ◌<◌, ⊤, Bool, true, false, List, [], length, slice_index_or, Option, Some, None, option_map, if◌then◌else◌, IsTrue, ◌↔◌}
+use Rattle.std.specs.Prelude.{◌≡◌, ℕ, ◌<◌, ⊤, Bool, true, false, List, [], length, slice_index_or, Option, Some, None, option_map, if◌then◌else◌, IsTrue, ◌↔◌, All, IfSome}
 use Rattle.rail_model.specs.declared.items.Run.{Run}
 use Rattle.rail_model.specs.declared.items.Section.{Section}
 use Rattle.rail_model.specs.declared.items.Item.{Item}
@@ -13,8 +13,10 @@ use Rattle.rail_model.specs.Name.{is_same}
 use Rattle.rail_model.specs.Tables.{no_run, run_at, block_name, path_in}
 use Rattle.line_tables.specs.Passing.{passes_block, passes_signal}
 use Rattle.plan_model.specs.declared.cut.CutRow.{CutRow}
+use Rattle.plan_model.specs.declared.cut.Cut.{Cut}
 use Rattle.plan_model.specs.Cut.{stamped_row}
 use Rattle.plan_model.specs.Members.{no_member}
+use Rattle.section_cut.specs.Change.{IsRestamped}
 use Rattle.section_cut.specs.Members.{member_row}
 use Rattle.section_cut.specs.Stamps.{IsReached, IsThere}
 use Rattle.section_cut.specs.Positions.{uses_in}
@@ -61,20 +63,31 @@ pub record AreReachedRuns (earlier later : Tables) (stairs : List (Option Stair)
   pub each : (n : ℕ) (d : Option Stair) → n < length later.runs
       → IsStairIfReached earlier later (run_at later n) (slice_index_or stairs n d)
 
--- a run's row in a section: by its stair, if that is reached, and otherwise the row that it had, if it had one
-abbrev pub row_after : Section → List ℕ → ℕ → Option Stair → Option CutRow → Option CutRow
-row_after section positions stamp (Some stair) old =
-    member_row section stair.run stamp (uses_in positions (length section.blocks) stair.uses)
-row_after section positions stamp None old = old
+-- the row at a place, if it is there, without its stamp
+abbrev pub row_before : List CutRow → ℕ → Bool → Option CutRow
+row_before old at there = option_map (stamped_row 0) (if there then Some (slice_index_or old at no_member) else None)
 
--- a reached run's row is the one that stands at its name's place, but for its stamp, or neither is there
-pub record IsSameThere (section : Section) (positions : List ℕ) (old : List CutRow) (name : List ℕ) (stair : Stair) : Type 0 where
-  pub at : ℕ
-  pub there : Bool
-  pub found : IsReached old name at
+-- a run's row in a section: by its stair, if that is reached, and otherwise the row that it had, if it had one
+abbrev pub row_after : Section → List ℕ → Option Stair → Option CutRow → Option CutRow
+row_after section positions (Some stair) old =
+    member_row section stair.run 0 (uses_in positions (length section.blocks) stair.uses)
+row_after section positions None old = old
+
+-- a row has the value of a member of this name, all of whose uses are of the section's blocks
+pub record IsBareRow (section : Section) (name : List ℕ) (row : CutRow) : Type 0 where
+  pub member : member_row section name 0 row.uses ≡ Some (stamped_row 0 row)
+  pub inside : All (λ u. u.block < length section.blocks) row.uses
+
+-- the row of a name in a section's cut stands at this place, or none does
+pub record IsOwnRow (section : Section) (old : List CutRow) (name : List ℕ) (at : ℕ) (there : Bool) : Type 0 where
+  pub reached : IsReached old name at
   pub told : IsTrue there ↔ IsThere old name at
-  pub same : option_map (stamped_row 0) (row_after section positions 0 (Some stair) (if there then Some (slice_index_or old at no_member) else None))
-      ≡ option_map (stamped_row 0) (if there then Some (slice_index_or old at no_member) else None)
+  pub bare : there ≡ true → IsBareRow section name (slice_index_or old at no_member)
+
+-- a row has this value after the edit of a number, and its stamp; or neither is there
+pub record IsRowAfter (bare : Option CutRow) (number : ℕ) (old : Cut) (row : Option CutRow) : Type 0 where
+  pub value : option_map (stamped_row 0) row ≡ bare
+  pub stamp : IfSome row (IsRestamped number (Some old))
 
 -- ---- the runs that pass what is edited
 

@@ -204,7 +204,7 @@ fn cut_anew(
 
 // What the edit of a number makes of a cut that is there before it and after it, where all rows of
 // the later one have its number.
-pub(crate) fn compared(old: &Cut, later: Cut, number: u64) -> CutChange
+fn compared(old: &Cut, later: Cut, number: u64) -> CutChange
     requires old_sound { IsSoundCut old.now }
     requires sound { IsSoundCut later }
     ensures { IsChange (Some (stamped 0 old.now)) (Some (stamped 0 later)) number (Some old.now) result }

@@ -18,6 +18,7 @@ mod members;
 mod one_run;
 mod positions;
 mod reach;
+mod reached_rows;
 mod reached_runs;
 mod same_value;
 mod stamps;

@@ -5,14 +5,15 @@ ghost use Rattle.plan_model.specs.Cut.{stamped, IsSoundCut};
 ghost use Rattle.section_cut.specs.Change.{IsChange};
 ghost use Rattle.section_cut.specs.Members.{member_row};
 ghost use Rattle.section_cut.specs.OneRun.{run_edited, cut_with, uses_of_section, PassesBy};
-ghost use Rattle.section_cut.specs.EditedRun.{KeepsRoute, IsEntryOf, IsEditedRun, IsWhole};
+ghost use Rattle.section_cut.specs.EditedRun.{KeepsRoute, IsEditedRun, IsWhole};
 ghost use Rattle.plan_model.specs.Members.{no_member};
 ghost use Rattle.section_cut.specs.OneRun as one;
-ghost use Rattle.plan_model.specs.SectionCut.{cut_of};
+ghost use Rattle.plan_model.specs.SectionCut.{cut_of, position_in_section};
 ghost use Rattle.rail_model.specs.Blocking.{stair_of};
-ghost use Rattle.rail_model.specs.Tables.{path_in, section_at};
+ghost use Rattle.rail_model.specs.Tables.{number_of, path_in, section_at};
 ghost use Rattle.rail_model.specs.Name.{is_same};
 ghost use Rattle.section_cut.specs.Stamps.{IsReached, IsThere};
+ghost use Rattle.section_cut.specs.Starts.{EntersEarly};
 
 use crate::cut_changes::CutChange;
 use crate::members::{member_row, row_with};
@@ -23,17 +24,16 @@ use crate::timed_stair::TimedStair;
 use crate::times::{same_times, with_times};
 use blocking_time::stairs;
 use line_tables::LineTables;
-use plan_model::{Cut, CutRow, least_start};
+use plan_model::{Cut, CutRow};
 use rail_model::{Edit, Item, Kind, Name, OutOfMemory, PATH_HOPS, Section};
 use std::alloc::Global;
 
-// The run that an edit puts, changes or drops: its name; its stair after the edit, if it is there,
-// and the least start of that; and whether it is known to be on one route before and after the edit.
+// The run that an edit puts, changes or drops: its name; its stair after the edit, if it is there;
+// and whether it is known to be on one route before and after the edit.
 #[derive(Drop)]
 pub(crate) struct EditedRun {
     pub(crate) name: Name,
     pub(crate) stair: Option<TimedStair>,
-    pub(crate) entry: i64,
     pub(crate) keeps_route: bool,
 }
 
@@ -48,29 +48,16 @@ pub(crate) fn edited_run(
     ensures stair { IfOk result
         (λ run. run.stair ≡ option_map (λ r. stair_of (path_in after.now r))
         (find (λ r. is_same r.name name) after.now.runs)) }
-    ensures entry { IfOk result (λ run. IfSome run.stair (IsEntryOf run.entry)) }
     ensures route { IfOk result (λ run. run.keeps_route ≡ true
         → KeepsRoute before.now after.now name) }
 {
     let stair = stair_named(alloc, after, &name)?;
-    let entry = entry_of(&stair);
     let keeps_route = keeps_route(before, after, &name);
     Ok(EditedRun {
         name,
         stair,
-        entry,
         keeps_route,
     })
-}
-
-// The least start of a stair, if it is there.
-fn entry_of(stair: &Option<TimedStair>) -> i64
-    ensures { IfSome stair.now (IsEntryOf result) }
-{
-    match stair {
-        Some(stair) => least_start(stair.stair().uses.slice()),
-        None => 0,
-    }
 }
 
 // The name of the run that an edit puts, changes or drops, if it is an edit of a run.
@@ -85,7 +72,8 @@ pub(crate) fn run_edited(edit: &Edit) -> Option<Name>
 }
 
 // The row that the edited run has in a section, which has this name, if it is there and a member.
-// Where the run passes by the section's window or its blocks, no table is made for it.
+// Where the run passes by the section's window or its blocks, or its path starts in the section
+// before the window, no table is made for it.
 fn row_of_run(
     alloc: Global,
     tables: &LineTables,
@@ -108,6 +96,9 @@ fn row_of_run(
     if stair.passes_by(section) {
         return Ok(None);
     }
+    if enters_early(tables, section, stair) {
+        return Ok(None);
+    }
     let Some(place) = tables.section_number(name) else {
         unreachable!();
     };
@@ -115,6 +106,30 @@ fn row_of_run(
         return Ok(None);
     }
     row_by(alloc, tables, place, section, stair, stamp)
+}
+
+// Whether the first use of a stair is of one of a section's blocks and starts before its window.
+fn enters_early(tables: &LineTables, section: &Section, stair: &TimedStair) -> bool
+    requires { All (λ u. u.block < length tables.now.blocks) stair.now.uses }
+    ensures { result ≡ true
+        → EntersEarly section.now (position_in_section tables.now section.now) stair.now.uses }
+{
+    let Some(block) = stair.early_block(section) else {
+        return false;
+    };
+    has_name(section.blocks.slice(), &tables.block(block).name)
+}
+
+// Whether a name is one of these.
+fn has_name(names: &[Name], name: &Name) -> bool
+    ensures { result ≡ true → number_of (λ n. n) names.now name.now < length names.now }
+{
+    for one in names {
+        if same_name(one, name) {
+            return true;
+        }
+    }
+    false
 }
 
 // Whether the run of a name, if it is there, passes a block of the section of a number.
@@ -258,7 +273,7 @@ fn cut_with_times(
         return Ok(CutChange::Untouched);
     }
     let uses = with_times(alloc, places, times)?;
-    let row = row_with(&old.section, run.name, number, run.entry, uses);
+    let row = row_with(&old.section, run.name, number, stair.entry(), uses);
     with_row(alloc, old, &run.name, at, true, row, number)
 }
 

@@ -1,11 +1,12 @@
 //! Where blocks stand in a section's list: a table over the numbers of blocks, filled once a
 //! section; and the uses of a stairway by it.
-ghost use Rattle.std.specs.Prelude.{◌≡◌, ◌<◌, length, slice_set, All, IfOk, OnOk};
+ghost use Rattle.std.specs.Prelude.{◌≡◌, ◌↔◌, ◌<◌, true, IsTrue, length, map, slice_set, slice_index_or, All, IfOk, IfSome, OnOk};
+ghost use Rattle.plan_model.specs.Members.{no_use};
 ghost use Rattle.rail_model.specs.Tables.{section_at};
-ghost use Rattle.section_cut.specs.Positions.{IsPositions, uses_in};
+ghost use Rattle.section_cut.specs.Positions.{IsPositions, ArePlaced, with_block, with_position, uses_in};
 
 use line_tables::LineTables;
-use rail_model::{OutOfMemory, Use};
+use rail_model::{List, OutOfMemory, Use};
 use std::alloc::Global;
 
 // For each block of the tables its position in the list of the section of a number, or the list's
@@ -57,4 +58,70 @@ pub(crate) fn gather(
         }
     }
     Ok(())
+}
+
+// Whether these are the uses of a stairway by their positions.
+pub(crate) fn same_placed(uses: &[Use], positions: &[u32], stairway: &[Use]) -> bool
+    requires { All (λ u. u.block < length positions.now) stairway.now }
+    ensures { IsTrue result ↔ (map (with_position positions.now) stairway.now ≡ uses.now) }
+{
+    if uses.len() != stairway.len() {
+        return false;
+    }
+    for i in 0..uses.len() {
+        if !is_placed(&uses[i], positions, &stairway[i]) {
+            return false;
+        }
+    }
+    true
+}
+
+// Whether this is a use by its position.
+fn is_placed(one: &Use, positions: &[u32], other: &Use) -> bool
+    requires { other.now.block < length positions.now }
+    ensures { IsTrue result ↔ (with_position positions.now other.now ≡ one.now) }
+{
+    one.start == other.start && one.end == other.end && one.block == positions[other.block as usize]
+}
+
+// The uses of a stairway by their positions in a section of this many blocks, if all are in it.
+pub(crate) fn placed(
+    alloc: Global,
+    positions: &[u32],
+    blocks: u32,
+    stairway: &[Use],
+) -> Result<Option<List<Use>>, OutOfMemory>
+    requires { All (λ u. u.block < length positions.now) stairway.now }
+    ensures { IfOk result (λ uses. IfSome uses (ArePlaced positions.now blocks stairway.now)) }
+{
+    let mut uses = Vec::from_slice(alloc, stairway)?;
+    if !place_all(&mut uses, positions, blocks) {
+        return Ok(None);
+    }
+    Ok(Some(List::from_vec(uses)))
+}
+
+// Writes the positions of uses in a section of this many blocks, if all are in it; otherwise those
+// of some.
+fn place_all(uses: &mut [Use], positions: &[u32], blocks: u32) -> bool
+    requires { All (λ u. u.block < length positions.now) uses.old }
+    ensures { result ≡ true → ArePlaced positions.now blocks uses.old uses.new }
+{
+    for i in 0..uses.len() {
+        let block = positions[uses[i].block as usize];
+        if block >= blocks {
+            return false;
+        }
+        set_block(uses, i, block);
+    }
+    true
+}
+
+// Writes the block of a use.
+fn set_block(uses: &mut [Use], i: usize, block: u32)
+    requires { i < length uses.old }
+    ensures { uses.new
+        ≡ slice_set uses.old i (with_block block (slice_index_or uses.old i no_use)) }
+{
+    uses[i].block = block;
 }

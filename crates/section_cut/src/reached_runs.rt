@@ -1,15 +1,14 @@
 //! What a change of a block, a signal or a route makes of a section's cut, where there are no
 //! connections: it reaches the rows of the runs whose paths it changes, and no other.
-ghost use Rattle.std.specs.Prelude.{◌≡◌, ◌↔◌, ◌<◌, ◌≤◌, ◌+◌, ◌++◌, true, false, Bool, option_map, if◌then◌else◌, IsTrue, All, length, map, IfOk, IfSome, OnOk, Some, None, slice_index_or};
+ghost use Rattle.std.specs.Prelude.{◌≡◌, ◌<◌, ◌≤◌, ◌+◌, ◌++◌, true, false, Bool, if◌then◌else◌, All, length, map, IfOk, IfSome, OnOk, Some, None};
 ghost use Rattle.std.specs.Option.{option_to_list};
 ghost use Rattle.line_tables.specs.Paths.{paths_of};
 ghost use Rattle.plan_model.specs.Cut.{stamped, stamped_row};
-ghost use Rattle.plan_model.specs.Members.{no_member};
 ghost use Rattle.plan_model.specs.SectionCut.{cut_of};
-ghost use Rattle.rail_model.specs.Tables.{run_at, section_at, path_in};
-ghost use Rattle.section_cut.specs.Change.{IsChange};
-ghost use Rattle.section_cut.specs.Members.{member_row, rows_on_blocks};
-ghost use Rattle.section_cut.specs.Positions.{IsPositions, uses_in};
+ghost use Rattle.rail_model.specs.Tables.{run_at, path_in};
+ghost use Rattle.section_cut.specs.Change.{IsChange, IsRestamped};
+ghost use Rattle.section_cut.specs.Members.{rows_on_blocks};
+ghost use Rattle.section_cut.specs.Positions.{IsPositions};
 ghost use Rattle.section_cut.specs.ReachedRuns.{IsSameTraffic, KeepsBlocks, IsTold, AreReachedRuns};
 ghost use Rattle.line_tables.specs.Passing.{passes_block, passes_signal};
 ghost use Rattle.rail_model.specs.declared.items.Run.{Run};
@@ -19,17 +18,16 @@ ghost use Rattle.rail_model.specs.Path.{Fits};
 ghost use Rattle.rail_model.specs.Blocking.{stair_of};
 ghost use Rattle.section_cut.specs.ReachedRuns as reached;
 
-use crate::cut_changes::{CutChange, compared};
-use crate::members::member_row;
+use crate::cut_changes::CutChange;
 use crate::one_run::stands_at;
-use crate::positions::{gather, positions};
-use crate::same_value::{same_name, same_row};
-use crate::stamps::place_of;
+use crate::positions::positions;
+use crate::reached_rows::{row_anew, row_differs};
+use crate::same_value::{same_cut, same_name};
 use crate::timed_stair::TimedStair;
 use blocking_time::stairs;
 use line_tables::{LineTables, Paths};
 use plan_model::{Cut, CutRow};
-use rail_model::{Edit, Item, List, Name, OutOfMemory, PATH_HOPS, Path, Section, Use};
+use rail_model::{Edit, Item, List, Name, OutOfMemory, PATH_HOPS, Path};
 use std::alloc::Global;
 
 // How many reached runs each get a path of their own: for more, the paths of all runs are made.
@@ -212,7 +210,10 @@ pub(crate) fn cut_after_runs(
         connections: List::new(alloc),
         rows,
     };
-    Ok(compared(old, later, number))
+    if same_cut(old, &later) {
+        return Ok(CutChange::Untouched);
+    }
+    Ok(CutChange::Touched(Some(later)))
 }
 
 // Whether the row of a run that the edit reaches may differ from the one in the cut before it.
@@ -234,56 +235,21 @@ fn rows_differ(
 {
     before.learn_sound();
     let mut found = Vec::new(alloc);
+    let mut at = 0;
     for n in 0..after.runs() {
-        let name = &after.run(n).name;
-        let stair = &reached[n as usize];
         let own = old.rows.slice();
-        if row_differs(alloc, &old.section, positions, stair, own, name, &mut found)? {
+        let there = stands_at(own, &after.run(n).name, at);
+        let stair = &reached[n as usize];
+        if row_differs(alloc, positions, stair, old, at, there, &mut found)? {
             return Ok(true);
         }
+        at = place_behind(own, at, there);
     }
     Ok(false)
 }
 
-// Whether the row of the run of a name differs after an edit from the one before it. Of a run that
-// isn't reached nothing is looked at.
-fn row_differs(
-    alloc: Global,
-    section: &Section,
-    positions: &[u32],
-    stair: &Option<TimedStair>,
-    old: &[CutRow],
-    name: &Name,
-    found: &mut Vec<Use>,
-) -> Result<bool, OutOfMemory>
-    requires rise { NamesRise (λ r. r.name) old.now }
-    requires uses { IfSome stair.now (λ s. All (λ u. u.block < length positions.now) s.uses) }
-    requires blocks { length section.now.blocks ≤ PATH_HOPS }
-    ensures { IfOk result (λ differs. differs ≡ false
-        → IfSome stair.now (reached.IsSameThere section.now positions.now old.now name.now)) }
-{
-    let Some(stair) = stair else {
-        return Ok(false);
-    };
-    let at = place_of(old, name);
-    let there = stands_at(old, name, at);
-    let row = row_made(alloc, section, positions, stair, 0, found)?;
-    Ok(!stands_same(&row, old, at, there))
-}
-
-// Whether a row is the one at a place but for its stamp, or neither is there.
-fn stands_same(row: &Option<CutRow>, old: &[CutRow], at: usize, there: bool) -> bool
-    requires { there ≡ true → at < length old.now }
-    ensures { result ≡ true → option_map (stamped_row 0) row.now ≡ option_map (stamped_row 0)
-        (if there then Some (slice_index_or old.now at no_member) else None) }
-{
-    match row {
-        Some(row) => there && same_row(&old[at], row),
-        None => !there,
-    }
-}
-
-// The rows of a section's cut after an edit, where the cut before it has these.
+// The rows of a section's cut after an edit of a number, where the cut before it has these: their
+// values and their stamps.
 fn rows_after(
     alloc: Global,
     before: &LineTables,
@@ -297,8 +263,10 @@ fn rows_after(
     requires rows { map (stamped_row 0) old.now.rows ≡ rows_on_blocks before.now old.now.section 0 }
     requires blocks { length old.now.section.blocks ≤ PATH_HOPS }
     requires table { IsPositions after.now old.now.section positions.now }
-    ensures { IfOk result
+    requires rise { NamesRise (λ r. r.name) old.now.rows }
+    ensures value { IfOk result
         (λ rows. map (stamped_row 0) rows ≡ rows_on_blocks after.now old.now.section 0) }
+    ensures stamps { IfOk result (All (IsRestamped number (Some old.now))) }
 {
     before.learn_sound();
     let mut found = Vec::new(alloc);
@@ -308,73 +276,11 @@ fn rows_after(
         let own = old.rows.slice();
         let there = stands_at(own, &after.run(n).name, at);
         let stair = &reached[n as usize];
-        let row = row_after(
-            alloc,
-            &old.section,
-            positions,
-            stair,
-            own,
-            at,
-            there,
-            number,
-            &mut found,
-        )?;
+        let row = row_anew(alloc, positions, stair, old, at, there, number, &mut found)?;
         push_row(&mut rows, row)?;
         at = place_behind(own, at, there);
     }
     Ok(rows)
-}
-
-// A run's row after an edit: by its stair, if the edit reaches it, and otherwise the one at a place
-// before it, if that is there.
-fn row_after(
-    alloc: Global,
-    section: &Section,
-    positions: &[u32],
-    stair: &Option<TimedStair>,
-    old: &[CutRow],
-    at: usize,
-    there: bool,
-    stamp: u64,
-    found: &mut Vec<Use>,
-) -> Result<Option<CutRow>, OutOfMemory>
-    requires uses { IfSome stair.now (λ s. All (λ u. u.block < length positions.now) s.uses) }
-    requires blocks { length section.now.blocks ≤ PATH_HOPS }
-    requires at { there ≡ true → at < length old.now }
-    ensures { IfOk result (λ row. row ≡ reached.row_after section.now positions.now stamp stair.now
-        (if there then Some (slice_index_or old.now at no_member) else None)) }
-{
-    if let Some(stair) = stair {
-        return row_made(alloc, section, positions, stair, stamp, found);
-    }
-    if !there {
-        return Ok(None);
-    }
-    Ok(Some(old[at].copy(alloc)?))
-}
-
-// The row of the run of a stair, if it is a member. The uses of the section's blocks are gathered
-// in a list that serves run after run.
-fn row_made(
-    alloc: Global,
-    section: &Section,
-    positions: &[u32],
-    stair: &TimedStair,
-    stamp: u64,
-    found: &mut Vec<Use>,
-) -> Result<Option<CutRow>, OutOfMemory>
-    requires there { All (λ u. u.block < length positions.now) stair.now.uses }
-    requires blocks { length section.now.blocks ≤ PATH_HOPS }
-    ensures { IfOk result (λ row. row ≡ member_row section.now stair.now.run stamp
-        (uses_in positions.now (length section.now.blocks) stair.now.uses)) }
-{
-    if stair.passes_by(section) {
-        return Ok(None);
-    }
-    let own = stair.stair();
-    let blocks = section.blocks.len() as u32;
-    gather(found, positions, blocks, own.uses.slice())?;
-    member_row(alloc, section, own.run, stamp, found)
 }
 
 // Adds a row, if there is one.

@@ -74,7 +74,7 @@ fn is_before(a: &Name, b: &Name) -> bool
 }
 
 // The stamp of a row after the edit of a number, by the cut before it.
-fn stamp_of(row: &CutRow, old: &Cut, at: usize, number: u64) -> u64
+pub(crate) fn stamp_of(row: &CutRow, old: &Cut, at: usize, number: u64) -> u64
     requires rise { NamesRise (λ r. r.name) old.now.rows }
     requires at { IsReached old.now.rows row.now.name at }
     ensures { IsRestamped number (Some old.now) (stamped_row result row.now) }

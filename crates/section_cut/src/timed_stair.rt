@@ -1,8 +1,9 @@
-//! A run's stairway, and between which moments it starts to keep blocks.
-ghost use Rattle.std.specs.Prelude.{◌≡◌, true};
-ghost use Rattle.section_cut.specs.Starts.{StartsOutside};
+//! A run's stairway, between which moments it starts to keep blocks, and when it does first.
+ghost use Rattle.std.specs.Prelude.{◌≡◌, true, IfSome};
+ghost use Rattle.section_cut.specs.Starts.{IsEntryOf, StartsEarly, StartsOutside};
 
 use crate::all_stairways::{Starts, is_outside, starts_of};
+use plan_model::least_start;
 use rail_model::{Section, Stair};
 use std::marker::Model;
 
@@ -11,17 +12,18 @@ use std::marker::Model;
 pub(crate) struct TimedStair {
     stair: Stair,
     starts: Starts,
+    entry: i64,
 }
 
 impl Model for TimedStair {
     ghost use Rattle.rail_model.specs.declared.stair.Stair.{Stair};
-    ghost use Rattle.section_cut.specs.Starts.{StartsBetween};
+    ghost use Rattle.section_cut.specs.Starts.{IsTimed};
 
     ghost Value = { Stair };
 
     ghost view = { λ t. t.stair };
 
-    ghost invariant = { λ t. StartsBetween t.starts t.stair.uses };
+    ghost invariant = { λ t. IsTimed t.starts t.entry t.stair };
 }
 
 impl TimedStair {
@@ -30,7 +32,12 @@ impl TimedStair {
         ensures { result ≡ stair }
     {
         let starts = starts_of(stair.uses.slice());
-        TimedStair { stair, starts }
+        let entry = least_start(stair.uses.slice());
+        TimedStair {
+            stair,
+            starts,
+            entry,
+        }
     }
 
     // The stairway.
@@ -40,10 +47,27 @@ impl TimedStair {
         &self.stair
     }
 
+    // The least start of its uses, and 0 of none.
+    pub(crate) fn entry(&self) -> i64
+        ensures { IsEntryOf result self.now }
+    {
+        self.entry
+    }
+
     // Whether all uses start before a section's window, or all after it.
     pub(crate) fn passes_by(&self, section: &Section) -> bool
         ensures { result ≡ true → StartsOutside section.now self.now.uses }
     {
         is_outside(self.starts, section)
+    }
+    // The block of the first use, if that starts before a section's window.
+    pub(crate) fn early_block(&self, section: &Section) -> Option<u32>
+        ensures { IfSome result (StartsEarly section.now self.now.uses) }
+    {
+        let uses = self.stair.uses.slice();
+        if uses.is_empty() || uses[0].start >= i64::from(section.from_s) {
+            return None;
+        }
+        Some(uses[0].block)
     }
 }

@@ -1,6 +1,6 @@
-use Rattle.std.proofs.Common.{◌≡◌, ◌↔◌, IsTrue, List, length, map, get_or, Some, w64, sym, ap, ◌∙◌, subst, rules}
+use Rattle.std.proofs.Common.{◌≡◌, length, map, get_or, Some, w64, sym, ap, ◌∙◌, subst, rules}
 use Rattle.std.proofs.lemmas.Int.{to_z-of_z}
-use Rattle.std.specs.Prelude.{IfOk, IfSome, option_map}
+use Rattle.std.specs.Prelude.{IfOk, option_map}
 use Rattle.std.proofs.lemmas.List.{get_or_default}
 use Rattle.rail_model.specs.declared.stair.Stair.{Stair}
 use Rattle.rail_model.specs.declared.stair.Use.{Use}
@@ -9,8 +9,6 @@ use Rattle.plan_model.specs.Cut.{least, stamped}
 use Rattle.plan_model.specs.Members.{no_member}
 use Rattle.plan_model.specs.SectionCut.{cut_of}
 use Rattle.section_cut.specs.Change.{IsChange}
-use Rattle.section_cut.specs.EditedRun.{IsEntryOf}
-use Rattle.section_cut.specs.Members.{member_row}
 use Rattle.section_cut.specs.OneRun.{row_of_stair}
 use Rattle.section_cut.specs.Times.{with_times}
 use Rattle.section_cut.proofs.OneRun.{old_sound, row_named, cut_is, with_sound, both_known}
@@ -65,8 +63,7 @@ row_with-row-requires c =
     ap (λ rs. get_or rs at row_at) c.slice.ensures ∙ get_or_default old.rows at row_at no_member c.requires.there.0 in
     let places : c.slice-places.result.now ≡ (get_or old.rows at no_member).uses = c.slice-places.ensures ∙ ap (λ (r : CutRow). r.uses) own in
     let times : c.slice-times.result.now ≡ stair.uses = c.slice-times.ensures ∙ ap (λ (s : Stair). s.uses) c.stair.ensures in
-    let entry : c.args.run.now.entry ≡ least (map (λ (u : Use). u.start) stair.uses) = subst (λ o. IfSome o (IsEntryOf c.args.run.now.entry)) c.in-Some.is c.requires.edited.entry in
-    to_z-of_z w64 c.args.run.now.entry (search rules) ∙ entry
+    to_z-of_z w64 c.entry.result (search rules) ∙ c.entry.ensures
     ∙ ap (λ us. least (map (λ (u : Use). u.start) us)) (sym times)
     ∙ ap least (sym (starts_of_times c.slice-places.result.now c.slice-times.result.now
     (ap length places ∙ counts c.args.before.now c.args.after.now c.args.run.now c.requires.edited c.learn_sound.ensures c.learn_sound-2.ensures c.args.section.now old c.requires.cut

@@ -1,8 +1,5 @@
-use Rattle.std.proofs.Common.{◌≡◌, false, Option, None, sym, ap, ◌∙◌, subst}
-use Rattle.std.specs.Prelude.{IfSome, find}
-use Rattle.rail_model.specs.declared.items.Run.{Run}
+use Rattle.std.proofs.Common.{sym, ◌∙◌}
 use Rattle.rail_model.specs.Tables.{section_at}
-use Rattle.line_tables.specs.Passing.{passes_section}
 use Rattle.section_cut.proofs.OneRun.{run_found, run_missing}
 use Rattle.section_cut.proofs.one_run.passes.Goals as goal
 

@@ -1,11 +1,11 @@
-use Rattle.std.proofs.Common.{◌<◌, length, refl, sym, ap, ◌∙◌, subst}
+use Rattle.std.proofs.Common.{◌<◌, length, refl, sym, ◌∙◌, subst}
 use Rattle.std.specs.Prelude.{All, IfSome}
 use Rattle.rail_model.specs.declared.stair.Stair.{Stair}
 use Rattle.rail_model.specs.declared.stair.Use.{Use}
 use Rattle.plan_model.specs.SectionCut.{position_in_section}
 use Rattle.section_cut.specs.OneRun.{PassesBy}
 use Rattle.section_cut.proofs.OneRun.{uses_found}
-use Rattle.section_cut.proofs.Outside.{outside_not_entered}
+use Rattle.section_cut.proofs.Outside.{outside_not_entered, early_not_entered}
 use Rattle.section_cut.proofs.PassedBy.{passed_by, section_there, section_is}
 use Rattle.section_cut.proofs.one_run.row_of_run.Goals as goal
 
@@ -14,6 +14,19 @@ returns-then-passes_by c =
     let section = c.args.section.now in
     let stays = outside_not_entered section (position_in_section c.args.tables.now section) (length section.blocks) c.in-Some.stair.uses
     (c.passes_by.ensures c.if-passes_by.true) in
+    rw c.in-Some.is (rw stays refl)
+
+pub enters_early-requires : goal.enters_early-requires
+enters_early-requires c =
+    let tables = c.args.tables.now in
+    subst (λ o. IfSome o (λ (s : Stair). All (λ (u : Use). u.block < length tables.blocks) s.uses)) (sym c.requires.stair ∙ c.in-Some.is)
+    (uses_found tables c.learn_sound.ensures c.args.run.now.name _ refl)
+
+pub returns-then-enters_early : goal.returns-then-enters_early
+returns-then-enters_early c =
+    let section = c.args.section.now in
+    let stays = early_not_entered section (position_in_section c.args.tables.now section) c.in-Some.stair.uses
+    (c.enters_early.ensures c.if-enters_early.true) in
     rw c.in-Some.is (rw stays refl)
 
 pub unreachable-requires : goal.unreachable-requires

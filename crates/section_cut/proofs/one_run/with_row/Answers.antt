@@ -10,7 +10,7 @@ use Rattle.section_cut.specs.declared.cut_changes.CutChange.{CutChange}
 use Rattle.section_cut.specs.declared.cut_changes.CutChange.TheVariants as change
 use Rattle.section_cut.specs.Change.{IsChange}
 use Rattle.section_cut.specs.OneRun.{cut_with}
-use Rattle.section_cut.specs.Stamps.{IsReached, IsThere}
+use Rattle.section_cut.specs.Stamps.{IsThere}
 use Rattle.section_cut.proofs.Placed.{none_there, same_there, removed, added, changed}
 use Rattle.section_cut.proofs.one_run.with_row.Goals as goal
 

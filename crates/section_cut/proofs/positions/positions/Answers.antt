@@ -1,9 +1,9 @@
-use Rattle.std.proofs.Common.{◌≡◌, ◌<◌, ◌-◌, ◌+◌, ◌++◌, length, map, get_or, take, drop, sym, ap, ◌∙◌, subst, arith}
+use Rattle.std.proofs.Common.{◌≡◌, ◌-◌, ◌+◌, ◌++◌, length, get_or, take, drop, sym, ap, ◌∙◌, subst, arith}
 use Rattle.std.specs.Prelude.{slice_set}
 use Rattle.std.proofs.Math.Seq.{take-append_seam}
 use Rattle.std.proofs.lemmas.List.{length-set}
-use Rattle.rail_model.specs.Tables.{section_at, block_number}
-use Rattle.section_cut.proofs.Placing.{IsFilled, placed_within, filled_next, filled_none, filled_all}
+use Rattle.rail_model.specs.Tables.{section_at}
+use Rattle.section_cut.proofs.Placing.{IsFilled, placed_within, filled_next}
 use Rattle.section_cut.proofs.positions.positions.Goals as goal
 
 pub place-requires : goal.place-requires

@@ -22,7 +22,6 @@ returns-in-Some-run_edited c =
       one = subst (λ n. IsOneRun before c.args.after.now n run.stair) (sym named)
           (one_run before c.args.after.now c.args.edit.now name run.stair c.requires
           (sym c.run_edited.ensures ∙ c.in-Some-run_edited.is) none c.in_ok-edited_run.ensures.stair);
-      entry = c.in_ok-edited_run.ensures.entry;
       route = λ e. subst (KeepsRoute before c.args.after.now) (sym named) (c.in_ok-edited_run.ensures.route e);
     }
 

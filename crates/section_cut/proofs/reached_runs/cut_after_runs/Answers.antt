@@ -1,8 +1,7 @@
-use Rattle.std.proofs.Common.{Some, sym, subst}
+use Rattle.std.proofs.Common.{◌≡◌, Some, sym, ap, ◌∙◌, subst}
+use Rattle.std.proofs.lemmas.Bool.{both_ways}
 use Rattle.plan_model.specs.declared.cut.Cut.{Cut}
 use Rattle.plan_model.specs.Cut.{stamped}
-use Rattle.plan_model.specs.SectionCut.{cut_of}
-use Rattle.section_cut.specs.Change.{IsChange}
 use Rattle.section_cut.proofs.ReachedRuns.{old_rows, cut_made, cut_same}
 use Rattle.section_cut.specs.Positions.{IsPositions}
 use Rattle.section_cut.proofs.PassedBy.{section_there, section_is, section_of_cut}
@@ -37,24 +36,33 @@ pub rows_after-requires-clause-blocks : goal.rows_after-requires-clause-blocks
 rows_after-requires-clause-blocks c =
     (sound_cut_of c.args.before.now c.learn_sound.ensures c.args.section.now c.args.old.now c.requires.cut).most_blocks
 
-pub compared-requires-clause-old_sound : goal.compared-requires-clause-old_sound
-compared-requires-clause-old_sound c =
-    sound_cut_of c.args.before.now c.learn_sound.ensures c.args.section.now c.args.old.now c.requires.cut
+pub rows_after-requires-clause-rise : goal.rows_after-requires-clause-rise
+rows_after-requires-clause-rise c =
+    (sound_cut_of c.args.before.now c.learn_sound.ensures c.args.section.now c.args.old.now c.requires.cut).names_rise
 
-pub compared-requires-clause-sound : goal.compared-requires-clause-sound
-compared-requires-clause-sound c =
+pub returns-then-same_cut : goal.returns-then-same_cut
+returns-then-same_cut c =
     let made : Cut = record { section = c.in_ok-copy.field-0; connections = c.new.result; rows = c.in_ok-rows.rows } in
-    sound_cut_of c.args.after.now c.learn_sound-2.ensures c.args.section.now made
-    (cut_made c.args.before.now c.args.after.now c.args.reached.now c.requires.reached c.args.section.now c.args.old.now c.requires.cut made
-    c.in_ok-copy.ensures c.new.ensures c.in_ok-rows.ensures)
+    let is = cut_made c.args.before.now c.args.after.now c.args.reached.now c.requires.reached c.args.section.now c.args.old.now c.requires.cut made
+    c.in_ok-copy.ensures c.new.ensures c.in_ok-rows.ensures.value in
+    is ∙ ap Some (sym (c.same_cut.ensures.0 c.if-same_cut.true)) ∙ sym c.requires.cut
 
 pub returns : goal.returns
 returns c =
+    let old = c.args.old.now in
     let made : Cut = record { section = c.in_ok-copy.field-0; connections = c.new.result; rows = c.in_ok-rows.rows } in
-    let is = cut_made c.args.before.now c.args.after.now c.args.reached.now c.requires.reached c.args.section.now c.args.old.now c.requires.cut made
-    c.in_ok-copy.ensures c.new.ensures c.in_ok-rows.ensures in
-    subst (λ v. IsChange v (cut_of c.args.after.now c.args.section.now) c.args.number (Some c.args.old.now) c.compared.result) (sym c.requires.cut)
-    (subst (λ v. IsChange (Some (stamped 0 c.args.old.now)) v c.args.number (Some c.args.old.now) c.compared.result) (sym is) c.compared.ensures)
+    let is = cut_made c.args.before.now c.args.after.now c.args.reached.now c.requires.reached c.args.section.now old c.requires.cut made
+    c.in_ok-copy.ensures c.new.ensures c.in_ok-rows.ensures.value in (
+      λ same.
+          let both : Some (stamped 0 old) ≡ Some (stamped 0 made) = sym c.requires.cut ∙ sym same ∙ is in
+          let values : stamped 0 old ≡ stamped 0 made = cc in
+          both_ways c.same_cut.result c.if-same_cut.false (c.same_cut.ensures.1 values),
+      record {
+        same = is;
+        stamps = c.in_ok-rows.ensures.stamps;
+        sound = sound_cut_of c.args.after.now c.learn_sound-2.ensures c.args.section.now made is;
+      },
+    )
 
 pub rows_differ-requires-clause-rows : goal.rows_differ-requires-clause-rows
 rows_differ-requires-clause-rows c =

@@ -1,5 +1,4 @@
-use Rattle.std.proofs.Common.{◌<◌, length, sym, arith}
-use Rattle.section_cut.specs.ReachedRuns.{IsTold, passes}
+use Rattle.std.proofs.Common.{◌<◌, length, arith}
 use Rattle.section_cut.proofs.PathsStay.{stair_told}
 use Rattle.section_cut.proofs.ReachedRuns.{stairs_more}
 use Rattle.section_cut.proofs.reached_runs.reached_runs.Goals as goal

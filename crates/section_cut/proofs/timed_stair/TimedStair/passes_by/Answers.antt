@@ -8,4 +8,4 @@ pub returns : goal.returns
 returns c outside =
     let own = c.self.inside in
     subst (λ (s : Stair). StartsOutside c.args.section.now s.uses) c.self.view_is
-    (starts_outside own.starts c.args.section.now own.stair.uses c.self.invariant (sym c.is_outside.ensures ∙ outside))
+    (starts_outside own.starts c.args.section.now own.stair.uses c.self.invariant.between (sym c.is_outside.ensures ∙ outside))
