@@ -199,7 +199,8 @@ impl<T: Stored> NamedTable<T> {
     }
 }
 
-// The place of the entry of a name among the entries, and its key. The entry at `near` is tried before all.
+// The place of the entry of a name among the entries, and its key. The entry at `near` is tried
+// before all.
 #[inline]
 fn entry_near(by_name: &IndexMap<Name, usize>, name: &Name, near: usize) -> Option<(usize, usize)>
     ensures { option_map (λ e. e.1) result ≡ get (pointwise nat_eq) by_name.now name.now }
@@ -231,7 +232,8 @@ fn name_at<T: Stored>(slots: &Slab<T>, key: usize) -> &[u8]
     }
 }
 
-// The place of the key of the item of a name in the order, or the place at which such a key is to be put in.
+// The place of the key of the item of a name in the order, or the place at which such a key is to
+// be put in.
 fn place_of<T: Stored>(order: &[usize], slots: &Slab<T>, name: &Name) -> Result<usize, usize>
     requires stored { All (λ k. IsSome (slot slots.now k)) order.now }
     requires rise { NamesRise (tables.named T.label) (tables.filed (slot slots.now) order.now) }

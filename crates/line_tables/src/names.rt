@@ -7,8 +7,8 @@ use rail_model::{List, Name, OutOfMemory};
 use std::alloc::{AllocError, Global};
 use std::marker::Model;
 
-/// Names in order, seen as their list. Their bytes stand one after another, and their lengths beside
-/// them: a name takes its own bytes and one more, in place of the 72 of a `Name`.
+/// Names in order, seen as their list. Their bytes stand one after another, and their lengths
+/// beside them: a name takes its own bytes and one more, in place of the 72 of a `Name`.
 #[derive(Drop)]
 pub(crate) struct Names {
     bytes: Vec<u8>,

@@ -1,5 +1,5 @@
-//! Which runs pass a signal, a block and a section, and which blocks a section has: by the keys that
-//! were found once.
+//! Which runs pass a signal, a block and a section, and which blocks a section has: by the keys
+//! that were found once.
 ghost use Rattle.std.specs.Prelude.{◌≡◌, ℕ, ◌<◌, true, length, map, slice_index, All, IfOk};
 ghost use Rattle.rail_model.specs.Rules.{has_block, has_signal};
 ghost use Rattle.rail_model.specs.Tables.{block_number, run_at, section_at};
@@ -15,8 +15,8 @@ use rail_model::{Name, OutOfMemory, Run};
 use std::alloc::Global;
 
 impl LineTables {
-    /// For each run, in the order of the runs' names, whether it passes the signal of a name: whether its
-    /// route lists it.
+    /// For each run, in the order of the runs' names, whether it passes the signal of a name:
+    /// whether its route lists it.
     pub fn runs_past_signal(&self, name: &Name) -> Result<Vec<bool>, OutOfMemory>
         requires { has_signal self.now name.now ≡ true }
         ensures { IfOk result
@@ -31,8 +31,8 @@ impl LineTables {
         )
     }
 
-    /// For each run, in the order of the runs' names, whether it passes the block of a name: whether its
-    /// route lists a signal of it.
+    /// For each run, in the order of the runs' names, whether it passes the block of a name:
+    /// whether its route lists a signal of it.
     pub fn runs_past_block(&self, name: &Name) -> Result<Vec<bool>, OutOfMemory>
         requires { has_block self.now name.now ≡ true }
         ensures { IfOk result
@@ -44,8 +44,8 @@ impl LineTables {
         runs_on(self.alloc, &self.runs, self.route_sets.of_blocks.words(key))
     }
 
-    /// Whether the run of a number passes a block of the section of a number. The section's blocks are gone
-    /// through up to the first that it passes, not the run's route.
+    /// Whether the run of a number passes a block of the section of a number. The section's blocks
+    /// are gone through up to the first that it passes, not the run's route.
     pub fn passes_section(&self, run: u32, section: u32) -> bool
         requires run { run < length self.now.runs }
         requires section { section < length self.now.sections }

@@ -50,9 +50,9 @@ impl LineTables {
         Ok(Ok(()))
     }
 
-    // Puts a route in the place of the one of its name, or tells the rule by which its name, what it
-    // refers to or the runs on it refuse it. Its signals are looked up once: for the rules, for its
-    // entry, for the counts and for the sets.
+    // Puts a route in the place of the one of its name, or tells the rule by which its name, what
+    // it refers to or the runs on it refuse it. Its signals are looked up once: for the rules, for
+    // its entry, for the counts and for the sets.
     pub(crate) fn change_route(&mut self, route: Route) -> Result<Result<(), Rule>, OutOfMemory>
         requires { is_within (item.Route route) ≡ true }
         ensures { AnswersEdit (rule_of_change self.old (item.Route route))

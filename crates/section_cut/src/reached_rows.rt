@@ -134,8 +134,8 @@ fn row_by_stair(
 }
 
 // The same row, where the one before the edit has as many uses as the stair, but others: then all
-// blocks are likely to be in the section, and the uses are placed in the row itself. `None` where it
-// hasn't as many, or a block isn't there.
+// blocks are likely to be in the section, and the uses are placed in the row itself. `None` where
+// it hasn't as many, or a block isn't there.
 fn whole_row(
     alloc: Global,
     positions: &[u32],
