@@ -18,7 +18,6 @@ use Rattle.rail_model.proofs.Paths.{path_fits}
 use Rattle.line_tables.specs.declared.linked.Linked.{Linked}
 use Rattle.line_tables.specs.declared.line_tables.LineTables.TheInside.{Inside}
 use Rattle.line_tables.specs.Table.{key_of, under, IsTable, AreAtKeys}
-use Rattle.line_tables.specs.Links.{IsKey}
 use Rattle.line_tables.specs.Inside.{tables_of, IsJoined}
 use Rattle.line_tables.specs.Hops.{hop_of, hops_at, with_legs, path_with, path_by_keys, paths_by_keys, ArePaths}
 use Rattle.line_tables.specs.Paths.{paths_of}

@@ -1,5 +1,5 @@
 -- How long forming and watching take at the hops of paths.
-use Rattle.std.proofs.Common.{◌≡◌, ℕ, zero, suc, ◌+◌, ◌<◌, ◌≤◌, eqb, leb, ltb, List, ◌∷◌, [], map, length, get_or, take, All, sym, subst, inl, inr, arith}
+use Rattle.std.proofs.Common.{◌≡◌, ℕ, zero, suc, ◌+◌, ◌<◌, ◌≤◌, eqb, ltb, List, ◌∷◌, [], length, get_or, take, All, sym, subst, inl, inr, arith}
 use Rattle.std.specs.List.{zip}
 use Rattle.std.specs.Ordering.{ord_max, nat_cmp}
 use Rattle.std.proofs.Math.ListN.{get_or-eq_default}

@@ -1,3 +1,4 @@
+pub mod Split
 pub mod Filed
 pub mod Entries
 pub mod Kept

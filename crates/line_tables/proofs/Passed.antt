@@ -1,5 +1,5 @@
 -- Which runs pass a signal, a block and a section, by keys and by names.
-use Rattle.std.proofs.Common.{◌≡◌, ℕ, ◌<◌, ◌≤◌, ◌==◌, ◌^◌, Bool, List, [], ◌∷◌, length, get_or, map, Option, Some, Result, Ok, Err, refl, sym, ap, ◌∙◌, subst, arith}
+use Rattle.std.proofs.Common.{◌≡◌, ℕ, ◌<◌, ◌==◌, Bool, List, [], ◌∷◌, length, get_or, map, Option, Some, Result, Ok, Err, refl, sym, ap, ◌∙◌, subst, arith}
 use Rattle.std.specs.Prelude.{All, IfOk, option_map, slice_get}
 use Rattle.std.specs.declared.vec.Vec.{Vec}
 use Rattle.std.specs.List.{list_any}

@@ -11,16 +11,16 @@ use Rattle.rail_model.specs.declared.path.Hop.{Hop}
 use Rattle.rail_model.specs.declared.path.Path.{Path}
 use Rattle.rail_model.specs.declared.tables.Tables.{Tables}
 use Rattle.rail_model.specs.Path.{Fits}
-use Rattle.rail_model.specs.Tables.{no_signal, no_route, number_of, route_named, path_in, no_run, run_at}
+use Rattle.rail_model.specs.Tables.{no_signal, no_route, route_named, path_in, no_run, run_at}
 use Rattle.rail_model.specs.Sound.{IsSound, Stands}
 use Rattle.line_tables.specs.declared.linked.Linked.{Linked}
 use Rattle.line_tables.specs.declared.line_tables.LineTables.TheInside.{Inside}
 use Rattle.line_tables.specs.Table.{under, key_of, IsTable}
-use Rattle.line_tables.specs.Inside.{items_of, tables_of, names_of_route, names_of_run, IsJoined}
+use Rattle.line_tables.specs.Inside.{tables_of, names_of_route, names_of_run, IsJoined}
 use Rattle.line_tables.specs.Hops.{hop_of, with_legs, path_over}
 use Rattle.line_tables.proofs.Filed.{some_from_map}
 use Rattle.line_tables.proofs.Found.{found_by_key}
-use Rattle.line_tables.proofs.Views.{item_named, number_of-map}
+use Rattle.line_tables.proofs.Views.{item_named}
 use Rattle.line_tables.proofs.Meets.{under_passes, only_key}
 use Rattle.rail_model.proofs.Paths.{path_fits, route_stands, hops_numbered}
 use Rattle.line_tables.proofs.TimedHops.{untimed_hop, route_hops, looked_up_first}

@@ -1,4 +1,5 @@
 pub mod Table
+pub mod Names
 pub mod KeyCounts
 pub mod KeySet
 pub mod Links

@@ -1,5 +1,5 @@
 -- Which runs pass a signal and a block: those whose route lists the signal, or a signal of the block.
-use Rattle.std.specs.Prelude.{◌≡◌, ℕ, ◌<◌, ◌^◌, Bool, List, length, slice_index}
+use Rattle.std.specs.Prelude.{ℕ, ◌<◌, ◌^◌, Bool, List, length, slice_index}
 use Rattle.std.specs.List.{list_any}
 use Rattle.rail_model.specs.declared.items.Run.{Run}
 use Rattle.rail_model.specs.declared.items.Section.{Section}

@@ -11,12 +11,13 @@ ghost use Rattle.line_tables.specs.KeyCounts.{count_of, times, SameCounts};
 ghost use Rattle.line_tables.specs.RouteSets.{SameSets, IsPutAt};
 
 use crate::LineTables;
+use crate::kept_route::KeptRoute;
 use crate::key_counts::KeyCounts;
 use crate::key_set::repeats;
 use crate::linked::{Linked, blocks_of, keys_of, known_keys, put_linked, take_linked};
 use crate::named_table::NamedTable;
 use crate::route_sets::RouteSets;
-use rail_model::{Block, Connection, List, OutOfMemory, Route, Rule, Run, Section, Signal};
+use rail_model::{Block, Connection, List, Named, OutOfMemory, Route, Rule, Run, Section, Signal};
 
 impl LineTables {
     pub(crate) fn add_block(&mut self, block: Block) -> Result<(), OutOfMemory>
@@ -53,11 +54,12 @@ impl LineTables {
         if repeats(self.alloc, blocks.slice())? {
             return Ok(Err(Rule::Twice));
         }
+        let kept = KeptRoute::of(self.alloc, route)?;
         enter_route(
             &mut self.routes,
             &mut self.signal_uses,
             &mut self.route_sets,
-            route,
+            kept,
             signals,
             blocks.slice(),
         )?;
@@ -102,10 +104,10 @@ impl LineTables {
 // Puts a route of a new name in, counts its signals, and puts its key into their sets and into
 // those of their blocks. Without memory all stays.
 fn enter_route(
-    routes: &mut NamedTable<Linked<Route>>,
+    routes: &mut NamedTable<Linked<KeptRoute>>,
     uses: &mut KeyCounts,
     sets: &mut RouteSets,
-    route: Route,
+    route: KeptRoute,
     signals: List<usize>,
     blocks: &[usize],
 ) -> Result<usize, OutOfMemory>
@@ -125,7 +127,7 @@ fn enter_route(
     ensures kept_blocks { OnErr result (SameSets sets.old.of_blocks sets.new.of_blocks) }
     ensures table { OnOk result (IsTable (λ e. e.item.name) routes.old) }
 {
-    let name = route.name;
+    let name = *route.name();
     let key = put_linked(routes, uses, route, signals)?;
     if sets
         .make_room(routes.get(key).refs.slice(), blocks, key)

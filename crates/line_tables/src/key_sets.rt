@@ -45,8 +45,22 @@ impl KeySets {
         }
     }
 
-    /// Makes room for this many words in the set at a key; no set changes.
+    /// Makes room for this many words in the set at a key; no set changes. Most sets have room.
+    #[inline]
     pub(crate) fn make_room(&mut self, at: usize, words: usize) -> Result<(), OutOfMemory>
+        ensures same { SameSets self.old self.new }
+        ensures longer { NoneShorter self.old self.new }
+        ensures room { OnOk result (words ≤ words_of self.new at) }
+    {
+        if self.words(at).len() >= words {
+            return Ok(());
+        }
+        self.widen(at, words)
+    }
+
+    // The same where the set has fewer words. It stands apart, so that the test alone is inlined.
+    #[inline(never)]
+    fn widen(&mut self, at: usize, words: usize) -> Result<(), OutOfMemory>
         ensures same { SameSets self.old self.new }
         ensures longer { NoneShorter self.old self.new }
         ensures room { OnOk result (words ≤ words_of self.new at) }

@@ -3,12 +3,14 @@
 
 mod add;
 mod edits;
+mod kept_route;
 mod key_counts;
 mod key_set;
 mod key_sets;
 mod line_tables;
 mod linked;
 mod named_table;
+mod names;
 mod passing;
 mod path;
 mod remove;

@@ -6,6 +6,7 @@ ghost use Rattle.rail_model.specs.Edits.{no_tables};
 ghost use Rattle.rail_model.specs.Sound.{IsSound};
 ghost use Rattle.line_tables.specs.Inside.{tables_of, parts, IsJoined};
 
+use crate::kept_route::KeptRoute;
 use crate::key_counts::KeyCounts;
 use crate::linked::Linked;
 use crate::named_table::{NamedTable, Stored};
@@ -20,7 +21,7 @@ pub struct LineTables {
     pub(crate) alloc: Global,
     pub(crate) blocks: NamedTable<Block>,
     pub(crate) signals: NamedTable<Linked<Signal>>,
-    pub(crate) routes: NamedTable<Linked<Route>>,
+    pub(crate) routes: NamedTable<Linked<KeptRoute>>,
     pub(crate) runs: NamedTable<Linked<Run>>,
     pub(crate) sections: NamedTable<Linked<Section>>,
     pub(crate) connections: NamedTable<Linked<Connection>>,
@@ -111,7 +112,7 @@ impl LineTables {
         Ok(Tables {
             blocks: plain_blocks(self.alloc, &self.blocks)?,
             signals: plain_items(self.alloc, &self.signals)?,
-            routes: plain_items(self.alloc, &self.routes)?,
+            routes: plain_routes(self.alloc, &self.routes)?,
             runs: plain_items(self.alloc, &self.runs)?,
             sections: plain_items(self.alloc, &self.sections)?,
             connections: plain_items(self.alloc, &self.connections)?,
@@ -230,7 +231,7 @@ impl LineTables {
 type TrackTables = (
     NamedTable<Block>,
     NamedTable<Linked<Signal>>,
-    NamedTable<Linked<Route>>,
+    NamedTable<Linked<KeptRoute>>,
 );
 
 type TrainTables = (
@@ -244,7 +245,7 @@ type Counts = (KeyCounts, KeyCounts, KeyCounts, KeyCounts);
 fn copy_track(
     blocks: &NamedTable<Block>,
     signals: &NamedTable<Linked<Signal>>,
-    routes: &NamedTable<Linked<Route>>,
+    routes: &NamedTable<Linked<KeptRoute>>,
 ) -> Result<TrackTables, OutOfMemory>
     ensures { IfOk result (λ copies. copies ≡ (blocks.now, signals.now, routes.now)) }
 {
@@ -324,6 +325,20 @@ fn plain_items<T: Stored>(
     let mut items = List::from_vec(Vec::with_capacity(alloc, table.len())?);
     for number in 0..table.len() {
         items.push(table.nth(number).item.clone()?)?;
+    }
+    Ok(items)
+}
+
+// The routes of a table's entries, in their order.
+fn plain_routes(
+    alloc: Global,
+    table: &NamedTable<Linked<KeptRoute>>,
+) -> Result<List<Route>, OutOfMemory>
+    ensures { IfOk result (λ items. items ≡ map (λ e. e.1.item) table.now) }
+{
+    let mut items = List::from_vec(Vec::with_capacity(alloc, table.len())?);
+    for number in 0..table.len() {
+        items.push(table.nth(number).item.plain(alloc)?)?;
     }
     Ok(items)
 }

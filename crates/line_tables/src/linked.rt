@@ -10,9 +10,10 @@ ghost use Rattle.line_tables.specs.Links.{IsKey, block_of};
 ghost use Rattle.line_tables.specs.KeyCounts.{count_of, times, SameCounts, HasRoom};
 ghost use Rattle.line_tables.specs.declared.linked.Linked.{Linked};
 
+use crate::kept_route::KeptRoute;
 use crate::key_counts::KeyCounts;
 use crate::named_table::{NamedTable, Stored};
-use rail_model::{Block, Connection, List, Name, Named, OutOfMemory, Route, Run, Section, Signal};
+use rail_model::{Block, Connection, List, Name, Named, OutOfMemory, Run, Section, Signal};
 use std::alloc::Global;
 
 /// An item, and the keys of the items that it names, in its order.
@@ -38,8 +39,8 @@ impl Stored for Signal {
     ghost copies = { λ a b h. h };
 }
 
-impl Stored for Route {
-    ghost copies = { λ a b h. λ j. record { name = h.0 j; signals = h.1 j } };
+impl Stored for KeptRoute {
+    ghost copies = { λ a b h. h };
 }
 
 impl Stored for Run {

@@ -200,6 +200,7 @@ impl<T: Stored> NamedTable<T> {
 }
 
 // The place of the entry of a name among the entries, and its key. The entry at `near` is tried before all.
+#[inline]
 fn entry_near(by_name: &IndexMap<Name, usize>, name: &Name, near: usize) -> Option<(usize, usize)>
     ensures { option_map (λ e. e.1) result ≡ get (pointwise nat_eq) by_name.now name.now }
 {
@@ -208,6 +209,14 @@ fn entry_near(by_name: &IndexMap<Name, usize>, name: &Name, near: usize) -> Opti
             return Some((near, *key));
         }
     }
+    entry_sought(by_name, name)
+}
+
+// The same by the name's hash. It stands apart, so that the try at `near` alone is inlined.
+#[inline(never)]
+fn entry_sought(by_name: &IndexMap<Name, usize>, name: &Name) -> Option<(usize, usize)>
+    ensures { option_map (λ e. e.1) result ≡ get (pointwise nat_eq) by_name.now name.now }
+{
     let (place, _, key) = by_name.get_full(name)?;
     Some((place, *key))
 }

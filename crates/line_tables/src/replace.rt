@@ -8,6 +8,7 @@ ghost use Rattle.rail_model.specs.Edits.{after_change};
 ghost use Rattle.line_tables.specs.AnswersEdit.{AnswersEdit};
 
 use crate::LineTables;
+use crate::kept_route::KeptRoute;
 use crate::key_set::repeats;
 use crate::linked::{
     block_of, blocks_of, change_linked, keys_of, known_keys, one_key, swap_linked,
@@ -72,13 +73,14 @@ impl LineTables {
             return Ok(Err(Rule::Count));
         }
         let key = self.routes.key_of(&route.name).unwrap();
+        let kept = KeptRoute::of(self.alloc, route)?;
         self.signal_uses.make_room(signals.slice())?;
         self.route_sets
             .make_room(signals.slice(), blocks.slice(), key)?;
         let old = self.routes.get(key).refs.slice();
         self.route_sets.take(&self.signals, old, key);
         self.route_sets.put(signals.slice(), blocks.slice(), key);
-        swap_linked(&mut self.routes, &mut self.signal_uses, key, route, signals);
+        swap_linked(&mut self.routes, &mut self.signal_uses, key, kept, signals);
         Ok(Ok(()))
     }
 

@@ -253,7 +253,7 @@ impl LineTables {
         ensures sound { IsSound self.now }
     {
         match self.routes.key_of(route) {
-            Some(key) => self.routes.get(key).item.signals.len(),
+            Some(key) => self.routes.get(key).item.signal_count(),
             None => 0,
         }
     }

@@ -11,10 +11,11 @@ ghost use Rattle.line_tables.specs.Hops as hops_in;
 ghost use Rattle.line_tables.specs.Paths.{paths_of, path_at};
 
 use crate::LineTables;
+use crate::kept_route::KeptRoute;
 use crate::linked::Linked;
 use crate::named_table::NamedTable;
 use crate::path::{numbers_by_key, path_with, untimed_hop};
-use rail_model::{BLOCKS, Block, Hop, Leg, List, OutOfMemory, Path, Route, Run, Signal};
+use rail_model::{BLOCKS, Block, Hop, Leg, List, OutOfMemory, Path, Run, Signal};
 use std::alloc::Global;
 use std::marker::Model;
 
@@ -24,7 +25,7 @@ use std::marker::Model;
 pub struct Paths<'a> {
     alloc: Global,
     runs: &'a NamedTable<Linked<Run>>,
-    routes: &'a NamedTable<Linked<Route>>,
+    routes: &'a NamedTable<Linked<KeptRoute>>,
     // At the key of each signal the hop beyond it, before any run has timed it.
     hops: Vec<Hop>,
 }

@@ -78,7 +78,8 @@ unwrap-key-requires c =
 
 pub swap_linked-requires-clause-same_name : goal.swap_linked-requires-clause-same_name
 swap_linked-requires-clause-same_name c =
-    name_under (λ (e : Linked _). e.item.name) c.self.inside.routes c.args.route.name c.unwrap-key.result c.key_of.ensures.table (sym c.key_of.ensures.key ∙ c.unwrap-key.ensures)
+    rw c.in_ok-kept.ensures
+    (name_under (λ (e : Linked _). e.item.name) c.self.inside.routes c.args.route.name c.unwrap-key.result c.key_of.ensures.table (sym c.key_of.ensures.key ∙ c.unwrap-key.ensures))
 
 pub swap_linked-requires-clause-counted_before : goal.swap_linked-requires-clause-counted_before
 swap_linked-requires-clause-counted_before c e k h =
@@ -98,6 +99,24 @@ take-requires-clause-there c =
 pub take-requires-clause-one : goal.take-requires-clause-one
 take-requires-clause-one c = one_block c.self.inside c.self.invariant
 
+pub invariant_of-self-in_err-make_room-2 : goal.invariant_of-self-in_err-make_room-2
+invariant_of-self-in_err-make_room-2 c =
+    let j = c.self.invariant in
+    record {
+      sound = j.sound;
+      signals = j.signals;
+      routes = j.routes;
+      runs = j.runs;
+      sections = j.sections;
+      connections = j.connections;
+      block_uses = j.block_uses;
+      signal_uses = λ k. c.make_room.ensures.same k ∙ j.signal_uses k;
+      route_uses = j.route_uses;
+      run_uses = j.run_uses;
+      signal_routes = λ x r. c.make_room-2.ensures.signals x r ∙ j.signal_routes x r;
+      block_routes = λ x r. c.make_room-2.ensures.blocks x r ∙ j.block_routes x r;
+    }
+
 pub invariant_of-self-2 : goal.invariant_of-self-2
 invariant_of-self-2 c =
     let t = c.self.inside in
@@ -112,7 +131,7 @@ invariant_of-self-2 c =
     let same = name_under (λ (e : Linked _). e.item.name) t.routes c.args.route.name key c.key_of.ensures.table (sym c.key_of.ensures.key ∙ c.unwrap-key.ensures) in
     let counted : (e : Linked Route) (k : ℕ) → under t.routes key ≡ Some e → count_of c.swap_linked.new.uses k + times k e.refs ≡ count_of t.signal_uses k + times k refs =
     λ e k h. omega (arith, done.counted e k h, c.make_room.ensures.same k) in
-    rw done.changed
+    rw (done.changed, c.in_ok-kept.ensures)
     (route_change t key c.args.route refs c.swap_linked.new.uses c.self.invariant c.key_of.ensures.table same rule (rw c.in-Some.is at c.in_ok-signals.ensures.keys) counted before c.take.new.self c.put.new.self c.get.ensures.item
     (take_after (λ q. q) before.refs key t.route_sets.of_signals c.make_room-2.new.self.of_signals c.take.new.self.of_signals made.signals (rw c.slice-old.ensures at c.take.ensures.signals))
     (take_after f before.refs key t.route_sets.of_blocks c.make_room-2.new.self.of_blocks c.take.new.self.of_blocks made.blocks (rw c.slice-old.ensures at c.take.ensures.blocks))
@@ -125,6 +144,6 @@ returns c =
     let key = c.unwrap-key.result in
     let rule = accepts c.self.inside c.self.invariant c.in_ok-signals.ensures.table c.learn_order.ensures c.args.route c.in_ok-signals.field-0 c.in_ok-signals.ensures.known c.requires (sym (rw (← c.self.view_is) at c.has_route.ensures) ∙ c.if-not-has_route.false) c.in-Some.signals c.in_ok-blocks.blocks c.in_ok-repeats.field-0 c.in_ok-signals.ensures.keys c.in-Some.is c.in_ok-blocks.ensures (rw c.slice.ensures at c.in_ok-repeats.ensures) c.if-branch.false (sym (rw (← c.self.view_is) at c.makes_miscount.ensures) ∙ c.if-makes_miscount.false) in
     let same = name_under (λ (e : Linked _). e.item.name) t.routes c.args.route.name key c.key_of.ensures.table (sym c.key_of.ensures.key ∙ c.unwrap-key.ensures) in
-    rw (← c.self.view_is, c.swap_linked.ensures.changed)
+    rw (← c.self.view_is, c.swap_linked.ensures.changed, c.in_ok-kept.ensures)
     (makes _ _ _ _ rule
     (ap (λ l. record (tables_of t) { routes = l }) (map-with_change (λ (e : Linked _). e.item) (λ x. x.name) t.routes key (entry c.args.route c.in-Some.signals) c.key_of.ensures.table same)))

@@ -1,4 +1,4 @@
-use Rattle.std.proofs.Common.{ℕ, ◌∙◌, sym}
+use Rattle.std.proofs.Common.{◌∙◌}
 use Rattle.line_tables.proofs.Meets.{some_key}
 use Rattle.line_tables.proofs.RunPaths.{run_is, route_key}
 use Rattle.line_tables.proofs.Passed.{section_is, section_linked, section_passed}

@@ -64,7 +64,7 @@ pub enter_route-requires : goal.enter_route-requires
 enter_route-requires c =
     let found = c.in_ok-signals in
     let rule = told c.self.inside c.self.invariant found.ensures.table c.learn_order.ensures c.args.route (rw (← c.self.view_is) at c.requires) found.field-0 c.in-Some.signals c.in_ok-blocks.blocks c.in_ok-repeats.field-0 found.ensures.known found.ensures.keys c.in-Some.is c.in_ok-blocks.ensures (rw c.slice.ensures at c.in_ok-repeats.ensures) in
-    route_is_new c.self.inside c.args.route (rule ∙ ap answer c.if-branch.false)
+    rw c.in_ok-kept.ensures (route_is_new c.self.inside c.args.route (rule ∙ ap answer c.if-branch.false))
 
 pub invariant_of-self-2 : goal.invariant_of-self-2
 invariant_of-self-2 c =
@@ -76,7 +76,7 @@ invariant_of-self-2 c =
     let found = c.in_ok-signals in
     let rule = told t c.self.invariant found.ensures.table c.learn_order.ensures x (rw (← c.self.view_is) at c.requires) found.field-0 signals c.in_ok-blocks.blocks c.in_ok-repeats.field-0 found.ensures.known found.ensures.keys c.in-Some.is c.in_ok-blocks.ensures (rw c.slice.ensures at c.in_ok-repeats.ensures) in
     let blocks : c.slice-2.result.now ≡ map (block_of t.signals) signals = c.slice-2.ensures ∙ c.in_ok-blocks.ensures in
-    rw done.put
+    rw (done.put, c.in_ok-kept.ensures)
     (route_put t key x signals c.enter_route.new.uses c.self.invariant done.table (rule ∙ ap answer c.if-branch.false) (rw c.in-Some.is at found.ensures.keys) done.counted c.enter_route.new.sets done.fresh done.signals
     (put_at_images (block_of t.signals) signals c.slice-2.result.now key t.route_sets.of_blocks c.enter_route.new.sets.of_blocks blocks done.blocks))
 
@@ -85,6 +85,6 @@ returns c =
     let t = c.self.inside in
     let found = c.in_ok-signals in
     let rule = told t c.self.invariant found.ensures.table c.learn_order.ensures c.args.route (rw (← c.self.view_is) at c.requires) found.field-0 c.in-Some.signals c.in_ok-blocks.blocks c.in_ok-repeats.field-0 found.ensures.known found.ensures.keys c.in-Some.is c.in_ok-blocks.ensures (rw c.slice.ensures at c.in_ok-repeats.ensures) in
-    rw (← c.self.view_is, c.in_ok-enter_route.ensures.put)
+    rw (← c.self.view_is, c.in_ok-enter_route.ensures.put, c.in_ok-kept.ensures)
     (makes _ _ _ _ (rule ∙ ap answer c.if-branch.false)
     (ap (λ l. record (tables_of t) { routes = l }) (map-with_item (λ (e : ℕ × Linked _). e.1.item) (λ x. x.name) t.routes (c.in_ok-enter_route.field-0, entry c.args.route c.in-Some.signals))))

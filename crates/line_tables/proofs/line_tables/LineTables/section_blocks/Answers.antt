@@ -1,5 +1,4 @@
-use Rattle.std.proofs.Common.{ℕ, ◌∙◌, sym}
-use Rattle.line_tables.proofs.Passed.{section_is, section_linked, section_numbered, section_numbers, numbers_read}
+use Rattle.line_tables.proofs.Passed.{section_is, section_linked, section_numbered, numbers_read}
 use Rattle.line_tables.proofs.line_tables.LineTables.section_blocks.Goals as goal
 
 pub numbers_at-requires : goal.numbers_at-requires

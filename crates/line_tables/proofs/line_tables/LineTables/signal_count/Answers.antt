@@ -15,7 +15,7 @@ pub returns-in-Some-clause-count : goal.returns-in-Some-clause-count
 returns-in-Some-clause-count c =
     let e = c.in-Some.ensures in
     rw (← c.self.view_is)
-    (c.len.ensures.count ∙ ap (λ (r : Route). length r.signals) (sym (item_named (λ (e : Linked Route). e.item) (λ x. x.name) c.self.inside.routes c.args.route.now c.in-Some.key c.get.result.now no_route e.table (sym e.key) c.get.ensures.item)))
+    (c.signal_count.ensures ∙ ap (λ (r : Route). length r.signals) (sym (item_named (λ (e : Linked Route). e.item) (λ x. x.name) c.self.inside.routes c.args.route.now c.in-Some.key c.get.result.now no_route e.table (sym e.key) c.get.ensures.item)))
 
 pub returns-in-None-clause-count : goal.returns-in-None-clause-count
 returns-in-None-clause-count c =
