@@ -199,7 +199,8 @@ impl<T: Stored> NamedTable<T> {
     }
 }
 
-// The place of the entry of a name among the entries, and its key. The entry at `near` is tried before all.
+// The place of the entry of a name among the entries, and its key. The entry at `near` is tried
+// before all.
 #[inline]
 fn entry_near(by_name: &IndexMap<Name, usize>, name: &Name, near: usize) -> Option<(usize, usize)>
     ensures { option_map (λ e. e.1) result ≡ get (pointwise nat_eq) by_name.now name.now }
