@@ -37,21 +37,25 @@ pub fn cut_line(alloc: Global, cut: &Cut) -> Result<Cutting, OutOfMemory>
         stretches: List::new(alloc),
     };
     let line = Line::of(alloc, FitCut::of(cut))?;
-    cut_from(alloc, &line, 0, none)
+    cut_from(alloc, &line, 0, true, none)
 }
 
-// The same, where the line is cut up to a block.
+// The same, where the line is cut up to a block. Whether the guess at the next piece's end is
+// trusted makes no difference to what is found.
 fn cut_from(
     alloc: Global,
     line: &Line,
     first: u32,
+    trusted: bool,
     mut cutting: Cutting,
 ) -> Result<Cutting, OutOfMemory>
     requires left { first < block_count line.now }
     requires before { AreCutTo line.now 0 cutting.ends cutting.stretches first }
     ensures { IfOk result (IsCutting line.now) }
 {
-    let found = longest_from(alloc, line, first)?;
+    let guess = line.likely_end(first);
+    let likely = if trusted { guess } else { first + 1 };
+    let found = longest_from(alloc, line, first, likely)?;
     let last = found.end;
     cutting.ends.push(last)?;
     match found.disorder {
@@ -62,7 +66,7 @@ fn cut_from(
                 last,
                 disorder,
             })?;
-            cut_from(alloc, line, last, cutting)
+            cut_from(alloc, line, last, last >= guess, cutting)
         }
     }
 }

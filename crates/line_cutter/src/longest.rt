@@ -25,19 +25,16 @@ pub(crate) struct Longest {
     pub(crate) disorder: Option<Disorder>,
 }
 
-/// The longest orderly piece from block a on. One of 1 block is orderly. The likely piece is tried,
-/// then that with one block more, and then pieces twice as long each, up to the first that isn't
-/// orderly; and then by halves those between it and the one before.
-pub(crate) fn longest_from(alloc: Global, line: &Line, a: u32) -> Result<Longest, OutOfMemory>
-    requires { a < block_count line.now }
-    ensures { IfOk result (IsLongestFrom line.now a) }
-{
-    let likely = line.likely_end(a);
-    longest_by(alloc, line, a, likely)
-}
-
-// The same, with the block before which it is likely to end.
-fn longest_by(alloc: Global, line: &Line, a: u32, likely: u32) -> Result<Longest, OutOfMemory>
+/// The longest orderly piece from block a on, where it is likely to end before another block. One
+/// of 1 block is orderly. The likely piece is tried, then that with one block more, and then pieces
+/// twice as long each, up to the first that isn't orderly; and then those between it and the one
+/// before.
+pub(crate) fn longest_from(
+    alloc: Global,
+    line: &Line,
+    a: u32,
+    likely: u32,
+) -> Result<Longest, OutOfMemory>
     requires some { a < block_count line.now }
     requires likely { likely ≤ block_count line.now }
     ensures { IfOk result (IsLongestFrom line.now a) }
@@ -77,6 +74,7 @@ fn further(a: u32, fits: u32, count: u32, likely: u32) -> u32
 }
 
 // The longest orderly piece, which ends where one fits or further on, and before where one doesn't.
+// What is tried ends half way between, and is at most twice as long as the one that fits.
 fn narrowed(
     alloc: Global,
     line: &Line,
@@ -97,28 +95,28 @@ fn narrowed(
             disorder: Some(disorder),
         });
     }
-    let middle = fits + (over - fits) / 2;
+    let middle = fits + ((over - fits) / 2).min(fits - a);
     match disorder_in(alloc, line, a, middle, true)? {
         None => narrowed(alloc, line, a, middle, over, disorder),
         Some(found) => narrowed(alloc, line, a, fits, middle, found),
     }
 }
 
-// Why a piece isn't orderly, if it isn't. Where that is likely, opposite trains are looked for
-// before an order is.
+// Why a piece isn't orderly, if it isn't. Where it is likely too long to be, opposite trains are
+// looked for before an order is.
 fn disorder_in(
     alloc: Global,
     line: &Line,
     a: u32,
     b: u32,
-    likely: bool,
+    likely_over: bool,
 ) -> Result<Option<Disorder>, OutOfMemory>
     requires some { a < b }
     requires within { b ≤ block_count line.now }
     ensures { IfOk result (IsTried line.now a b) }
 {
     let part = piece(alloc, line, a, b)?;
-    if likely && b - a <= FEW {
+    if likely_over && b - a <= FEW {
         if let Some(disorder) = soon_opposite(alloc, &SoundCut::of(&part))? {
             return Ok(Some(disorder));
         }

@@ -1,6 +1,6 @@
 use Rattle.std.proofs.Common.{◌-◌}
 use Rattle.line_cutter.specs.Search.{IsFitting}
-use Rattle.line_cutter.proofs.longest.longest_by.Given as goal
+use Rattle.line_cutter.proofs.longest.longest_from.Given as goal
 
 abbrev pub invariant-loop-fits : goal.invariant-loop-fits
 invariant-loop-fits l = IsFitting l.line l.a l.fits

@@ -3,7 +3,7 @@ use Rattle.plan_model.specs.Places.{block_count}
 use Rattle.line_cutter.specs.Piece.{piece}
 use Rattle.line_cutter.proofs.SoundPiece.{sound_piece, places_in}
 use Rattle.line_cutter.proofs.Single.{single}
-use Rattle.line_cutter.proofs.longest.longest_by.Goals as goal
+use Rattle.line_cutter.proofs.longest.longest_from.Goals as goal
 
 pub loop-fits-init : goal.loop-fits-init
 loop-fits-init c =
