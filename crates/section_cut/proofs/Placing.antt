@@ -1,9 +1,9 @@
 -- The table of positions: as far as it is filled, from the last name of the section's list on; and uses by it.
-use Rattle.std.proofs.Common.{◌≡◌, ℕ, ◌+◌, ◌-◌, ◌<◌, ◌≤◌, Bool, true, false, not, cond, ltb, List, [], ◌∷◌, ◌++◌, map, length, get_or, take, drop, set, replicate, refl, sym, ap, ◌∙◌, subst, inl, inr, arith}
+use Rattle.std.proofs.Common.{◌≡◌, ℕ, ◌+◌, ◌-◌, ◌<◌, ◌≤◌, Bool, true, false, not, cond, ltb, List, [], ◌∷◌, ◌++◌, map, length, get_or, take, drop, set, replicate, All, refl, sym, ap, ◌∙◌, subst, inl, inr, arith}
 use Rattle.std.specs.Prelude.{ℤ, filter, slice_set}
 use Rattle.std.proofs.lemmas.Bool.{cases_Bool, cases_eq, cases_lt, lt-ltb, le-ltb}
-use Rattle.std.proofs.lemmas.List.{append-nil, same_lists, get_or_default, length-set, length-replicate, get_or-replicate, get_or-set_same, get_or-set_other, get_or-map, length-map, map_more}
-use Rattle.std.proofs.lemmas.List.Elements.{filter-append}
+use Rattle.std.proofs.lemmas.List.{append-nil, map-append, take-append-drop, same_lists, get_or_default, length-set, length-replicate, get_or-replicate, get_or-set_same, get_or-set_other, get_or-map, length-map, map_more}
+use Rattle.std.proofs.lemmas.List.Elements.{All-append, filter-append}
 use Rattle.std.proofs.lemmas.List.Sums.{AllPass-from_list_all, passes_at_first, prefix_len-drop_yes, prefix_len-drop_no, prefix_len-drop_all}
 use Rattle.rail_model.specs.declared.items.Block.{Block}
 use Rattle.rail_model.specs.declared.items.Section.{Section}
@@ -197,6 +197,18 @@ module _ (positions : List ℕ) (blocks : ℕ) (uses now : List Use) (n : ℕ) (
     inside = λ k d l.
         subst (λ (u : Use). u.block < blocks) (sym (get_or_default now k d no_use l)) (so_far.inside k (omega (arith, l, so_far.long, all)));
   }
+
+-- the first of them and the others
+pub placed_behind : (positions : List ℕ) (blocks n : ℕ) (first stairway rest : List Use) → map (with_position positions) (take n stairway) ≡ first
+    → All (λ (u : Use). u.block < blocks) first → ArePlaced positions blocks (drop n stairway) rest → ArePlaced positions blocks stairway (first ++ rest)
+placed_behind positions blocks n first stairway rest same inside one =
+    let at = with_position positions in
+    record {
+      are =
+          ap (λ us. us ++ rest) (sym same) ∙ ap (λ us. map at (take n stairway) ++ us) one.are
+          ∙ sym (map-append at (take n stairway) (drop n stairway)) ∙ ap (map at) (take-append-drop n stairway);
+      inside = All-append (λ (u : Use). u.block < blocks) first rest inside one.inside;
+    }
 
 -- they are its uses in the section
 pub placed_in : (positions : List ℕ) (blocks : ℕ) (uses placed : List Use) → ArePlaced positions blocks uses placed

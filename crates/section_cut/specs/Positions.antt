@@ -1,5 +1,5 @@
 -- Where the blocks of the tables stand in a section's list, by their numbers.
-use Rattle.std.specs.Prelude.{◌≡◌, ℕ, ◌<◌, nat_lt, if◌then◌else◌, All, List, length, map, filter, slice_index}
+use Rattle.std.specs.Prelude.{◌≡◌, ◌≢◌, ℕ, ◌<◌, ◌≤◌, nat_lt, if◌then◌else◌, All, List, length, map, filter, take, slice_index}
 use Rattle.rail_model.specs.declared.items.Section.{Section}
 use Rattle.rail_model.specs.declared.tables.Tables.{Tables}
 use Rattle.rail_model.specs.declared.stair.Use.{Use}
@@ -37,3 +37,9 @@ uses_in positions blocks uses = filter (λ u. nat_lt u.block blocks) (map (with_
 pub record ArePlaced (positions : List ℕ) (blocks : ℕ) (uses placed : List Use) : Type 0 where
   pub are : placed ≡ map (with_position positions) uses
   pub inside : All (λ u. u.block < blocks) placed
+
+-- the first of these uses are those of a stairway by their positions, and the next one, if there is one, isn't
+pub record AreSameFirst (positions : List ℕ) (uses stairway : List Use) (n : ℕ) : Type 0 where
+  pub within : n ≤ length uses
+  pub same : map (with_position positions) (take n stairway) ≡ take n uses
+  pub differs : n < length uses → map (with_position positions) stairway ≢ uses

@@ -1,9 +1,9 @@
 //! Where blocks stand in a section's list: a table over the numbers of blocks, filled once a
 //! section; and the uses of a stairway by it.
-ghost use Rattle.std.specs.Prelude.{◌≡◌, ◌↔◌, ◌<◌, true, IsTrue, length, map, slice_set, slice_index_or, All, IfOk, IfSome, OnOk};
+ghost use Rattle.std.specs.Prelude.{◌≡◌, ◌↔◌, ◌<◌, ◌≤◌, true, IsTrue, length, map, take, slice_set, slice_index_or, All, IfOk, IfSome, OnOk};
 ghost use Rattle.plan_model.specs.Members.{no_use};
 ghost use Rattle.rail_model.specs.Tables.{section_at};
-ghost use Rattle.section_cut.specs.Positions.{IsPositions, ArePlaced, with_block, with_position, uses_in};
+ghost use Rattle.section_cut.specs.Positions.{IsPositions, AreSameFirst, ArePlaced, with_block, with_position, uses_in};
 
 use line_tables::LineTables;
 use rail_model::{List, OutOfMemory, Use};
@@ -65,15 +65,22 @@ pub(crate) fn same_placed(uses: &[Use], positions: &[u32], stairway: &[Use]) -> 
     requires { All (λ u. u.block < length positions.now) stairway.now }
     ensures { IsTrue result ↔ (map (with_position positions.now) stairway.now ≡ uses.now) }
 {
-    if uses.len() != stairway.len() {
-        return false;
-    }
+    uses.len() == stairway.len() && same_first(uses, positions, stairway) == uses.len()
+}
+
+// How many of these uses are those of a stairway of as many by their positions, up to the first
+// that isn't.
+pub(crate) fn same_first(uses: &[Use], positions: &[u32], stairway: &[Use]) -> usize
+    requires there { All (λ u. u.block < length positions.now) stairway.now }
+    requires long { length uses.now ≡ length stairway.now }
+    ensures { AreSameFirst positions.now uses.now stairway.now result }
+{
     for i in 0..uses.len() {
         if !is_placed(&uses[i], positions, &stairway[i]) {
-            return false;
+            return i;
         }
     }
-    true
+    uses.len()
 }
 
 // Whether this is a use by its position.
@@ -84,18 +91,26 @@ fn is_placed(one: &Use, positions: &[u32], other: &Use) -> bool
     one.start == other.start && one.end == other.end && one.block == positions[other.block as usize]
 }
 
-// The uses of a stairway by their positions in a section of this many blocks, if all are in it.
+// The uses of a stairway by their positions in a section of this many blocks, if all are in it,
+// where these are the first of them.
 pub(crate) fn placed(
     alloc: Global,
     positions: &[u32],
     blocks: u32,
+    first: &[Use],
     stairway: &[Use],
 ) -> Result<Option<List<Use>>, OutOfMemory>
-    requires { All (λ u. u.block < length positions.now) stairway.now }
+    requires there { All (λ u. u.block < length positions.now) stairway.now }
+    requires within { length first.now ≤ length stairway.now }
+    requires first { map (with_position positions.now) (take (length first.now) stairway.now)
+        ≡ first.now }
+    requires inside { All (λ u. u.block < blocks) first.now }
     ensures { IfOk result (λ uses. IfSome uses (ArePlaced positions.now blocks stairway.now)) }
 {
-    let mut uses = Vec::from_slice(alloc, stairway)?;
-    if !place_all(&mut uses, positions, blocks) {
+    let mut uses = Vec::with_capacity(alloc, stairway.len())?;
+    uses.extend_from_slice(first)?;
+    uses.extend_from_slice(&stairway[first.len()..])?;
+    if !place_all(&mut uses[first.len()..], positions, blocks) {
         return Ok(None);
     }
     Ok(Some(List::from_vec(uses)))

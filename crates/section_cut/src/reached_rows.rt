@@ -11,7 +11,7 @@ ghost use Rattle.section_cut.specs.Stamps.{IsReached};
 ghost use Rattle.section_cut.specs.Starts.{EntersEarly};
 
 use crate::members::{member_row, row_with};
-use crate::positions::{gather, placed, same_placed};
+use crate::positions::{gather, placed, same_first, same_placed};
 use crate::same_value::same_row;
 use crate::stamps::stamp_of;
 use crate::timed_stair::TimedStair;
@@ -121,10 +121,6 @@ fn row_by_stair(
         (uses_in positions.now (length old.now.section.blocks) stair.now.uses)) number old.now) }
 {
     if there {
-        let row = &old.rows.slice()[at];
-        if same_placed(row.uses.slice(), positions, stair.stair().uses.slice()) {
-            return Ok(Some(row.copy(alloc)?));
-        }
         if let Some(row) = whole_row(alloc, positions, stair, old, at, number)? {
             return Ok(row);
         }
@@ -133,9 +129,9 @@ fn row_by_stair(
     Ok(with_own_stamp(row, old, at, number))
 }
 
-// The same row, where the one before the edit has as many uses as the stair, but others: then all
-// blocks are likely to be in the section, and the uses are placed in the row itself. `None` where
-// it hasn't as many, or a block isn't there.
+// The same row, where the one before the edit has as many uses as the stair: it is kept where it
+// has the same, and otherwise keeps the first of them. `None` where it hasn't as many, or a block
+// isn't in the section.
 fn whole_row(
     alloc: Global,
     positions: &[u32],
@@ -148,17 +144,22 @@ fn whole_row(
     requires blocks { length old.now.section.blocks ≤ PATH_HOPS }
     requires rise { NamesRise (λ r. r.name) old.now.rows }
     requires own { IsOwnRow old.now.section old.now.rows stair.now.run at true }
-    requires differs { map (with_position positions.now) stair.now.uses
-        ≢ (slice_index_or old.now.rows at no_member).uses }
     ensures { IfOk result (λ made. IfSome made (IsRowAfter (member_row old.now.section stair.now.run 0
         (uses_in positions.now (length old.now.section.blocks) stair.now.uses)) number old.now)) }
 {
     let own = stair.stair();
-    if old.rows.slice()[at].uses.len() != own.uses.len() {
+    let stairway = own.uses.slice();
+    let row = &old.rows.slice()[at];
+    let uses = row.uses.slice();
+    if uses.len() != stairway.len() {
         return Ok(None);
     }
+    let same = same_first(uses, positions, stairway);
+    if same == uses.len() {
+        return Ok(Some(Some(row.copy(alloc)?)));
+    }
     let blocks = old.section.blocks.len() as u32;
-    let Some(uses) = placed(alloc, positions, blocks, own.uses.slice())? else {
+    let Some(uses) = placed(alloc, positions, blocks, &uses[..same], stairway)? else {
         return Ok(None);
     };
     let entry = stair.entry();
