@@ -48,7 +48,9 @@ def peak_bytes(line, command):
     """By GNU time: a child of this script would count the script's own memory."""
     if shutil.which("time") is None:
         return None
-    return int(run_once(line, command, ["time", "-f", "%M"])[1]) * 1024
+    # (what the program tells stands before the figure)
+    said = run_once(line, command, ["time", "-f", "%M"])[1]
+    return int(said.splitlines()[-1]) * 1024
 
 
 def instructions(line, command, folder):
