@@ -26,7 +26,7 @@ pub use gate::{Gate, OpenGate, Point};
 pub use memory_sink::MemorySink;
 pub use memory_source::MemorySource;
 pub use memory_words::MemoryWords;
-pub use send::send_all;
+pub use send::{send_all, send_each};
 pub use sink::Sink;
 pub use source::Source;
 pub use std_streams::{StdSink, StdSource};

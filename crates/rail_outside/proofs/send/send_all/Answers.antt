@@ -1,15 +1,8 @@
-use Rattle.std.proofs.Common.{◌∙◌, arith, length-take, length-drop}
-use Rattle.rail_outside.proofs.Pieces.{Appends-more}
+use Rattle.std.proofs.lemmas.Result.{on_err_weaker}
+use Rattle.rail_outside.proofs.Pieces.{Appends-whole}
 use Rattle.rail_outside.proofs.send.send_all.Goals as goal
 
-pub loop-sent-preserved : goal.loop-sent-preserved
-loop-sent-preserved g c =
-    let told = c.in_ok-sent.ensures in
-    let past = c.loop-sent.invariant in
-    let text = c.args.text.now in
-    let sent = c.loop-sent.sent in
-    record {
-      in_text = omega (arith, told.within, simp (length-take, length-drop) at told.within);
-      prefix = Appends-more _ _ _ text sent c.in_ok-sent.field-0 past.prefix told.appended;
-      no_fault = told.no_fault ∙ past.no_fault;
-    }
+pub returns-clause-prefix : goal.returns-clause-prefix
+returns-clause-prefix g c =
+    on_err_weaker c.flush.result
+    (λ _. Appends-whole _ _ _ (rw c.flush.ensures.nothing c.in_ok-write_all.ensures.sent)) c.flush.ensures.failed

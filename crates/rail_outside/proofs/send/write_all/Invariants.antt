@@ -1,7 +1,7 @@
 -- So far no call has failed, and what is sent of the text is written.
 use Rattle.std.proofs.Common.{◌≡◌, ◌-◌, ◌≤◌, length, take}
 use Rattle.std.specs.Io.KnownBytes.{Appends}
-use Rattle.rail_outside.proofs.send.send_all.Given as goal
+use Rattle.rail_outside.proofs.send.write_all.Given as goal
 
 abbrev pub invariant-loop-sent : goal.invariant-loop-sent
 invariant-loop-sent g l = record {
