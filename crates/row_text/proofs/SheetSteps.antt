@@ -130,3 +130,17 @@ HoldsRows-drop old new rows row h text ended used has_field =
       body = rw (ended, used, none) refl;
       begun = has_field;
     }
+
+-- the rows of another sheet are added to those that were ended
+pub HoldsRows-append : (old other new : Inside) (rows more : List Row) (row : Row) → HoldsRows old rows [] → HoldsRows other more row → new.ended ≡ new.used → new.has_field ≡ old.has_field → new.used ≤ length new.text.items
+    → take new.used new.text.items ≡ ended_text old ++ ended_text other → HoldsRows new (rows ++ more) []
+HoldsRows-append old other new rows more row h more_h ended has_field room written =
+    let none : new.used - new.used ≡ 0 = omega arith in
+    record {
+      order = omega arith;
+      room = room;
+      ended = rw ended (written ∙ rw (h.ended, more_h.ended) (sym (flat_map-append text_of_row rows more)));
+      each = IsTrue-from (list_all-append has_fields rows more ∙ and_from (list_all has_fields rows) (list_all has_fields more) (IsTrue-true h.each) (IsTrue-true more_h.each));
+      body = rw (ended, none) refl;
+      begun = has_field ∙ h.begun;
+    }

@@ -20,8 +20,8 @@ pub(crate) fn make_room(text: &mut Vec<u8>, used: usize, room: usize) -> Result<
     grow(text, used, room)
 }
 
-// An eighth more at least: little of the room is left unused, and growing costs little for each
-// byte.
+// An eighth more at least where the text must be moved: little of the room is left unused, and
+// growing costs little for each byte.
 #[inline(never)]
 fn grow(text: &mut Vec<u8>, used: usize, room: usize) -> Result<(), OutOfMemory>
     requires { used ≤ length text.old.items }
@@ -32,12 +32,23 @@ fn grow(text: &mut Vec<u8>, used: usize, room: usize) -> Result<(), OutOfMemory>
     let Some(least) = used.checked_add(room) else {
         return Err(OutOfMemory);
     };
-    let size = least
-        .max(text.len().saturating_add(text.len() / 8))
-        .max(LEAST_ROOM);
+    let size = least.max(next_len(text, least)).max(LEAST_ROOM);
     text.resize(size, 0)?;
     Ok(())
 }
+
+// How long a text becomes that needs so many bytes at least: within its capacity it grows by short
+// steps, whose zeros are still in the cache when they are written over.
+fn next_len(text: &Vec<u8>, least: usize) -> usize {
+    let near = least.saturating_add(STEP);
+    if near <= text.capacity() {
+        return near;
+    }
+    text.len().saturating_add(text.len() / 8)
+}
+
+// A step within the capacity.
+const STEP: usize = 4096;
 
 // The bytes that a text begins with.
 const LEAST_ROOM: usize = 256;

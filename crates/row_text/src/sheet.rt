@@ -1,12 +1,12 @@
 //! The text of rows that are written.
-ghost use Rattle.std.specs.Prelude.{◌≡◌, ◌<◌, [], length, map, decimal, false, OnOk, OnErr};
+ghost use Rattle.std.specs.Prelude.{◌≡◌, ◌<◌, ◌++◌, [], length, map, decimal, false, OnOk, OnErr};
 ghost use Rattle.std.specs.Fmt.{signed_decimal};
 ghost use Rattle.csv.specs.Writing.{default_writer, needs_quotes};
 ghost use Rattle.row_text.specs.FieldText.{text_of};
 ghost use Rattle.row_text.specs.SheetRows.{with_field, with_fields, with_row, text_of_rows};
 
 use crate::fields::Fields;
-use crate::put::{make_room, put_end, put_numbers, put_signed, put_text, put_unsigned};
+use crate::put::{make_room, put_bytes, put_end, put_numbers, put_signed, put_text, put_unsigned};
 use crate::write_field::Field;
 use crate::written::{Written, needs_quotes};
 use rail_model::OutOfMemory;
@@ -50,6 +50,36 @@ impl Sheet {
             used: 0,
             has_field: false,
         }
+    }
+
+    /// Asks for room for so many bytes more, so that the text needn't be moved while it grows.
+    pub fn reserve(&mut self, more: usize) -> Result<(), OutOfMemory>
+        ensures { self.new ≡ self.old }
+    {
+        self.text
+            .reserve_exact(more.saturating_sub(self.text.len() - self.used))?;
+        Ok(())
+    }
+
+    /// How many bytes the rows have that were ended.
+    pub fn bytes(&self) -> usize
+        ensures { result ≡ length (text_of_rows self.now.rows) }
+    {
+        self.ended
+    }
+
+    /// Adds the rows of another sheet. A row that is open is dropped first.
+    pub fn append(&mut self, other: &Sheet) -> Result<(), OutOfMemory>
+        ensures ok { OnOk result (self.new.rows ≡ self.old.rows ++ other.now.rows) }
+        ensures closed { self.new.row ≡ [] }
+        ensures err { OnErr result (self.new.rows ≡ self.old.rows) }
+    {
+        self.drop_row();
+        let rows = &other.text[..other.ended];
+        make_room(&mut self.text, self.ended, rows.len())?;
+        self.ended = put_bytes(&mut self.text, self.ended, rows);
+        self.used = self.ended;
+        Ok(())
     }
 
     /// Adds a number in plain decimal to the row that is being written.
