@@ -1,13 +1,21 @@
 //! The stairways of a line's runs, and between which moments each of them starts to keep blocks.
-ghost use Rattle.std.specs.Prelude.{◌≡◌, ◌<◌, ◌≤ℤ◌, ◌||◌, pos, int_lt, int_le, true, length, IfOk};
+ghost use Rattle.std.specs.Prelude.{◌≡◌, ◌<◌, ◌≤ℤ◌, ◌||◌, pos, int_lt, int_le, true, length, map, IfOk};
+ghost use Rattle.line_tables.specs.Paths.{path_at};
+ghost use Rattle.rail_model.specs.Blocking.{stair_of};
 ghost use Rattle.rail_model.specs.Timetable.{timetable, stair_at};
 ghost use Rattle.section_cut.specs.Starts.{StartsBetween, StartsOutside};
 
 use blocking_time::stairs;
-use line_tables::LineTables;
+use line_tables::{LineTables, Paths};
 use rail_model::{List, OutOfMemory, Section, Stair, Use};
+use rayon::current_num_threads;
+use rayon::prelude::*;
 use std::alloc::Global;
 use std::marker::Model;
+use std::thread::Threads;
+
+// Fewer runs aren't worth a thread of their own.
+const LEAST_RUNS: usize = 64;
 
 /// The stairway of each run, in the order of the runs' names.
 pub fn stairways(alloc: Global, tables: &LineTables) -> Result<List<Stair>, OutOfMemory>
@@ -20,6 +28,53 @@ pub fn stairways(alloc: Global, tables: &LineTables) -> Result<List<Stair>, OutO
         all.push(stairs(alloc, &path)?)?;
     }
     Ok(all)
+}
+
+/// The same, made by as many threads as there are processors.
+pub fn stairways_in_parts(
+    rt: &(impl Threads + Sync),
+    alloc: Global,
+    tables: &LineTables,
+) -> Result<List<Stair>, OutOfMemory>
+    ensures { IfOk result (λ all. all ≡ timetable tables.now) }
+{
+    let paths = tables.paths()?;
+    let runs = tables.runs() as usize;
+    let part = (runs / current_num_threads(rt)).max(LEAST_RUNS);
+    Ok(List::from_vec(stairs_of(rt, alloc, &paths, runs, part)?))
+}
+
+// The stairways of this many paths, each made on its own, in parts of at least so many.
+fn stairs_of(
+    rt: &(impl Threads + Sync),
+    alloc: Global,
+    paths: &Paths<'_>,
+    count: usize,
+    part: usize,
+) -> Result<Vec<Stair>, OutOfMemory>
+    requires count { count ≡ length paths.now }
+    requires most { count < 4294967296 }
+    ensures { IfOk result (λ stairs. stairs.items ≡ map stair_of paths.entry.now) }
+{
+    (0..count)
+        .into_par_iter()
+        .with_min_len(part)
+        .map(
+            |run: usize| -> Result<Stair, OutOfMemory>
+                requires { (run < length paths.now) × (run < 4294967296) }
+                ensures { IfOk result (λ stair. stair ≡ stair_of (path_at paths.entry.now run)) }
+            { stair_by(alloc, paths, run as u32) },
+        )
+        .collect::<Result<Vec<Stair>, OutOfMemory>>(rt, alloc)?
+}
+
+// The stairway of the run of a number.
+fn stair_by(alloc: Global, paths: &Paths<'_>, run: u32) -> Result<Stair, OutOfMemory>
+    requires { run < length paths.now }
+    ensures { IfOk result (λ stair. stair ≡ stair_of (path_at paths.entry.now run)) }
+{
+    let path = paths.path(run)?;
+    stairs(alloc, &path)
 }
 
 /// The stairways of a line's runs, for the cuts of many sections. Contracts see the list of the

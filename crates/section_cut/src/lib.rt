@@ -25,7 +25,7 @@ mod stamps;
 mod timed_stair;
 mod times;
 
-pub use all_stairways::{AllStairways, stairways};
+pub use all_stairways::{AllStairways, stairways, stairways_in_parts};
 pub use cut_changes::{CutChange, CutChanges, cut_change};
 pub use cuts::{cut_among, cut_of};
 pub use laws::made_cuts_have_their_value;
