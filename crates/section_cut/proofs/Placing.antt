@@ -2,7 +2,7 @@
 use Rattle.std.proofs.Common.{◌≡◌, ℕ, ◌+◌, ◌-◌, ◌<◌, ◌≤◌, Bool, true, false, not, cond, ltb, List, [], ◌∷◌, ◌++◌, map, length, get_or, take, drop, set, replicate, All, refl, sym, ap, ◌∙◌, subst, inl, inr, arith}
 use Rattle.std.specs.Prelude.{ℤ, filter, slice_set}
 use Rattle.std.proofs.lemmas.Bool.{cases_Bool, cases_eq, cases_lt, lt-ltb, le-ltb}
-use Rattle.std.proofs.lemmas.List.{append-nil, map-append, take-append-drop, same_lists, get_or_default, length-set, length-replicate, get_or-replicate, get_or-set_same, get_or-set_other, get_or-map, length-map, map_more}
+use Rattle.std.proofs.lemmas.List.{append-nil, map-append, take-append-drop, same_lists, get_or_default, length-set, length-replicate, get_or-replicate, get_or-set_same, get_or-set_other, get_or-map, length-map, map_more, take_more_set, take_all}
 use Rattle.std.proofs.lemmas.List.Elements.{All-append, filter-append}
 use Rattle.std.proofs.lemmas.List.Sums.{AllPass-from_list_all, passes_at_first, prefix_len-drop_yes, prefix_len-drop_no, prefix_len-drop_all}
 use Rattle.rail_model.specs.declared.items.Block.{Block}
@@ -18,7 +18,7 @@ use Rattle.rail_model.proofs.Paths.{place_within}
 use Rattle.section_cut.proofs.Sections.{section_stands}
 use Rattle.rail_model.proofs.Places.{filter_all}
 use Rattle.plan_model.specs.Members.{no_use}
-use Rattle.section_cut.specs.Positions.{IsPositions, IsPlaced, ArePlaced, with_block, with_position, uses_in}
+use Rattle.section_cut.specs.Positions.{IsPositions, IsPlaced, ArePlaced, with_position, uses_in}
 
 -- from some name of the section's list on, the table has what the rest of the list says
 pub record IsFilled (tables : Tables) (section : Section) (from : ℕ) (table : List ℕ) : Type 0 where
@@ -152,63 +152,26 @@ uses_in_no positions blocks uses i d l outside =
 
 -- ---- all uses of a stairway at their positions
 
--- the first uses are at their positions, and the others as they were
-pub record ArePlacedTo (positions : List ℕ) (blocks : ℕ) (uses : List Use) (n : ℕ) (now : List Use) : Type 0 where
-  pub long : length now ≡ length uses
-  pub done : (k : ℕ) → k < n → get_or now k no_use ≡ with_position positions (get_or uses k no_use)
-  pub inside : (k : ℕ) → k < n → (get_or now k no_use).block < blocks
-  pub rest : (k : ℕ) → n ≤ k → get_or now k no_use ≡ get_or uses k no_use
+-- one use more is at its position
+pub placed_more : (positions : List ℕ) (stairway uses : List Use) (i : ℕ) (d : Use) → i < length stairway → i < length uses
+    → map (with_position positions) (take i stairway) ≡ take i uses
+    → map (with_position positions) (take (i + 1) stairway) ≡ take (i + 1) (set uses i (with_position positions (get_or stairway i d)))
+placed_more positions stairway uses i d below inside so_far =
+    let one = with_position positions (get_or stairway i d) in
+    map_more (with_position positions) stairway i d below
+    ∙ ap (λ us. us ++ one ∷ []) so_far
+    ∙ sym (take_more_set uses i one inside)
 
-module _ (positions : List ℕ) (blocks : ℕ) (uses now : List Use) (n : ℕ) (so_far : ArePlacedTo positions blocks uses n now) where
-  pub placed_next : (block : ℕ) → n < length uses → block ≡ get_or positions (get_or now n no_use).block 0 → block < blocks
-      → ArePlacedTo positions blocks uses (n + 1) (set now n (with_block block (get_or now n no_use)))
-  placed_next block below is inside =
-      let one = with_block block (get_or now n no_use) in
-      let there : n < length now = omega (arith, below, so_far.long) in
-      let here : get_or (set now n one) n no_use ≡ one = get_or-set_same now n one no_use there in
-      let other : (k : ℕ) → (k ≡ n → ⊥) → get_or (set now n one) k no_use ≡ get_or now k no_use = λ k differ. get_or-set_other now n k one no_use differ in
-      let own : one ≡ with_position positions (get_or uses n no_use) =
-      ap (λ b. with_block b (get_or now n no_use)) is ∙ ap (with_position positions) (so_far.rest n (omega arith)) in
-      record {
-        long = length-set now n one ∙ so_far.long;
-        done = λ k l. elim (cases_lt k n) [
-          | inl lt ↦ other k (λ e. omega (arith, lt, e)) ∙ so_far.done k lt
-          | inr ge ↦
-              let last : n ≡ k = omega (arith, ge, l) in
-              subst (λ j. get_or (set now n one) j no_use ≡ with_position positions (get_or uses j no_use)) last (here ∙ own)
-        ];
-        inside = λ k l. elim (cases_lt k n) [
-          | inl lt ↦ subst (λ (u : Use). u.block < blocks) (sym (other k (λ e. omega (arith, lt, e)))) (so_far.inside k lt)
-          | inr ge ↦
-              let last : n ≡ k = omega (arith, ge, l) in
-              subst (λ j. (get_or (set now n one) j no_use).block < blocks) last (subst (λ (u : Use). u.block < blocks) (sym here) inside)
-        ];
-        rest = λ k le. other k (λ e. omega (arith, le, e)) ∙ so_far.rest k (omega (arith, le));
-      }
-
-  pub placed_all : n ≡ length uses → ArePlaced positions blocks uses now
-  placed_all all = record {
-    are =
-        same_lists now (map (with_position positions) uses) (so_far.long ∙ sym (length-map uses (with_position positions)))
-        (λ k d l.
-        let below : k < length uses = omega (arith, l, so_far.long) in
-        get_or_default now k d no_use l ∙ so_far.done k (omega (arith, below, all))
-        ∙ sym (get_or-map (with_position positions) uses k no_use d below));
-    inside = λ k d l.
-        subst (λ (u : Use). u.block < blocks) (sym (get_or_default now k d no_use l)) (so_far.inside k (omega (arith, l, so_far.long, all)));
-  }
-
--- the first of them and the others
-pub placed_behind : (positions : List ℕ) (blocks n : ℕ) (first stairway rest : List Use) → map (with_position positions) (take n stairway) ≡ first
-    → All (λ (u : Use). u.block < blocks) first → ArePlaced positions blocks (drop n stairway) rest → ArePlaced positions blocks stairway (first ++ rest)
-placed_behind positions blocks n first stairway rest same inside one =
-    let at = with_position positions in
-    record {
-      are =
-          ap (λ us. us ++ rest) (sym same) ∙ ap (λ us. map at (take n stairway) ++ us) one.are
-          ∙ sym (map-append at (take n stairway) (drop n stairway)) ∙ ap (map at) (take-append-drop n stairway);
-      inside = All-append (λ (u : Use). u.block < blocks) first rest inside one.inside;
-    }
+-- and all of them
+pub placed_all : (positions : List ℕ) (blocks : ℕ) (stairway uses : List Use) (i : ℕ) → length uses ≡ length stairway → length uses ≤ i
+    → map (with_position positions) (take i stairway) ≡ take i uses → All (λ (u : Use). u.block < blocks) uses
+    → ArePlaced positions blocks stairway uses
+placed_all positions blocks stairway uses i long past same inside = record {
+  are =
+      sym (take_all i uses past) ∙ sym same
+      ∙ ap (map (with_position positions)) (take_all i stairway (omega (arith, long, past)));
+  inside = inside;
+}
 
 -- they are its uses in the section
 pub placed_in : (positions : List ℕ) (blocks : ℕ) (uses placed : List Use) → ArePlaced positions blocks uses placed

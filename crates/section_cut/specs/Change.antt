@@ -1,4 +1,5 @@
--- What an edit makes of a section's cut: whether it touches the section, and the stamps of the cut's rows.
+-- What an edit makes of a section's cut: whether it touches the section, and the stamps of the
+-- cut's rows.
 use Rattle.std.specs.Prelude.{◌≡◌, ◌≢◌, ◌⊎◌, ℕ, ◌<◌, List, length, slice_set, Option, Some, option_map, IfSome, All}
 use Rattle.rail_model.specs.declared.tables.Tables.{Tables}
 use Rattle.plan_model.specs.declared.cut.CutRow.{CutRow}
@@ -9,15 +10,15 @@ use Rattle.plan_model.specs.Touch.{row_named}
 use Rattle.section_cut.specs.declared.cut_changes.CutChange.{CutChange}
 use Rattle.section_cut.specs.declared.cut_changes.CutChange.TheVariants as change
 
--- a row of the cut after an edit is the one that stood there before it, stamp included; or none of its name and value
--- stood there, and its stamp is the edit's number
+-- a row of the cut after an edit is the one that stood there before it, stamp included; or none of
+-- its name and value stood there, and its stamp is the edit's number
 abbrev pub IsRestamped : ℕ → Option Cut → CutRow → Type 0
 IsRestamped number old row =
     (row_named row.name old ≡ Some row)
     ⊎ ((row.stamp ≡ number) × (option_map (stamped_row 0) (row_named row.name old) ≢ Some (stamped_row 0 row)))
 
--- a section's cut after an edit: its value, which has no stamps; the stamps of its rows, by the cut before the edit and
--- the edit's number; and that it is sound
+-- a section's cut after an edit: its value, which has no stamps; the stamps of its rows, by the cut
+-- before the edit and the edit's number; and that it is sound
 pub record IsCutAfter (value : Option Cut) (number : ℕ) (old cut : Option Cut) : Type 0 where
   pub same : value ≡ option_map (stamped 0) cut
   pub stamps : IfSome cut (λ c. All (IsRestamped number old) c.rows)
@@ -31,8 +32,8 @@ HasPlace place cut = place < length cut.rows
 abbrev pub with_row : ℕ → CutRow → Cut → Cut
 with_row place row cut = record cut { rows = slice_set cut.rows place row }
 
--- what an edit makes of a section's cut: it touches the section exactly where the cut's values before and after it
--- differ, where that of a section that isn't there is none
+-- what an edit makes of a section's cut: it touches the section exactly where the cut's values
+-- before and after it differ, where that of a section that isn't there is none
 abbrev pub IsChange : Option Cut → Option Cut → ℕ → Option Cut → CutChange → Type 0
 IsChange before after number old change.Untouched = after ≡ before
 IsChange before after number old (change.Touched cut) = (after ≢ before) × IsCutAfter after number old cut

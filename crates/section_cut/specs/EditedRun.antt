@@ -13,7 +13,8 @@ pub record KeepsRoute (earlier later : Tables) (name : List ℕ) : Type 0 where
   pub after : has_run later name ≡ true
   pub route : (run_named later name).route ≡ (run_named earlier name).route
 
--- the tables differ in this run alone, the stair is its own, and where it says so, its route is kept
+-- the tables differ in this run alone, the stair is its own, and where it says so, its route is
+-- kept
 pub record IsEditedRun (earlier later : Tables) (run : EditedRun) : Type 0 where
   pub one : IsOneRun earlier later run.name run.stair
   pub route : run.keeps_route ≡ true → KeepsRoute earlier later run.name

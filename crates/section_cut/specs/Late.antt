@@ -17,7 +17,8 @@ IsLead paths lead = All (λ path. All (λ h. h.watch_s + h.form_s ≤ lead) path
 abbrev pub bare_stair : Run → Stair
 bare_stair run = record { run = run.name; uses = [] }
 
--- a run's stair for a window that ends at a moment: without its uses where the run starts the lead after it or later
+-- a run's stair for a window that ends at a moment: without its uses where the run starts the lead
+-- after it or later
 abbrev pub stair_to : Tables → ℕ → ℕ → Run → Stair
 stair_to tables to_s lead run =
     if nat_le (to_s + lead) run.start_s then bare_stair run else stair_of (path_in tables run)

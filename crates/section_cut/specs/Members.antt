@@ -47,7 +47,8 @@ module _ (tables : Tables) (section : Section) where
   abbrev pub rows_on_blocks : ℕ → List CutRow
   rows_on_blocks stamp = map (row_on_blocks stamp) members_of
 
-  -- which member the run with a number is, if it is one; and this for all runs, in the order of their names
+  -- which member the run with a number is, if it is one; and this for all runs, in the order of
+  -- their names
   abbrev pub member_at : ℕ → Option Member
   member_at n =
       if is_member tables section (run_at tables n)

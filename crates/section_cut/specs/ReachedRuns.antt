@@ -1,4 +1,5 @@
--- Changes of blocks, signals and routes, without connections: the runs whose paths they change, and these runs' rows.
+-- Changes of blocks, signals and routes, without connections: the runs whose paths they change, and
+-- these runs' rows.
 use Rattle.std.specs.Prelude.{◌≡◌, ℕ, ◌<◌, ⊤, Bool, true, false, List, [], length, slice_index_or, Option, Some, None, option_map, if◌then◌else◌, IsTrue, ◌↔◌, All, IfSome}
 use Rattle.rail_model.specs.declared.items.Run.{Run}
 use Rattle.rail_model.specs.declared.items.Section.{Section}
@@ -67,7 +68,8 @@ pub record AreReachedRuns (earlier later : Tables) (stairs : List (Option Stair)
 abbrev pub row_before : List CutRow → ℕ → Bool → Option CutRow
 row_before old at there = option_map (stamped_row 0) (if there then Some (slice_index_or old at no_member) else None)
 
--- a run's row in a section: by its stair, if that is reached, and otherwise the row that it had, if it had one
+-- a run's row in a section: by its stair, if that is reached, and otherwise the row that it had, if
+-- it had one
 abbrev pub row_after : Section → List ℕ → Option Stair → Option CutRow → Option CutRow
 row_after section positions (Some stair) old =
     member_row section stair.run 0 (uses_in positions (length section.blocks) stair.uses)

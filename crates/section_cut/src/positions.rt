@@ -1,9 +1,8 @@
 //! Where blocks stand in a section's list: a table over the numbers of blocks, filled once a
 //! section; and the uses of a stairway by it.
-ghost use Rattle.std.specs.Prelude.{◌≡◌, ◌↔◌, ◌<◌, ◌≤◌, true, IsTrue, length, map, take, slice_set, slice_index_or, All, IfOk, IfSome, OnOk};
-ghost use Rattle.plan_model.specs.Members.{no_use};
+ghost use Rattle.std.specs.Prelude.{◌≡◌, ◌↔◌, ◌<◌, true, IsTrue, length, map, take, slice_set, All, IfOk, IfSome, OnOk};
 ghost use Rattle.rail_model.specs.Tables.{section_at};
-ghost use Rattle.section_cut.specs.Positions.{IsPositions, AreSameFirst, ArePlaced, with_block, with_position, uses_in};
+ghost use Rattle.section_cut.specs.Positions.{IsPositions, AreSameFirst, IsUsePlaced, ArePlaced, with_position, uses_in};
 
 use line_tables::LineTables;
 use rail_model::{List, OutOfMemory, Use};
@@ -92,51 +91,66 @@ fn is_placed(one: &Use, positions: &[u32], other: &Use) -> bool
 }
 
 // The uses of a stairway by their positions in a section of this many blocks, if all are in it,
-// where these are the first of them.
+// where these are as many, all in it, and the same up to a place.
 pub(crate) fn placed(
     alloc: Global,
     positions: &[u32],
     blocks: u32,
-    first: &[Use],
+    old: &[Use],
+    same: usize,
     stairway: &[Use],
 ) -> Result<Option<List<Use>>, OutOfMemory>
     requires there { All (λ u. u.block < length positions.now) stairway.now }
-    requires within { length first.now ≤ length stairway.now }
-    requires first { map (with_position positions.now) (take (length first.now) stairway.now)
-        ≡ first.now }
-    requires inside { All (λ u. u.block < blocks) first.now }
+    requires long { length old.now ≡ length stairway.now }
+    requires inside { All (λ u. u.block < blocks) old.now }
+    requires same { map (with_position positions.now) (take same stairway.now) ≡ take same old.now }
     ensures { IfOk result (λ uses. IfSome uses (ArePlaced positions.now blocks stairway.now)) }
 {
-    let mut uses = Vec::with_capacity(alloc, stairway.len())?;
-    uses.extend_from_slice(first)?;
-    uses.extend_from_slice(&stairway[first.len()..])?;
-    if !place_all(&mut uses[first.len()..], positions, blocks) {
+    let mut uses = Vec::from_slice(alloc, old)?;
+    if !place_from(&mut uses, positions, blocks, stairway, same) {
         return Ok(None);
     }
     Ok(Some(List::from_vec(uses)))
 }
 
-// Writes the positions of uses in a section of this many blocks, if all are in it; otherwise those
-// of some.
-fn place_all(uses: &mut [Use], positions: &[u32], blocks: u32) -> bool
-    requires { All (λ u. u.block < length positions.now) uses.old }
-    ensures { result ≡ true → ArePlaced positions.now blocks uses.old uses.new }
+// Makes uses from a place on those of a stairway of as many by their positions in a section of this
+// many blocks, if all are in it; otherwise some of them.
+fn place_from(
+    uses: &mut [Use],
+    positions: &[u32],
+    blocks: u32,
+    stairway: &[Use],
+    from: usize,
+) -> bool
+    requires there { All (λ u. u.block < length positions.now) stairway.now }
+    requires long { length uses.old ≡ length stairway.now }
+    requires inside { All (λ u. u.block < blocks) uses.old }
+    requires same { map (with_position positions.now) (take from stairway.now) ≡ take from uses.old }
+    ensures { result ≡ true → ArePlaced positions.now blocks stairway.now uses.new }
 {
-    for i in 0..uses.len() {
-        let block = positions[uses[i].block as usize];
-        if block >= blocks {
+    for i in from..uses.len() {
+        if !place_use(uses, i, positions, blocks, &stairway[i]) {
             return false;
         }
-        set_block(uses, i, block);
     }
     true
 }
 
-// Writes the block of a use.
-fn set_block(uses: &mut [Use], i: usize, block: u32)
-    requires { i < length uses.old }
-    ensures { uses.new
-        ≡ slice_set uses.old i (with_block block (slice_index_or uses.old i no_use)) }
+// Makes one use this one by its position in a section of this many blocks, if it is in it. One that
+// is the same already isn't written.
+fn place_use(uses: &mut [Use], i: usize, positions: &[u32], blocks: u32, one: &Use) -> bool
+    requires at { i < length uses.old }
+    requires there { one.now.block < length positions.now }
+    requires inside { All (λ u. u.block < blocks) uses.old }
+    ensures { result ≡ true → IsUsePlaced positions.now blocks one.now i uses.old uses.new }
 {
-    uses[i].block = block;
+    if is_placed(&uses[i], positions, one) {
+        return true;
+    }
+    let block = positions[one.block as usize];
+    if block >= blocks {
+        return false;
+    }
+    uses[i] = Use { block, ..*one };
+    true
 }

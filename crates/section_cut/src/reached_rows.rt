@@ -159,7 +159,7 @@ fn whole_row(
         return Ok(Some(Some(row.copy(alloc)?)));
     }
     let blocks = old.section.blocks.len() as u32;
-    let Some(uses) = placed(alloc, positions, blocks, &uses[..same], stairway)? else {
+    let Some(uses) = placed(alloc, positions, blocks, uses, same, stairway)? else {
         return Ok(None);
     };
     let entry = stair.entry();

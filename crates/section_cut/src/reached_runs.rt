@@ -1,5 +1,5 @@
 //! What a change of a block, a signal or a route makes of a section's cut, where there are no
-//! connections: it reaches the rows of the runs whose paths it changes, and no other.
+//! connections: it reaches the rows of the runs that pass what is edited, and no other.
 ghost use Rattle.std.specs.Prelude.{◌≡◌, ◌<◌, ◌≤◌, ◌+◌, ◌++◌, true, false, Bool, if◌then◌else◌, All, length, map, IfOk, IfSome, OnOk, Some, None};
 ghost use Rattle.std.specs.Option.{option_to_list};
 ghost use Rattle.line_tables.specs.Paths.{paths_of};

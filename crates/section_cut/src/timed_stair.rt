@@ -60,6 +60,7 @@ impl TimedStair {
     {
         is_outside(self.starts, section)
     }
+
     // The block of the first use, if that starts before a section's window.
     pub(crate) fn early_block(&self, section: &Section) -> Option<u32>
         ensures { IfSome result (StartsEarly section.now self.now.uses) }
