@@ -2,7 +2,7 @@
 use Rattle.std.proofs.Common.{◌≡◌, ℕ, ◌+◌, ◌-◌, ◌<◌, ◌≤◌, Bool, true, false, not, cond, ltb, List, [], ◌∷◌, ◌++◌, map, length, get_or, take, drop, set, replicate, All, refl, sym, ap, ◌∙◌, subst, inl, inr, arith}
 use Rattle.std.specs.Prelude.{ℤ, filter, slice_set}
 use Rattle.std.proofs.lemmas.Bool.{cases_Bool, cases_eq, cases_lt, lt-ltb, le-ltb}
-use Rattle.std.proofs.lemmas.List.{append-nil, map-append, take-append-drop, same_lists, get_or_default, length-set, length-replicate, get_or-replicate, get_or-set_same, get_or-set_other, get_or-map, length-map, map_more, take_more_set, take_all}
+use Rattle.std.proofs.lemmas.List.{append-nil, map-append, take-append-drop, same_lists, get_or_default, length-set, length-replicate, get_or-replicate, get_or-set_same, get_or-set_other, get_or-map, length-map, map_more, take_more, take_more_set, take_all}
 use Rattle.std.proofs.lemmas.List.Elements.{All-append, filter-append}
 use Rattle.std.proofs.lemmas.List.Sums.{AllPass-from_list_all, passes_at_first, prefix_len-drop_yes, prefix_len-drop_no, prefix_len-drop_all}
 use Rattle.rail_model.specs.declared.items.Block.{Block}
@@ -18,7 +18,7 @@ use Rattle.rail_model.proofs.Paths.{place_within}
 use Rattle.section_cut.proofs.Sections.{section_stands}
 use Rattle.rail_model.proofs.Places.{filter_all}
 use Rattle.plan_model.specs.Members.{no_use}
-use Rattle.section_cut.specs.Positions.{IsPositions, IsPlaced, ArePlaced, with_position, uses_in}
+use Rattle.section_cut.specs.Positions.{IsPositions, IsPlaced, AreSameTo, ArePlaced, with_position, uses_in}
 
 -- from some name of the section's list on, the table has what the rest of the list says
 pub record IsFilled (tables : Tables) (section : Section) (from : ℕ) (table : List ℕ) : Type 0 where
@@ -151,6 +151,18 @@ uses_in_no positions blocks uses i d l outside =
     ∙ append-nil (uses_in positions blocks (take i uses))
 
 -- ---- all uses of a stairway at their positions
+
+-- one use more is that of the stairway
+pub same_more : (positions : List ℕ) (uses stairway : List Use) (i : ℕ) (d : Use) → length uses ≡ length stairway → i < length uses
+    → with_position positions (get_or stairway i d) ≡ get_or uses i d → AreSameTo positions uses stairway i → AreSameTo positions uses stairway (i + 1)
+same_more positions uses stairway i d long inside same so_far = record {
+  within = omega (arith, inside);
+  same =
+      map_more (with_position positions) stairway i d (omega (arith, inside, long))
+      ∙ ap (λ us. us ++ with_position positions (get_or stairway i d) ∷ []) so_far.same
+      ∙ ap (λ u. take i uses ++ u ∷ []) same
+      ∙ sym (take_more uses i d inside);
+}
 
 -- one use more is at its position
 pub placed_more : (positions : List ℕ) (stairway uses : List Use) (i : ℕ) (d : Use) → i < length stairway → i < length uses

@@ -29,6 +29,13 @@ rows_rise rows others same rise i j d before below =
     subst (λ n. IsBefore n (get_or others j d).name) (name_of i (omega arith))
     (subst (λ n. IsBefore (get_or rows i d).name n) (name_of j below) (rise i j d before (omega arith)))
 
+-- rows at one place of two lists that are equal but for stamps are so too
+pub row_at : (a b : List CutRow) (i : ℕ) (d e : CutRow) → i < length a → i < length b
+    → map (stamped_row 0) a ≡ map (stamped_row 0) b → stamped_row 0 (get_or a i d) ≡ stamped_row 0 (get_or b i e)
+row_at a b i d e la lb same =
+    sym (get_or-map (stamped_row 0) a i d d la) ∙ ap (λ rows. get_or rows i d) same
+    ∙ get_or-map (stamped_row 0) b i e d lb
+
 -- ---- soundness
 
 bare_row : (stamp : ℕ) (cut : Cut) (row : CutRow) → IsSoundRow (stamped stamp cut) (stamped_row stamp row) → IsSoundRow cut row

@@ -39,6 +39,11 @@ pub record IsUsePlaced (positions : List ℕ) (blocks : ℕ) (one : Use) (i : �
   pub set : placed ≡ slice_set uses i (with_position positions one)
   pub inside : All (λ u. u.block < blocks) placed
 
+-- this many of these uses are those of a stairway by their positions
+pub record AreSameTo (positions : List ℕ) (uses stairway : List Use) (n : ℕ) : Type 0 where
+  pub within : n ≤ length uses
+  pub same : map (with_position positions) (take n stairway) ≡ take n uses
+
 -- the first of these uses are those of a stairway by their positions, and the next one, if there is
 -- one, isn't
 pub record AreSameFirst (positions : List ℕ) (uses stairway : List Use) (n : ℕ) : Type 0 where

@@ -1,8 +1,8 @@
 //! Where blocks stand in a section's list: a table over the numbers of blocks, filled once a
 //! section; and the uses of a stairway by it.
-ghost use Rattle.std.specs.Prelude.{◌≡◌, ◌↔◌, ◌<◌, true, IsTrue, length, map, take, slice_set, All, IfOk, IfSome, OnOk};
+ghost use Rattle.std.specs.Prelude.{◌≡◌, ◌↔◌, ◌+◌, ◌<◌, true, IsTrue, length, map, take, slice_set, All, IfOk, IfSome, OnOk};
 ghost use Rattle.rail_model.specs.Tables.{section_at};
-ghost use Rattle.section_cut.specs.Positions.{IsPositions, AreSameFirst, IsUsePlaced, ArePlaced, with_position, uses_in};
+ghost use Rattle.section_cut.specs.Positions.{IsPositions, AreSameTo, AreSameFirst, IsUsePlaced, ArePlaced, with_position, uses_in};
 
 use line_tables::LineTables;
 use rail_model::{List, OutOfMemory, Use};
@@ -74,12 +74,42 @@ pub(crate) fn same_first(uses: &[Use], positions: &[u32], stairway: &[Use]) -> u
     requires long { length uses.now ≡ length stairway.now }
     ensures { AreSameFirst positions.now uses.now stairway.now result }
 {
-    for i in 0..uses.len() {
+    for i in same_fours(uses, positions, stairway)..uses.len() {
         if !is_placed(&uses[i], positions, &stairway[i]) {
             return i;
         }
     }
     uses.len()
+}
+
+// The same four by four, up to the first four of which one isn't: so fewer steps are taken.
+fn same_fours(uses: &[Use], positions: &[u32], stairway: &[Use]) -> usize
+    requires there { All (λ u. u.block < length positions.now) stairway.now }
+    requires long { length uses.now ≡ length stairway.now }
+    ensures { AreSameTo positions.now uses.now stairway.now result }
+{
+    for four in 0..uses.len() / 4 {
+        let at = 4 * four;
+        if !same_two(uses, positions, stairway, at) {
+            return at;
+        }
+        if !same_two(uses, positions, stairway, at + 2) {
+            return at;
+        }
+    }
+    uses.len() / 4 * 4
+}
+
+// Whether the two uses from a place on are so, where those before them are.
+fn same_two(uses: &[Use], positions: &[u32], stairway: &[Use], at: usize) -> bool
+    requires there { All (λ u. u.block < length positions.now) stairway.now }
+    requires long { length uses.now ≡ length stairway.now }
+    requires at { at + 1 < length uses.now }
+    requires so_far { AreSameTo positions.now uses.now stairway.now at }
+    ensures { result ≡ true → AreSameTo positions.now uses.now stairway.now (at + 2) }
+{
+    is_placed(&uses[at], positions, &stairway[at])
+        && is_placed(&uses[at + 1], positions, &stairway[at + 1])
 }
 
 // Whether this is a use by its position.

@@ -22,7 +22,7 @@ use crate::cut_changes::CutChange;
 use crate::one_run::stands_at;
 use crate::positions::positions;
 use crate::reached_rows::{row_anew, row_differs};
-use crate::same_value::{same_cut, same_name};
+use crate::same_value::{same_cut_from, same_name};
 use crate::timed_stair::TimedStair;
 use blocking_time::stairs;
 use line_tables::{LineTables, Paths};
@@ -201,36 +201,37 @@ pub(crate) fn cut_after_runs(
         unreachable!();
     };
     let table = positions(alloc, after, place)?;
-    if !rows_differ(alloc, before, after, reached, old, &table)? {
+    let Some(at) = row_differing(alloc, before, after, reached, old, &table)? else {
         return Ok(CutChange::Untouched);
-    }
+    };
     let rows = rows_after(alloc, before, after, reached, old, &table, number)?;
     let later = Cut {
         section: old.section.copy(alloc)?,
         connections: List::new(alloc),
         rows,
     };
-    if same_cut(old, &later) {
+    if same_cut_from(old, &later, at) {
         return Ok(CutChange::Untouched);
     }
     Ok(CutChange::Touched(Some(later)))
 }
 
-// Whether the row of a run that the edit reaches may differ from the one in the cut before it.
-fn rows_differ(
+// Where in the cut before an edit the row of the first run stands, or would stand, whose row is
+// another after it.
+fn row_differing(
     alloc: Global,
     before: &LineTables,
     after: &LineTables,
     reached: &[Option<TimedStair>],
     old: &Cut,
     positions: &[u32],
-) -> Result<bool, OutOfMemory>
+) -> Result<Option<usize>, OutOfMemory>
     requires reached { AreReachedRuns before.now after.now reached.now }
     requires rows { map (stamped_row 0) old.now.rows ≡ rows_on_blocks before.now old.now.section 0 }
     requires blocks { length old.now.section.blocks ≤ PATH_HOPS }
     requires table { IsPositions after.now old.now.section positions.now }
     requires rise { NamesRise (λ r. r.name) old.now.rows }
-    ensures { IfOk result (λ differ. differ ≡ false → rows_on_blocks after.now old.now.section 0
+    ensures { IfOk result (λ at. at ≡ None → rows_on_blocks after.now old.now.section 0
         ≡ rows_on_blocks before.now old.now.section 0) }
 {
     before.learn_sound();
@@ -241,11 +242,11 @@ fn rows_differ(
         let there = stands_at(own, &after.run(n).name, at);
         let stair = &reached[n as usize];
         if row_differs(alloc, positions, stair, old, at, there, &mut found)? {
-            return Ok(true);
+            return Ok(Some(at));
         }
         at = place_behind(own, at, there);
     }
-    Ok(false)
+    Ok(None)
 }
 
 // The rows of a section's cut after an edit of a number, where the cut before it has these: their

@@ -1,6 +1,6 @@
-use Rattle.std.proofs.Common.{◌≡◌, map, take}
-use Rattle.section_cut.specs.Positions.{with_position}
+use Rattle.section_cut.specs.Positions.{AreSameTo}
 use Rattle.section_cut.proofs.positions.same_first.Given as goal
 
+-- the uses so far are those of the stairway
 abbrev pub invariant-loop-i : goal.invariant-loop-i
-invariant-loop-i l = map (with_position l.positions) (take l.i l.stairway) ≡ take l.i l.uses
+invariant-loop-i l = AreSameTo l.positions l.uses l.stairway l.i

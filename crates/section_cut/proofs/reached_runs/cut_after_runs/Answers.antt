@@ -14,8 +14,8 @@ unreachable-requires c =
     (section_of_cut c.args.before.now c.args.after.now c.args.section.now c.args.old.now c.requires.reached.same.sections c.requires.cut)
     (sym c.in_default.ensures.there)
 
-pub rows_differ-requires-clause-table : goal.rows_differ-requires-clause-table
-rows_differ-requires-clause-table c =
+pub row_differing-requires-clause-table : goal.row_differing-requires-clause-table
+row_differing-requires-clause-table c =
     let section = section_is c.args.after.now c.args.section.now c.args.old.now.section
     (section_of_cut c.args.before.now c.args.after.now c.args.section.now c.args.old.now c.requires.reached.same.sections c.requires.cut)
     c.in-Some.place c.in-Some.ensures.number in
@@ -40,12 +40,12 @@ pub rows_after-requires-clause-rise : goal.rows_after-requires-clause-rise
 rows_after-requires-clause-rise c =
     (sound_cut_of c.args.before.now c.learn_sound.ensures c.args.section.now c.args.old.now c.requires.cut).names_rise
 
-pub returns-then-same_cut : goal.returns-then-same_cut
-returns-then-same_cut c =
+pub returns-then-same_cut_from : goal.returns-then-same_cut_from
+returns-then-same_cut_from c =
     let made : Cut = record { section = c.in_ok-copy.field-0; connections = c.new.result; rows = c.in_ok-rows.rows } in
     let is = cut_made c.args.before.now c.args.after.now c.args.reached.now c.requires.reached c.args.section.now c.args.old.now c.requires.cut made
     c.in_ok-copy.ensures c.new.ensures c.in_ok-rows.ensures.value in
-    is ∙ ap Some (sym (c.same_cut.ensures.0 c.if-same_cut.true)) ∙ sym c.requires.cut
+    is ∙ ap Some (sym (c.same_cut_from.ensures.0 c.if-same_cut_from.true)) ∙ sym c.requires.cut
 
 pub returns : goal.returns
 returns c =
@@ -56,7 +56,7 @@ returns c =
       λ same.
           let both : Some (stamped 0 old) ≡ Some (stamped 0 made) = sym c.requires.cut ∙ sym same ∙ is in
           let values : stamped 0 old ≡ stamped 0 made = cc in
-          both_ways c.same_cut.result c.if-same_cut.false (c.same_cut.ensures.1 values),
+          both_ways c.same_cut_from.result c.if-same_cut_from.false (c.same_cut_from.ensures.1 values),
       record {
         same = is;
         stamps = c.in_ok-rows.ensures.stamps;
@@ -64,19 +64,19 @@ returns c =
       },
     )
 
-pub rows_differ-requires-clause-rows : goal.rows_differ-requires-clause-rows
-rows_differ-requires-clause-rows c =
+pub row_differing-requires-clause-rows : goal.row_differing-requires-clause-rows
+row_differing-requires-clause-rows c =
     old_rows c.args.before.now c.args.after.now c.args.reached.now c.requires.reached c.args.section.now c.args.old.now c.requires.cut
 
-pub rows_differ-requires-clause-rise : goal.rows_differ-requires-clause-rise
-rows_differ-requires-clause-rise c =
+pub row_differing-requires-clause-rise : goal.row_differing-requires-clause-rise
+row_differing-requires-clause-rise c =
     (sound_cut_of c.args.before.now c.learn_sound.ensures c.args.section.now c.args.old.now c.requires.cut).names_rise
 
-pub rows_differ-requires-clause-blocks : goal.rows_differ-requires-clause-blocks
-rows_differ-requires-clause-blocks c =
+pub row_differing-requires-clause-blocks : goal.row_differing-requires-clause-blocks
+row_differing-requires-clause-blocks c =
     (sound_cut_of c.args.before.now c.learn_sound.ensures c.args.section.now c.args.old.now c.requires.cut).most_blocks
 
-pub returns-then-not-branch : goal.returns-then-not-branch
-returns-then-not-branch c =
+pub returns-in_default-2 : goal.returns-in_default-2
+returns-in_default-2 c =
     cut_same c.args.before.now c.args.after.now c.args.reached.now c.requires.reached c.args.section.now c.args.old.now c.requires.cut
-    (c.in_ok-rows_differ.ensures c.if-not-branch.true)
+    (c.in_ok-at.ensures c.in_default-2.is)

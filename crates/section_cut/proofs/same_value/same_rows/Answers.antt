@@ -1,15 +1,8 @@
-use Rattle.std.proofs.Common.{◌≡◌, ℕ, ◌<◌, IsTrue, List, length, map, get_or, sym, ap, ◌∙◌, subst, rules, arith}
-use Rattle.std.proofs.lemmas.List.{length-map, get_or-map}
-use Rattle.plan_model.specs.declared.cut.CutRow.{CutRow}
+use Rattle.std.proofs.Common.{◌≡◌, IsTrue, get_or, sym, ap, length, subst, rules, arith}
+use Rattle.std.proofs.lemmas.List.{length-map}
 use Rattle.plan_model.specs.Cut.{stamped_row}
+use Rattle.section_cut.proofs.SameValue.{row_at}
 use Rattle.section_cut.proofs.same_value.same_rows.Goals as goal
-
--- rows at one place of two lists that are equal but for stamps are so too
-row_at : (a b : List CutRow) (i : ℕ) (d e : CutRow) → i < length a → i < length b
-    → map (stamped_row 0) a ≡ map (stamped_row 0) b → stamped_row 0 (get_or a i d) ≡ stamped_row 0 (get_or b i e)
-row_at a b i d e la lb same =
-    sym (get_or-map (stamped_row 0) a i d d la) ∙ ap (λ rows. get_or rows i d) same
-    ∙ get_or-map (stamped_row 0) b i e d lb
 
 pub returns-then-not-same_row : goal.returns-then-not-same_row
 returns-then-not-same_row c =

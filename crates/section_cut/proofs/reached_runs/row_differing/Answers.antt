@@ -10,7 +10,7 @@ use Rattle.plan_model.specs.declared.cut.CutRow.{CutRow}
 use Rattle.section_cut.specs.ReachedRuns.{IsStairIfReached}
 use Rattle.section_cut.specs.Stamps.{IsThere}
 use Rattle.section_cut.proofs.ReachedRuns.{IsSameRow, reached_uses, stair_own, same_told, place_with, rows_stay}
-use Rattle.section_cut.proofs.reached_runs.rows_differ.Goals as goal
+use Rattle.section_cut.proofs.reached_runs.row_differing.Goals as goal
 
 pub row_differs-requires-clause-uses : goal.row_differs-requires-clause-uses
 row_differs-requires-clause-uses c =
