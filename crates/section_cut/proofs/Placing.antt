@@ -1,9 +1,9 @@
 -- The table of positions: as far as it is filled, from the last name of the section's list on; and uses by it.
 use Rattle.std.proofs.Common.{◌≡◌, ℕ, ◌+◌, ◌-◌, ◌<◌, ◌≤◌, Bool, true, false, not, cond, ltb, List, [], ◌∷◌, ◌++◌, map, length, get_or, take, drop, set, replicate, All, refl, sym, ap, ◌∙◌, subst, inl, inr, arith}
 use Rattle.std.specs.Prelude.{ℤ, filter, slice_set}
-use Rattle.std.proofs.lemmas.Bool.{cases_Bool, cases_eq, cases_lt, lt-ltb, le-ltb}
-use Rattle.std.proofs.lemmas.List.{append-nil, map-append, take-append-drop, same_lists, get_or_default, length-set, length-replicate, get_or-replicate, get_or-set_same, get_or-set_other, get_or-map, length-map, map_more, take_more, take_more_set, take_all}
-use Rattle.std.proofs.lemmas.List.Elements.{All-append, filter-append}
+use Rattle.std.proofs.lemmas.Bool.{cases_Bool, cases_eq, lt-ltb, le-ltb}
+use Rattle.std.proofs.lemmas.List.{append-nil, length-set, length-replicate, get_or-replicate, get_or-set_same, get_or-set_other, get_or-map, length-map, map_more, take_more, take_more_set, take_all}
+use Rattle.std.proofs.lemmas.List.Elements.{filter-append}
 use Rattle.std.proofs.lemmas.List.Sums.{AllPass-from_list_all, passes_at_first, prefix_len-drop_yes, prefix_len-drop_no, prefix_len-drop_all}
 use Rattle.rail_model.specs.declared.items.Block.{Block}
 use Rattle.rail_model.specs.declared.items.Section.{Section}
@@ -17,7 +17,6 @@ use Rattle.rail_model.proofs.NameOrder.{same_name, is_same-sym, names_apart}
 use Rattle.rail_model.proofs.Paths.{place_within}
 use Rattle.section_cut.proofs.Sections.{section_stands}
 use Rattle.rail_model.proofs.Places.{filter_all}
-use Rattle.plan_model.specs.Members.{no_use}
 use Rattle.section_cut.specs.Positions.{IsPositions, IsPlaced, AreSameTo, ArePlaced, with_position, uses_in}
 
 -- from some name of the section's list on, the table has what the rest of the list says

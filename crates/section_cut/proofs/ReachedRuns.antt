@@ -1,11 +1,12 @@
 -- The rows of a section's cut after an edit that changes the paths of some runs.
-use Rattle.std.proofs.Common.{◌≡◌, ◌↔◌, ℕ, zero, suc, ◌+◌, ◌<◌, ◌≤◌, Bool, true, false, cond, ltb, List, [], ◌∷◌, ◌++◌, length, map, get_or, take, Option, Some, None, IsTrue, refl, sym, ap, ◌∙◌, subst, inl, inr, arith}
+use Rattle.std.proofs.Common.{◌≡◌, ◌↔◌, ℕ, zero, suc, ◌+◌, ◌<◌, ◌≤◌, Bool, true, false, cond, ltb, List, [], ◌∷◌, ◌++◌, length, map, get_or, take, drop, Option, Some, None, IsTrue, refl, sym, ap, ◌∙◌, subst, inl, inr, arith}
 use Rattle.std.specs.Prelude.{All, filter, find, option_map, IfSome}
 use Rattle.std.specs.Option.{option_to_list}
 use Rattle.std.proofs.lemmas.Bool.{cases_Bool, cases_lt, ltb-true}
 use Rattle.std.proofs.Math.ListN.{get_or-append}
-use Rattle.std.proofs.lemmas.List.{length-map, map-append, get_or-map, get_or_push, length-append, take_all}
-use Rattle.std.proofs.lemmas.List.Elements.{filter_more}
+use Rattle.std.proofs.lemmas.List.{length-map, map-append, get_or-map, get_or_push, length-append, take_all, take-map, take-append-drop}
+use Rattle.std.proofs.Math.Seq.{take-append_seam}
+use Rattle.std.proofs.lemmas.List.Elements.{filter_more, filter-append}
 use Rattle.rail_model.specs.declared.items.Run.{Run}
 use Rattle.rail_model.specs.declared.items.Section.{Section}
 use Rattle.rail_model.specs.declared.stair.Stair.{Stair}
@@ -24,10 +25,11 @@ use Rattle.plan_model.specs.declared.cut.Cut.{Cut}
 use Rattle.plan_model.specs.Cut.{stamped_row, stamped}
 use Rattle.plan_model.specs.Members.{no_member}
 use Rattle.plan_model.specs.SectionCut.{use_in_section, section_uses, is_member, section_cut, cut_of}
+use Rattle.section_cut.specs.declared.reached_runs.RunAt.{RunAt}
 use Rattle.section_cut.specs.Members.{member_row, row_on_blocks, rows_on_blocks}
 use Rattle.section_cut.specs.Positions.{IsPositions, uses_in}
 use Rattle.section_cut.specs.Stamps.{IsReached, IsThere}
-use Rattle.section_cut.specs.ReachedRuns.{IsStairIfReached, AreReachedRuns, IsBareRow, IsOwnRow, row_before, row_after}
+use Rattle.section_cut.specs.ReachedRuns.{IsStairIfReached, AreReachedRuns, IsBareRow, IsOwnRow, IsSameBefore, row_before, row_after}
 use Rattle.section_cut.proofs.BlockUses.{uses_inside}
 use Rattle.section_cut.proofs.Lists.{passing_at, passing_behind}
 use Rattle.section_cut.proofs.MemberRows.{rows_more, uses_by_table}
@@ -158,18 +160,18 @@ IsSameRow earlier later s n =
     member_row s (run_at later n).name 0 (section_uses later s (run_at later n))
     ≡ member_row s (run_at earlier n).name 0 (section_uses earlier s (run_at earlier n))
 
--- where this holds of all runs, the rows are the same
-rows_so_far : (earlier later : Tables) (s : Section) → length later.runs ≡ length earlier.runs → ((n : ℕ) → n < length later.runs → IsSameRow earlier later s n)
-    → (k : ℕ) → k ≤ length later.runs
+-- where this holds of the first runs, their rows are the same
+rows_so_far : (earlier later : Tables) (s : Section) → length later.runs ≡ length earlier.runs
+    → (k : ℕ) → k ≤ length later.runs → ((n : ℕ) → n < k → IsSameRow earlier later s n)
     → map (row_on_blocks later s 0) (filter (is_member later s) (take k later.runs))
     ≡ map (row_on_blocks earlier s 0) (filter (is_member earlier s) (take k earlier.runs))
-rows_so_far earlier later s long each zero le = refl
-rows_so_far earlier later s long each (suc k) le =
+rows_so_far earlier later s long zero le each = refl
+rows_so_far earlier later s long (suc k) le each =
     let e : suc k ≡ k + 1 = omega arith in
     rw e
     (rows_more later s 0 k (omega (arith, le))
-    ∙ ap (λ rs. rs ++ option_to_list (member_row s (run_at later k).name 0 (section_uses later s (run_at later k)))) (rows_so_far earlier later s long each k (omega (arith, le)))
-    ∙ ap (λ o. map (row_on_blocks earlier s 0) (filter (is_member earlier s) (take k earlier.runs)) ++ option_to_list o) (each k (omega (arith, le)))
+    ∙ ap (λ rs. rs ++ option_to_list (member_row s (run_at later k).name 0 (section_uses later s (run_at later k)))) (rows_so_far earlier later s long k (omega (arith, le)) (λ n l. each n (omega (arith, l))))
+    ∙ ap (λ o. map (row_on_blocks earlier s 0) (filter (is_member earlier s) (take k earlier.runs)) ++ option_to_list o) (each k (omega arith))
     ∙ sym (rows_more earlier s 0 k (omega (arith, le, long))))
 
 pub rows_stay : (earlier later : Tables) (s : Section) → later.runs ≡ earlier.runs → ((n : ℕ) → n < length later.runs → IsSameRow earlier later s n)
@@ -177,8 +179,44 @@ pub rows_stay : (earlier later : Tables) (s : Section) → later.runs ≡ earlie
 rows_stay earlier later s runs each =
     let count = ap length runs in
     ap (λ rs. map (row_on_blocks later s 0) (filter (is_member later s) rs)) (sym (take_all (length later.runs) later.runs (omega arith)))
-    ∙ rows_so_far earlier later s count each (length later.runs) (omega arith)
+    ∙ rows_so_far earlier later s count (length later.runs) (omega arith) each
     ∙ ap (λ rs. map (row_on_blocks earlier s 0) (filter (is_member earlier s) rs)) (take_all (length later.runs) earlier.runs (omega (arith, count)))
+
+pub same_before : (earlier later : Tables) (s : Section) (n at : ℕ) → later.runs ≡ earlier.runs → n < length later.runs
+    → ((k : ℕ) → k < n → IsSameRow earlier later s k) → at ≡ length (filter (is_member earlier s) (take n earlier.runs))
+    → IsSameBefore earlier later s (record { run = n; at = at })
+same_before earlier later s n at runs below each passed = record {
+  within = omega (arith, below);
+  same = rows_so_far earlier later s (ap length runs) n (omega (arith, below)) each;
+  passed = passed;
+}
+
+-- the rows of these runs are the first of the earlier cut
+module _ (earlier later : Tables) (s : Section) (old : List CutRow) (is : map (stamped_row 0) old ≡ rows_on_blocks earlier s 0) (first : RunAt) (same : IsSameBefore earlier later s first) where
+  abbrev front : List Run
+  front = filter (is_member earlier s) (take first.run earlier.runs)
+
+  abbrev back : List Run
+  back = filter (is_member earlier s) (drop first.run earlier.runs)
+
+  rows_are : map (stamped_row 0) old ≡ map (row_on_blocks earlier s 0) (front ++ back)
+  rows_are =
+      is
+      ∙ ap (map (row_on_blocks earlier s 0))
+      (ap (filter (is_member earlier s)) (sym (take-append-drop first.run earlier.runs))
+      ∙ filter-append (is_member earlier s) (take first.run earlier.runs) (drop first.run earlier.runs))
+
+  pub first_within : first.at ≤ length old
+  first_within =
+      omega (arith, ap length rows_are, length-map old (stamped_row 0), length-map (front ++ back) (row_on_blocks earlier s 0), length-append front back, same.passed)
+
+  pub first_are : map (stamped_row 0) (take first.at old) ≡ map (row_on_blocks later s 0) (filter (is_member later s) (take first.run later.runs))
+  first_are =
+      sym (take-map (stamped_row 0) first.at old)
+      ∙ ap (take first.at) rows_are
+      ∙ take-map (row_on_blocks earlier s 0) first.at (front ++ back)
+      ∙ ap (map (row_on_blocks earlier s 0)) (ap (λ k. take k (front ++ back)) same.passed ∙ take-append_seam front back)
+      ∙ sym same.same
 
 module _ (earlier later : Tables) (s : Section) (sound : IsSound earlier) (later_sound : IsSound later) (stairs : List (Option Stair)) (reached : AreReachedRuns earlier later stairs) (old : List CutRow) (is : map (stamped_row 0) old ≡ rows_on_blocks earlier s 0) (positions : List ℕ) (table : IsPositions later s positions) (n : ℕ) (below : n < length later.runs) (at : ℕ) (passed : at ≡ length (filter (is_member earlier s) (take n earlier.runs))) where
   same_run : run_at later n ≡ run_at earlier n

@@ -1,10 +1,10 @@
 -- One row of a cut after an edit: its value and its stamp.
-use Rattle.std.proofs.Common.{◌≡◌, ℕ, ◌<◌, Bool, true, List, ◌++◌, map, length, get_or, Option, Some, None, refl, sym, ap, ◌∙◌, inl, inr}
+use Rattle.std.proofs.Common.{◌≡◌, ℕ, ◌<◌, Bool, true, List, ◌++◌, map, length, get_or, take, Option, Some, None, refl, sym, ap, ◌∙◌, subst, inl, inr}
 use Rattle.std.specs.Prelude.{All, option_map, IfSome}
 use Rattle.std.specs.Option.{option_to_list}
 use Rattle.std.proofs.lemmas.Bool.{cases_Bool}
-use Rattle.std.proofs.lemmas.List.{append-nil}
-use Rattle.std.proofs.lemmas.List.Elements.{All-push}
+use Rattle.std.proofs.lemmas.List.{append-nil, get_or_default}
+use Rattle.std.proofs.lemmas.List.Elements.{All-push, All-take}
 use Rattle.rail_model.specs.declared.items.Section.{Section}
 use Rattle.rail_model.specs.declared.stair.Use.{Use}
 use Rattle.rail_model.specs.Name.{NamesRise}
@@ -78,6 +78,12 @@ module _ (old : Cut) (number at : ℕ) (rise : NamesRise (λ (r : CutRow). r.nam
         | inr outside ↦ rw outside tt
       ];
     }
+
+-- the first rows stay
+pub first_stay : (old : Cut) (number k : ℕ) → NamesRise (λ (r : CutRow). r.name) old.rows → All (IsRestamped number (Some old)) (take k old.rows)
+first_stay old number k rise =
+    All-take (IsRestamped number (Some old)) k old.rows
+    (λ i d below. subst (IsRestamped number (Some old)) (get_or_default old.rows i no_member d below) (stays old number i rise below))
 
 -- rows with one more, if there is one
 pub all_with : (P : CutRow → Type 0) (rows : List CutRow) (row : Option CutRow) → All P rows → IfSome row P → All P (rows ++ option_to_list row)

@@ -47,6 +47,5 @@ pub record AreSameTo (positions : List ℕ) (uses stairway : List Use) (n : ℕ)
 -- the first of these uses are those of a stairway by their positions, and the next one, if there is
 -- one, isn't
 pub record AreSameFirst (positions : List ℕ) (uses stairway : List Use) (n : ℕ) : Type 0 where
-  pub within : n ≤ length uses
-  pub same : map (with_position positions) (take n stairway) ≡ take n uses
+  pub so_far : AreSameTo positions uses stairway n
   pub differs : n < length uses → map (with_position positions) stairway ≢ uses

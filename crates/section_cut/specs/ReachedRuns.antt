@@ -1,6 +1,6 @@
 -- Changes of blocks, signals and routes, without connections: the runs whose paths they change, and
 -- these runs' rows.
-use Rattle.std.specs.Prelude.{◌≡◌, ℕ, ◌<◌, ⊤, Bool, true, false, List, [], length, slice_index_or, Option, Some, None, option_map, if◌then◌else◌, IsTrue, ◌↔◌, All, IfSome}
+use Rattle.std.specs.Prelude.{◌≡◌, ℕ, ◌<◌, ◌≤◌, ⊤, Bool, true, false, List, [], length, map, filter, take, slice_index_or, Option, Some, None, option_map, if◌then◌else◌, IsTrue, ◌↔◌, All, IfSome}
 use Rattle.rail_model.specs.declared.items.Run.{Run}
 use Rattle.rail_model.specs.declared.items.Section.{Section}
 use Rattle.rail_model.specs.declared.items.Item.{Item}
@@ -18,7 +18,9 @@ use Rattle.plan_model.specs.declared.cut.Cut.{Cut}
 use Rattle.plan_model.specs.Cut.{stamped_row}
 use Rattle.plan_model.specs.Members.{no_member}
 use Rattle.section_cut.specs.Change.{IsRestamped}
-use Rattle.section_cut.specs.Members.{member_row}
+use Rattle.plan_model.specs.SectionCut.{is_member}
+use Rattle.section_cut.specs.declared.reached_runs.RunAt.{RunAt}
+use Rattle.section_cut.specs.Members.{member_row, row_on_blocks}
 use Rattle.section_cut.specs.Stamps.{IsReached, IsThere}
 use Rattle.section_cut.specs.Positions.{uses_in}
 
@@ -90,6 +92,14 @@ pub record IsOwnRow (section : Section) (old : List CutRow) (name : List ℕ) (a
 pub record IsRowAfter (bare : Option CutRow) (number : ℕ) (old : Cut) (row : Option CutRow) : Type 0 where
   pub value : option_map (stamped_row 0) row ≡ bare
   pub stamp : IfSome row (IsRestamped number (Some old))
+
+-- the rows of the runs before this one are the same by both tables, and it is told how many they
+-- are
+pub record IsSameBefore (earlier later : Tables) (section : Section) (first : RunAt) : Type 0 where
+  pub within : first.run ≤ length later.runs
+  pub same : map (row_on_blocks later section 0) (filter (is_member later section) (take first.run later.runs))
+      ≡ map (row_on_blocks earlier section 0) (filter (is_member earlier section) (take first.run earlier.runs))
+  pub passed : first.at ≡ length (filter (is_member earlier section) (take first.run earlier.runs))
 
 -- ---- the runs that pass what is edited
 

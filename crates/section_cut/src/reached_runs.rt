@@ -1,6 +1,6 @@
 //! What a change of a block, a signal or a route makes of a section's cut, where there are no
 //! connections: it reaches the rows of the runs that pass what is edited, and no other.
-ghost use Rattle.std.specs.Prelude.{◌≡◌, ◌<◌, ◌≤◌, ◌+◌, ◌++◌, true, false, Bool, if◌then◌else◌, All, length, map, IfOk, IfSome, OnOk, Some, None};
+ghost use Rattle.std.specs.Prelude.{◌≡◌, ◌<◌, ◌≤◌, ◌+◌, ◌++◌, true, false, Bool, if◌then◌else◌, All, length, map, take, IfOk, IfSome, OnOk, Some, None};
 ghost use Rattle.std.specs.Option.{option_to_list};
 ghost use Rattle.line_tables.specs.Paths.{paths_of};
 ghost use Rattle.plan_model.specs.Cut.{stamped, stamped_row};
@@ -9,7 +9,7 @@ ghost use Rattle.rail_model.specs.Tables.{run_at, path_in};
 ghost use Rattle.section_cut.specs.Change.{IsChange, IsRestamped};
 ghost use Rattle.section_cut.specs.Members.{rows_on_blocks};
 ghost use Rattle.section_cut.specs.Positions.{IsPositions};
-ghost use Rattle.section_cut.specs.ReachedRuns.{IsSameTraffic, KeepsBlocks, IsTold, AreReachedRuns};
+ghost use Rattle.section_cut.specs.ReachedRuns.{IsSameTraffic, IsSameBefore, KeepsBlocks, IsTold, AreReachedRuns};
 ghost use Rattle.line_tables.specs.Passing.{passes_block, passes_signal};
 ghost use Rattle.rail_model.specs.declared.items.Run.{Run};
 ghost use Rattle.rail_model.specs.Edits as edits;
@@ -32,6 +32,13 @@ use std::alloc::Global;
 
 // How many reached runs each get a path of their own: for more, the paths of all runs are made.
 const FEW: usize = 32;
+
+// A run by its number, and where its row stands in a cut, or would stand.
+#[derive(Clone, Copy)]
+struct RunAt {
+    run: u32,
+    at: usize,
+}
 
 // For each run, in the order of the runs' names, its stair after an edit, where the edit may change
 // its path: only the runs that pass what is put or changed are looked at.
@@ -201,38 +208,39 @@ pub(crate) fn cut_after_runs(
         unreachable!();
     };
     let table = positions(alloc, after, place)?;
-    let Some(at) = row_differing(alloc, before, after, reached, old, &table)? else {
+    let Some(first) = first_differing(alloc, before, after, reached, old, &table)? else {
         return Ok(CutChange::Untouched);
     };
-    let rows = rows_after(alloc, before, after, reached, old, &table, number)?;
+    let rows = rows_after(alloc, before, after, reached, old, &table, first, number)?;
     let later = Cut {
         section: old.section.copy(alloc)?,
         connections: List::new(alloc),
         rows,
     };
-    if same_cut_from(old, &later, at) {
+    if same_cut_from(old, &later, first.at) {
         return Ok(CutChange::Untouched);
     }
     Ok(CutChange::Touched(Some(later)))
 }
 
-// Where in the cut before an edit the row of the first run stands, or would stand, whose row is
-// another after it.
-fn row_differing(
+// The first run whose row is another after an edit than in the cut before it.
+fn first_differing(
     alloc: Global,
     before: &LineTables,
     after: &LineTables,
     reached: &[Option<TimedStair>],
     old: &Cut,
     positions: &[u32],
-) -> Result<Option<usize>, OutOfMemory>
+) -> Result<Option<RunAt>, OutOfMemory>
     requires reached { AreReachedRuns before.now after.now reached.now }
     requires rows { map (stamped_row 0) old.now.rows ≡ rows_on_blocks before.now old.now.section 0 }
     requires blocks { length old.now.section.blocks ≤ PATH_HOPS }
     requires table { IsPositions after.now old.now.section positions.now }
     requires rise { NamesRise (λ r. r.name) old.now.rows }
-    ensures { IfOk result (λ at. at ≡ None → rows_on_blocks after.now old.now.section 0
+    ensures none { IfOk result (λ first. first ≡ None → rows_on_blocks after.now old.now.section 0
         ≡ rows_on_blocks before.now old.now.section 0) }
+    ensures some { IfOk result (λ first. IfSome first
+        (IsSameBefore before.now after.now old.now.section)) }
 {
     before.learn_sound();
     let mut found = Vec::new(alloc);
@@ -242,7 +250,7 @@ fn row_differing(
         let there = stands_at(own, &after.run(n).name, at);
         let stair = &reached[n as usize];
         if row_differs(alloc, positions, stair, old, at, there, &mut found)? {
-            return Ok(Some(at));
+            return Ok(Some(RunAt { run: n, at }));
         }
         at = place_behind(own, at, there);
     }
@@ -250,7 +258,7 @@ fn row_differing(
 }
 
 // The rows of a section's cut after an edit of a number, where the cut before it has these: their
-// values and their stamps.
+// values and their stamps. Those of the runs before the first that may differ are copied.
 fn rows_after(
     alloc: Global,
     before: &LineTables,
@@ -258,6 +266,7 @@ fn rows_after(
     reached: &[Option<TimedStair>],
     old: &Cut,
     positions: &[u32],
+    first: RunAt,
     number: u64,
 ) -> Result<List<CutRow>, OutOfMemory>
     requires reached { AreReachedRuns before.now after.now reached.now }
@@ -265,21 +274,34 @@ fn rows_after(
     requires blocks { length old.now.section.blocks ≤ PATH_HOPS }
     requires table { IsPositions after.now old.now.section positions.now }
     requires rise { NamesRise (λ r. r.name) old.now.rows }
+    requires first { IsSameBefore before.now after.now old.now.section first }
     ensures value { IfOk result
         (λ rows. map (stamped_row 0) rows ≡ rows_on_blocks after.now old.now.section 0) }
     ensures stamps { IfOk result (All (IsRestamped number (Some old.now))) }
 {
     before.learn_sound();
     let mut found = Vec::new(alloc);
-    let mut rows = List::new(alloc);
-    let mut at = 0;
-    for n in 0..after.runs() {
+    let mut rows = first_rows(alloc, old, first.at)?;
+    let mut at = first.at;
+    for n in first.run..after.runs() {
         let own = old.rows.slice();
         let there = stands_at(own, &after.run(n).name, at);
         let stair = &reached[n as usize];
         let row = row_anew(alloc, positions, stair, old, at, there, number, &mut found)?;
         push_row(&mut rows, row)?;
         at = place_behind(own, at, there);
+    }
+    Ok(rows)
+}
+
+// Copies of the first rows of a cut.
+fn first_rows(alloc: Global, old: &Cut, count: usize) -> Result<List<CutRow>, OutOfMemory>
+    requires { count ≤ length old.now.rows }
+    ensures { IfOk result (λ rows. rows ≡ take count old.now.rows) }
+{
+    let mut rows = List::new(alloc);
+    for i in 0..count {
+        rows.push(old.rows.slice()[i].copy(alloc)?)?;
     }
     Ok(rows)
 }

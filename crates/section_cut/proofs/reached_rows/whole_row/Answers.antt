@@ -52,7 +52,7 @@ returns c =
     (subst (λ us. IsRowAfter (member_row old.section stair.run 0 us) c.args.number old (member_row old.section stair.run c.args.number uses))
     (sym (placed_in positions blocks stair.uses uses placed))
     (other_after old c.args.number c.args.at c.requires.rise stair.run true c.requires.own refl uses
-    (λ e. c.same_first-same.ensures.differs (omega (arith, c.if-same-uses.false, c.same_first-same.ensures.within))
+    (λ e. c.same_first-same.ensures.differs (omega (arith, c.if-same-uses.false, c.same_first-same.ensures.so_far.within))
     (ap (map (with_position positions)) stairway ∙ sym placed.are ∙ e ∙ sym own))))
 
 pub returns-then-same-uses : goal.returns-then-same-uses
@@ -71,7 +71,7 @@ returns-then-same-uses c =
     let same : map (with_position positions) stair.uses ≡ (get_or old.rows at no_member).uses =
     ap (map (with_position positions))
     (sym (c.slice-stairway.ensures ∙ ap (λ (s : Stair). s.uses) c.stair-own.ensures) ∙ sym (take_all n all (omega (arith, c.if-same-uses.true, c.if-uses-stairway.false))))
-    ∙ c.same_first-same.ensures.same
+    ∙ c.same_first-same.ensures.so_far.same
     ∙ take_all n first (omega (arith, c.if-same-uses.true))
     ∙ c.slice-uses.ensures ∙ ap (λ (r : CutRow). r.uses) is in
     let uses = uses_in positions (length old.section.blocks) stair.uses in

@@ -14,8 +14,8 @@ unreachable-requires c =
     (section_of_cut c.args.before.now c.args.after.now c.args.section.now c.args.old.now c.requires.reached.same.sections c.requires.cut)
     (sym c.in_default.ensures.there)
 
-pub row_differing-requires-clause-table : goal.row_differing-requires-clause-table
-row_differing-requires-clause-table c =
+pub first_differing-requires-clause-table : goal.first_differing-requires-clause-table
+first_differing-requires-clause-table c =
     let section = section_is c.args.after.now c.args.section.now c.args.old.now.section
     (section_of_cut c.args.before.now c.args.after.now c.args.section.now c.args.old.now c.requires.reached.same.sections c.requires.cut)
     c.in-Some.place c.in-Some.ensures.number in
@@ -64,19 +64,19 @@ returns c =
       },
     )
 
-pub row_differing-requires-clause-rows : goal.row_differing-requires-clause-rows
-row_differing-requires-clause-rows c =
+pub first_differing-requires-clause-rows : goal.first_differing-requires-clause-rows
+first_differing-requires-clause-rows c =
     old_rows c.args.before.now c.args.after.now c.args.reached.now c.requires.reached c.args.section.now c.args.old.now c.requires.cut
 
-pub row_differing-requires-clause-rise : goal.row_differing-requires-clause-rise
-row_differing-requires-clause-rise c =
+pub first_differing-requires-clause-rise : goal.first_differing-requires-clause-rise
+first_differing-requires-clause-rise c =
     (sound_cut_of c.args.before.now c.learn_sound.ensures c.args.section.now c.args.old.now c.requires.cut).names_rise
 
-pub row_differing-requires-clause-blocks : goal.row_differing-requires-clause-blocks
-row_differing-requires-clause-blocks c =
+pub first_differing-requires-clause-blocks : goal.first_differing-requires-clause-blocks
+first_differing-requires-clause-blocks c =
     (sound_cut_of c.args.before.now c.learn_sound.ensures c.args.section.now c.args.old.now c.requires.cut).most_blocks
 
 pub returns-in_default-2 : goal.returns-in_default-2
 returns-in_default-2 c =
     cut_same c.args.before.now c.args.after.now c.args.reached.now c.requires.reached c.args.section.now c.args.old.now c.requires.cut
-    (c.in_ok-at.ensures c.in_default-2.is)
+    (c.in_ok-first.ensures.none c.in_default-2.is)

@@ -10,8 +10,8 @@ use Rattle.plan_model.specs.Cut.{stamped_row}
 use Rattle.section_cut.specs.Change.{IsRestamped}
 use Rattle.section_cut.specs.ReachedRuns.{IsStairIfReached, row_before, row_after}
 use Rattle.section_cut.specs.Stamps.{IsThere}
-use Rattle.section_cut.proofs.ReachedRuns.{reached_uses, stair_own, rows_with, place_with}
-use Rattle.section_cut.proofs.RowsAfter.{all_with}
+use Rattle.section_cut.proofs.ReachedRuns.{reached_uses, stair_own, rows_with, place_with, first_within, first_are}
+use Rattle.section_cut.proofs.RowsAfter.{all_with, first_stay}
 use Rattle.section_cut.proofs.reached_runs.rows_after.Goals as goal
 
 pub row_anew-requires-clause-uses : goal.row_anew-requires-clause-uses
@@ -70,4 +70,19 @@ loop-n-preserved c =
       passed = c.place_behind-at.ensures
           ∙ place_with earlier later section c.learn_sound.ensures c.runs-n-end.ensures.sound c.args.reached.now c.requires.reached old c.requires.rows
           positions table n below at c.loop-n.invariant.passed there told;
+    }
+
+pub first_rows-requires : goal.first_rows-requires
+first_rows-requires c =
+    first_within c.args.before.now c.args.after.now c.args.old.now.section c.args.old.now.rows c.requires.rows c.args.first c.requires.first
+
+pub loop-n-init : goal.loop-n-init
+loop-n-init c =
+    let old = c.args.old.now in
+    let copied = c.in_ok-rows.ensures in
+    record {
+      value = ap (map (stamped_row 0)) copied
+          ∙ first_are c.args.before.now c.args.after.now old.section old.rows c.requires.rows c.args.first c.requires.first;
+      stamps = subst (All (IsRestamped c.args.number (Some old))) (sym copied) (first_stay old c.args.number c.args.first.at c.requires.rise);
+      passed = c.requires.first.passed;
     }

@@ -9,8 +9,8 @@ use Rattle.rail_model.specs.Tables.{no_run, run_at}
 use Rattle.plan_model.specs.declared.cut.CutRow.{CutRow}
 use Rattle.section_cut.specs.ReachedRuns.{IsStairIfReached}
 use Rattle.section_cut.specs.Stamps.{IsThere}
-use Rattle.section_cut.proofs.ReachedRuns.{IsSameRow, reached_uses, stair_own, same_told, place_with, rows_stay}
-use Rattle.section_cut.proofs.reached_runs.row_differing.Goals as goal
+use Rattle.section_cut.proofs.ReachedRuns.{IsSameRow, reached_uses, stair_own, same_told, place_with, rows_stay, same_before}
+use Rattle.section_cut.proofs.reached_runs.first_differing.Goals as goal
 
 pub row_differs-requires-clause-uses : goal.row_differs-requires-clause-uses
 row_differs-requires-clause-uses c =
@@ -68,7 +68,12 @@ loop-n-preserved c =
           positions c.requires.table n below at c.loop-n.invariant.passed there told;
     }
 
-pub returns : goal.returns
-returns c _ =
+pub returns-clause-none : goal.returns-clause-none
+returns-clause-none c _ =
     rows_stay c.args.before.now c.args.after.now c.args.old.now.section c.requires.reached.same.runs
     (λ k l. c.loop-n.invariant.same k (omega (arith, l, c.loop-n-test.false, c.runs-n-end.ensures.count)))
+
+pub returns-then-branch-clause-some : goal.returns-then-branch-clause-some
+returns-then-branch-clause-some c =
+    same_before c.args.before.now c.args.after.now c.args.old.now.section c.loop-n.n c.loop-n.at c.requires.reached.same.runs
+    (omega (arith, c.loop-n-test.true, c.runs-n-end.ensures.count)) c.loop-n.invariant.same c.loop-n.invariant.passed
