@@ -1,4 +1,5 @@
 mod Examples
+mod PartTexts
 pub mod Rows
 pub mod Timetables
 pub mod Checks

@@ -9,12 +9,15 @@ use Rattle.plan_model.specs.SectionCut.{section_cut}
 use Rattle.plan_model.specs.Answer.{IsAnswer}
 use Rattle.capacity_report.specs.declared.answers.Detail.TheVariants as detail
 use Rattle.capacity_report.specs.Answers.{answer_rows}
-use Rattle.capacity_report.specs.Total.{total_of, with_answer, is_ordered, is_within_capacity, is_over_capacity, is_disordered, is_crowded}
+use Rattle.capacity_report.specs.Total.{total_of, with_answer, joined, is_ordered, is_within_capacity, is_over_capacity, is_disordered, is_crowded}
 use Rattle.capacity_report.specs.Report.{AreAnswers, heads}
+
+count_both : (test : Answer → Bool) (xs ys : List Answer) → count_by test (xs ++ ys) ≡ count_by test xs + count_by test ys
+count_both test xs ys = sum_by-append (λ a. cond (test a) 1 0) xs ys
 
 count_more : (test : Answer → Bool) (answers : List Answer) (a : Answer)
     → count_by test (answers ++ a ∷ []) ≡ count_by test answers + cond (test a) 1 0
-count_more test answers a = omega (arith, sum_by-append (λ b. cond (test b) 1 0) answers (a ∷ []))
+count_more test answers a = omega (arith, count_both test answers (a ∷ []))
 
 -- the total with one answer more
 pub total_more : (answers : List Answer) (a : Answer) → total_of (answers ++ a ∷ []) ≡ with_answer (total_of answers) a
@@ -26,6 +29,18 @@ total_more answers a =
       count_more is_over_capacity answers a,
       count_more is_disordered answers a,
       count_more is_crowded answers a,
+    ) refl
+
+-- the total of two lists of answers
+pub total_joined : (xs ys : List Answer) → total_of (xs ++ ys) ≡ joined (total_of xs) (total_of ys)
+total_joined xs ys =
+    rw (
+      length-append xs ys,
+      count_both is_ordered xs ys,
+      count_both is_within_capacity xs ys,
+      count_both is_over_capacity xs ys,
+      count_both is_disordered xs ys,
+      count_both is_crowded xs ys,
     ) refl
 
 -- the heads with one more section and its answer

@@ -1,5 +1,5 @@
 -- The rows of `stairs` as the program makes them: what stands at the head, the block's name in a list, and the times.
-use Rattle.std.specs.Prelude.{List, [], ◌∷◌, ◌++◌, map, codes, slice_index_or}
+use Rattle.std.specs.Prelude.{ℕ, ◌<◌, List, [], ◌∷◌, ◌++◌, length, map, codes, All, slice_index_or}
 use Rattle.std.specs.List.{range_with_len}
 use Rattle.std.specs.Fmt.{signed_decimal}
 use Rattle.blocking_time.specs.declared.walk.Blocking.{Blocking}
@@ -7,6 +7,7 @@ use Rattle.blocking_time.specs.Blocking.{blocking_of}
 use Rattle.rail_model.specs.declared.path.Path.{Path}
 use Rattle.rail_model.specs.declared.tables.Tables.{Tables}
 use Rattle.rail_model.specs.Path.{hop_count}
+use Rattle.line_tables.specs.Paths.{path_at}
 use Rattle.row_text.specs.Row.{Row}
 
 -- the row of a blocking: its head, its block, its use and its six parts
@@ -26,3 +27,11 @@ rows_by_names names path =
 -- the names of the blocks, by number
 abbrev pub names_of : Tables → List Row
 names_of tables = map (λ b. b.name ∷ []) tables.blocks
+
+-- the rows of the path of a number
+abbrev pub rows_at : List Row → List Path → ℕ → List Row
+rows_at names paths n = rows_by_names names (path_at paths n)
+
+-- each block of the paths has a name
+abbrev pub AreNamed : List Row → List Path → Type 0
+AreNamed names paths = All (λ path. All (λ h. h.block < length names) path.hops) paths

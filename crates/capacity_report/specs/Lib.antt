@@ -1,5 +1,6 @@
 pub mod Stairs
 pub mod Blockings
+pub mod Parts
 pub mod Check
 pub mod Answers
 pub mod Total

@@ -74,6 +74,17 @@ with_answer total a = record {
   crowded = total.crowded + cond (is_crowded a) 1 0;
 }
 
+-- the total of the answers of two totals
+abbrev pub joined : Total → Total → Total
+joined first second = record {
+  sections = first.sections + second.sections;
+  ordered = first.ordered + second.ordered;
+  within = first.within + second.within;
+  over = first.over + second.over;
+  disordered = first.disordered + second.disordered;
+  crowded = first.crowded + second.crowded;
+}
+
 -- no count is more than that of the sections
 pub record IsTally (sections ordered within over disordered crowded : ℕ) : Type 0 where
   pub few_ordered : ordered ≤ sections

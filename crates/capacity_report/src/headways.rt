@@ -1,55 +1,88 @@
 //! The rows of `headways`.
-ghost use Rattle.std.specs.Prelude.{◌≡◌, ◌<◌, ◌++◌, ◌∷◌, [], codes, OnOk, OnErr, IfOk};
+ghost use Rattle.std.specs.Prelude.{◌≡◌, ◌<◌, ◌≤◌, ◌++◌, ◌∷◌, [], codes, OnOk, OnErr, IfOk};
 ghost use Rattle.plan_model.specs.Cut.{IsSoundCut};
 ghost use Rattle.plan_model.specs.Members.{member_count};
 ghost use Rattle.headway_table.specs.Table.{table_of};
-ghost use Rattle.row_text.specs.SheetRows.{with_row};
-ghost use Rattle.row_text.specs.Adds.{Adds, AddsFirst};
+ghost use Rattle.row_text.specs.SheetRows.{with_row, text_of_rows};
+ghost use Rattle.row_text.specs.Adds.{Adds};
 ghost use Rattle.capacity_report.specs.Headways as rows;
 ghost use Rattle.capacity_report.specs.Pairs as pairs;
+ghost use Rattle.capacity_report.specs.Parts.{text_between};
 
+use crate::parts::{ask_for_rest, text_in_parts};
 use headway_table::Headways;
 use plan_model::Cut;
 use rail_model::{Name, OutOfMemory};
-use row_text::{Sheet, Written};
+use row_text::{Sheet, Text, Written};
 use std::alloc::Global;
+use std::thread::Threads;
 
-/// Adds the rows of the headways of a cut: one from each train to each other that shares a place
-/// with it, by the names of the first and then the second. A row that is open is dropped first. It
-/// takes memory; where that runs out, only a prefix of the rows is added, and the next row may be
-/// open.
-pub fn headway_rows(
+// Fewer members aren't worth a thread of their own.
+const LEAST_MEMBERS: usize = 32;
+
+/// The text of the rows of the headways of a cut: one from each train to each other that shares a
+/// place with it, by the names of the first and then the second. It is made in parts, by as many
+/// threads as there are processors.
+pub fn headways_text(
+    rt: &(impl Threads + Sync),
     alloc: Global,
-    sheet: &mut Sheet,
     cut: &Cut,
     table: &Headways,
-) -> Result<(), OutOfMemory>
+) -> Result<Text, OutOfMemory>
     requires sound { IsSoundCut cut.now }
     requires table { table.now ≡ table_of cut.now }
-    ensures ok { OnOk result (sheet.new.rows ≡ sheet.old.rows ++ rows.headway_rows cut.now) }
-    ensures closed { OnOk result (sheet.new.row ≡ []) }
-    ensures err { OnErr result (AddsFirst sheet.old sheet.new (rows.headway_rows cut.now)) }
+    ensures { IfOk result (λ text. text ≡ text_of_rows (rows.headway_rows cut.now)) }
 {
-    rows_of_table(alloc, sheet, cut, table)
+    let names = member_names(alloc, cut)?;
+    text_by_names(rt, alloc, cut, table, &names)
 }
 
-// The same.
-fn rows_of_table(
+// The same with the names of the members.
+fn text_by_names(
+    rt: &(impl Threads + Sync),
     alloc: Global,
-    sheet: &mut Sheet,
     cut: &Cut,
     table: &Headways,
-) -> Result<(), OutOfMemory>
-    requires sound { IsSoundCut cut.now }
+    names: &[Written],
+) -> Result<Text, OutOfMemory>
     requires table { table.now ≡ table_of cut.now }
-    ensures { Adds result sheet.old sheet.new (rows.headway_rows cut.now) }
+    requires names { names.now ≡ pairs.names_of cut.now }
+    requires few { member_count cut.now < 4_294_967_296 }
+    ensures { IfOk result (λ text. text ≡ text_of_rows (rows.headway_rows cut.now)) }
 {
-    sheet.drop_row();
-    let names = member_names(alloc, cut)?;
-    for i in 0..cut.rows.len() {
-        rows_from(alloc, sheet, cut, table, &names, i)?;
+    let text_of = |first: usize, end: usize| -> Result<Vec<u8>, OutOfMemory>
+        requires { (first ≤ «end») × («end» ≤ member_count cut.now)
+            × (member_count cut.now < 4_294_967_296) × (table.now ≡ table_of cut.now)
+            × (names.now ≡ pairs.names_of cut.now) }
+        ensures { IfOk result (λ text. text.items
+            ≡ text_between (rows.rows_from cut.entry.now) first «end») }
+    { text_of_part(alloc, cut, table, names, first, end) };
+    text_in_parts(rt, alloc, cut.rows.len(), LEAST_MEMBERS, &text_of)
+}
+
+// The text of the rows of the headways from some members: those from one number to another.
+fn text_of_part(
+    alloc: Global,
+    cut: &Cut,
+    table: &Headways,
+    names: &[Written],
+    first: usize,
+    end: usize,
+) -> Result<Vec<u8>, OutOfMemory>
+    requires first { first ≤ «end» }
+    requires there { «end» ≤ member_count cut.now }
+    requires few { member_count cut.now < 4_294_967_296 }
+    requires table { table.now ≡ table_of cut.now }
+    requires names { names.now ≡ pairs.names_of cut.now }
+    ensures { IfOk result (λ text. text.items
+        ≡ text_between (rows.rows_from cut.now) first «end») }
+{
+    let mut sheet = Sheet::new(alloc);
+    for i in first..end {
+        rows_from(alloc, &mut sheet, cut, table, names, i)?;
+        ask_for_rest(&mut sheet, i + 1 - first, end - 1 - i);
     }
-    Ok(())
+    Ok(sheet.into_text())
 }
 
 // The names of the members, in the order of the rows.

@@ -1,42 +1,85 @@
 //! The rows of `stairs`.
-ghost use Rattle.std.specs.Prelude.{◌≡◌, ◌<◌, ◌∷◌, ◌++◌, [], length, map, All, codes};
+ghost use Rattle.std.specs.Prelude.{◌≡◌, ◌<◌, ◌≤◌, ◌∷◌, [], length, map, All, codes};
 ghost use Rattle.std.specs.Prelude.{OnOk, OnErr, IfOk};
+ghost use Rattle.std.specs.List.{flat_map, range_with_len};
 ghost use Rattle.rail_model.specs.Path.{Fits};
-ghost use Rattle.row_text.specs.SheetRows.{with_row};
-ghost use Rattle.row_text.specs.Adds.{Adds, AddsFirst};
+ghost use Rattle.row_text.specs.SheetRows.{with_row, text_of_rows};
+ghost use Rattle.row_text.specs.Adds.{Adds};
 ghost use Rattle.capacity_report.specs.Stairs as rows;
-ghost use Rattle.capacity_report.specs.Blockings.{blocking_row, named_row, rows_by_names, names_of};
+ghost use Rattle.capacity_report.specs.Blockings.{blocking_row, named_row, rows_by_names, rows_at, names_of, AreNamed};
+ghost use Rattle.capacity_report.specs.Parts.{text_between};
 
+use crate::parts::{ask_for_rest, text_in_parts};
 use blocking_time::{Blocking, blockings};
-use line_tables::LineTables;
+use line_tables::{LineTables, Paths};
 use rail_model::{OutOfMemory, Path};
-use row_text::{Sheet, Written};
+use row_text::{Sheet, Text, Written};
 use std::alloc::Global;
+use std::thread::Threads;
 
-/// Adds the rows of all runs, in the order of their names: one for each block of the run's path, in
-/// the order of the path. A row that is open is dropped first. Where memory runs out, only a prefix
-/// of the rows is added, and the next row may be open.
-pub fn stairs_rows(alloc: Global, sheet: &mut Sheet, tables: &LineTables) -> Result<(), OutOfMemory>
-    ensures ok { OnOk result (sheet.new.rows ≡ sheet.old.rows ++ rows.stairs_rows tables.now) }
-    ensures closed { OnOk result (sheet.new.row ≡ []) }
-    ensures err { OnErr result (AddsFirst sheet.old sheet.new (rows.stairs_rows tables.now)) }
-{
-    rows_of_runs(alloc, sheet, tables)
-}
+// Fewer runs aren't worth a thread of their own.
+const LEAST_RUNS: usize = 64;
 
-// The same.
-fn rows_of_runs(alloc: Global, sheet: &mut Sheet, tables: &LineTables) -> Result<(), OutOfMemory>
-    ensures { Adds result sheet.old sheet.new (rows.stairs_rows tables.now) }
+/// The text of the rows of all runs, in the order of their names: one row for each block of the
+/// run's path, in the order of the path. It is made in parts, by as many threads as there are
+/// processors.
+pub fn stairs_text(
+    rt: &(impl Threads + Sync),
+    alloc: Global,
+    tables: &LineTables,
+) -> Result<Text, OutOfMemory>
+    ensures { IfOk result (λ text. text ≡ text_of_rows (rows.stairs_rows tables.now)) }
 {
-    sheet.drop_row();
     let names = block_names(alloc, tables)?;
     let paths = tables.paths()?;
-    let count = tables.runs();
-    for run in 0..count {
-        let path = paths.path(run)?;
-        run_rows(alloc, sheet, &names, &path)?;
+    text_of_paths(rt, alloc, &names, &paths, tables.runs() as usize)
+}
+
+// The text of the rows of these paths.
+fn text_of_paths(
+    rt: &(impl Threads + Sync),
+    alloc: Global,
+    names: &[Written],
+    paths: &Paths<'_>,
+    count: usize,
+) -> Result<Text, OutOfMemory>
+    requires few { count < 4_294_967_296 }
+    requires count { count ≤ length paths.now }
+    requires named { AreNamed names.now paths.now }
+    ensures { IfOk result (λ text. text
+        ≡ text_of_rows (flat_map (rows_at names.now paths.now) (range_with_len 0 count))) }
+{
+    let text_of = |first: usize, end: usize| -> Result<Vec<u8>, OutOfMemory>
+        requires { (first ≤ «end») × («end» < 4_294_967_296) × («end» ≤ length paths.now)
+            × AreNamed names.now paths.now }
+        ensures { IfOk result (λ text. text.items
+            ≡ text_between (rows_at names.entry.now paths.entry.now) first «end») }
+    { text_of_part(alloc, names, paths, first, end) };
+    text_in_parts(rt, alloc, count, LEAST_RUNS, &text_of)
+}
+
+// The text of the rows of the paths from one number to another.
+fn text_of_part(
+    alloc: Global,
+    names: &[Written],
+    paths: &Paths<'_>,
+    first: usize,
+    end: usize,
+) -> Result<Vec<u8>, OutOfMemory>
+    requires first { first ≤ «end» }
+    requires few { «end» < 4_294_967_296 }
+    requires count { «end» ≤ length paths.now }
+    requires named { AreNamed names.now paths.now }
+    ensures { IfOk result (λ text. text.items
+        ≡ text_between (rows_at names.now paths.now) first «end») }
+{
+    let mut sheet = Sheet::new(alloc);
+    for run in first..end {
+        let path = paths.path(run as u32)?;
+        run_rows(alloc, &mut sheet, names, &path)?;
+        ask_for_rest(&mut sheet, run + 1 - first, end - 1 - run);
     }
-    Ok(())
+    Ok(sheet.into_text())
 }
 
 // The names of the blocks, by number.

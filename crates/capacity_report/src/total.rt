@@ -1,5 +1,5 @@
 //! The total of a report.
-ghost use Rattle.std.specs.Prelude.{◌≡◌, ◌<◌, [], OnOk, OnErr};
+ghost use Rattle.std.specs.Prelude.{◌≡◌, ◌+◌, ◌<◌, [], OnOk, OnErr};
 ghost use Rattle.row_text.specs.SheetRows.{with_row};
 ghost use Rattle.capacity_report.specs.Total as totals;
 
@@ -66,6 +66,19 @@ impl Tally {
         self.over += u32::from(is_over_capacity(answer, within));
         self.disordered += u32::from(is_disordered(answer));
         self.crowded += u32::from(is_crowded(answer));
+    }
+
+    /// Counts the answers of another total. It takes no memory.
+    pub fn join(&mut self, other: &Tally)
+        requires room { self.old.sections + other.now.sections < 4_294_967_296 }
+        ensures { self.new ≡ totals.joined self.old other.now }
+    {
+        self.sections += other.sections;
+        self.ordered += other.ordered;
+        self.within += other.within;
+        self.over += other.over;
+        self.disordered += other.disordered;
+        self.crowded += other.crowded;
     }
 }
 

@@ -1,0 +1,80 @@
+//! Texts that are made in parts, by as many threads as there are processors.
+ghost use Rattle.std.specs.Prelude.{◌≡◌, ℕ, ◌+◌, ◌<◌, ◌≤◌, List, IfOk, map, Ok};
+ghost use Rattle.std.specs.List.{flat_map, range_with_len};
+ghost use Rattle.row_text.specs.Row.{Row};
+ghost use Rattle.row_text.specs.SheetRows.{text_of_rows};
+ghost use Rattle.capacity_report.specs.Parts.{start_of, AcceptsParts, GivesTexts};
+
+use rail_model::OutOfMemory;
+use rayon::current_num_threads;
+use row_text::{Sheet, Text};
+use std::alloc::Global;
+use std::thread::{Threads, map_indices};
+
+// The text of the rows of so many items, in their order. The call makes that of the items from one
+// number to another. There are as many parts as processors, each made by a thread of its own, but
+// none has fewer than `least` items where there is more than one.
+pub(crate) fn text_in_parts<
+    R: Threads + Sync,
+    F: Fn(usize, usize) -> Result<Vec<u8>, OutOfMemory> + Sync,
+>(rt: &R, alloc: Global, count: usize, least: usize, text_of: &F) -> Result<Text, OutOfMemory>
+    requires few { count < 4_294_967_296 }
+    requires least { 0 < least }
+    requires accepts { AcceptsParts (F.pre text_of.now) count }
+    ensures { (rows : ℕ → List Row) → GivesTexts (F.post text_of.now) rows count
+        → IfOk result (λ text. text ≡ text_of_rows (flat_map rows (range_with_len 0 count))) }
+{
+    let parts = parts_of(rt, count, least);
+    let part = move |i: usize| -> Result<Vec<u8>, OutOfMemory>
+        requires { (i < parts) × (parts ≤ count + 1) × (count < 4_294_967_296)
+            × AcceptsParts (F.pre text_of.now) count }
+        ensures { F.post text_of.entry.now
+            (start_of count parts i) (start_of count parts (i + 1)) result }
+    { text_of(start_of(count, parts, i), start_of(count, parts, i + 1)) };
+    one_after_another(alloc, map_indices(rt, alloc, parts, &part)?)
+}
+
+// Into how many parts so many items are split.
+fn parts_of(rt: &impl Threads, count: usize, least: usize) -> usize
+    requires { 0 < least }
+    ensures some { 0 < result }
+    ensures most { result ≤ count + 1 }
+{
+    current_num_threads(rt).min(count / least).max(1)
+}
+
+// The number of a part's first item.
+fn start_of(count: usize, parts: usize, i: usize) -> usize
+    requires some { 0 < parts }
+    requires most { i ≤ parts }
+    requires parts { parts ≤ count + 1 }
+    requires few { count < 4_294_967_296 }
+    ensures { result ≡ start_of count parts i }
+{
+    i * count / parts
+}
+
+// The text of these pieces, where each could be made.
+fn one_after_another(
+    alloc: Global,
+    pieces: Vec<Result<Vec<u8>, OutOfMemory>>,
+) -> Result<Text, OutOfMemory>
+    ensures { IfOk result (λ text. (made : List _) × (pieces.items ≡ map Ok made)
+        × (text ≡ flat_map (λ piece. piece.items) made)) }
+{
+    let mut text = Text::new(alloc);
+    for piece in pieces {
+        text.push(piece?)?;
+    }
+    Ok(text)
+}
+
+// After the first item of a part, asks for twice the room that the others would take if they were
+// like it: room that isn't written to takes no memory, and a text that outgrows it must be moved.
+pub(crate) fn ask_for_rest(sheet: &mut Sheet, done: usize, left: usize)
+    ensures { sheet.new ≡ sheet.old }
+{
+    if done == 1 {
+        let _ = sheet.reserve(sheet.bytes().saturating_mul(left).saturating_mul(2));
+    }
+}
