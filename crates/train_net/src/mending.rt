@@ -27,8 +27,9 @@ use std::alloc::Global;
 /// if it is kept.
 ///
 /// Only the places of fresh members, and of those that stand next to them or next to where one is
-/// gone, are looked at. There is none where kept members don't stand as before, or a fresh one
-/// doesn't fit in where its entry is.
+/// gone, are looked at. There is none where a member whose edges are made anew doesn't stand, in
+/// the order, behind the nearest before it at such a place, or a fresh one doesn't fit in where its
+/// entry is.
 pub fn mend(
     alloc: Global,
     cut: &SoundCut,

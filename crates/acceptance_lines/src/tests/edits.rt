@@ -7,7 +7,8 @@ use std::test::Fail;
 
 const CONNECTED: &str = "connect,C,T1,T2,60\n";
 
-// Edits of a line with two runs, a section and a connection, one after the other, and their answers.
+// Edits of a line with two runs, a section and a connection, one after the other, and what each
+// is answered.
 const EDITS: [(&str, Result<(), Rule>); 26] = [
     ("block,X,0", Err(Rule::Range)),
     ("block,C,9", Err(Rule::Twice)),

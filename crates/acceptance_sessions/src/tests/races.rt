@@ -73,8 +73,8 @@ const ORDERED: &str = "ordered,S,2,300,B\nrate,S,1/12,8.34,133/1200,11.09,within
 
 const TRAINS: &str = "train,T1,85,0,-85,start\ntrain,T2,385,150,-235,after,T1,B\n";
 
-// The worker has read before the planner's first edit, and publishes after its last: what it read is
-// stale, so the text has one publication. On one thread the two would wait for one another.
+// The worker has read before the planner's first edit, and publishes after its last: what it read
+// is stale, so the text has one publication. On one thread the two would wait for one another.
 #[test]
 fn answer_that_is_overtaken_is_not_published(rt: HostRuntime) -> Result<(), Fail> {
     let rows = "planner,1\ndrop-run,T2\nrun,T2,R,100,10,400,60,0,60\n";
