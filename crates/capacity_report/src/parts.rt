@@ -11,9 +11,9 @@ use row_text::{Sheet, Text};
 use std::alloc::Global;
 use std::thread::{Threads, map_indices};
 
-// The text of the rows of so many items, in their order. The call makes that of the items from one
-// number to another. There are as many parts as processors, each made by a thread of its own, but
-// none has fewer than `least` items where there is more than one.
+// The text of the rows of so many items, in their order, where `text_of` makes that of the items
+// from one number to another. There are as many parts as processors, each made by a thread of its
+// own, but no part has fewer than `least` items where there are several.
 pub(crate) fn text_in_parts<
     R: Threads + Sync,
     F: Fn(usize, usize) -> Result<Vec<u8>, OutOfMemory> + Sync,
