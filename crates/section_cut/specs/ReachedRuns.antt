@@ -93,8 +93,8 @@ pub record IsRowAfter (bare : Option CutRow) (number : ℕ) (old : Cut) (row : O
   pub value : option_map (stamped_row 0) row ≡ bare
   pub stamp : IfSome row (IsRestamped number (Some old))
 
--- the rows of the runs before this one are the same by both tables, and it is told how many they
--- are
+-- the rows of the runs before this one are the same by both tables, and the place is behind as many
+-- rows as they have
 pub record IsSameBefore (earlier later : Tables) (section : Section) (first : RunAt) : Type 0 where
   pub within : first.run ≤ length later.runs
   pub same : map (row_on_blocks later section 0) (filter (is_member later section) (take first.run later.runs))

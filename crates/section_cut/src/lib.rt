@@ -2,7 +2,8 @@
 //! it, and which connections bind them.
 //!
 //! `cut_of` makes the cut of one section. For the cuts of many sections `stairways` makes the
-//! stairways of all runs once, and `cut_among` takes each cut from them.
+//! stairways of all runs once, and `cut_among` takes each cut from them. `stairways_in_parts` makes
+//! them side by side.
 //!
 //! `cut_change` makes a cut that is kept that of the tables after an edit, with the stamps of its
 //! rows, and tells whether the edit touches the section; `CutChanges` does so for many sections.
