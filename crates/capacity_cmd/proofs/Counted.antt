@@ -86,7 +86,7 @@ rows_made n made base last none line counted session whole e0 e1 e2 e3 e4 = rw (
 -- ---- the call that sends them
 
 -- the reply to it is a text
-pub text_said : (IsText : List ℕ → Type 0) (reply : Reply) → IsReply (EndsInText IsText) reply → IsText reply.text.items
+pub text_said : (IsText : List ℕ → Type 0) (reply : Reply) → IsReply (EndsInText IsText) reply → IsText reply.text
 text_said IsText reply is =
     subst IsText (sym (is.said.text ∙ ap outcome_text is.ends.2)) is.ends.1
 
@@ -104,18 +104,18 @@ module _ {K : Type 0} (IsText : List ℕ → Type 0) (sink : SinkInCall K) (repl
   pub ends_unread : EndsUnread status
   ends_unread = elim done_here [ inl d ↦ inl d | inr f ↦ inr (inl f) ]
 
-  ends : EndsInText IsText (Writes reply.text.items)
-  ends = (reply.text.items, text_said IsText reply is, refl)
+  ends : EndsInText IsText (Writes reply.text)
+  ends = (reply.text, text_said IsText reply is, refl)
 
   other_than : (s : Status) → status ≡ s → (Done ≡ s → ⊥) → (WriteFault ≡ s → ⊥) → ⊥
   other_than s at done fault = elim done_here [ inl d ↦ done (sym d ∙ at) | inr f ↦ fault (sym f ∙ at) ]
 
   pub writes_sent : WritesOutcome (EndsInText IsText) status sink
   writes_sent = record {
-    done = λ d. elim sent [ inl w ↦ (reply.text.items, ends, w.1) | inr f ↦ done_fault (sym d ∙ f.0) ];
+    done = λ d. elim sent [ inl w ↦ (reply.text, ends, w.1) | inr f ↦ done_fault (sym d ∙ f.0) ];
     refused = λ row why at. absurd (other_than (Refused row why) at (λ e. cc) (λ e. cc));
     write_fault = λ at. elim sent [ inl w ↦ done_fault (sym (w.0 ∙ is_done IsText reply is) ∙ at) | inr f ↦ f.2 ];
-    broke_off = λ at. elim sent [ inl w ↦ done_fault (sym (w.0 ∙ is_done IsText reply is) ∙ at) | inr f ↦ (Writes reply.text.items, ends, f.1) ];
+    broke_off = λ at. elim sent [ inl w ↦ done_fault (sym (w.0 ∙ is_done IsText reply is) ∙ at) | inr f ↦ (Writes reply.text, ends, f.1) ];
     no_write_fault = λ other. elim sent [ inl w ↦ w.2 | inr f ↦ absurd (other f.0) ];
     nothing_written = λ at. absurd (other_than ReadFault at (λ e. cc) (λ e. cc));
     no_memory = λ at. absurd (other_than OutOfMemory at (λ e. cc) (λ e. cc));

@@ -7,4 +7,6 @@ pub mod Commands
 pub mod Members
 pub mod GivenDelays
 pub mod Reports
+pub mod SideBySide
+pub mod Pieces
 pub mod Counted

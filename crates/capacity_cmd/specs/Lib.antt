@@ -8,6 +8,7 @@ pub mod Stairs
 pub mod Check
 pub mod Compress
 pub mod Report
+pub mod Heads
 pub mod Headways
 pub mod Cut
 pub mod Head

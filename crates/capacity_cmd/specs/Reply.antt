@@ -8,7 +8,7 @@ use Rattle.capacity_cmd.specs.Outcome.{Outcome, outcome_text, outcome_status}
 
 -- the reply says this outcome
 pub record Says (outcome : Outcome) (reply : Reply) : Type 0 where
-  pub text : reply.text.items ≡ outcome_text outcome
+  pub text : reply.text ≡ outcome_text outcome
   pub status : reply.status ≡ outcome_status outcome
 
 -- the reply says an outcome that a call may have
@@ -20,5 +20,5 @@ pub record IsReply (MayEnd : Outcome → Type 0) (reply : Reply) : Type 0 where
 -- the reply is sent: its whole text is written and flushed, and the status is its status, or a write failed
 abbrev pub IsSent : {K : Type 0} → SinkInCall K → Reply → Status → Type 0
 IsSent sink reply status =
-    ((status ≡ reply.status) × IsWritten sink reply.text.items × NoWriteFailed sink)
-    ⊎ ((status ≡ WriteFault) × IsBrokenOff sink reply.text.items × WriteFailed sink)
+    ((status ≡ reply.status) × IsWritten sink reply.text × NoWriteFailed sink)
+    ⊎ ((status ≡ WriteFault) × IsBrokenOff sink reply.text × WriteFailed sink)

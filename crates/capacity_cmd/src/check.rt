@@ -8,12 +8,17 @@ use line_tables::LineTables;
 use rail_model::OutOfMemory;
 use row_text::Sheet;
 use std::alloc::Global;
+use std::thread::Threads;
 
 // The rows of the timetable's conflicts.
-pub(crate) fn check_text(alloc: Global, tables: &LineTables) -> Result<Vec<u8>, OutOfMemory>
+pub(crate) fn check_text(
+    rt: &(impl Threads + Sync),
+    alloc: Global,
+    tables: &LineTables,
+) -> Result<Vec<u8>, OutOfMemory>
     ensures { IfOk result (λ text. IsCheckText tables.now text.items) }
 {
-    let stairs = stairways(alloc, tables)?;
+    let stairs = stairways(rt, alloc, tables)?;
     let found = conflicts(alloc, &stairs)?;
     let mut sheet = Sheet::new(alloc);
     conflict_rows(&mut sheet, tables, &found)?;

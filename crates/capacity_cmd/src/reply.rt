@@ -24,14 +24,14 @@ use crate::{Cause, Command, Status, Told};
 use capacity_report::rule_text;
 use rail_model::{Form, OutOfMemory};
 use rail_outside::Gate;
-use row_text::{RowList, Sheet, rows};
+use row_text::{RowList, Sheet, Text, rows};
 use std::alloc::Global;
 use std::sync::Wait;
 use std::thread::Threads;
 
 #[derive(Drop)]
 pub(crate) struct Reply {
-    pub(crate) text: Vec<u8>,
+    pub(crate) text: Text,
     pub(crate) status: Status,
 }
 
@@ -109,7 +109,7 @@ pub(crate) fn reply_on_threads<R: Threads + Wait + Sync, G: Gate>(
     ensures { IfOk result (IsReply (EndsOnAccepted (command.Session workers) given)) }
 {
     Ok(Reply {
-        text: text_on_threads(rt, alloc, given, workers, gate)?,
+        text: Text::of(text_on_threads(rt, alloc, given, workers, gate)?)?,
         status: Status::Done,
     })
 }
@@ -123,7 +123,7 @@ pub(crate) fn made_reply<R: AllocGlobal + Threads + Wait + Sync, G: Gate>(
     ensures { IfOk result (IsReply (EndsInText (IsMadeText n))) }
 {
     Ok(Reply {
-        text: made_text(rt, rt.alloc(), n, gate)?,
+        text: Text::of(made_text(rt, rt.alloc(), n, gate)?)?,
         status: Status::Done,
     })
 }
@@ -133,7 +133,7 @@ pub(crate) fn refusal(alloc: Global, row: u64, cause: Cause) -> Result<Reply, Ou
     ensures { IfOk result (Says (Refuses row cause)) }
 {
     Ok(Reply {
-        text: refusal_text(alloc, row, cause)?,
+        text: Text::of(refusal_text(alloc, row, cause)?)?,
         status: Status::Refused { row, cause },
     })
 }

@@ -6,26 +6,46 @@ ghost use Rattle.plan_model.specs.SectionCut.{section_cut};
 ghost use Rattle.plan_model.specs.Answer.{IsAnswer};
 ghost use Rattle.capacity_report.specs.Total.{total_of, IsAnswerOfSome};
 ghost use Rattle.capacity_cmd.specs.Report.{IsReportText, AddsReport, HasHeads, AddsHead};
+ghost use Rattle.capacity_cmd.specs.Heads.{AreHeads};
 
 use crate::compress::answer_of;
+use crate::heads::{Head, heads_of, join_heads};
 use capacity_report::{Detail, Tally, answer_rows, total_row};
 use line_tables::LineTables;
 use plan_model::Answer;
 use rail_model::OutOfMemory;
 use row_text::Sheet;
-use section_cut::{AllStairways, cut_among, stairways};
+use section_cut::{AllStairways, cut_among, stairways, stairways_in_parts};
 use std::alloc::Global;
+use std::thread::Threads;
 
-// The heads of the answers of all sections, and their total.
-pub(crate) fn report_text(alloc: Global, tables: &LineTables) -> Result<Vec<u8>, OutOfMemory>
+// The heads of the answers of all sections, and their total. As many threads make them as there are
+// processors.
+pub(crate) fn report_text(
+    rt: &(impl Threads + Sync),
+    alloc: Global,
+    tables: &LineTables,
+) -> Result<Vec<u8>, OutOfMemory>
+    ensures { IfOk result (λ text. IsReportText tables.now text.items) }
+{
+    let stairs = AllStairways::of(alloc, stairways_in_parts(rt, alloc, tables)?)?;
+    let heads = heads_of(rt, alloc, tables, &stairs)?;
+    text_of_heads(alloc, tables, &heads)
+}
+
+// The text of the heads and their total.
+fn text_of_heads(alloc: Global, tables: &LineTables, heads: &[Head]) -> Result<Vec<u8>, OutOfMemory>
+    requires { AreHeads tables.now heads.now }
     ensures { IfOk result (λ text. IsReportText tables.now text.items) }
 {
     let mut sheet = Sheet::new(alloc);
-    add_report(alloc, &mut sheet, tables)?;
+    let mut tally = Tally::new();
+    join_heads(&mut sheet, &mut tally, tables, heads)?;
+    total_row(&mut sheet, &tally)?;
     Ok(sheet.into_text())
 }
 
-// Adds these rows to a sheet.
+// Adds the same rows to a sheet, made in this thread.
 pub(crate) fn add_report(
     alloc: Global,
     sheet: &mut Sheet,
@@ -59,7 +79,7 @@ fn add_heads(
 }
 
 // Adds the head of the answer of the section of a number.
-fn add_head(
+pub(crate) fn add_head(
     alloc: Global,
     sheet: &mut Sheet,
     tally: &mut Tally,

@@ -4,7 +4,7 @@ ghost use Rattle.capacity_cmd.specs.Reply.{IsSent};
 
 use crate::Status;
 use crate::reply::Reply;
-use rail_outside::{Sink, send_all};
+use rail_outside::{Sink, send_each};
 
 // Writes the whole text of a reply and flushes it, and says its status, unless a write fails.
 pub(crate) fn send<K: Sink>(sink: &mut K, reply: Reply) -> Status
@@ -13,7 +13,7 @@ pub(crate) fn send<K: Sink>(sink: &mut K, reply: Reply) -> Status
         reply
         result }
 {
-    match send_all(sink, &reply.text) {
+    match send_each(sink, reply.text.pieces()) {
         Ok(()) => reply.status,
         Err(_) => Status::WriteFault,
     }

@@ -5,7 +5,7 @@ use Rattle.capacity_report.specs.Check.{check_rows}
 use Rattle.capacity_cmd.proofs.check.check_text.Goals as goal
 
 pub returns : goal.returns
-returns c =
+returns g c =
     let found = c.in_ok-conflict_rows.ensures.ok in
     let made = check_rows c.args.tables.now found.0 in
     (found.0, found.1, c.into_text.ensures ∙ ap text_of_rows (found.2 ∙ ap (λ (rows : List Row). rows ++ made) c.new-sheet.ensures.rows))

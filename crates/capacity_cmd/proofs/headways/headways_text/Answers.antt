@@ -6,7 +6,7 @@ use Rattle.capacity_cmd.proofs.headways.headways_text.Goals as goal
 
 pub returns-in_ok-cut_text-in-Ok : goal.returns-in_ok-cut_text-in-Ok
 returns-in_ok-cut_text-in-Ok g c =
-    writes_for_named IsHeadwaysText (cut_named c.args.tables.now c.args.section) c.in-Ok.cut c.in_ok-cut_text-in-Ok.field-0.items
+    writes_for_named IsHeadwaysText (cut_named c.args.tables.now c.args.section) c.in-Ok.cut c.in_ok-cut_text-in-Ok.field-0
     (sym c.in_ok-cut.ensures.same ∙ c.in-Ok.is) c.in_ok-cut_text-in-Ok.ensures
 
 pub returns-in-Err : goal.returns-in-Err

@@ -1,4 +1,4 @@
-use Rattle.std.proofs.Common.{ℕ, List, refl}
+use Rattle.std.proofs.Common.{refl}
 use Rattle.capacity_cmd.specs.Outcome.{Writes}
 use Rattle.capacity_cmd.proofs.reply.made_reply.Goals as goal
 
@@ -8,5 +8,5 @@ returns g c =
     record {
       outcome = Writes text;
       ends = (text, c.in_ok-made_text.ensures, refl);
-      said = record { text = refl {A = List ℕ}; status = refl };
+      said = record { text = c.in_ok-of.ensures; status = refl };
     }

@@ -7,7 +7,7 @@ use Rattle.capacity_cmd.proofs.reply.reply_alone.Goals as goal
 
 pub returns-in-Ok : goal.returns-in-Ok
 returns-in-Ok g c = record {
-  outcome = Writes c.in-Ok.text.items;
+  outcome = Writes c.in-Ok.text;
   ends = rw c.in-Ok.is at c.in_ok-text.ensures;
   said = record { text = refl; status = refl };
 }

@@ -8,5 +8,5 @@ returns g c =
     record {
       outcome = Writes text;
       ends = (text, c.in_ok-text_on_threads.ensures, refl);
-      said = record { text = refl; status = refl };
+      said = record { text = c.in_ok-of.ensures; status = refl };
     }

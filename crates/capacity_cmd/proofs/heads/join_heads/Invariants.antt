@@ -1,0 +1,6 @@
+use Rattle.capacity_cmd.specs.Report.{HasHeads}
+use Rattle.capacity_cmd.proofs.heads.join_heads.Given as goal
+
+-- the heads of the sections so far
+abbrev pub invariant-loop-number : goal.invariant-loop-number
+invariant-loop-number l = HasHeads l.tables l.number l.fn.sheet.rows l.sheet.rows l.tally

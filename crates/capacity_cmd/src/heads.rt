@@ -1,0 +1,98 @@
+//! The heads of the sections' answers, which are made side by side and then written one after the
+//! other.
+ghost use Rattle.std.specs.Prelude.{◌≡◌, ◌<◌, [], length, IfOk, OnOk};
+ghost use Rattle.rail_model.specs.Tables.{section_at};
+ghost use Rattle.rail_model.specs.Timetable.{timetable};
+ghost use Rattle.capacity_report.specs.Total.{total_of};
+ghost use Rattle.capacity_cmd.specs.Report.{HasHeads};
+ghost use Rattle.capacity_cmd.specs.Heads.{IsHead, AreHeads};
+
+use crate::report::add_head;
+use capacity_report::Tally;
+use line_tables::LineTables;
+use rail_model::OutOfMemory;
+use rayon::current_num_threads;
+use rayon::prelude::*;
+use row_text::Sheet;
+use section_cut::AllStairways;
+use std::alloc::Global;
+use std::thread::Threads;
+
+// The head of one section's answer on a sheet of its own, and the total of this answer alone.
+#[derive(Drop)]
+pub(crate) struct Head {
+    pub(crate) sheet: Sheet,
+    pub(crate) tally: Tally,
+}
+
+// The head of each section's answer, in the order of the sections' names. The pieces that are made
+// side by side are as long as they may be for a thread on each processor, and a section's cut is let
+// go before its head is handed over: so there are no more cuts at once than threads.
+pub(crate) fn heads_of(
+    rt: &(impl Threads + Sync),
+    alloc: Global,
+    tables: &LineTables,
+    stairs: &AllStairways,
+) -> Result<Vec<Head>, OutOfMemory>
+    requires { stairs.now ≡ timetable tables.now }
+    ensures { IfOk result (λ heads. AreHeads tables.now heads.items) }
+{
+    let count = tables.sections() as usize;
+    (0..count)
+        .into_par_iter()
+        .with_min_len((count / current_num_threads(rt)).max(1))
+        .map(
+            |number: usize| -> Result<Head, OutOfMemory>
+                requires { (number < length tables.now.sections) × (number < 4294967296)
+                    × (stairs.now ≡ timetable tables.now) }
+                ensures { IfOk result (IsHead tables.entry.now (section_at tables.entry.now number)) }
+            { head_of(alloc, tables, stairs, number as u32) },
+        )
+        .collect::<Result<Vec<Head>, OutOfMemory>>(rt, alloc)?
+}
+
+// The head of the answer of the section of a number.
+fn head_of(
+    alloc: Global,
+    tables: &LineTables,
+    stairs: &AllStairways,
+    number: u32,
+) -> Result<Head, OutOfMemory>
+    requires stairs { stairs.now ≡ timetable tables.now }
+    requires there { number < length tables.now.sections }
+    ensures { IfOk result (IsHead tables.now (section_at tables.now number)) }
+{
+    let mut head = Head {
+        sheet: Sheet::new(alloc),
+        tally: Tally::new(),
+    };
+    add_head(
+        alloc,
+        &mut head.sheet,
+        &mut head.tally,
+        tables,
+        stairs,
+        number,
+    )?;
+    Ok(head)
+}
+
+// Adds the heads of all sections, one after the other, and counts their answers.
+pub(crate) fn join_heads(
+    sheet: &mut Sheet,
+    tally: &mut Tally,
+    tables: &LineTables,
+    heads: &[Head],
+) -> Result<(), OutOfMemory>
+    requires heads { AreHeads tables.now heads.now }
+    requires tally { tally.old ≡ total_of [] }
+    ensures { OnOk result (HasHeads
+        tables.now (length tables.now.sections) sheet.old.rows sheet.new.rows tally.new) }
+{
+    for number in 0..tables.sections() {
+        let head = &heads[number as usize];
+        sheet.append(&head.sheet)?;
+        tally.join(&head.tally);
+    }
+    Ok(())
+}
