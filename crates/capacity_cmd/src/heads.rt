@@ -25,9 +25,9 @@ pub(crate) struct Head {
     pub(crate) tally: Tally,
 }
 
-// The head of each section's answer, in the order of the sections' names. The pieces that are made
-// side by side are as long as they may be for a thread on each processor, and a section's cut is let
-// go before its head is handed over: so there are no more cuts at once than threads.
+// The head of each section's answer, in the order of the sections' names. There are fewer than
+// twice as many pieces as processors, each made by one thread. A section's cut is let go before its
+// head is handed over, so each piece holds one cut at most.
 pub(crate) fn heads_of(
     rt: &(impl Threads + Sync),
     alloc: Global,

@@ -48,6 +48,7 @@ fn cut_text(rt: &(impl Threads + Sync), alloc: Global, cut: &Cut) -> Result<Text
     capacity_report::headways_text(rt, alloc, cut, &table)
 }
 
+// The text of a crowded cut: how many members it has.
 fn count_text(alloc: Global, cut: &Cut) -> Result<Text, OutOfMemory>
     requires sound { IsSoundCut cut.now }
     requires many { MEMBERS < member_count cut.now }

@@ -19,8 +19,7 @@ use section_cut::{AllStairways, cut_among, stairways, stairways_in_parts};
 use std::alloc::Global;
 use std::thread::Threads;
 
-// The heads of the answers of all sections, and their total. As many threads make them as there are
-// processors.
+// The heads of the answers of all sections, and their total. Several threads make them.
 pub(crate) fn report_text(
     rt: &(impl Threads + Sync),
     alloc: Global,

@@ -1,4 +1,4 @@
-//! The rows of `headways`.
+//! The text of `headways`.
 ghost use Rattle.std.specs.Prelude.{◌≡◌, ◌<◌, ◌≤◌, ◌++◌, ◌∷◌, [], codes, OnOk, OnErr, IfOk};
 ghost use Rattle.plan_model.specs.Cut.{IsSoundCut};
 ghost use Rattle.plan_model.specs.Members.{member_count};
@@ -21,8 +21,8 @@ use std::thread::Threads;
 const LEAST_MEMBERS: usize = 32;
 
 /// The text of the rows of the headways of a cut: one from each train to each other that shares a
-/// place with it, by the names of the first and then the second. It is made in parts, by as many
-/// threads as there are processors.
+/// place with it, by the names of the first and then the second. It is made in parts, by at most
+/// as many threads as there are processors.
 pub fn headways_text(
     rt: &(impl Threads + Sync),
     alloc: Global,

@@ -1,4 +1,4 @@
-//! The texts of the commands: their rows, written to a sheet.
+//! The texts of the commands, or their rows, written to a sheet.
 #![tactic(auto)]
 
 mod answers;

@@ -1,4 +1,4 @@
-//! The rows of `stairs`.
+//! The text of `stairs`.
 ghost use Rattle.std.specs.Prelude.{◌≡◌, ◌<◌, ◌≤◌, ◌∷◌, [], length, map, All, codes};
 ghost use Rattle.std.specs.Prelude.{OnOk, OnErr, IfOk};
 ghost use Rattle.std.specs.List.{flat_map, range_with_len};
@@ -21,8 +21,8 @@ use std::thread::Threads;
 const LEAST_RUNS: usize = 64;
 
 /// The text of the rows of all runs, in the order of their names: one row for each block of the
-/// run's path, in the order of the path. It is made in parts, by as many threads as there are
-/// processors.
+/// run's path, in the order of the path. It is made in parts, by at most as many threads
+/// as there are processors.
 pub fn stairs_text(
     rt: &(impl Threads + Sync),
     alloc: Global,

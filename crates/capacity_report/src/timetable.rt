@@ -9,7 +9,7 @@ use std::alloc::Global;
 use std::thread::Threads;
 
 /// The stairway of each run, in the order of the runs' names: a timetable of which
-/// `conflict_finder` finds the conflicts. As many threads as there are processors make them.
+/// `conflict_finder` finds the conflicts. Several threads make them.
 pub fn stairways(
     rt: &(impl Threads + Sync),
     alloc: Global,

@@ -30,7 +30,7 @@ pub fn stairways(alloc: Global, tables: &LineTables) -> Result<List<Stair>, OutO
     Ok(all)
 }
 
-/// The same, made by as many threads as there are processors.
+/// The same, made by at most as many threads as there are processors.
 pub fn stairways_in_parts(
     rt: &(impl Threads + Sync),
     alloc: Global,

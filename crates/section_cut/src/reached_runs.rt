@@ -223,7 +223,8 @@ pub(crate) fn cut_after_runs(
     Ok(CutChange::Touched(Some(later)))
 }
 
-// The first run whose row is another after an edit than in the cut before it.
+// The first run whose row may be another after an edit than in the cut before it; none where all
+// rows are the same.
 fn first_differing(
     alloc: Global,
     before: &LineTables,
