@@ -18,7 +18,8 @@ import tempfile
 TOP = pathlib.Path(__file__).resolve().parent.parent
 PROGRAM = TOP / "crates" / "capacity" / "out" / "capacity"
 ROUNDS = 5  # of calls on threads
-PIECE = 10  # the bytes of a read or a write, where they are refused
+PIECE = 10  # the least bytes of a read or a write, where they are refused
+PIECES = 100  # as many reads are refused, and about as many writes, where pieces are longer
 
 LINE = (TOP / "examples" / "two-blocks.csv").read_text()
 TASKS = "planner,1\nchange-run,T2,R,100,10,100,60,0,60\nask,S\n"
@@ -42,6 +43,10 @@ def races(workers):
     return [opened + middle + TOTAL for middle in middles]
 
 
+# A line on which several threads make the texts: runs, members and sections enough for two parts each.
+RUNS = "".join("run,N%03d,R,100,10,%d,60,0,60\n" % (number, 600 + 300 * number) for number in range(126))
+LONG = LINE + RUNS + "section,Z,0,86400,0,A,B\n"
+
 # The words of a call, its input, and its texts where threads make one of several.
 CALLS = [
     ("stairs", LINE, None),
@@ -57,6 +62,10 @@ CALLS = [
     ("session 1", LINE, None),
     ("session 2", LINE + TASKS, races(2)),
     ("session 16", LINE + TASKS, races(16)),
+    ("stairs", LONG, None),
+    ("check", LONG, None),
+    ("headways Z", LONG, None),
+    ("report", LONG, None),
     ("stairs", LINE + "drop-block,A\n", None),
     ("compress X", LINE, None),
     ("fill S T9", LINE, None),
@@ -69,6 +78,7 @@ class Runs:
     def __init__(self, folder, program, words, given, texts):
         self.folder, self.program, self.words, self.given = folder, program, words.split(), given.encode()
         self.told = folder / "told"
+        self.piece = max(PIECE, len(self.given) // PIECES)
         whole = self.run()
         self.status, self.texts = whole[0], [text.encode() for text in texts or []] or [whole[1]]
         self.is_raced = texts is not None
@@ -112,12 +122,14 @@ class Runs:
 
     def refuse_calls(self, what, place, status):
         """How many reads or writes a run makes, and what went wrong where one of them failed."""
-        wrong, made = [], self.run(piece=PIECE)[2][place]
+        wrong, made, least = [], self.run(piece=self.piece)[2][place], 0
         for number in range(1, made + 2):
-            ended, text, told = self.run(piece=PIECE, **{what: number})
-            written = PIECE * (number - 1) if what == "write" else 0
-            is_broken_off = ended == status and text in [whole[:written] for whole in self.texts]
-            if not (is_broken_off if number <= told[place] else self.is_whole(ended, text)):
+            ended, text, told = self.run(piece=self.piece, **{what: number})
+            # (a write ends with a piece of the text, so it may be shorter)
+            most = self.piece * (number - 1) if what == "write" else 0
+            is_begun = least <= len(text) <= most and any(whole.startswith(text) for whole in self.texts)
+            least = len(text) + 1 if what == "write" else 0
+            if not (ended == status and is_begun if number <= told[place] else self.is_whole(ended, text)):
                 wrong.append("%s %d: status %d, %d bytes" % (what, number, ended, len(text)))
         return made, wrong
 
