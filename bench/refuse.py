@@ -19,7 +19,7 @@ TOP = pathlib.Path(__file__).resolve().parent.parent
 PROGRAM = TOP / "crates" / "capacity" / "out" / "capacity"
 ROUNDS = 5  # of calls on threads
 PIECE = 10  # the least bytes of a read or a write, where they are refused
-PIECES = 100  # as many reads are refused, and about as many writes, where pieces are longer
+PIECES = 100  # the input and the text have at most about so many pieces, where these are longer
 
 LINE = (TOP / "examples" / "two-blocks.csv").read_text()
 TASKS = "planner,1\nchange-run,T2,R,100,10,100,60,0,60\nask,S\n"
@@ -78,9 +78,9 @@ class Runs:
     def __init__(self, folder, program, words, given, texts):
         self.folder, self.program, self.words, self.given = folder, program, words.split(), given.encode()
         self.told = folder / "told"
-        self.piece = max(PIECE, len(self.given) // PIECES)
         whole = self.run()
         self.status, self.texts = whole[0], [text.encode() for text in texts or []] or [whole[1]]
+        self.piece = max(PIECE, len(self.given) // PIECES, len(whole[1]) // PIECES)
         self.is_raced = texts is not None
         self.allocations, self.threads, _, _, self.blocks = whole[2]
         if not self.is_whole(*whole[:2]):
