@@ -19,7 +19,7 @@ pub(crate) fn check_text(
     ensures { IfOk result (λ text. IsCheckText tables.now text.items) }
 {
     let stairs = stairways(rt, alloc, tables)?;
-    let found = conflicts(alloc, &stairs)?;
+    let found = conflicts(rt, alloc, &stairs)?;
     let mut sheet = Sheet::new(alloc);
     conflict_rows(&mut sheet, tables, &found)?;
     Ok(sheet.into_text())

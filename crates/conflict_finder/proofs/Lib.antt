@@ -7,3 +7,4 @@ pub mod Room
 pub mod Joins
 pub mod BlockByBlock
 pub mod Moves
+pub mod InParts

@@ -11,7 +11,7 @@ use Rattle.conflict_finder.specs.declared.found.Conflict.{Conflict}
 use Rattle.conflict_finder.specs.declared.found.TheConstants.{LISTED}
 use Rattle.conflict_finder.specs.Found.{as_listed}
 
-take_both : {X : Type 0} (n : ℕ) (xs ys : List X) → take n (xs ++ ys) ≡ take n xs ++ take (n - length xs) ys
+pub take_both : {X : Type 0} (n : ℕ) (xs ys : List X) → take n (xs ++ ys) ≡ take n xs ++ take (n - length xs) ys
 take_both zero xs ys = let none : zero - length xs ≡ zero = omega arith in rw none refl
 take_both (suc n) [] ys = let whole : suc n - zero ≡ suc n = omega arith in rw whole refl
 take_both (suc n) (x ∷ xs) ys =

@@ -1,11 +1,14 @@
 -- The sweep over the visits.
-use Rattle.std.specs.Prelude.{◌≡◌, ◌⊎◌, ℕ, ◌+◌, ◌<◌, ◌<ℤ◌, Bool, ◌&&◌, ◌==◌, List, length, map, drop, slice_index_or, AllPairs, pos, int_lt}
+use Rattle.std.specs.Prelude.{◌≡◌, ◌⊎◌, ℕ, ◌+◌, ◌<◌, ◌<ℤ◌, Bool, ◌&&◌, ◌==◌, List, Vec, All, length, map, drop, slice_index_or, AllPairs, pos, int_lt}
 use Rattle.std.specs.Int.{int_min}
-use Rattle.std.specs.List.{flat_map, range_with_len, take_while}
+use Rattle.std.specs.List.{AllZip, flat_map, range_with_len, take_while}
+use Rattle.std.specs.declared.alloc.Global.{Global}
 use Rattle.rail_model.specs.Conflict as whole
 use Rattle.conflict_finder.specs.declared.ranked.Ranked.{Ranked}
 use Rattle.conflict_finder.specs.declared.visits.Visit.{Visit}
+use Rattle.conflict_finder.specs.declared.found.Conflicts.{Conflicts}
 use Rattle.conflict_finder.specs.Runs.{no_ranked}
+use Rattle.conflict_finder.specs.Found.{IsListed}
 
 -- the order of the sweep: by block, then by start, then by the run's number
 abbrev pub ComesBefore : Visit → Visit → Type 0
@@ -49,3 +52,17 @@ conflicts_upto runs visits n = flat_map (conflicts_at runs visits) (range_with_l
 -- what the whole sweep finds: the conflicts of all visits
 abbrev pub all_conflicts : List Ranked → List Visit → List whole.Conflict
 all_conflicts runs visits = conflicts_upto runs visits (length visits)
+
+-- what the sweeps over one list after the other find
+abbrev pub found_in_turn : List Ranked → List (Vec Visit Global) → List whole.Conflict
+found_in_turn runs by_block = flat_map (λ s. all_conflicts runs s.items) by_block
+
+-- each list is in the order of the sweep, and its visits are those of these runs
+abbrev pub AreReady : List Ranked → List (Vec Visit Global) → Type 0
+AreReady runs by_block = All (λ s. IsSwept s.items × All (λ b. b.run < length runs) s.items) by_block
+
+-- the lists come in parts, and what the sweeps over each part find is listed and counted
+abbrev pub AreFoundInParts : List Ranked → List (Vec Visit Global) → List Conflicts → Type 0
+AreFoundInParts runs by_block found =
+    (parts : List (List (Vec Visit Global))) × (flat_map (λ part. part) parts ≡ by_block)
+    × AllZip (λ part. IsListed (found_in_turn runs part)) parts found

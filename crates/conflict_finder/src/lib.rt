@@ -4,6 +4,7 @@
 mod by_block;
 mod found;
 mod in_order;
+mod parts;
 mod ranked;
 mod run_starts;
 mod sweep;

@@ -4,38 +4,42 @@ ghost use Rattle.std.specs.Prelude.{All, map, take, length, IfOk, OnOk};
 ghost use Rattle.std.specs.List.{take_while, prefix_len};
 ghost use Rattle.std.specs.List.Sorted.{IsPartitionedBy};
 ghost use Rattle.rail_model.specs.Timetable.{IsTimetable};
-ghost use Rattle.conflict_finder.specs.Found.{IsFound, as_listed};
-ghost use Rattle.conflict_finder.specs.ByBlock.{one_after_another, AreByBlock};
+ghost use Rattle.conflict_finder.specs.Found.{IsFound, IsListed, as_listed};
+ghost use Rattle.conflict_finder.specs.ByBlock.{one_after_another};
 ghost use Rattle.conflict_finder.specs.Sweep as swept;
 ghost use Rattle.rail_model.specs.declared.limits.TheConstants.{RUNS, PATH_HOPS};
 
 use crate::found::{Conflict, Conflicts, LISTED};
+use crate::parts::sweep_in_parts;
 use crate::ranked::{Ranked, by_name};
 use crate::visits::{Visit, visits_in_order};
 use rail_model::{List, OutOfMemory, Stair};
 use std::alloc::Global;
+use std::thread::Threads;
 
 /// The conflicts of a timetable's stairways: the first `LISTED`, and the number of the rest.
-pub fn conflicts(alloc: Global, stairs: &List<Stair>) -> Result<Conflicts, OutOfMemory>
+pub fn conflicts(
+    rt: &(impl Threads + Sync),
+    alloc: Global,
+    stairs: &List<Stair>,
+) -> Result<Conflicts, OutOfMemory>
     requires { IsTimetable stairs.now }
     ensures { IfOk result (λ found. IsFound stairs.now found) }
 {
     let runs = by_name(alloc, stairs.slice())?;
-    let by_block = visits_in_order(alloc, stairs.slice(), &runs)?;
-    sweep(alloc, &runs, &by_block)
+    let by_block = visits_in_order(rt, alloc, stairs.slice(), &runs)?;
+    sweep_in_parts(rt, alloc, &runs, &by_block)
 }
 
-// Walks over the lists of visits, one block after another. Visits of two lists are to two blocks,
-// so they don't meet.
-fn sweep(alloc: Global, runs: &[Ranked], by_block: &[Vec<Visit>]) -> Result<Conflicts, OutOfMemory>
+// Walks over the lists of visits, one after another.
+pub(crate) fn sweep(
+    alloc: Global,
+    runs: &[Ranked],
+    by_block: &[Vec<Visit>],
+) -> Result<Conflicts, OutOfMemory>
     requires most { length (one_after_another by_block.now) ≤ RUNS * PATH_HOPS }
-    requires there { All (λ b. b.run < length runs.now) (one_after_another by_block.now) }
-    requires order { swept.IsSwept (one_after_another by_block.now) }
-    requires blocks { AreByBlock by_block.now }
-    ensures list { IfOk result (λ found. found.list ≡ map as_listed
-        (take LISTED (swept.all_conflicts runs.now (one_after_another by_block.now)))) }
-    ensures more { IfOk result (λ found. found.more ≡
-        length (swept.all_conflicts runs.now (one_after_another by_block.now)) - LISTED) }
+    requires ready { swept.AreReady runs.now by_block.now }
+    ensures { IfOk result (IsListed (swept.found_in_turn runs.now by_block.now)) }
 {
     let mut list = List::new(alloc);
     let mut count: u64 = 0;

@@ -9,6 +9,7 @@ use crate::in_order::put_in_order;
 use crate::ranked::Ranked;
 use rail_model::{OutOfMemory, Stair};
 use std::alloc::Global;
+use std::thread::Threads;
 
 // A run's visit to a block: from when until when it blocks it.
 #[derive(Clone, Copy)]
@@ -23,6 +24,7 @@ pub(crate) struct Visit {
 // All visits of the runs, in a list for each block, and each list in the order of starts and runs.
 // Numbers that no block of a line's tables has share the last list, in the order of blocks first.
 pub(crate) fn visits_in_order(
+    rt: &(impl Threads + Sync),
     alloc: Global,
     stairs: &[Stair],
     runs: &[Ranked],
@@ -35,6 +37,6 @@ pub(crate) fn visits_in_order(
     ensures order { IfOk result (λ by_block. AreSorted by_block.items) }
 {
     let mut by_block = visits_by_block(alloc, stairs, runs)?;
-    put_in_order(&mut by_block);
+    put_in_order(rt, runs.len(), &mut by_block);
     Ok(by_block)
 }

@@ -22,6 +22,7 @@ use Rattle.conflict_finder.proofs.Ranks.{AreRanked, ranked_by}
 use Rattle.conflict_finder.proofs.Order.{swept, few, runs_there}
 use Rattle.conflict_finder.proofs.Whole.{all_found}
 use Rattle.conflict_finder.proofs.BlockByBlock.{all_in_order}
+use Rattle.conflict_finder.proofs.sweep.conflicts.Given.{Over}
 use Rattle.conflict_finder.proofs.sweep.conflicts.Goals as goal
 
 ranked_in : (stairs seen : List Stair) (runs : List Ranked) → IsTimetable stairs → seen ≡ stairs → IsPermutation (runs_of seen) runs → IsSortedByKey (λ r. r.name) (slice_cmp nat_cmp) runs → AreRanked stairs runs
@@ -49,28 +50,28 @@ ready stairs seen runs read by_block t ranked here this permuted blocks sorted =
     }
 
 pub visits_in_order-requires-clause-few : goal.visits_in_order-requires-clause-few
-visits_in_order-requires-clause-few c =
+visits_in_order-requires-clause-few g c =
     let ranked = ranked_in c.args.stairs.now c.slice.result.now c.in_ok-runs.runs.items c.requires c.slice.ensures c.in_ok-runs.ensures.same c.in_ok-runs.ensures.order in
     omega (arith, ranked.count, ap length c.deref.ensures.value, c.requires.most)
 
 pub visits_in_order-requires-clause-there : goal.visits_in_order-requires-clause-there
-visits_in_order-requires-clause-there c =
+visits_in_order-requires-clause-there g c κs inside =
     let ranked = ranked_in c.args.stairs.now c.slice.result.now c.in_ok-runs.runs.items c.requires c.slice.ensures c.in_ok-runs.ensures.same c.in_ok-runs.ensures.order in
     rw (c.slice-2.ensures, c.deref.ensures.value) ranked.there
 
-at_sweep : (c : goal.After-deref-3) → IsReady c.args.stairs.now c.in_ok-runs.runs.items (one_after_another c.in_ok-by_block.by_block.items)
-at_sweep c =
+at_sweep : (g : Over) (c : goal.After-deref-3 g) → IsReady c.args.stairs.now c.in_ok-runs.runs.items (one_after_another c.in_ok-by_block.by_block.items)
+at_sweep g c =
     let ranked = ranked_in c.args.stairs.now c.slice.result.now c.in_ok-runs.runs.items c.requires c.slice.ensures c.in_ok-runs.ensures.same c.in_ok-runs.ensures.order in
     ready c.args.stairs.now c.slice-2.result.now c.in_ok-runs.runs.items c.deref.result.now c.in_ok-by_block.by_block.items c.requires ranked c.slice-2.ensures c.deref.ensures.value c.in_ok-by_block.ensures.same c.in_ok-by_block.ensures.blocks c.in_ok-by_block.ensures.order
 
-pub sweep-requires-clause-most : goal.sweep-requires-clause-most
-sweep-requires-clause-most c = rw c.deref-3.ensures.value (at_sweep c).few
+pub sweep_in_parts-requires-clause-most : goal.sweep_in_parts-requires-clause-most
+sweep_in_parts-requires-clause-most g c κs inside = rw c.deref-3.ensures.value (at_sweep g c).few
 
-pub sweep-requires-clause-there : goal.sweep-requires-clause-there
-sweep-requires-clause-there c = rw (c.deref-3.ensures.value, c.deref-2.ensures.value) (at_sweep c).there
+pub sweep_in_parts-requires-clause-there : goal.sweep_in_parts-requires-clause-there
+sweep_in_parts-requires-clause-there g c κs inside = rw (c.deref-3.ensures.value, c.deref-2.ensures.value) (at_sweep g c).there
 
-pub sweep-requires-clause-order : goal.sweep-requires-clause-order
-sweep-requires-clause-order c = rw c.deref-3.ensures.value (at_sweep c).order
+pub sweep_in_parts-requires-clause-order : goal.sweep_in_parts-requires-clause-order
+sweep_in_parts-requires-clause-order g c κs inside = rw c.deref-3.ensures.value (at_sweep g c).order
 
 -- what the sweep gives are the conflicts
 found_by : (stairs : List Stair) (runs read : List Ranked) (visits seen : List Visit) → IsReady stairs runs visits → read ≡ runs → seen ≡ visits → (r : Result Conflicts OutOfMemory) → IfOk r (λ f. f.list ≡ map as_listed (take LISTED (all_conflicts read seen))) → IfOk r (λ f. f.more ≡ length (all_conflicts read seen) - LISTED) → IfOk r (IsFound stairs)
@@ -84,7 +85,7 @@ found_by stairs runs read visits seen w same swept (Ok f) l m =
 found_by stairs runs read visits seen w same swept (Err e) l m = tt
 
 pub returns : goal.returns
-returns c =
+returns g c =
     let ranked = ranked_in c.args.stairs.now c.slice.result.now c.in_ok-runs.runs.items c.requires c.slice.ensures c.in_ok-runs.ensures.same c.in_ok-runs.ensures.order in
     let all = ready c.args.stairs.now c.slice-2.result.now c.in_ok-runs.runs.items c.deref.result.now c.in_ok-by_block.by_block.items c.requires ranked c.slice-2.ensures c.deref.ensures.value c.in_ok-by_block.ensures.same c.in_ok-by_block.ensures.blocks c.in_ok-by_block.ensures.order in
-    found_by c.args.stairs.now c.in_ok-runs.runs.items c.deref-2.result.now (one_after_another c.in_ok-by_block.by_block.items) (one_after_another c.deref-3.result.now) all c.deref-2.ensures.value (ap one_after_another c.deref-3.ensures.value) c.sweep.result c.sweep.ensures.list c.sweep.ensures.more
+    found_by c.args.stairs.now c.in_ok-runs.runs.items c.deref-2.result.now (one_after_another c.in_ok-by_block.by_block.items) (one_after_another c.deref-3.result.now) all c.deref-2.ensures.value (ap one_after_another c.deref-3.ensures.value) c.sweep_in_parts.result c.sweep_in_parts.ensures.list c.sweep_in_parts.ensures.more

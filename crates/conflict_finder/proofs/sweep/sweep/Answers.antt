@@ -1,15 +1,16 @@
-use Rattle.std.proofs.Common.{◌≡◌, ◌+◌, ◌-◌, ◌<◌, ◌++◌, length, take, get_or, sym, ap, ◌∙◌, subst, arith, length-append}
+use Rattle.std.proofs.Common.{◌≡◌, ◌+◌, ◌-◌, ◌<◌, ◌++◌, length, map, take, get_or, sym, ap, ◌∙◌, subst, arith, length-append}
 use Rattle.std.specs.Prelude.{Vec}
 use Rattle.std.specs.List.{All}
 use Rattle.std.specs.declared.alloc.Global.{Global}
 use Rattle.std.proofs.lemmas.List.{take_all}
 use Rattle.conflict_finder.specs.declared.visits.Visit.{Visit}
 use Rattle.conflict_finder.specs.declared.found.TheConstants.{LISTED}
+use Rattle.conflict_finder.specs.Found.{as_listed}
 use Rattle.conflict_finder.specs.ByBlock.{one_after_another}
-use Rattle.conflict_finder.specs.Sweep.{IsSwept, ComesBefore, all_conflicts}
+use Rattle.conflict_finder.specs.Sweep.{IsSwept, all_conflicts, found_in_turn}
 use Rattle.conflict_finder.proofs.Laid.{next_block}
 use Rattle.conflict_finder.proofs.Room.{listed_most, listed_more, listed_some, listed_count_is}
-use Rattle.conflict_finder.proofs.BlockByBlock.{each_all, each_pairs, each_few, found_more}
+use Rattle.conflict_finder.proofs.BlockByBlock.{each_few}
 use Rattle.conflict_finder.proofs.sweep.sweep.Goals as goal
 
 -- the list that is walked over
@@ -18,7 +19,7 @@ is_block c = c.deref.ensures.value ∙ ap (λ (v : Vec Visit Global). v.items) c
 
 pub sweep_block-requires-clause-room : goal.sweep_block-requires-clause-room
 sweep_block-requires-clause-room c =
-    rw c.loop-visits.invariant.list (listed_most (all_conflicts c.args.runs.now (one_after_another (take c.loop-visits.visits-index c.args.by_block.now))))
+    rw c.loop-visits.invariant.list (listed_most (found_in_turn c.args.runs.now (take c.loop-visits.visits-index c.args.by_block.now)))
 
 pub sweep_block-requires-clause-most : goal.sweep_block-requires-clause-most
 sweep_block-requires-clause-most c =
@@ -27,11 +28,11 @@ sweep_block-requires-clause-most c =
 pub sweep_block-requires-clause-there : goal.sweep_block-requires-clause-there
 sweep_block-requires-clause-there c =
     subst (All (λ (b : Visit). b.run < length c.args.runs.now)) (sym (is_block c))
-    (each_all c.args.by_block.now c.visits-item.result (λ (b : Visit). b.run < length c.args.runs.now) c.loop-visits.visits-index c.loop-visits-test.true c.requires.there)
+    (c.requires.ready c.loop-visits.visits-index c.visits-item.result c.loop-visits-test.true).1
 
 pub sweep_block-requires-clause-order : goal.sweep_block-requires-clause-order
 sweep_block-requires-clause-order c =
-    subst IsSwept (sym (is_block c)) (each_pairs c.args.by_block.now c.visits-item.result ComesBefore c.loop-visits.visits-index c.loop-visits-test.true c.requires.order)
+    subst IsSwept (sym (is_block c)) (c.requires.ready c.loop-visits.visits-index c.visits-item.result c.loop-visits-test.true).0
 
 pub overflow_add-count : goal.overflow_add-count
 overflow_add-count c =
@@ -47,11 +48,11 @@ loop-visits-preserved c =
     let i = c.loop-visits.visits-index in
     let d = c.visits-item.result in
     let seen = c.deref.result.now in
-    let so_far = all_conflicts runs (one_after_another (take i by_block)) in
+    let so_far = found_in_turn runs (take i by_block) in
     let is : seen ≡ (get_or by_block i d).items = c.deref.ensures.value ∙ ap (λ (v : Vec Visit Global). v.items) c.visits-item.is in
-    let more : all_conflicts runs (one_after_another (take (i + 1) by_block)) ≡ so_far ++ all_conflicts runs seen =
-    found_more by_block d c.requires.blocks runs i c.loop-visits-test.true ∙ ap (λ s. so_far ++ all_conflicts runs s) (sym is) in
-    let count : length (all_conflicts runs (one_after_another (take (i + 1) by_block))) ≡ length so_far + length (all_conflicts runs seen) = ap length more ∙ length-append so_far (all_conflicts runs seen) in
+    let more : found_in_turn runs (take (i + 1) by_block) ≡ so_far ++ all_conflicts runs seen =
+    next_block (λ (v : Vec Visit Global). all_conflicts runs v.items) by_block i d c.loop-visits-test.true ∙ ap (λ s. so_far ++ all_conflicts runs s) (sym is) in
+    let count : length (found_in_turn runs (take (i + 1) by_block)) ≡ length so_far + length (all_conflicts runs seen) = ap length more ∙ length-append so_far (all_conflicts runs seen) in
     let long : length (one_after_another (take (i + 1) by_block)) ≡ length (one_after_another (take i by_block)) + length seen =
     ap length (next_block (λ (v : Vec Visit Global). v.items) by_block i d c.loop-visits-test.true) ∙ length-append (one_after_another (take i by_block)) (get_or by_block i d).items
     ∙ ap (λ s. length (one_after_another (take i by_block)) + length s) (sym is) in
@@ -63,11 +64,13 @@ loop-visits-preserved c =
 
 pub overflow_sub-more : goal.overflow_sub-more
 overflow_sub-more c =
-    omega (arith, c.len.ensures.count, ap length c.loop-visits.invariant.list, c.loop-visits.invariant.count, listed_some (all_conflicts c.args.runs.now (one_after_another (take c.loop-visits.visits-index c.args.by_block.now))))
+    omega (arith, c.len.ensures.count, ap length c.loop-visits.invariant.list, c.loop-visits.invariant.count, listed_some (found_in_turn c.args.runs.now (take c.loop-visits.visits-index c.args.by_block.now)))
 
-pub returns-clause-more : goal.returns-clause-more
-returns-clause-more c =
+pub returns : goal.returns
+returns c =
     let by_block = c.args.by_block.now in
-    let all = all_conflicts c.args.runs.now (one_after_another (take c.loop-visits.visits-index by_block)) in
-    let last = take_all c.loop-visits.visits-index by_block (omega (arith, c.loop-visits-test.false)) in
-    rw (c.len.ensures.count, c.loop-visits.invariant.list, c.loop-visits.invariant.count) (listed_count_is all ∙ ap (λ s. length (all_conflicts c.args.runs.now (one_after_another s)) - LISTED) last)
+    let all = found_in_turn c.args.runs.now (take c.loop-visits.visits-index by_block) in
+    let last = take_all c.loop-visits.visits-index by_block (omega (arith, c.loop-visits-test.false)) in (
+      c.loop-visits.invariant.list ∙ ap (λ s. map as_listed (take LISTED (found_in_turn c.args.runs.now s))) last,
+      rw (c.len.ensures.count, c.loop-visits.invariant.list, c.loop-visits.invariant.count) (listed_count_is all ∙ ap (λ s. length (found_in_turn c.args.runs.now s) - LISTED) last),
+    )

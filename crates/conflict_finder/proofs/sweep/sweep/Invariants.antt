@@ -3,13 +3,13 @@ use Rattle.conflict_finder.specs.declared.found.TheConstants.{LISTED}
 use Rattle.rail_model.specs.declared.limits.TheConstants.{RUNS, PATH_HOPS}
 use Rattle.conflict_finder.specs.Found.{as_listed}
 use Rattle.conflict_finder.specs.ByBlock.{one_after_another}
-use Rattle.conflict_finder.specs.Sweep.{all_conflicts}
+use Rattle.conflict_finder.specs.Sweep.{found_in_turn}
 use Rattle.conflict_finder.proofs.sweep.sweep.Given as goal
 
 -- the conflicts of the lists so far, and how many they may be
 abbrev pub invariant-loop-visits : goal.invariant-loop-visits
 invariant-loop-visits l = record {
-  list : l.list ≡ map as_listed (take LISTED (all_conflicts l.runs (one_after_another (take l.visits-index l.by_block))));
-  count : l.count ≡ length (all_conflicts l.runs (one_after_another (take l.visits-index l.by_block)));
+  list : l.list ≡ map as_listed (take LISTED (found_in_turn l.runs (take l.visits-index l.by_block)));
+  count : l.count ≡ length (found_in_turn l.runs (take l.visits-index l.by_block));
   most : l.count ≤ length (one_after_another (take l.visits-index l.by_block)) * (RUNS * PATH_HOPS);
 }
