@@ -1,5 +1,5 @@
-//! The line that `made N` measures with: blocks, signals, runs and sections, and the scripts of four
-//! planners, with numbers that are drawn from N.
+//! The line that `made N` measures with: blocks, signals, runs and sections, and the scripts of
+//! four planners, with numbers that are drawn from N.
 //!
 //! ```text
 //! let tables = made_tables(alloc, 1)?;

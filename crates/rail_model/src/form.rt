@@ -7,8 +7,8 @@ pub enum Form {
     Kind,
     /// A row of this kind has another number of fields.
     Fields,
-    /// A field is no number of one to nine digits, no rate or no time of day; or a row says a version
-    /// that is neither 1 nor 2.
+    /// A field is no number of one to nine digits, no rate or no time of day; or a row says a
+    /// version that is neither 1 nor 2.
     Number,
     /// A field is no name.
     BadName,

@@ -141,10 +141,10 @@ impl Worker {
         }
     }
 
-    /// The answer of a reading. What is kept of its section is used up for it, and has to agree with
-    /// the reading: a row of one name and one stamp is one row. The reading's rows are kept. At most
-    /// the uses of those rows are taken that aren't kept with their name and stamp. Without memory
-    /// nothing is kept of the section.
+    /// The answer of a reading. What is kept of its section is used up for it, and has to agree
+    /// with the reading: a row of one name and one stamp is one row. The reading's rows are kept.
+    /// At most the uses of those rows are taken that aren't kept with their name and stamp. Without
+    /// memory nothing is kept of the section.
     pub fn answer<R: Rows>(&mut self, reading: &mut R) -> Result<Answer, OutOfMemory>
         requires { IfSome (kept_for self.old (R.shown reading.old).cut.section.name)
             (λ h. AgreesWith h.keep (R.shown reading.old).cut) }
