@@ -9,6 +9,7 @@ use Rattle.std.proofs.lemmas.List.Elements.{All-nil, All-cons}
 use Rattle.std.proofs.lemmas.List.Sums.{sum_by-cons}
 use Rattle.rail_model.specs.Conflict as whole
 use Rattle.rail_model.specs.declared.limits.TheConstants.{RUNS, PATH_HOPS}
+use Rattle.rail_model.proofs.Collected.{collected}
 use Rattle.rail_model.proofs.Lists.{flat_map-range_more}
 use Rattle.conflict_finder.specs.declared.ranked.Ranked.{Ranked}
 use Rattle.conflict_finder.specs.declared.visits.Visit.{Visit}
@@ -114,20 +115,14 @@ module _ {P : Type 0} (g : P → List whole.Conflict) where
       omega (arith, sum_by-cons count_of f fs, listed_count ps fs h.1, count, h.0.1, length-append (g p) (flat_map g ps))
 
 -- what was found of each part, where each was swept
-module _ (E : Type 0) (runs : List Ranked) where
-  made : (parts : List (List (Vec Visit Global))) (found : List Conflicts) → AllZip (λ p (r : Result Conflicts E). IfOk r (IsListed (found_in_turn runs p))) parts (map Ok found) → AllZip (λ p. IsListed (found_in_turn runs p)) parts found
-  made [] [] z = z
-  made [] (f ∷ fs) z = absurd z
-  made (p ∷ ps) [] z = absurd z
-  made (p ∷ ps) (f ∷ fs) z = (z.0, made ps fs z.1)
-
-  pub gathered : (parts : List (List (Vec Visit Global))) (by_block : List (Vec Visit Global)) (results : List (Result Conflicts E)) (all : Result (Vec Conflicts Global) E) (Q : E → Type 0) → flat_map (λ p. p) parts ≡ by_block
-      → AllZip (λ p (r : Result Conflicts E). IfOk r (IsListed (found_in_turn runs p))) parts results
-      → MatchResult all (λ v. (found : List Conflicts) × (results ≡ map Ok found) × (v.items ≡ found)) Q
-      → IfOk all (λ v. AreFoundInParts runs by_block v.items)
-  gathered parts by_block results (Ok v) Q whole z h =
-      (parts, whole, subst (AllZip (λ p. IsListed (found_in_turn runs p)) parts) (sym h.2) (made parts h.0 (subst (AllZip (λ p (r : Result Conflicts E). IfOk r (IsListed (found_in_turn runs p))) parts) h.1 z)))
-  gathered parts by_block results (Err e) Q whole z h = tt
+pub gathered : {E : Type 0} (runs : List Ranked) (parts : List (List (Vec Visit Global))) (by_block : List (Vec Visit Global)) (results : List (Result Conflicts E)) (all : Result (Vec Conflicts Global) E) (Q : E → Type 0)
+    → flat_map (λ p. p) parts ≡ by_block
+    → AllZip (λ p (r : Result Conflicts E). IfOk r (IsListed (found_in_turn runs p))) parts results
+    → MatchResult all (λ v. (found : List Conflicts) × (results ≡ map Ok found) × (v.items ≡ found)) Q
+    → IfOk all (λ v. AreFoundInParts runs by_block v.items)
+gathered runs parts by_block results (Ok v) Q whole each h =
+    (parts, whole, collected (λ p. IsListed (found_in_turn runs p)) (λ (v : Vec Conflicts Global). v.items) parts results (Ok v) Q each h)
+gathered runs parts by_block results (Err e) Q whole each h = tt
 
 -- what is found in parts is what the sweep over all lists finds
 module _ (runs : List Ranked) (by_block : List (Vec Visit Global)) (found : List Conflicts) (by : AreByBlock by_block) (h : AreFoundInParts runs by_block found) where

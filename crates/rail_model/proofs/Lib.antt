@@ -3,6 +3,7 @@ mod EditExamples
 mod NameTests
 pub mod Numbers
 pub mod Lists
+pub mod Collected
 pub mod NameOrder
 pub mod Places
 pub mod Members

@@ -1,5 +1,5 @@
 pub mod Lists
-pub mod Collected
+pub mod ByPlaces
 pub mod Counts
 pub mod Names
 pub mod Placing

@@ -4,7 +4,6 @@ use Rattle.std.specs.List.{flat_map}
 use Rattle.rayon.specs.Lists.{chunks_of}
 use Rattle.rayon.proofs.ToStd.{chunks_of-concat, slice-AllZip}
 use Rattle.rail_model.specs.declared.limits.TheConstants.{RUNS, PATH_HOPS}
-use Rattle.rail_model.specs.declared.memory.OutOfMemory.{OutOfMemory}
 use Rattle.conflict_finder.specs.Found.{IsListed}
 use Rattle.conflict_finder.specs.ByBlock.{one_after_another}
 use Rattle.conflict_finder.specs.Sweep.{found_in_turn, AreReady, AreFoundInParts}
@@ -32,4 +31,4 @@ returns g c =
     let shown : map (λ z. z.now) h.1.0 ≡ parts = rw (c.map.ensures.base, c.with_min_len.ensures.base, c.par_chunks.ensures.slice) at h.1.1 in
     let each = slice-AllZip h.1.0 parts shown (λ p r. IfOk r (IsListed (found_in_turn own p))) h.0 h.1.2 in
     subst (λ runs. IfOk all (λ v. AreFoundInParts runs by_block v.items)) (ap (λ f. f.1.now) c.map.ensures.f)
-    (gathered OutOfMemory own parts by_block h.0 all _ (chunks_of-concat size by_block (omega arith)) each h.2)
+    (gathered own parts by_block h.0 all _ (chunks_of-concat size by_block (omega arith)) each h.2)

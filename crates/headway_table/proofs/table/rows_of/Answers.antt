@@ -5,7 +5,7 @@ use Rattle.headway_table.specs.Starts.{AreStarts}
 use Rattle.std.specs.Prelude.{IfOk}
 use Rattle.std.specs.List.{range_with_len}
 use Rattle.rayon.specs.Numbers.{nat_range}
-use Rattle.headway_table.proofs.Tables.{collected}
+use Rattle.rail_model.proofs.Collected.{images_collected}
 use Rattle.rayon.proofs.ToStd.{nat_range-All}
 use Rattle.headway_table.specs.Table as tables
 use Rattle.headway_table.proofs.table.rows_of.Goals as goal
@@ -32,4 +32,4 @@ returns g c =
     let places : chain.0 ≡ range_with_len 0 (member_count cut) =
     chain.1 ∙ (λ i. nat_range (ends.0 i) (ends.1 i)) ∙ ap (range_with_len 0) count in
     subst (λ some. IfOk c.in_ok-collect.field-0 (λ rows. rows.items ≡ map (tables.row_of cut) some)) places
-    (collected (tables.row_of cut) (λ rows. rows.items) chain.0 h.0 c.in_ok-collect.field-0 _ chain.2 h.2)
+    (images_collected (tables.row_of cut) (λ rows. rows.items) chain.0 h.0 c.in_ok-collect.field-0 _ chain.2 h.2)

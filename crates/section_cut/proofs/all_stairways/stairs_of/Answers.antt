@@ -5,7 +5,8 @@ use Rattle.rail_model.specs.Blocking.{stair_of}
 use Rattle.line_tables.specs.Paths.{no_path, path_at}
 use Rattle.rayon.specs.Numbers.{nat_range}
 use Rattle.rayon.proofs.ToStd.{nat_range-All}
-use Rattle.section_cut.proofs.Collected.{collected, by_places}
+use Rattle.rail_model.proofs.Collected.{images_collected}
+use Rattle.section_cut.proofs.ByPlaces.{by_places}
 use Rattle.section_cut.proofs.all_stairways.stairs_of.Goals as goal
 
 pub collect-requires-clause-ready : goal.collect-requires-clause-ready
@@ -29,7 +30,7 @@ returns g c =
     let places : h.1.0 ≡ range_with_len 0 (length paths) =
     rw (c.map.ensures.base, c.with_min_len.ensures.base) at h.1.1
     ∙ (λ i. nat_range (ends.0 i) (ends.1 i)) ∙ ap (range_with_len 0) count in
-    let made = collected (λ n. stair_of (path_at own n)) (λ v. v.items) h.1.0 h.0 stairs _ h.1.2 h.2 in
+    let made = images_collected (λ n. stair_of (path_at own n)) (λ v. v.items) h.1.0 h.0 stairs _ h.1.2 h.2 in
     subst (λ all. IfOk stairs (λ v. v.items ≡ all)) (by_places stair_of paths no_path)
     (subst (λ some. IfOk stairs (λ v. v.items ≡ map (λ n. stair_of (path_at paths n)) some)) places
     (subst (λ ps. IfOk stairs (λ v. v.items ≡ map (λ n. stair_of (path_at ps n)) h.1.0)) (ap (λ f. f.1.now) c.map.ensures.f) made))
