@@ -1,5 +1,5 @@
 //! Writing into the room of a text.
-ghost use Rattle.std.specs.Prelude.{◌≡◌, ◌+◌, ◌*◌, ◌<◌, ◌≤◌, ◌++◌, ◌∷◌, [], length, take, map, decimal, if◌then◌else◌, OnOk, OnErr};
+ghost use Rattle.std.specs.Prelude.{◌≡◌, ◌+◌, ◌*◌, ◌<◌, ◌≤◌, ◌++◌, ◌∷◌, [], length, take, map, decimal, if◌then◌else◌, vec_capacity, OnOk, OnErr};
 ghost use Rattle.std.specs.Fmt.{signed_decimal};
 ghost use Rattle.row_text.specs.Put.{separator, more_text};
 
@@ -20,8 +20,8 @@ pub(crate) fn make_room(text: &mut Vec<u8>, used: usize, room: usize) -> Result<
     grow(text, used, room)
 }
 
-// An eighth more at least where the text must be moved: little of the room is left unused, and
-// growing costs little for each byte.
+// The room grows by blocks of zeros, which are copied many bytes at a time. Within the capacity a
+// block is a short step, whose zeros are still in the cache when they are written over.
 #[inline(never)]
 fn grow(text: &mut Vec<u8>, used: usize, room: usize) -> Result<(), OutOfMemory>
     requires { used ≤ length text.old.items }
@@ -32,25 +32,46 @@ fn grow(text: &mut Vec<u8>, used: usize, room: usize) -> Result<(), OutOfMemory>
     let Some(least) = used.checked_add(room) else {
         return Err(OutOfMemory);
     };
-    let size = least.max(next_len(text, least)).max(LEAST_ROOM);
-    text.resize(size, 0)?;
+    take_memory(text, least)?;
+    fill(text, least);
     Ok(())
 }
 
-// How long a text becomes that needs so many bytes at least: within its capacity it grows by short
-// steps, whose zeros are still in the cache when they are written over.
-fn next_len(text: &Vec<u8>, least: usize) -> usize {
-    let near = least.saturating_add(STEP);
-    if near <= text.capacity() {
-        return near;
+// Sees that a text has memory for so many bytes. An eighth more at least where the text must be
+// moved: little of the memory is left unused, and growing costs little for each byte.
+fn take_memory(text: &mut Vec<u8>, least: usize) -> Result<(), OutOfMemory>
+    ensures ok { OnOk result (least ≤ vec_capacity text.new) }
+    ensures kept { text.new.items ≡ text.old.items }
+{
+    if least <= text.capacity() {
+        return Ok(());
     }
-    text.len().saturating_add(text.len() / 8)
+    let more = (least - text.len()).max(text.len() / 8);
+    text.reserve_exact(more.max(LEAST_ROOM))?;
+    Ok(())
 }
 
-// A step within the capacity.
+// Adds zeros, a block at a time, until a text has so many bytes at least. Its memory has room for
+// them.
+fn fill(text: &mut Vec<u8>, least: usize)
+    requires { least ≤ vec_capacity text.old }
+    ensures long { least ≤ length text.new.items }
+    ensures kept { take (length text.old.items) text.new.items ≡ text.old.items }
+{
+    while text.len() < least {
+        let step = (text.capacity() - text.len()).min(STEP);
+        if text.extend_from_slice(&ZEROS[..step]).is_err() {
+            unreachable!();
+        }
+    }
+}
+
+// A block of zeros.
+static ZEROS: [u8; STEP] = [0; STEP];
+
 const STEP: usize = 4096;
 
-// The bytes that a text begins with.
+// The least memory that a text takes at a time.
 const LEAST_ROOM: usize = 256;
 
 // Writes a number after the bytes that are used, and a comma before it unless it is a row's first
