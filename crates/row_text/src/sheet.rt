@@ -14,7 +14,8 @@ use std::alloc::Global;
 use std::marker::Model;
 
 /// Rows as CSV writes them: commas, quotes only where needed, and a line feed after each row.
-/// Contracts see the rows that were ended, and the fields of the row that is being written.
+/// Contracts see the rows that were ended, and the fields of the row that is being written. Where
+/// memory runs out, a push or an end of a row leaves both as they were.
 #[derive(Drop)]
 pub struct Sheet {
     // The text, and room after it.
@@ -52,7 +53,8 @@ impl Sheet {
         }
     }
 
-    /// Asks for room for so many bytes more, so that the text needn't be moved while it grows.
+    /// Asks for room for so many bytes more, so that the text needn't be moved while it grows. The
+    /// sheet stays as it is, also where memory runs out.
     pub fn reserve(&mut self, more: usize) -> Result<(), OutOfMemory>
         ensures { self.new ≡ self.old }
     {
@@ -68,7 +70,8 @@ impl Sheet {
         self.ended
     }
 
-    /// Adds the rows of another sheet. A row that is open is dropped first.
+    /// Adds the rows of another sheet. A row that is open is dropped first; where memory runs out,
+    /// the rows stay as they were.
     pub fn append(&mut self, other: &Sheet) -> Result<(), OutOfMemory>
         ensures ok { OnOk result (self.new.rows ≡ self.old.rows ++ other.now.rows) }
         ensures closed { self.new.row ≡ [] }

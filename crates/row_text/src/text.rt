@@ -40,7 +40,7 @@ impl Text {
         Ok(text)
     }
 
-    /// Adds a piece.
+    /// Adds a piece. Where memory runs out, the text stays as it was.
     pub fn push(&mut self, piece: Vec<u8>) -> Result<(), OutOfMemory>
         ensures ok { OnOk result (self.new ≡ self.old ++ piece.items) }
         ensures err { OnErr result (self.new ≡ self.old) }
