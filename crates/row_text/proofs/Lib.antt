@@ -1,6 +1,5 @@
 mod Examples
 pub mod Cuts
-pub mod Appended
 pub mod Pieces
 pub mod Reading
 pub mod Legs

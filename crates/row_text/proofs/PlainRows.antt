@@ -1,17 +1,17 @@
 -- A text that is cut byte by byte.
-use Rattle.std.proofs.Common.{◌≡◌, ◌≢◌, ℕ, ◌+◌, ◌-◌, ◌<◌, ◌≤◌, ◌==◌, ◌&&◌, true, false, List, [], ◌∷◌, ◌++◌, length, get_or, drop, slice_range, sym, ap, ◌∙◌, refl, arith, append_assoc}
+use Rattle.std.proofs.Common.{◌≡◌, ◌≢◌, ℕ, ◌+◌, ◌-◌, ◌<◌, ◌≤◌, ◌==◌, ◌&&◌, true, false, List, [], ◌∷◌, ◌++◌, length, get_or, drop, map, slice_range, sym, ap, ◌∙◌, refl, arith, append_assoc}
 use Rattle.std.proofs.lemmas.Bool.{and_parts, eq-eqb, eqb-true, ne_eqb}
 use Rattle.std.proofs.lemmas.Bool.Decides.{nat_tests}
-use Rattle.std.proofs.lemmas.List.{append-nil, drop_all, drop_more, drop-append-le, length-append, length-drop, length-take-le, take_all, take_rest}
+use Rattle.std.proofs.lemmas.List.{append-nil, drop_all, drop_more, drop-append-le, length-drop, length-take-le, length_push, map_push, take_all, take_rest}
 use Rattle.std.proofs.lemmas.List.Edits.{between_more}
 use Rattle.std.proofs.lemmas.List.Elements.{All-more, All-nil, All-push}
 use Rattle.csv.specs.Records.{Rising, last_end}
 use Rattle.csv.proofs.RecordFacts.{last-append, rising-end, rising-last, rising-more}
 use Rattle.row_text.specs.declared.plain_rows.CutFields.{CutFields}
-use Rattle.row_text.specs.Cuts.{fields_at, LiesIn, span}
+use Rattle.row_text.specs.Cuts.{CutsIn, fields_cut_at}
 use Rattle.row_text.specs.Pieces.{pieces}
-use Rattle.row_text.specs.PlainRows.{cut_rows, ends_line, EndsField, fields_cut, Fits, HasCut, HasCutAll, is_blank, LineEnded, line_fields, rows_cut, with_line}
-use Rattle.row_text.proofs.Cuts.{fields_at-push, length-fields_at}
+use Rattle.row_text.specs.PlainRows.{cut_rows, ends_line, EndsField, Fits, HasCut, HasCutAll, is_blank, line_cuts, LineEnded, line_fields, rows_cut, with_line}
+use Rattle.row_text.proofs.Cuts.{CutsIn-more, fields_cut_at-more, length-fields_cut_at}
 use Rattle.row_text.proofs.Pieces.{pieces-more, pieces-push}
 use Rattle.row_text.proofs.PlainReads.{cut-byte, cut-comma, cut-line, cut-none}
 
@@ -21,44 +21,51 @@ none-there text i j e =
     let none : j - i ≡ 0 = omega arith in
     rw none refl
 
--- the line at hand starts within the fields
-first-within : (text : List ℕ) (cut : CutFields) → Fits text cut → cut.first ≤ length cut.spans.items
-first-within text cut fits = omega (arith, rising-last 0 cut.ends.items (length cut.spans.items) fits.rise, fits.first)
+-- the line at hand starts within the places
+first-within : (text : List ℕ) (cut : CutFields) → Fits text cut → cut.first ≤ length cut.cuts.items
+first-within text cut fits = omega (arith, rising-last 0 cut.ends.items (length cut.cuts.items) fits.rise, fits.first)
 
-fields-long : (text : List ℕ) (cut : CutFields) → Fits text cut → length (line_fields text cut) + cut.first ≡ length cut.spans.items
-fields-long text cut fits = omega (arith, length-drop cut.first (fields_cut text cut), length-fields_at text cut.spans.items, first-within text cut fits)
+fields-long : (text : List ℕ) (cut : CutFields) → Fits text cut → length (line_fields text cut) + cut.first ≡ length cut.cuts.items
+fields-long text cut fits =
+    omega (arith, length-fields_cut_at text (line_cuts cut), length_push (drop cut.first cut.cuts.items) cut.start, length-drop cut.first cut.cuts.items, first-within text cut fits)
 
 field-long : (text : List ℕ) (start i : ℕ) → start ≤ i → i ≤ length text → length (slice_range text start i) + start ≡ i
 field-long text start i order within = omega (arith, length-take-le (i - start) (drop start text) (omega (arith, length-drop start text)))
 
 -- a field was cut
+line-step : (text : List ℕ) (old new : CutFields) (i : ℕ) → EndsField old new i → Fits text old → line_cuts new ≡ line_cuts old ++ (i + 1) ∷ []
+line-step text old new i ended fits =
+    rw (ended.first, ended.cuts, ended.start, drop-append-le old.first old.cuts.items (old.start ∷ []) (first-within text old fits)) refl
+
 field-step : (text : List ℕ) (old new : CutFields) (i : ℕ) → EndsField old new i → Fits text old → old.start ≤ i → i ≤ length text
     → (rows_cut text new ≡ rows_cut text old) × (line_fields text new ≡ line_fields text old ++ slice_range text old.start i ∷ []) × Fits text new
 field-step text old new i ended fits order within =
-    let fields = fields_cut text old in
-    let field = slice_range text old.start i in
-    let size : length fields ≡ length old.spans.items = length-fields_at text old.spans.items in
-    let all : fields_cut text new ≡ fields ++ field ∷ [] = rw ended.spans (fields_at-push text old.spans.items (span old.start i)) in
-    let rise : Rising 0 old.ends.items (length fields) = rw size fits.rise in
-    let first : old.first ≤ length fields = omega (arith, first-within text old fits) in
-    let grown : Rising 0 old.ends.items (length (old.spans.items ++ span old.start i ∷ [])) = rising-more 0 old.ends.items _ _ fits.rise (omega (arith, length-append old.spans.items (span old.start i ∷ []))) in (
-      ap (pieces 0 new.ends.items) all ∙ rw ended.ends (pieces-more 0 old.ends.items fields (field ∷ []) rise),
-      ap (drop new.first) all ∙ rw ended.first (drop-append-le old.first fields (field ∷ []) first),
+    let most = length text + 1 in
+    let some : 0 < length (line_cuts old) = omega (arith, length_push (drop old.first old.cuts.items) old.start) in
+    let last : last_end 0 (line_cuts old) ≡ old.start = last-append 0 (drop old.first old.cuts.items) old.start in
+    let line : line_cuts new ≡ line_cuts old ++ (i + 1) ∷ [] = line-step text old new i ended fits in
+    let before_end : (i + 1) - 1 ≡ i = omega arith in
+    let same : pieces 0 new.ends.items new.cuts.items ≡ pieces 0 old.ends.items old.cuts.items =
+    rw (ended.ends, ended.cuts) (pieces-more 0 old.ends.items old.cuts.items (old.start ∷ []) fits.rise) in
+    let grown : Rising 0 old.ends.items (length (old.cuts.items ++ old.start ∷ [])) = rising-more 0 old.ends.items _ _ fits.rise (omega (arith, length_push old.cuts.items old.start)) in (
+      ap (map (fields_cut_at text)) same,
+      ap (fields_cut_at text) line ∙ rw (fields_cut_at-more text (line_cuts old) (i + 1) some, last, before_end) refl,
       record {
-        spans = rw ended.spans (All-push (LiesIn (length text)) old.spans.items (span old.start i) fits.spans (record { order = order; within = within }));
-        rise = rw (ended.spans, ended.ends) grown;
+        each = rw same fits.each;
+        line = rw line (CutsIn-more most most (line_cuts old) (i + 1) some fits.line (omega (arith, last)) (omega arith));
+        rise = rw (ended.cuts, ended.ends) grown;
         first = rw (ended.ends, ended.first) fits.first;
       },
     )
 
 -- nothing is cut yet
-pub HasCut-none : (text : List ℕ) (cut : CutFields) → cut.spans.items ≡ [] → cut.ends.items ≡ [] → cut.start ≡ 0 → cut.first ≡ 0 → HasCut text cut 0
-unfolding pieces fields_at Rising last_end
-HasCut-none text cut spans ends start first =
+pub HasCut-none : (text : List ℕ) (cut : CutFields) → cut.cuts.items ≡ [] → cut.ends.items ≡ [] → cut.start ≡ 0 → cut.first ≡ 0 → HasCut text cut 0
+unfolding pieces fields_cut_at CutsIn Rising last_end
+HasCut-none text cut cuts ends start first =
     record {
-      rows = rw (spans, ends, start, first) refl;
+      rows = rw (cuts, ends, start, first) refl;
       no_quote = All-nil (λ byte. byte ≢ 34);
-      fits = record { spans = rw spans (All-nil (LiesIn (length text))); rise = rw (spans, ends) (omega arith); first = rw (ends, first) refl };
+      fits = record { each = rw (cuts, ends) (All-nil (CutsIn (length text + 1))); line = rw (cuts, start, first) (omega arith); rise = rw (cuts, ends) (omega arith); first = rw (ends, first) refl };
       start = omega arith;
     }
 
@@ -131,42 +138,53 @@ blank-test : (fields first all field start i : ℕ) → fields + first ≡ all �
 blank-test fields first all field start i e f = grind (arith, nat_tests)
 
 blank-is : (text : List ℕ) (cut : CutFields) (i : ℕ) → Fits text cut → cut.start ≤ i → i ≤ length text
-    → is_blank (line_fields text cut) (slice_range text cut.start i) ≡ ((cut.start == i) && (cut.first == length cut.spans.items))
+    → is_blank (line_fields text cut) (slice_range text cut.start i) ≡ ((cut.start == i) && (cut.first == length cut.cuts.items))
 blank-is text cut i fits order within =
-    blank-test (length (line_fields text cut)) cut.first (length cut.spans.items) (length (slice_range text cut.start i)) cut.start i (fields-long text cut fits) (field-long text cut.start i order within)
+    blank-test (length (line_fields text cut)) cut.first (length cut.cuts.items) (length (slice_range text cut.start i)) cut.start i (fields-long text cut fits) (field-long text cut.start i order within)
 
 -- a line in which nothing stands
-pub LineEnded-blank : (text : List ℕ) (old new : CutFields) (i : ℕ) → i ≤ length text → old.start ≤ i → Fits text old → ((old.start == i) && (old.first == length old.spans.items)) ≡ true
-    → new.spans.items ≡ old.spans.items → new.ends.items ≡ old.ends.items → new.first ≡ old.first → new.start ≡ i + 1 → LineEnded text old new i
-LineEnded-blank text old new i within order fits blank spans ends first start =
+pub LineEnded-blank : (text : List ℕ) (old new : CutFields) (i : ℕ) → i ≤ length text → old.start ≤ i → Fits text old → ((old.start == i) && (old.first == length old.cuts.items)) ≡ true
+    → new.cuts.items ≡ old.cuts.items → new.ends.items ≡ old.ends.items → new.first ≡ old.first → new.start ≡ i + 1 → LineEnded text old new i
+unfolding fields_cut_at CutsIn
+LineEnded-blank text old new i within order fits blank cuts ends first start =
     let is : is_blank (line_fields text old) (slice_range text old.start i) ≡ true = blank-is text old i fits order within ∙ blank in
-    let all : old.first ≡ length old.spans.items = eqb-true old.first (length old.spans.items) (and_parts (old.start == i) (old.first == length old.spans.items) blank).1 in
+    let all : old.first ≡ length old.cuts.items = eqb-true old.first (length old.cuts.items) (and_parts (old.start == i) (old.first == length old.cuts.items) blank).1 in
+    let none : drop old.first old.cuts.items ≡ [] = drop_all old.first old.cuts.items (omega (arith, all)) in
+    let line : line_cuts new ≡ (i + 1) ∷ [] = rw (first, cuts, none, start) refl in
     record {
-      rows = λ more. rw (spans, ends, is) refl;
-      none = rw (spans, first) (drop_all old.first (fields_cut text old) (omega (arith, all, length-fields_at text old.spans.items)));
-      fits = record { spans = rw spans fits.spans; rise = rw (spans, ends) fits.rise; first = rw (ends, first) fits.first };
+      rows = λ more. rw (cuts, ends, is) refl;
+      none = rw line refl;
+      fits = record { each = rw (cuts, ends) fits.each; line = rw line (omega arith); rise = rw (cuts, ends) fits.rise; first = rw (ends, first) fits.first };
       start = start;
     }
 
 -- a line that is a row
-pub LineEnded-row : (text : List ℕ) (old mid new : CutFields) (i : ℕ) → i ≤ length text → old.start ≤ i → Fits text old → ((old.start == i) && (old.first == length old.spans.items)) ≡ false → EndsField old mid i
-    → new.spans.items ≡ mid.spans.items → new.ends.items ≡ mid.ends.items ++ length mid.spans.items ∷ [] → new.first ≡ length mid.spans.items → new.start ≡ mid.start → LineEnded text old new i
-LineEnded-row text old mid new i within order fits row ended spans ends first start =
+pub LineEnded-row : (text : List ℕ) (old mid new : CutFields) (i : ℕ) → i ≤ length text → old.start ≤ i → Fits text old → ((old.start == i) && (old.first == length old.cuts.items)) ≡ false → EndsField old mid i
+    → new.cuts.items ≡ mid.cuts.items ++ mid.start ∷ [] → new.ends.items ≡ mid.ends.items ++ length new.cuts.items ∷ [] → new.first ≡ length new.cuts.items → new.start ≡ mid.start → LineEnded text old new i
+unfolding fields_cut_at CutsIn
+LineEnded-row text old mid new i within order fits row ended cuts ends first start =
+    let most = length text + 1 in
     let is : is_blank (line_fields text old) (slice_range text old.start i) ≡ false = blank-is text old i fits order within ∙ row in
     let step = field-step text old mid i ended fits order within in
-    let fields = fields_cut text mid in
-    let count = length mid.spans.items in
-    let size : count ≡ length fields = sym (length-fields_at text mid.spans.items) in
-    let piece : slice_range fields (last_end 0 mid.ends.items) count ≡ line_fields text mid = rw (size, step.2.first) (take_rest fields mid.first) in
-    let all : rows_cut text new ≡ rows_cut text old ++ (line_fields text old ++ slice_range text old.start i ∷ []) ∷ [] =
-    rw (spans, ends) (pieces-push 0 mid.ends.items fields count) ∙ ap (λ last. rows_cut text mid ++ last ∷ []) (piece ∙ step.1) ∙ rw step.0 refl in
+    let before = pieces 0 mid.ends.items mid.cuts.items in
+    let count = length new.cuts.items in
+    let more : pieces 0 mid.ends.items new.cuts.items ≡ before = rw cuts (pieces-more 0 mid.ends.items mid.cuts.items (mid.start ∷ []) step.2.rise) in
+    let line : slice_range new.cuts.items mid.first count ≡ line_cuts mid =
+    take_rest new.cuts.items mid.first ∙ rw (cuts, drop-append-le mid.first mid.cuts.items (mid.start ∷ []) (first-within text mid step.2)) refl in
+    let all : pieces 0 new.ends.items new.cuts.items ≡ before ++ line_cuts mid ∷ [] =
+    ap (λ places. pieces 0 places new.cuts.items) ends ∙ pieces-push 0 mid.ends.items new.cuts.items count ∙ rw (more, step.2.first, line) refl in
+    let rows : rows_cut text new ≡ rows_cut text old ++ (line_fields text old ++ slice_range text old.start i ∷ []) ∷ [] =
+    ap (map (fields_cut_at text)) all ∙ map_push (fields_cut_at text) before (line_cuts mid) ∙ rw (step.0, step.1) refl in
+    let grown : Rising 0 mid.ends.items count = rising-more 0 mid.ends.items _ _ step.2.rise (omega (arith, ap length cuts, length_push mid.cuts.items mid.start)) in
+    let next : line_cuts new ≡ (i + 1) ∷ [] = rw (first, drop_all count new.cuts.items (omega arith), start, ended.start) refl in
     record {
-      rows = λ more. rw (all, is) (append_assoc (rows_cut text old) ((line_fields text old ++ slice_range text old.start i ∷ []) ∷ []) more);
-      none = rw (spans, first) (drop_all count fields (omega (arith, size)));
+      rows = λ others. rw (rows, is) (append_assoc (rows_cut text old) ((line_fields text old ++ slice_range text old.start i ∷ []) ∷ []) others);
+      none = rw next refl;
       fits = record {
-        spans = rw spans step.2.spans;
-        rise = rw (spans, ends) (rising-end 0 mid.ends.items count step.2.rise);
-        first = rw (ends, first) (last-append 0 mid.ends.items count);
+        each = rw all (All-push (CutsIn most) before (line_cuts mid) step.2.each step.2.line);
+        line = rw next (omega arith);
+        rise = rw ends (rising-end 0 mid.ends.items count grown);
+        first = rw ends (last-append 0 mid.ends.items count) ∙ sym first;
       };
       start = start ∙ ended.start;
     }

@@ -1,25 +1,85 @@
 -- Rows that are taken one after the other.
-use Rattle.std.proofs.Common.{◌≡◌, List, [], ◌∷◌, ◌++◌, length, arith, refl}
-use Rattle.std.proofs.lemmas.List.{length-append}
+use Rattle.std.proofs.Common.{◌≡◌, ℕ, ◌^◌, ◌+◌, ◌<◌, ◌≤◌, List, [], ◌∷◌, ◌++◌, length, map, take, arith, refl, ◌∙◌, append_assoc}
+use Rattle.std.proofs.lemmas.List.{length-append, map_push}
+use Rattle.std.proofs.lemmas.List.Elements.{All-nil, All-push}
 use Rattle.csv.specs.Records.{Rising, last_end}
 use Rattle.csv.proofs.RecordFacts.{rising-end, rising-more, last-append}
 use Rattle.row_text.specs.declared.row_list.Taken.{Taken}
 use Rattle.row_text.specs.Row.{Row}
 use Rattle.row_text.specs.Pieces.{pieces}
-use Rattle.row_text.specs.Rows.{HasTaken}
+use Rattle.row_text.specs.Cuts.{CutsIn, fields_cut_at, PutsField, RowsIn}
+use Rattle.row_text.specs.Rows.{HasPut, HasTaken}
+use Rattle.row_text.proofs.Cuts.{each-weaker, put-field, rows-same, take-kept}
 use Rattle.row_text.proofs.Pieces.{pieces-append}
+use Rattle.std.proofs.lemmas.List.{take-take}
+use Rattle.std.proofs.Common.{sym, ap}
+
+-- no field of a row is put yet
+pub HasPut-none : (old new : Taken) → new.bytes.items ≡ old.bytes.items → new.used ≡ old.used → new.cuts.items ≡ old.cuts.items ++ old.used ∷ [] → new.ends.items ≡ old.ends.items
+    → old.used ≤ length old.bytes.items → old.used < 2 ^ 32 → HasPut old new (old.used ∷ []) []
+unfolding fields_cut_at CutsIn last_end
+HasPut-none old new bytes used cuts ends room small =
+    record {
+      cuts_after = cuts;
+      ends_kept = ends;
+      fields = refl;
+      some = omega arith;
+      ends_at = record { lie = omega (arith, used); last = sym used; room = rw (bytes, used) room };
+      kept = ap (take old.used) bytes;
+      grown = omega (arith, used);
+      small = rw used small;
+    }
+
+-- one field more of a row was put
+pub HasPut-more : (old mid new : Taken) (cuts : List ℕ) (row : Row) (field : List ℕ) → HasPut old mid cuts row → PutsField mid.bytes.items new.bytes.items mid.cuts.items new.cuts.items mid.used new.used field
+    → new.ends.items ≡ mid.ends.items → HasPut old new (cuts ++ new.used ∷ []) (row ++ field ∷ [])
+HasPut-more old mid new cuts row field has put ends =
+    let one : PutsField mid.bytes.items new.bytes.items cuts (cuts ++ new.used ∷ []) mid.used new.used field = record { cuts = refl; bytes = put.bytes; past = put.past; room = put.room; small = put.small } in
+    let step = put-field mid.bytes.items new.bytes.items cuts (cuts ++ new.used ∷ []) mid.used new.used field has.some has.ends_at one in
+    let same : take mid.used new.bytes.items ≡ take mid.used mid.bytes.items = take-kept mid.bytes.items new.bytes.items field mid.used (mid.used + length field) has.ends_at.room (omega arith) put.bytes in
+    record {
+      cuts_after = put.cuts ∙ rw (has.cuts_after, append_assoc) refl;
+      ends_kept = ends ∙ has.ends_kept;
+      fields = step.0 ∙ rw has.fields refl;
+      some = omega (arith, length-append cuts (new.used ∷ []));
+      ends_at = step.1;
+      kept = sym (take-take old.used mid.used new.bytes.items has.grown) ∙ ap (take old.used) same ∙ take-take old.used mid.used mid.bytes.items has.grown ∙ has.kept;
+      grown = omega (arith, has.grown, put.past);
+      small = put.small;
+    }
 
 -- one row more was taken
-pub HasTaken-more : (old new : Taken) (rows : List Row) (row : Row) → new.fields ≡ old.fields ++ row → new.ends.items ≡ old.ends.items ++ length (old.fields ++ row) ∷ [] → HasTaken old rows → HasTaken new (rows ++ row ∷ [])
-HasTaken-more old new rows row fields ends has =
-    let grown : Rising 0 old.ends.items (length (old.fields ++ row)) = rising-more 0 old.ends.items _ _ has.rise (omega (arith, length-append old.fields row)) in
+pub HasTaken-more : (old mid new : Taken) (rows : List Row) (cuts : List ℕ) (row : Row) → HasPut old mid cuts row → new.bytes.items ≡ mid.bytes.items → new.used ≡ mid.used → new.cuts.items ≡ mid.cuts.items
+    → new.ends.items ≡ mid.ends.items ++ length mid.cuts.items ∷ [] → HasTaken old rows → HasTaken new (rows ++ row ∷ [])
+HasTaken-more old mid new rows cuts row put bytes used cuts_same ends has =
+    let before = pieces 0 old.ends.items old.cuts.items in
+    let all : pieces 0 new.ends.items new.cuts.items ≡ before ++ cuts ∷ [] =
+    rw (ends, cuts_same, put.ends_kept, put.cuts_after) (pieces-append old.ends.items old.cuts.items cuts has.rise has.all) in
+    let kept : map (fields_cut_at mid.bytes.items) before ≡ map (fields_cut_at old.bytes.items) before = rows-same old.bytes.items mid.bytes.items old.used before has.each put.kept in
+    let grown : Rising 0 old.ends.items (length (old.cuts.items ++ cuts)) = rising-more 0 old.ends.items _ _ has.rise (omega (arith, length-append old.cuts.items cuts)) in
     record {
-      rows = rw (fields, ends, pieces-append old.ends.items old.fields row has.rise has.all, has.rows) refl;
-      rise = rw (fields, ends) (rising-end 0 old.ends.items _ grown);
-      all = rw (fields, ends) (last-append 0 old.ends.items _);
+      rows = rw (all, bytes, map_push (fields_cut_at mid.bytes.items) before cuts, kept, has.rows, put.fields) refl;
+      rise = rw (ends, cuts_same, put.ends_kept, put.cuts_after) (rising-end 0 old.ends.items _ grown);
+      all = rw (ends, cuts_same) (last-append 0 mid.ends.items _);
+      each = rw (all, used) (All-push (CutsIn mid.used) before cuts (each-weaker old.used mid.used before put.grown has.each) put.ends_at.lie);
+      room = rw (bytes, used) put.ends_at.room;
+      small = rw used put.small;
     }
 
 -- no row is taken yet
-pub HasTaken-none : (taken : Taken) → taken.fields ≡ [] → taken.ends.items ≡ [] → HasTaken taken []
+pub HasTaken-none : (taken : Taken) → taken.used ≡ 0 → taken.cuts.items ≡ [] → taken.ends.items ≡ [] → HasTaken taken []
 unfolding pieces Rising last_end
-HasTaken-none taken fields ends = record { rows = rw ends refl; rise = rw ends (omega arith); all = rw (ends, fields) refl }
+HasTaken-none taken used cuts ends =
+    record {
+      rows = rw ends refl;
+      rise = rw ends (omega arith);
+      all = rw (ends, cuts) refl;
+      each = rw ends (All-nil (CutsIn taken.used));
+      room = omega (arith, used);
+      small = omega (arith, used);
+    }
+
+-- the rows lie within the bytes
+pub RowsIn-taken : (taken : Taken) (rows : List Row) → HasTaken taken rows → RowsIn taken.bytes.items taken.cuts.items taken.ends.items
+RowsIn-taken taken rows has =
+    record { rise = has.rise; each = each-weaker taken.used (length taken.bytes.items + 1) (pieces 0 taken.ends.items taken.cuts.items) (omega (arith, has.room)) has.each }

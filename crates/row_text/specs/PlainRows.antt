@@ -3,7 +3,7 @@ use Rattle.std.specs.Prelude.{◌≡◌, ◌≢◌, ℕ, ◌==◌, ◌&&◌, ◌
 use Rattle.std.specs.List.{All}
 use Rattle.csv.specs.Records.{Rising, last_end}
 use Rattle.row_text.specs.declared.plain_rows.CutFields.{CutFields}
-use Rattle.row_text.specs.Cuts.{fields_at, LiesIn, span}
+use Rattle.row_text.specs.Cuts.{CutsIn, fields_cut_at, rows_cut_at}
 use Rattle.row_text.specs.Pieces.{pieces}
 use Rattle.row_text.specs.Row.{Row}
 
@@ -32,21 +32,23 @@ cut_rows fields field (byte ∷ text) =
     else if ends_line byte then with_line fields field (cut_rows [] [] text)
     else cut_rows fields (field ++ byte ∷ []) text
 
--- the fields that were cut from a text so far, and those of the line at hand
-abbrev pub fields_cut : List ℕ → CutFields → Row
-fields_cut text cut = fields_at text cut.spans.items
+-- the places of the line at hand: those of its fields that were cut, and where the next starts
+abbrev pub line_cuts : CutFields → List ℕ
+line_cuts cut = drop cut.first cut.cuts.items ++ cut.start ∷ []
 
+-- the fields of the line at hand that were cut so far
 abbrev pub line_fields : List ℕ → CutFields → Row
-line_fields text cut = drop cut.first (fields_cut text cut)
+line_fields text cut = fields_cut_at text (line_cuts cut)
 
 -- the rows that were cut so far
 abbrev pub rows_cut : List ℕ → CutFields → List Row
-rows_cut text cut = pieces 0 cut.ends.items (fields_cut text cut)
+rows_cut text cut = rows_cut_at text cut.cuts.items cut.ends.items
 
--- the spans that were cut from a text lie within it, and the rows' ends within them
+-- the places that were cut from a text lie within it, and the rows' ends within them
 pub record Fits (text : List ℕ) (cut : CutFields) : Type 0 where
-  pub spans : All (LiesIn (length text)) cut.spans.items
-  pub rise : Rising 0 cut.ends.items (length cut.spans.items)
+  pub each : All (CutsIn (length text + 1)) (pieces 0 cut.ends.items cut.cuts.items)
+  pub line : CutsIn (length text + 1) (line_cuts cut)
+  pub rise : Rising 0 cut.ends.items (length cut.cuts.items)
   pub first : last_end 0 cut.ends.items ≡ cut.first
 
 -- the first bytes of a text were cut, so many
@@ -64,7 +66,7 @@ pub record HasCutAll (text : List ℕ) (cut : CutFields) : Type 0 where
 
 -- a field ended at a place
 pub record EndsField (old new : CutFields) (i : ℕ) : Type 0 where
-  pub spans : new.spans.items ≡ old.spans.items ++ span old.start i ∷ []
+  pub cuts : new.cuts.items ≡ old.cuts.items ++ old.start ∷ []
   pub ends : new.ends.items ≡ old.ends.items
   pub start : new.start ≡ i + 1
   pub first : new.first ≡ old.first

@@ -1,10 +1,12 @@
 -- The rows of a text.
-use Rattle.std.specs.Prelude.{◌≡◌, ℕ, List, [], ◌∷◌, ◌++◌, length}
+use Rattle.std.specs.Prelude.{◌≡◌, ℕ, ◌^◌, ◌<◌, ◌≤◌, List, [], ◌∷◌, ◌++◌, length, take}
+use Rattle.std.specs.List.{All}
 use Rattle.csv.specs.Reading.{default_config, records, strip_bom}
 use Rattle.csv.specs.Records.{Rising, last_end}
 use Rattle.row_text.specs.declared.row_list.Taken.{Taken}
 use Rattle.row_text.specs.Row.{Row}
 use Rattle.row_text.specs.Pieces.{pieces}
+use Rattle.row_text.specs.Cuts.{CutsIn, EndsAt, fields_cut_at, rows_cut_at}
 
 -- the rows of a text: those of CSV with commas and double quotes, without a byte order mark at the text's start
 abbrev pub rows_of : List ℕ → List Row
@@ -12,9 +14,26 @@ rows_of text = records default_config (strip_bom text)
 
 -- these rows were taken
 pub record HasTaken (taken : Taken) (taken_rows : List Row) : Type 0 where
-  pub rows : pieces 0 taken.ends.items taken.fields ≡ taken_rows
-  pub rise : Rising 0 taken.ends.items (length taken.fields)
-  pub all : last_end 0 taken.ends.items ≡ length taken.fields
+  pub rows : rows_cut_at taken.bytes.items taken.cuts.items taken.ends.items ≡ taken_rows
+  pub rise : Rising 0 taken.ends.items (length taken.cuts.items)
+  pub all : last_end 0 taken.ends.items ≡ length taken.cuts.items
+  pub each : All (CutsIn taken.used) (pieces 0 taken.ends.items taken.cuts.items)
+  pub room : taken.used ≤ length taken.bytes.items
+  pub small : taken.used < 2 ^ 32
+
+-- the fields of a row were put, with these places
+pub record HasPut (old new : Taken) (cuts : List ℕ) (row : Row) : Type 0 where
+  pub cuts_after : new.cuts.items ≡ old.cuts.items ++ cuts
+  pub ends_kept : new.ends.items ≡ old.ends.items
+  pub fields : fields_cut_at new.bytes.items cuts ≡ row
+  pub some : 0 < length cuts
+  pub ends_at : EndsAt new.bytes.items cuts new.used
+  pub kept : take old.used new.bytes.items ≡ take old.used old.bytes.items
+  pub grown : old.used ≤ new.used
+  pub small : new.used < 2 ^ 32
+
+abbrev pub PutsRow : Taken → Taken → Row → Type 0
+PutsRow old new row = (cuts : List ℕ) × HasPut old new cuts row
 
 -- one row more was taken
 abbrev pub Takes : Taken → Taken → Row → Type 0

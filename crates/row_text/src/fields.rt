@@ -1,45 +1,37 @@
-//! The fields of a row, kept as one text with the place of each field in it.
-ghost use Rattle.std.specs.Prelude.{◌≡◌, ◌+◌, ◌<◌, ◌≤◌, ◌^◌, ◌↔◌, [], ◌∷◌, ◌++◌, length, slice_index, slice_range, take, vec_len, vec_capacity, IsTrue, IfSome, IfOk, OnOk, OnErr};
-ghost use Rattle.std.specs.List.{All};
-ghost use Rattle.csv.specs.Records.{IsRecord, field_count, fields_of, last_end, prev, text_of};
-ghost use Rattle.row_text.specs.Cuts.{after_bytes, fields_at, LiesIn, span, spans_from};
+//! The fields of a row, kept as bytes and the places at which they are cut.
+ghost use Rattle.std.specs.Prelude.{◌≡◌, ◌+◌, ◌<◌, ◌≤◌, ◌^◌, ◌↔◌, [], ◌∷◌, ◌++◌, length, slice_index, IsTrue, IfSome, IfOk, OnOk, OnErr};
+ghost use Rattle.csv.specs.Records.{prev};
+ghost use Rattle.row_text.specs.Cuts.{CutsIn, fields_cut_at, PutsField, with_first};
 ghost use Rattle.row_text.specs.Row.{field};
 
 use crate::put::{make_room, put_bytes};
-use csv::ByteRecord;
 use rail_model::OutOfMemory;
 use std::alloc::Global;
 use std::marker::Model;
 
 /// The fields of a row, of any bytes. Contracts see the list of the fields, each a list of bytes.
 ///
-/// The fields have fewer than 4,294,967,296 bytes together: a push past that finds no memory.
+/// The fields have fewer than 4,294,967,296 bytes together, where each counts for one more than it
+/// has: a push past that finds no memory.
 #[derive(Drop)]
 pub struct Fields {
-    // The bytes of the fields, some more between them, and spare room after them.
+    // The bytes of the fields, with one more after each, and spare room after them.
     bytes: Vec<u8>,
     // How many of the bytes are used.
     used: usize,
-    // Where each field stands.
-    spans: Vec<FieldSpan>,
-}
-
-// Where a field starts and ends.
-#[derive(Clone, Copy)]
-pub(crate) struct FieldSpan {
-    pub(crate) start: u32,
-    pub(crate) end: u32,
+    // Where each field starts, and the place past the last.
+    cuts: Vec<u32>,
 }
 
 impl Model for Fields {
     ghost use Rattle.std.specs.Prelude.{List, ℕ};
-    ghost use Rattle.row_text.specs.Cuts.{fields_at, SpansIn};
+    ghost use Rattle.row_text.specs.Cuts.{fields_cut_at, EndsAt};
 
     ghost Value = { List (List ℕ) };
 
-    ghost view = { λ f. fields_at f.bytes.items f.spans.items };
+    ghost view = { λ f. fields_cut_at f.bytes.items f.cuts.items };
 
-    ghost invariant = { λ f. SpansIn f.spans.items f.bytes.items f.used };
+    ghost invariant = { λ f. EndsAt f.bytes.items f.cuts.items f.used };
 }
 
 impl Fields {
@@ -50,25 +42,8 @@ impl Fields {
         Fields {
             bytes: Vec::new(alloc),
             used: 0,
-            spans: Vec::new(alloc),
+            cuts: Vec::new(alloc),
         }
-    }
-
-    // The same with room for so many.
-    pub(crate) fn with_room(alloc: Global, fields: usize) -> Result<Fields, OutOfMemory>
-        ensures { IfOk result (λ none. none ≡ []) }
-    {
-        let spans = Vec::with_capacity(alloc, fields)?;
-        Ok(Fields::at_spans(Vec::new(alloc), spans))
-    }
-
-    // The fields that stand at these spans of the bytes.
-    pub(crate) fn at_spans(bytes: Vec<u8>, spans: Vec<FieldSpan>) -> Fields
-        requires { All (LiesIn (length bytes.items)) spans.items }
-        ensures { result ≡ fields_at bytes.items spans.items }
-    {
-        let used = bytes.len();
-        Fields { bytes, used, spans }
     }
 
     /// Puts a field at the end. Without memory the fields stay as they were.
@@ -76,31 +51,8 @@ impl Fields {
         ensures ok { OnOk result (self.new ≡ self.old ++ field.now ∷ []) }
         ensures err { OnErr result (self.new ≡ self.old) }
     {
-        let Some(span) = span_after(self.used, field.len()) else {
-            return Err(OutOfMemory);
-        };
-        self.spans.push(span)?;
-        if make_room(&mut self.bytes, self.used, field.len()).is_err() {
-            self.spans.pop();
-            return Err(OutOfMemory);
-        }
-        self.used = put_bytes(&mut self.bytes, self.used, field);
-        Ok(())
-    }
-
-    // Puts the fields of a row at the end: its bytes at once, and then the place of each.
-    pub(crate) fn append(&mut self, row: &ByteRecord) -> Result<(), OutOfMemory>
-        requires { IsRecord row.now }
-        ensures { OnOk result (self.new ≡ self.old ++ fields_of row.now) }
-    {
-        let text = row.as_slice();
-        let Some(_) = span_after(self.used, text.len()) else {
-            return Err(OutOfMemory);
-        };
-        self.spans.reserve(row.len())?;
-        make_room(&mut self.bytes, self.used, text.len())?;
-        put_spans(&mut self.spans, self.used, row);
-        self.used = put_bytes(&mut self.bytes, self.used, text);
+        put_first(&mut self.cuts)?;
+        self.used = put_field(&mut self.bytes, &mut self.cuts, self.used, field)?;
         Ok(())
     }
 
@@ -108,7 +60,7 @@ impl Fields {
     pub fn len(&self) -> usize
         ensures { result ≡ length self.now }
     {
-        self.spans.len()
+        self.cuts.len().saturating_sub(1)
     }
 
     /// Whether there is no field.
@@ -124,27 +76,16 @@ impl Fields {
         requires { i < length self.now }
         ensures { result.now ≡ field self.now i }
     {
-        field_at(&self.bytes, &self.spans, i)
+        field_at(&self.bytes, &self.cuts, i)
     }
 
     /// The fields as a row that only lends them.
     pub fn row(&self) -> Row<'_>
         ensures { result ≡ self.now }
     {
-        self.part(0, self.len())
-    }
-
-    // The fields from one on and before another, as a row.
-    #[inline]
-    pub(crate) fn part(&self, from: usize, to: usize) -> Row<'_>
-        requires order { from ≤ to }
-        requires there { to ≤ length self.now }
-        ensures { result ≡ slice_range self.now from to }
-    {
         Row {
-            fields: self,
-            from,
-            to,
+            bytes: &self.bytes,
+            cuts: &self.cuts,
         }
     }
 }
@@ -152,28 +93,38 @@ impl Fields {
 /// A row that lies somewhere else: contracts see the list of its fields.
 #[derive(Drop)]
 pub struct Row<'a> {
-    fields: &'a Fields,
-    from: usize,
-    to: usize,
+    bytes: &'a [u8],
+    // Where each field starts, and the place past the last.
+    cuts: &'a [u32],
 }
 
 impl<'a> Model for Row<'a> {
-    ghost use Rattle.std.specs.Prelude.{◌<◌, ◌≤◌, ◌^◌, List, ℕ, length, slice_range};
+    ghost use Rattle.std.specs.Prelude.{◌+◌, List, ℕ, length};
+    ghost use Rattle.row_text.specs.Cuts.{fields_cut_at, CutsIn};
 
     ghost Value = { List (List ℕ) };
 
-    ghost view = { λ r. slice_range r.fields.now r.from r.to };
+    ghost view = { λ r. fields_cut_at r.bytes.now r.cuts.now };
 
-    ghost invariant = { λ r. (r.from ≤ r.to) × (r.to ≤ length r.fields.now) × (r.to < 2 ^ 64) };
+    ghost invariant = { λ r. CutsIn (length r.bytes.now + 1) r.cuts.now };
 }
 
 impl<'a> Row<'a> {
+    // The row whose fields are cut at these places.
+    #[inline]
+    pub(crate) fn of_cuts(bytes: &'a [u8], cuts: &'a [u32]) -> Row<'a>
+        requires { CutsIn (length bytes.now + 1) cuts.now }
+        ensures { result ≡ fields_cut_at bytes.now cuts.now }
+    {
+        Row { bytes, cuts }
+    }
+
     /// How many fields there are.
     #[inline]
     pub fn len(&self) -> usize
         ensures { result ≡ length self.now }
     {
-        self.to - self.from
+        self.cuts.len().saturating_sub(1)
     }
 
     /// Whether there is no field.
@@ -200,19 +151,20 @@ impl<'a> Row<'a> {
         requires { i < length self.now }
         ensures { result.now ≡ field self.now i }
     {
-        self.fields.get(self.from + i)
+        field_at(self.bytes, self.cuts, i)
     }
 }
 
-// The field at a place, of those that stand at these spans of the bytes.
+// The field at `i`, of those that are cut from the bytes at these places.
 #[inline]
-fn field_at<'a>(bytes: &'a [u8], spans: &[FieldSpan], i: usize) -> &'a [u8]
-    requires at { i < length spans.now }
-    requires within { All (LiesIn (length bytes.now)) spans.now }
-    ensures { result.now ≡ field (fields_at bytes.now spans.now) i }
+fn field_at<'a>(bytes: &'a [u8], cuts: &[u32], i: usize) -> &'a [u8]
+    requires at { i + 1 < length cuts.now }
+    requires within { CutsIn (length bytes.now + 1) cuts.now }
+    ensures { result.now ≡ field (fields_cut_at bytes.now cuts.now) i }
 {
-    let span = spans[i];
-    &bytes[span.start as usize..span.end as usize]
+    let start = cuts[i] as usize;
+    let next = cuts[i + 1] as usize;
+    &bytes[start..next - 1]
 }
 
 // Where the piece at `i` starts and ends, of pieces that end at these places.
@@ -229,51 +181,50 @@ pub(crate) fn span(ends: &[u32], i: usize) -> (usize, usize)
     (ends[i - 1] as usize, end)
 }
 
-// Puts the places of a row's fields, as its bytes stand after so many others.
-#[inline]
-fn put_spans(spans: &mut Vec<FieldSpan>, used: usize, row: &ByteRecord)
-    requires rise { IsRecord row.now }
-    requires small { used + length (text_of row.now) < 2 ^ 32 }
-    requires room { vec_len spans.old + field_count row.now ≤ vec_capacity spans.old }
-    ensures { spans.new.items
-        ≡ spans.old.items ++ spans_from used (after_bytes used row.now.ends) }
+// Puts the place of the first field, where none is there.
+fn put_first(cuts: &mut Vec<u32>) -> Result<(), OutOfMemory>
+    ensures ok { OnOk result (cuts.new.items ≡ with_first cuts.old.items) }
+    ensures err { OnErr result (cuts.new.items ≡ cuts.old.items) }
 {
-    let mut start = used;
-    for i in 0..row.len() {
-        let end = start + field_len(row, i);
-        spans.push_reserved(FieldSpan {
-            start: start as u32,
-            end: end as u32,
-        });
-        start = end;
+    if cuts.is_empty() {
+        cuts.push(0)?;
     }
+    Ok(())
 }
 
-// How long the field at `i` of a row is.
-#[inline]
-fn field_len(row: &ByteRecord, i: usize) -> usize
-    requires rise { IsRecord row.now }
-    requires there { i < field_count row.now }
-    ensures { last_end 0 (take i row.now.ends) + result ≡ slice_index row.now.ends i }
+// Puts a field after the bytes that are used, and the place past it after the others. One more byte
+// stands after it. Gives how many bytes are used then.
+pub(crate) fn put_field(
+    bytes: &mut Vec<u8>,
+    cuts: &mut Vec<u32>,
+    used: usize,
+    field: &[u8],
+) -> Result<usize, OutOfMemory>
+    requires { used ≤ length bytes.old.items }
+    ensures ok { IfOk result (λ end. PutsField bytes.old.items bytes.new.items
+        cuts.old.items cuts.new.items used end field.now) }
+    ensures bytes { OnErr result (bytes.new.items ≡ bytes.old.items) }
+    ensures cuts { OnErr result (cuts.new.items ≡ cuts.old.items) }
 {
-    match row.get(i) {
-        Some(field) => field.len(),
-        None => 0,
-    }
+    let Some(end) = end_after(used, field.len()) else {
+        return Err(OutOfMemory);
+    };
+    cuts.reserve(1)?;
+    make_room(bytes, used, field.len() + 1)?;
+    put_bytes(bytes, used, field);
+    cuts.push_reserved(end as u32);
+    Ok(end)
 }
 
-// Where a field of a length stands after so many bytes.
-fn span_after(bytes: usize, field: usize) -> Option<FieldSpan>
-    ensures { IfSome result (λ at. at ≡ span bytes (bytes + field)) }
+// The place past a field of a length after so many bytes.
+fn end_after(used: usize, field: usize) -> Option<usize>
+    ensures { IfSome result (λ end. (end ≡ used + field + 1) × (end < 2 ^ 32)) }
 {
-    match bytes.checked_add(field) {
-        Some(end) if end < MOST_BYTES => Some(FieldSpan {
-            start: bytes as u32,
-            end: end as u32,
-        }),
+    match used.checked_add(field) {
+        Some(end) if end < GREATEST_PLACE => Some(end + 1),
         _ => None,
     }
 }
 
-// The bytes of fields are fewer.
-pub(crate) const MOST_BYTES: usize = 4_294_967_296;
+// No place is past this.
+pub(crate) const GREATEST_PLACE: usize = 4_294_967_295;

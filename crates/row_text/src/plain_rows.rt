@@ -4,7 +4,7 @@ ghost use Rattle.std.specs.Prelude.{◌≡◌, ◌↔◌, ◌==◌, ◌&&◌, �
 ghost use Rattle.row_text.specs.PlainRows.{ends_line, EndsField, EndsLine, HasCut, HasCutAll, TakesByte};
 ghost use Rattle.row_text.specs.Rows.{rows_of};
 
-use crate::fields::{FieldSpan, Fields, MOST_BYTES};
+use crate::fields::GREATEST_PLACE;
 use crate::row_list::RowList;
 use rail_model::OutOfMemory;
 use std::alloc::Global;
@@ -12,46 +12,47 @@ use std::alloc::Global;
 // The fields and rows that were cut from a text so far.
 #[derive(Drop)]
 struct CutFields {
-    // Where each field stands.
-    spans: Vec<FieldSpan>,
-    // How many fields there are up to the end of each row.
+    // Where the fields are cut. The place at which the field at hand starts isn't put yet.
+    cuts: Vec<u32>,
+    // How many places there are up to the end of each row.
     ends: Vec<u32>,
     // Where the field at hand starts.
     start: usize,
-    // How many fields there are before the line at hand.
+    // How many places there are before the line at hand.
     first: usize,
 }
 
-// Room for the fields and rows of a text.
+// Room for the places and rows of a text.
 #[derive(Clone, Copy)]
 pub(crate) struct Room {
-    pub(crate) fields: usize,
+    pub(crate) cuts: usize,
     pub(crate) rows: usize,
 }
 
-// As much as is enough where no field is empty, and where rows have sixteen bytes each. It isn't
-// counted: that takes longer than to let it grow where it is too little, and what isn't written to
-// takes no page.
+// As much as is enough where no field is empty, and where rows have sixteen bytes each: a row has a
+// place more than fields. It isn't counted: that takes longer than to let it grow where it is too
+// little, and what isn't written to takes no page.
 pub(crate) fn room_for(text: &[u8]) -> Room
-    ensures { (result.fields ≤ length text.now + 1) × (result.rows ≤ length text.now + 1) }
+    ensures { (result.cuts ≤ length text.now + 2) × (result.rows ≤ length text.now + 1) }
 {
+    let rows = text.len() / 16 + 1;
     Room {
-        fields: text.len() / 2 + 1,
-        rows: text.len() / 16 + 1,
+        cuts: text.len() / 2 + 1 + rows,
+        rows,
     }
 }
 
 // The rows of a text, as CSV reads them. None for a text that is left to a reader of CSV: one with
 // a double quote, one that may start with a byte order mark, or one that is too long.
-pub(crate) fn plain_rows(alloc: Global, text: &[u8]) -> Result<Option<RowList>, OutOfMemory>
+pub(crate) fn plain_rows(alloc: Global, text: &[u8]) -> Result<Option<RowList<'_>>, OutOfMemory>
     ensures { IfOk result (λ found. IfSome found (λ rows. rows ≡ rows_of text.now)) }
 {
-    if text.len() >= MOST_BYTES || starts_with_mark(text) {
+    if text.len() >= GREATEST_PLACE || starts_with_mark(text) {
         return Ok(None);
     }
     let room = room_for(text);
     let mut cut = CutFields {
-        spans: Vec::with_capacity(alloc, room.fields)?,
+        cuts: Vec::with_capacity(alloc, room.cuts)?,
         ends: Vec::with_capacity(alloc, room.rows)?,
         start: 0,
         first: 0,
@@ -59,8 +60,7 @@ pub(crate) fn plain_rows(alloc: Global, text: &[u8]) -> Result<Option<RowList>, 
     if !cut_text(&mut cut, text)? {
         return Ok(None);
     }
-    let bytes = Vec::from_slice(alloc, text)?;
-    Ok(Some(RowList::of_fields(Fields::at_spans(bytes, cut.spans), cut.ends)))
+    Ok(Some(RowList::of_cuts(text, cut.cuts, cut.ends)))
 }
 
 // Whether a text starts with the first byte of a byte order mark.
@@ -72,7 +72,7 @@ fn starts_with_mark(text: &[u8]) -> bool
 
 // Cuts a whole text. False where it has a double quote.
 fn cut_text(cut: &mut CutFields, text: &[u8]) -> Result<bool, OutOfMemory>
-    requires small { length text.now < 2 ^ 32 }
+    requires small { length text.now + 1 < 2 ^ 32 }
     requires fresh { HasCut text.now cut.old 0 }
     ensures { IfOk result (λ whole. IsTrue whole → HasCutAll text.now cut.new) }
 {
@@ -98,7 +98,7 @@ fn cut_text(cut: &mut CutFields, text: &[u8]) -> Result<bool, OutOfMemory>
 #[inline(never)]
 fn take_below_comma(cut: &mut CutFields, i: usize, byte: u8) -> Result<bool, OutOfMemory>
     requires order { cut.old.start ≤ i }
-    requires small { i < 2 ^ 32 }
+    requires small { i + 1 < 2 ^ 32 }
     requires other { byte < 44 }
     ensures { IfOk result (λ plain. IsTrue plain → TakesByte cut.old cut.new i byte) }
 {
@@ -121,13 +121,10 @@ fn ends_line(byte: u8) -> bool
 #[inline]
 fn end_field(cut: &mut CutFields, i: usize) -> Result<(), OutOfMemory>
     requires order { cut.old.start ≤ i }
-    requires small { i < 2 ^ 32 }
+    requires small { i + 1 < 2 ^ 32 }
     ensures { OnOk result (EndsField cut.old cut.new i) }
 {
-    cut.spans.push(FieldSpan {
-        start: cut.start as u32,
-        end: i as u32,
-    })?;
+    cut.cuts.push(cut.start as u32)?;
     cut.start = i + 1;
     Ok(())
 }
@@ -136,7 +133,7 @@ fn end_field(cut: &mut CutFields, i: usize) -> Result<(), OutOfMemory>
 #[inline]
 fn end_line(cut: &mut CutFields, i: usize) -> Result<(), OutOfMemory>
     requires order { cut.old.start ≤ i }
-    requires small { i < 2 ^ 32 }
+    requires small { i + 1 < 2 ^ 32 }
     ensures { OnOk result (EndsLine cut.old cut.new i) }
 {
     if is_blank(cut, i) {
@@ -144,19 +141,20 @@ fn end_line(cut: &mut CutFields, i: usize) -> Result<(), OutOfMemory>
         return Ok(());
     }
     end_field(cut, i)?;
-    let fields = cut.spans.len();
-    if fields >= MOST_BYTES {
+    cut.cuts.push(cut.start as u32)?;
+    let end = cut.cuts.len();
+    if end > GREATEST_PLACE {
         return Err(OutOfMemory);
     }
-    cut.ends.push(fields as u32)?;
-    cut.first = fields;
+    cut.ends.push(end as u32)?;
+    cut.first = end;
     Ok(())
 }
 
 // Whether nothing stands in the line at hand up to a place.
 #[inline]
 fn is_blank(cut: &CutFields, i: usize) -> bool
-    ensures { result ≡ (cut.now.start == i) && (cut.now.first == length cut.now.spans.items) }
+    ensures { result ≡ (cut.now.start == i) && (cut.now.first == length cut.now.cuts.items) }
 {
-    cut.start == i && cut.first == cut.spans.len()
+    cut.start == i && cut.first == cut.cuts.len()
 }

@@ -1,49 +1,58 @@
 //! The rows of a text.
-ghost use Rattle.std.specs.Prelude.{◌≡◌, ◌<◌, ◌++◌, ◌∷◌, [], length, slice_index_or, IfOk, OnOk, IsTrue, ◌↔◌};
-ghost use Rattle.csv.specs.Records.{fields_of, IsRecord, Rising};
-ghost use Rattle.row_text.specs.Pieces.{pieces};
-ghost use Rattle.row_text.specs.Row.{Row as TheRow};
+ghost use Rattle.std.specs.Prelude.{◌≡◌, ◌<◌, ◌≤◌, ◌^◌, [], length, slice_index_or, IfOk, OnOk, IsTrue, ◌↔◌};
+ghost use Rattle.csv.specs.Records.{fields_of, IsRecord};
+ghost use Rattle.row_text.specs.Cuts.{rows_cut_at, RowsIn};
+ghost use Rattle.row_text.specs.Row.{field};
 ghost use Rattle.row_text.specs.Lines.{read_in};
 ghost use Rattle.row_text.specs.Versions.{has_version_row, version_of, version_in, first_line};
-ghost use Rattle.std.specs.Prelude.{List};
 
-use crate::fields::{Fields, MOST_BYTES, Row, span};
+use crate::fields::{Fields, GREATEST_PLACE, Row, put_field, span};
 use crate::line::{Line, read_line};
 use crate::plain_rows::{plain_rows, room_for};
 use crate::read_field::number_at;
 use csv::{ByteRecord, ReaderBuilder};
 use rail_model::{Form, OutOfMemory};
 use std::alloc::Global;
+use std::borrow::CowSlice;
 use std::marker::Model;
 
 /// The rows of a text. Contracts see the list of the rows, each the list of its fields.
+///
+/// A text without double quotes isn't copied: its rows lie in it.
 #[derive(Drop)]
-pub struct RowList {
-    // The fields of all rows, one after the other.
-    fields: Fields,
-    // Where the fields of each row end.
+pub struct RowList<'a> {
+    // The bytes in which the fields stand.
+    bytes: CowSlice<'a, u8, Global>,
+    // Where the fields of all rows are cut, one row after the other.
+    cuts: Vec<u32>,
+    // Where the places of each row end.
     ends: Vec<u32>,
 }
 
-impl Model for RowList {
-    ghost use Rattle.std.specs.Prelude.{List, ℕ, length};
-    ghost use Rattle.csv.specs.Records.{Rising};
-    ghost use Rattle.row_text.specs.Pieces.{pieces};
+impl<'a> Model for RowList<'a> {
+    ghost use Rattle.std.specs.Prelude.{List, ℕ};
+    ghost use Rattle.std.specs.Cow.{cow_slice_items};
+    ghost use Rattle.row_text.specs.Cuts.{rows_cut_at, RowsIn};
 
     ghost Value = { List (List (List ℕ)) };
 
-    ghost view = { λ r. pieces 0 r.ends.items r.fields };
+    ghost view = { λ r. rows_cut_at (cow_slice_items r.bytes) r.cuts.items r.ends.items };
 
-    ghost invariant = { λ r. Rising 0 r.ends.items (length r.fields) };
+    ghost invariant = { λ r. RowsIn (cow_slice_items r.bytes) r.cuts.items r.ends.items };
 }
 
-impl RowList {
-    // Rows of these fields, where those of each row end at these places.
-    pub(crate) fn of_fields(fields: Fields, ends: Vec<u32>) -> RowList
-        requires { Rising 0 ends.items (length fields) }
-        ensures { result ≡ pieces 0 ends.items fields }
+impl<'a> RowList<'a> {
+    // Rows that lie in a text, where their fields are cut at these places, and the places of each
+    // row end at those.
+    pub(crate) fn of_cuts(text: &'a [u8], cuts: Vec<u32>, ends: Vec<u32>) -> RowList<'a>
+        requires { RowsIn text.now cuts.items ends.items }
+        ensures { result ≡ rows_cut_at text.now cuts.items ends.items }
     {
-        RowList { fields, ends }
+        RowList {
+            bytes: CowSlice::Borrowed(text),
+            cuts,
+            ends,
+        }
     }
 
     /// How many rows there are.
@@ -65,8 +74,7 @@ impl RowList {
         requires { i < length self.now }
         ensures { result ≡ slice_index_or self.now i [] }
     {
-        let (from, to) = span(&self.ends, i);
-        self.fields.part(from, to)
+        row_at(self.bytes.as_slice(), &self.cuts, &self.ends, i)
     }
 
     /// A copy of the row at `i`.
@@ -122,6 +130,17 @@ impl RowList {
     }
 }
 
+// The row at `i`, of those that are cut from bytes at these places, which end at those.
+#[inline]
+fn row_at<'a>(bytes: &'a [u8], cuts: &'a [u32], ends: &[u32], i: usize) -> Row<'a>
+    requires there { i < length ends.now }
+    requires rows { RowsIn bytes.now cuts.now ends.now }
+    ensures { result ≡ slice_index_or (rows_cut_at bytes.now cuts.now ends.now) i [] }
+{
+    let (from, to) = span(ends, i);
+    Row::of_cuts(bytes, &cuts[from..to])
+}
+
 // The version that a row with the word `version` says, or its fault.
 fn version_in(row: &Row<'_>) -> Result<u32, Form>
     ensures { result ≡ version_in row.now }
@@ -136,18 +155,22 @@ fn version_in(row: &Row<'_>) -> Result<u32, Form>
     Ok(version)
 }
 
-// The rows that were read so far: the fields of all, and where those of each end.
+// The rows that were read so far, as a list of rows keeps them.
 #[derive(Drop)]
 struct Taken {
-    fields: Fields,
+    // The bytes of the fields, with one more after each, and spare room after them.
+    bytes: Vec<u8>,
+    // How many of the bytes are used.
+    used: usize,
+    cuts: Vec<u32>,
     ends: Vec<u32>,
 }
 
-ghost use Rattle.row_text.specs.Rows.{rows_of, HasTaken, Takes};
+ghost use Rattle.row_text.specs.Rows.{rows_of, HasTaken, PutsRow, Takes};
 
 /// The rows of a text as CSV reads them: commas, double quotes, no header row, rows of any lengths.
 /// A byte order mark at the start is left out. Any error of the reader is that memory ran out.
-pub fn rows(alloc: Global, text: &[u8]) -> Result<RowList, OutOfMemory>
+pub fn rows(alloc: Global, text: &[u8]) -> Result<RowList<'_>, OutOfMemory>
     ensures { IfOk result (λ rows. rows ≡ rows_of text.now) }
 {
     match plain_rows(alloc, text)? {
@@ -157,7 +180,7 @@ pub fn rows(alloc: Global, text: &[u8]) -> Result<RowList, OutOfMemory>
 }
 
 // The same for any text, by a reader of CSV.
-fn rows_read(alloc: Global, text: &[u8]) -> Result<RowList, OutOfMemory>
+fn rows_read(alloc: Global, text: &[u8]) -> Result<RowList<'_>, OutOfMemory>
     ensures { IfOk result (λ rows. rows ≡ rows_of text.now) }
 {
     let mut taken = nothing_taken(alloc, text)?;
@@ -172,7 +195,8 @@ fn rows_read(alloc: Global, text: &[u8]) -> Result<RowList, OutOfMemory>
             Ok(true) => take(&mut taken, &row)?,
             Ok(false) => {
                 return Ok(RowList {
-                    fields: taken.fields,
+                    bytes: CowSlice::Owned(taken.bytes),
+                    cuts: taken.cuts,
                     ends: taken.ends,
                 });
             }
@@ -188,21 +212,51 @@ fn nothing_taken(alloc: Global, text: &[u8]) -> Result<Taken, OutOfMemory>
 {
     let room = room_for(text);
     Ok(Taken {
-        fields: Fields::with_room(alloc, room.fields)?,
+        bytes: Vec::new(alloc),
+        used: 0,
+        cuts: Vec::with_capacity(alloc, room.cuts)?,
         ends: Vec::with_capacity(alloc, room.rows)?,
     })
 }
 
 // Takes one row more.
 fn take(taken: &mut Taken, row: &ByteRecord) -> Result<(), OutOfMemory>
-    requires { IsRecord row.now }
+    requires record { IsRecord row.now }
+    requires room { taken.old.used ≤ length taken.old.bytes.items }
+    requires small { taken.old.used < 2 ^ 32 }
     ensures { OnOk result (Takes taken.old taken.new (fields_of row.now)) }
 {
-    taken.fields.append(row)?;
-    let end = taken.fields.len();
-    if end >= MOST_BYTES {
+    put_fields(taken, row)?;
+    let end = taken.cuts.len();
+    if end > GREATEST_PLACE {
         return Err(OutOfMemory);
     }
     taken.ends.push(end as u32)?;
     Ok(())
+}
+
+// Puts the fields of a row, and their places.
+fn put_fields(taken: &mut Taken, row: &ByteRecord) -> Result<(), OutOfMemory>
+    requires record { IsRecord row.now }
+    requires room { taken.old.used ≤ length taken.old.bytes.items }
+    requires small { taken.old.used < 2 ^ 32 }
+    ensures { OnOk result (PutsRow taken.old taken.new (fields_of row.now)) }
+{
+    taken.cuts.push(taken.used as u32)?;
+    for i in 0..row.len() {
+        let field = field_of(row, i);
+        taken.used = put_field(&mut taken.bytes, &mut taken.cuts, taken.used, field)?;
+    }
+    Ok(())
+}
+
+// The field at `i` of a row.
+fn field_of(row: &ByteRecord, i: usize) -> &[u8]
+    requires { i < length (fields_of row.now) }
+    ensures { result.now ≡ field (fields_of row.now) i }
+{
+    match row.get(i) {
+        Some(field) => field,
+        None => unreachable!(),
+    }
 }

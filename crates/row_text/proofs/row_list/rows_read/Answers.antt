@@ -2,6 +2,7 @@ use Rattle.std.proofs.Common.{[], ◌∙◌, sym, inr, refl}
 use Rattle.csv.specs.Reading.{Reached, strip_bom}
 use Rattle.csv.specs.Records.{fields_of}
 use Rattle.row_text.proofs.Records.{HasRead-more, HasRead-end}
+use Rattle.row_text.proofs.Taken.{RowsIn-taken}
 use Rattle.row_text.proofs.row_list.rows_read.Goals as goal
 
 pub rows-init : goal.rows-init
@@ -23,7 +24,9 @@ rows-init c =
     )
 
 pub take-requires : goal.take-requires
-take-requires c = rw (← c.row.view_is) c.row.invariant
+take-requires c =
+    let has = c.rows.invariant.3 in
+    record { «record» = rw (← c.row.view_is) c.row.invariant; room = has.room; small = has.small }
 
 pub rows-preserved : goal.rows-preserved
 rows-preserved c =
@@ -33,6 +36,9 @@ rows-preserved c =
     let step = rw c.in-Ok-true.field-0-test at (c.in-Ok-true.ensures.reads has.trim has.ready) in
     let more = HasRead-more c.rows.reader c.read_byte_record.new.self c.args.text.now inv.0 inv.1 row has step (c.in-Ok-true.ensures.ready has.trim) in
     (more.0, _, more.1, c.in_ok-take-in-Ok-true.ensures inv.1 inv.3)
+
+pub invariant_of-result : goal.invariant_of-result
+invariant_of-result c = RowsIn-taken c.rows.taken _ c.rows.invariant.3
 
 pub returns-in-Ok-false : goal.returns-in-Ok-false
 returns-in-Ok-false c =

@@ -1,25 +1,29 @@
-use Rattle.std.proofs.Common.{◌≡◌, ◌≤◌, ◌+◌, ◌∷◌, ◌++◌, [], length, sym, ap, ◌∙◌, rules, arith}
-use Rattle.std.specs.Vec.{with_items}
-use Rattle.std.proofs.lemmas.List.{with_items_is}
-use Rattle.row_text.specs.Cuts.{fields_at, span, SpansIn}
-use Rattle.row_text.proofs.Cuts.{fields_at-put}
+use Rattle.std.proofs.Common.{◌≡◌, ◌∷◌, ◌++◌, [], refl, ◌∙◌}
+use Rattle.std.proofs.lemmas.Result.{err_from_is_err_and}
+use Rattle.row_text.specs.Cuts.{EndsAt, fields_cut_at, with_first}
+use Rattle.row_text.proofs.Cuts.{put-field, with_first-ends, with_first-same}
 use Rattle.row_text.proofs.fields.Fields.push.Goals as goal
 
--- the bytes with the field, and the places with its place
-put : (c : goal.After-self-2-1) → (fields_at (with_items c.make_room.new.text c.put_bytes-self-inside.new.text).items c.push.new.self.items ≡ fields_at c.self.inside.bytes.items c.self.inside.spans.items ++ c.args.field.now ∷ [])
-    × SpansIn c.push.new.self.items (with_items c.make_room.new.text c.put_bytes-self-inside.new.text).items c.put_bytes-self-inside.result
+pub invariant_of-self-in_err-self-inside : goal.invariant_of-self-in_err-self-inside
+invariant_of-self-in_err-self-inside c =
+    let own = c.self.inside in
+    rw (c.in_err-self-inside.ensures.bytes, c.in_err-self-inside.ensures.cuts, c.in_ok-put_first.ensures.ok) (with_first-ends own.bytes.items own.cuts.items own.used c.self.invariant).1
+
+pub returns-in_err-self-inside-clause-err : goal.returns-in_err-self-inside-clause-err
+returns-in_err-self-inside-clause-err c =
+    let own = c.self.inside in
+    let p = err_from_is_err_and c.from_residual-in_err-self-inside.result c.from_residual-in_err-self-inside.ensures.1 in
+    rw p.1 (rw (c.in_err-self-inside.ensures.bytes, c.in_err-self-inside.ensures.cuts, c.in_ok-put_first.ensures.ok) (with_first-same own.bytes.items own.cuts.items ∙ c.self.view_is))
+
+-- the bytes with the field, and the places with the one past it
+put : (c : goal.After-self-2-1) → (fields_cut_at c.put_field.new.bytes.items c.put_field.new.cuts.items ≡ fields_cut_at c.self.inside.bytes.items c.self.inside.cuts.items ++ c.args.field.now ∷ [])
+    × EndsAt c.put_field.new.bytes.items c.put_field.new.cuts.items c.in_ok-self-inside.field-0
 put c =
     let own = c.self.inside in
-    let field = c.args.field.now in
-    let written = c.put_bytes-self-inside.ensures.written in
-    let end = c.put_bytes-self-inside.ensures.end in
-    let size = ap length c.deref_mut.ensures.value in
-    let same : (with_items c.make_room.new.text c.put_bytes-self-inside.new.text).items ≡ c.put_bytes-self-inside.new.text = with_items_is c.make_room.new.text c.put_bytes-self-inside.new.text (c.put_bytes-self-inside.auto.text ∙ size ∙ sym c.make_room.new.text.ok.0) in
-    let room : own.used + length field ≤ length c.make_room.new.text.items = search rules in
-    let told : c.in-Some.span ≡ span own.used c.put_bytes-self-inside.result = rw end c.in-Some.ensures in
-    let spans : c.push.new.self.items ≡ own.spans.items ++ span own.used c.put_bytes-self-inside.result ∷ [] = c.in_ok-push.ensures.items ∙ ap (λ at. own.spans.items ++ at ∷ []) told in
-    rw (same, spans) (fields_at-put own.spans.items own.bytes.items c.put_bytes-self-inside.new.text field own.used c.put_bytes-self-inside.result c.self.invariant end
-    (omega (arith, end, room, c.put_bytes-self-inside.auto.text, size)) (written ∙ ap (λ bytes. bytes ++ field) (rw c.deref_mut.ensures.value c.make_room.ensures.kept)))
+    let first = with_first-ends own.bytes.items own.cuts.items own.used c.self.invariant in
+    let step = put-field own.bytes.items c.put_field.new.bytes.items (with_first own.cuts.items) c.put_field.new.cuts.items own.used c.in_ok-self-inside.field-0 c.args.field.now first.0 first.1
+    (rw c.in_ok-put_first.ensures.ok at c.in_ok-self-inside.ensures.ok) in
+    (step.0 ∙ rw (with_first-same own.bytes.items own.cuts.items) refl, step.1)
 
 pub invariant_of-self-2 : goal.invariant_of-self-2
 invariant_of-self-2 c = (put c).1
