@@ -1,6 +1,6 @@
 -- Rows that are taken one after the other.
-use Rattle.std.proofs.Common.{◌≡◌, ℕ, ◌^◌, ◌+◌, ◌<◌, ◌≤◌, List, [], ◌∷◌, ◌++◌, length, map, take, arith, refl, ◌∙◌, append_assoc}
-use Rattle.std.proofs.lemmas.List.{length-append, map_push}
+use Rattle.std.proofs.Common.{◌≡◌, ℕ, ◌^◌, ◌+◌, ◌<◌, ◌≤◌, List, [], ◌∷◌, ◌++◌, length, map, take, sym, ap, ◌∙◌, refl, arith, append_assoc}
+use Rattle.std.proofs.lemmas.List.{length-append, map_push, take-take}
 use Rattle.std.proofs.lemmas.List.Elements.{All-nil, All-push}
 use Rattle.csv.specs.Records.{Rising, last_end}
 use Rattle.csv.proofs.RecordFacts.{rising-end, rising-more, last-append}
@@ -11,8 +11,6 @@ use Rattle.row_text.specs.Cuts.{CutsIn, fields_cut_at, PutsField, RowsIn}
 use Rattle.row_text.specs.Rows.{HasPut, HasTaken}
 use Rattle.row_text.proofs.Cuts.{each-weaker, put-field, rows-same, take-kept}
 use Rattle.row_text.proofs.Pieces.{pieces-append}
-use Rattle.std.proofs.lemmas.List.{take-take}
-use Rattle.std.proofs.Common.{sym, ap}
 
 -- no field of a row is put yet
 pub HasPut-none : (old new : Taken) → new.bytes.items ≡ old.bytes.items → new.used ≡ old.used → new.cuts.items ≡ old.cuts.items ++ old.used ∷ [] → new.ends.items ≡ old.ends.items
