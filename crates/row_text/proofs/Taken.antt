@@ -1,32 +1,45 @@
 -- Rows that are taken one after the other.
-use Rattle.std.proofs.Common.{◌≡◌, ℕ, ◌^◌, ◌+◌, ◌<◌, ◌≤◌, List, [], ◌∷◌, ◌++◌, length, map, take, sym, ap, ◌∙◌, refl, arith, append_assoc}
-use Rattle.std.proofs.lemmas.List.{length-append, map_push, take-take}
+use Rattle.std.proofs.Common.{◌≡◌, ℕ, ◌^◌, ◌+◌, ◌-◌, ◌<◌, ◌≤◌, List, [], ◌∷◌, ◌++◌, length, get_or, map, take, drop, sym, ap, ◌∙◌, refl, arith, append_assoc}
+use Rattle.std.proofs.lemmas.List.{length-append, length-drop, length-take-le, map_push, take-take, take_more}
 use Rattle.std.proofs.lemmas.List.Elements.{All-nil, All-push}
-use Rattle.csv.specs.Records.{Rising, last_end}
-use Rattle.csv.proofs.RecordFacts.{rising-end, rising-more, last-append}
+use Rattle.csv.specs.Records.{Rising, cut_from, last_end, prev}
+use Rattle.csv.proofs.RecordFacts.{field-bounds, field-cut, field-get, last-append, last-take, rising-end, rising-more}
 use Rattle.row_text.specs.declared.row_list.Taken.{Taken}
 use Rattle.row_text.specs.Row.{Row}
 use Rattle.row_text.specs.Pieces.{pieces}
 use Rattle.row_text.specs.Cuts.{CutsIn, fields_cut_at, PutsField, RowsIn}
-use Rattle.row_text.specs.Rows.{HasPut, HasTaken}
+use Rattle.row_text.specs.Rows.{HasPut, HasSame, HasTaken}
 use Rattle.row_text.proofs.Cuts.{each-weaker, put-field, rows-same, take-kept}
 use Rattle.row_text.proofs.Pieces.{pieces-append}
 
 -- no field of a row is put yet
-pub HasPut-none : (old new : Taken) → new.bytes.items ≡ old.bytes.items → new.used ≡ old.used → new.cuts.items ≡ old.cuts.items ++ old.used ∷ [] → new.ends.items ≡ old.ends.items
-    → old.used ≤ length old.bytes.items → old.used < 2 ^ 32 → HasPut old new (old.used ∷ []) []
+pub HasPut-none : (old mid new : Taken) → HasSame old mid → new.bytes.items ≡ mid.bytes.items → new.used ≡ mid.used → new.cuts.items ≡ mid.cuts.items ++ mid.used ∷ [] → new.ends.items ≡ mid.ends.items
+    → mid.used ≤ length mid.bytes.items → old.used < 2 ^ 32 → HasPut old new (mid.used ∷ []) []
 unfolding fields_cut_at CutsIn last_end
-HasPut-none old new bytes used cuts ends room small =
+HasPut-none old mid new same bytes used cuts ends room small =
     record {
-      cuts_after = cuts;
-      ends_kept = ends;
+      cuts_after = rw same.cuts at cuts;
+      ends_kept = ends ∙ same.ends;
       fields = refl;
       some = omega arith;
       ends_at = record { lie = omega (arith, used); last = sym used; room = rw (bytes, used) room };
-      kept = ap (take old.used) bytes;
-      grown = omega (arith, used);
-      small = rw used small;
+      kept = ap (take old.used) bytes ∙ same.bytes;
+      grown = omega (arith, used, same.used);
+      small = omega (arith, used, same.used);
     }
+
+-- where a row's bytes with those between its fields stand after a start, each field ends there too
+pub row-place : (start used : ℕ) (ends bytes field : List ℕ) (i : ℕ) → Rising 0 ends (length bytes) → i < length ends → field ≡ get_or (cut_from 0 ends bytes) i [] → used ≡ start + last_end 0 (take i ends) + i
+    → (used + length field + 1 ≤ start + (length bytes + length ends)) × (used + length field + 1 ≡ start + last_end 0 (take (i + 1) ends) + (i + 1))
+row-place start used ends bytes field i rise there is place =
+    let from = prev 0 ends i in
+    let end = get_or ends i 0 in
+    let within = field-bounds 0 ends (length bytes) i rise there in
+    let cut : field ≡ take (end - from) (drop from bytes) = is ∙ field-get (cut_from 0 ends bytes) i _ (field-cut 0 ends bytes i there) in
+    let long = length-take-le (end - from) (drop from bytes) (omega (arith, length-drop from bytes, within.0, within.1)) in
+    let next : last_end 0 (take (i + 1) ends) ≡ end = rw (take_more ends i 0 there) (last-append 0 (take i ends) end) in
+    let size : last_end 0 (take i ends) + length field ≡ end = omega (arith, ap length cut, long, last-take 0 ends i there, within.0) in
+    (omega (arith, size, within.1), omega (arith, size, next))
 
 -- one field more of a row was put
 pub HasPut-more : (old mid new : Taken) (cuts : List ℕ) (row : Row) (field : List ℕ) → HasPut old mid cuts row → PutsField mid.bytes.items new.bytes.items mid.cuts.items new.cuts.items mid.used new.used field

@@ -1,8 +1,8 @@
 -- The rows of a text.
-use Rattle.std.specs.Prelude.{◌≡◌, ℕ, ◌^◌, ◌<◌, ◌≤◌, List, [], ◌∷◌, ◌++◌, length, take}
+use Rattle.std.specs.Prelude.{◌≡◌, ℕ, ◌+◌, ◌^◌, ◌<◌, ◌≤◌, List, [], ◌∷◌, ◌++◌, length, take, vec_len, vec_capacity}
 use Rattle.std.specs.List.{All}
 use Rattle.csv.specs.Reading.{default_config, records, strip_bom}
-use Rattle.csv.specs.Records.{Rising, last_end}
+use Rattle.csv.specs.Records.{Rising, field_count, last_end, text_of, Row as Record}
 use Rattle.row_text.specs.declared.row_list.Taken.{Taken}
 use Rattle.row_text.specs.Row.{Row}
 use Rattle.row_text.specs.Pieces.{pieces}
@@ -20,6 +20,19 @@ pub record HasTaken (taken : Taken) (taken_rows : List Row) : Type 0 where
   pub each : All (CutsIn taken.used) (pieces 0 taken.ends.items taken.cuts.items)
   pub room : taken.used ≤ length taken.bytes.items
   pub small : taken.used < 2 ^ 32
+
+-- there is room for the fields of a row, with one byte more after each, and for their places
+pub record HasRoom (taken : Taken) (row : Record) : Type 0 where
+  pub cuts : vec_len taken.cuts + (field_count row + 1) ≤ vec_capacity taken.cuts
+  pub bytes : taken.used + (length (text_of row) + field_count row) ≤ length taken.bytes.items
+  pub small : taken.used + (length (text_of row) + field_count row) < 2 ^ 32
+
+-- nothing else was changed than room
+pub record HasSame (old new : Taken) : Type 0 where
+  pub bytes : take old.used new.bytes.items ≡ take old.used old.bytes.items
+  pub used : new.used ≡ old.used
+  pub cuts : new.cuts.items ≡ old.cuts.items
+  pub ends : new.ends.items ≡ old.ends.items
 
 -- the fields of a row were put, with these places
 pub record HasPut (old new : Taken) (cuts : List ℕ) (row : Row) : Type 0 where

@@ -1,5 +1,5 @@
 //! The fields of a row, kept as bytes and the places at which they are cut.
-ghost use Rattle.std.specs.Prelude.{◌≡◌, ◌+◌, ◌<◌, ◌≤◌, ◌^◌, ◌↔◌, [], ◌∷◌, ◌++◌, length, slice_index, IsTrue, IfSome, IfOk, OnOk, OnErr};
+ghost use Rattle.std.specs.Prelude.{◌≡◌, ◌+◌, ◌<◌, ◌≤◌, ◌^◌, ◌↔◌, [], ◌∷◌, ◌++◌, length, slice_index, vec_len, vec_capacity, IsTrue, IfSome, IfOk, OnOk, OnErr};
 ghost use Rattle.csv.specs.Records.{prev};
 ghost use Rattle.row_text.specs.Cuts.{CutsIn, fields_cut_at, PutsField, with_first};
 ghost use Rattle.row_text.specs.Row.{field};
@@ -206,18 +206,38 @@ pub(crate) fn put_field(
     ensures bytes { OnErr result (bytes.new.items ≡ bytes.old.items) }
     ensures cuts { OnErr result (cuts.new.items ≡ cuts.old.items) }
 {
-    let Some(end) = end_after(used, field.len()) else {
+    if end_after(used, field.len()).is_none() {
         return Err(OutOfMemory);
-    };
+    }
     cuts.reserve(1)?;
     make_room(bytes, used, field.len() + 1)?;
-    put_bytes(bytes, used, field);
-    cuts.push_reserved(end as u32);
-    Ok(end)
+    Ok(put_reserved(bytes, cuts, used, field))
 }
 
-// The place past a field of a length after so many bytes.
-fn end_after(used: usize, field: usize) -> Option<usize>
+// The same where there is room for it.
+#[inline]
+pub(crate) fn put_reserved(
+    bytes: &mut Vec<u8>,
+    cuts: &mut Vec<u32>,
+    used: usize,
+    field: &[u8],
+) -> usize
+    requires bytes { used + length field.now + 1 ≤ length bytes.old.items }
+    requires cuts { vec_len cuts.old < vec_capacity cuts.old }
+    requires small { used + length field.now + 1 < 2 ^ 32 }
+    ensures put { PutsField bytes.old.items bytes.new.items
+        cuts.old.items cuts.new.items used result field.now }
+    ensures room { length bytes.new.items ≡ length bytes.old.items }
+    ensures len { vec_len cuts.new ≡ vec_len cuts.old + 1 }
+    ensures capacity { vec_capacity cuts.new ≡ vec_capacity cuts.old }
+{
+    let end = put_bytes(bytes, used, field) + 1;
+    cuts.push_reserved(end as u32);
+    end
+}
+
+// The place past fields of a length after so many bytes.
+pub(crate) fn end_after(used: usize, field: usize) -> Option<usize>
     ensures { IfSome result (λ end. (end ≡ used + field + 1) × (end < 2 ^ 32)) }
 {
     match used.checked_add(field) {

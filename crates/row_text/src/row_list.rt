@@ -6,9 +6,10 @@ ghost use Rattle.row_text.specs.Row.{field};
 ghost use Rattle.row_text.specs.Lines.{read_in};
 ghost use Rattle.row_text.specs.Versions.{has_version_row, version_of, version_in, first_line};
 
-use crate::fields::{Fields, GREATEST_PLACE, Row, put_field, span};
+use crate::fields::{Fields, GREATEST_PLACE, Row, end_after, put_reserved, span};
 use crate::line::{Line, read_line};
 use crate::plain_rows::{plain_rows, room_for};
+use crate::put::make_room;
 use crate::read_field::number_at;
 use csv::{ByteRecord, ReaderBuilder};
 use rail_model::{Form, OutOfMemory};
@@ -166,7 +167,7 @@ struct Taken {
     ends: Vec<u32>,
 }
 
-ghost use Rattle.row_text.specs.Rows.{rows_of, HasTaken, PutsRow, Takes};
+ghost use Rattle.row_text.specs.Rows.{rows_of, HasRoom, HasSame, HasTaken, PutsRow, Takes};
 
 /// The rows of a text as CSV reads them: commas, double quotes, no header row, rows of any lengths.
 /// A byte order mark at the start is left out. Any error of the reader is that memory ran out.
@@ -242,11 +243,28 @@ fn put_fields(taken: &mut Taken, row: &ByteRecord) -> Result<(), OutOfMemory>
     requires small { taken.old.used < 2 ^ 32 }
     ensures { OnOk result (PutsRow taken.old taken.new (fields_of row.now)) }
 {
-    taken.cuts.push(taken.used as u32)?;
+    make_row_room(taken, row)?;
+    taken.cuts.push_reserved(taken.used as u32);
     for i in 0..row.len() {
         let field = field_of(row, i);
-        taken.used = put_field(&mut taken.bytes, &mut taken.cuts, taken.used, field)?;
+        taken.used = put_reserved(&mut taken.bytes, &mut taken.cuts, taken.used, field);
     }
+    Ok(())
+}
+
+// Sees that there is room for the fields of a row, and for their places.
+fn make_row_room(taken: &mut Taken, row: &ByteRecord) -> Result<(), OutOfMemory>
+    requires { taken.old.used ≤ length taken.old.bytes.items }
+    ensures ok { OnOk result (HasRoom taken.new row.now) }
+    ensures kept { OnOk result (HasSame taken.old taken.new) }
+{
+    let fields = row.len();
+    let more = row.as_slice().len().saturating_add(fields);
+    let Some(_) = end_after(taken.used, more) else {
+        return Err(OutOfMemory);
+    };
+    taken.cuts.reserve(fields + 1)?;
+    make_room(&mut taken.bytes, taken.used, more)?;
     Ok(())
 }
 
