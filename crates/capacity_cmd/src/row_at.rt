@@ -5,7 +5,7 @@ use row_text::RowList;
 // A refused row among the rows of its input.
 #[derive(Drop)]
 pub(crate) struct RowAt<'a> {
-    pub(crate) rows: &'a RowList,
+    pub(crate) rows: &'a RowList<'a>,
     // In which the rows are read: 1 or 2.
     pub(crate) version: u32,
     // From 0.
@@ -47,7 +47,7 @@ impl<'a> RowAt<'a> {
 }
 
 // The field of a row: empty where there is none.
-pub(crate) fn field_at(rows: &RowList, place: usize, at: usize) -> &[u8] {
+pub(crate) fn field_at<'a>(rows: &'a RowList<'_>, place: usize, at: usize) -> &'a [u8] {
     if place >= rows.len() {
         return b"";
     }
@@ -56,7 +56,7 @@ pub(crate) fn field_at(rows: &RowList, place: usize, at: usize) -> &[u8] {
 }
 
 // Whether the row at a place begins a planner's script.
-pub(crate) fn is_planner_row(rows: &RowList, place: usize) -> bool {
+pub(crate) fn is_planner_row(rows: &RowList<'_>, place: usize) -> bool {
     field_at(rows, place, 0) == b"planner".as_slice()
 }
 
@@ -142,7 +142,7 @@ pub(crate) fn verb_text(verb: Verb) -> &'static str {
 }
 
 // The number of the last row above a place that puts or changes the item of a kind and a name.
-pub(crate) fn row_of(rows: &RowList, place: usize, kind: Kind, name: &[u8]) -> u64 {
+pub(crate) fn row_of(rows: &RowList<'_>, place: usize, kind: Kind, name: &[u8]) -> u64 {
     let mut found = 0;
     for i in 0..place {
         if is_row_of(rows, i, kind, name) {
@@ -154,7 +154,7 @@ pub(crate) fn row_of(rows: &RowList, place: usize, kind: Kind, name: &[u8]) -> u
 
 // The number of the first row below a place, and above the first script, that puts the item of a
 // kind and a name, or 0.
-pub(crate) fn row_below(rows: &RowList, place: usize, kind: Kind, name: &[u8]) -> u64 {
+pub(crate) fn row_below(rows: &RowList<'_>, place: usize, kind: Kind, name: &[u8]) -> u64 {
     for i in place..rows.len() {
         if is_planner_row(rows, i) {
             return 0;
@@ -166,7 +166,7 @@ pub(crate) fn row_below(rows: &RowList, place: usize, kind: Kind, name: &[u8]) -
     0
 }
 
-fn is_row_of(rows: &RowList, i: usize, kind: Kind, name: &[u8]) -> bool {
+fn is_row_of(rows: &RowList<'_>, i: usize, kind: Kind, name: &[u8]) -> bool {
     match word_of(field_at(rows, i, 0)) {
         Some(word) => {
             word.kind == kind && word.verb != Verb::Drop && field_at(rows, i, 1) == name

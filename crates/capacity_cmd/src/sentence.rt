@@ -15,7 +15,7 @@ use std::alloc::Global;
 pub(crate) fn told_of(
     alloc: Global,
     input: &[u8],
-    rows: &RowList,
+    rows: &RowList<'_>,
     planners: usize,
     refused: Refusal,
 ) -> Told {
@@ -28,7 +28,7 @@ pub(crate) fn told_of(
 fn sentence(
     alloc: Global,
     input: &[u8],
-    rows: &RowList,
+    rows: &RowList<'_>,
     planners: usize,
     refused: Refusal,
 ) -> Result<String, OutOfMemory> {

@@ -19,7 +19,7 @@ pub fn edit_of(alloc: Global, row: &str) -> Result<Option<Edit>, OutOfMemory> {
     edit_at(alloc, &rows, 0)
 }
 
-fn edit_at(alloc: Global, rows: &RowList, i: usize) -> Result<Option<Edit>, OutOfMemory>
+fn edit_at(alloc: Global, rows: &RowList<'_>, i: usize) -> Result<Option<Edit>, OutOfMemory>
     requires { i < length rows.now }
 {
     match rows.line(alloc, 1, i)? {
