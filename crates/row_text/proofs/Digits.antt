@@ -2,8 +2,8 @@
 use Rattle.std.proofs.Common.{◌≡◌, ℕ, zero, suc, ◌+◌, ◌*◌, ◌/◌, ◌^◌, ◌<◌, ◌≤◌, length, decimal, max, [], ◌∷◌, ◌%◌, refl, ap, ◌∙◌, arith}
 use Rattle.std.proofs.Math.Nat.{pow-suc, pow-le-pow_right}
 use Rattle.std.proofs.Common.{List, ◌++◌, take, drop, sym, append_assoc}
-use Rattle.std.proofs.Math.Seq.{take-append_seam}
-use Rattle.std.proofs.lemmas.List.{length-append, length-take-le, take-append-drop}
+use Rattle.std.proofs.Math.Seq.{take-append-add, take-append_seam}
+use Rattle.std.proofs.lemmas.List.{length-append, length-take-le, take-append-drop, take-take}
 use Rattle.std.proofs.lemmas.Fmt.{decimal_digit, decimal_step, decimal_nonempty, length-decimal-le}
 
 digits_least : (k n : ℕ) → n < 2 ^ 64 → 10 ^ k ≤ n → k < length (decimal n)
@@ -41,3 +41,11 @@ take-written old new digits used start end room from to before after =
     let size : length (take start old ++ digits) ≡ end = omega (arith, length-append (take start old) digits, length-take-le start old (omega arith)) in
     let cut = rw size at (take-append_seam (take start old ++ digits) (drop end old)) in
     ap (take end) whole ∙ cut ∙ ap (λ n. take n old ++ digits) same
+
+-- a part was written, and more after it
+pub take-part : (old new text : List ℕ) (used start len more : ℕ) → used ≤ length old → len ≤ more → take (used + more) new ≡ take used old ++ take more (drop start text)
+    → take (used + len) new ≡ take used old ++ take len (drop start text)
+take-part old new text used start len more room le written =
+    let size : length (take used old) ≡ used = length-take-le used old room in
+    let cut : take (used + len) (take used old ++ take more (drop start text)) ≡ take used old ++ take len (take more (drop start text)) = rw size at (take-append-add (take used old) (take more (drop start text)) len) in
+    sym (take-take (used + len) (used + more) new (omega arith)) ∙ ap (take (used + len)) written ∙ cut ∙ rw (take-take len more (drop start text) le) refl

@@ -28,18 +28,26 @@ HasPut-none old mid new same bytes used cuts ends room small =
       small = omega (arith, used, same.used);
     }
 
--- where a row's bytes with those between its fields stand after a start, each field ends there too
-pub row-place : (start used : ℕ) (ends bytes field : List ℕ) (i : ℕ) → Rising 0 ends (length bytes) → i < length ends → field ≡ get_or (cut_from 0 ends bytes) i [] → used ≡ start + last_end 0 (take i ends) + i
-    → (used + length field + 1 ≤ start + (length bytes + length ends)) × (used + length field + 1 ≡ start + last_end 0 (take (i + 1) ends) + (i + 1))
-row-place start used ends bytes field i rise there is place =
-    let from = prev 0 ends i in
+-- a field of a row stands in its bytes after those of the fields before it
+pub record IsField (ends bytes field : List ℕ) (i start : ℕ) : Type 0 where
+  pub within : start + length field ≤ length bytes
+  pub is : take (length field) (drop start bytes) ≡ field
+  pub next : start + length field ≡ last_end 0 (take (i + 1) ends)
+
+pub field-there : (ends bytes field : List ℕ) (i start : ℕ) → Rising 0 ends (length bytes) → i < length ends → field ≡ get_or (cut_from 0 ends bytes) i [] → start ≡ last_end 0 (take i ends) → IsField ends bytes field i start
+field-there ends bytes field i start rise there is from =
     let end = get_or ends i 0 in
-    let within = field-bounds 0 ends (length bytes) i rise there in
-    let cut : field ≡ take (end - from) (drop from bytes) = is ∙ field-get (cut_from 0 ends bytes) i _ (field-cut 0 ends bytes i there) in
-    let long = length-take-le (end - from) (drop from bytes) (omega (arith, length-drop from bytes, within.0, within.1)) in
-    let next : last_end 0 (take (i + 1) ends) ≡ end = rw (take_more ends i 0 there) (last-append 0 (take i ends) end) in
-    let size : last_end 0 (take i ends) + length field ≡ end = omega (arith, ap length cut, long, last-take 0 ends i there, within.0) in
-    (omega (arith, size, within.1), omega (arith, size, next))
+    let first : start ≡ prev 0 ends i = from ∙ last-take 0 ends i there in
+    let bounds = field-bounds 0 ends (length bytes) i rise there in
+    let cut : field ≡ take (end - start) (drop start bytes) = is ∙ field-get (cut_from 0 ends bytes) i _ (field-cut 0 ends bytes i there) ∙ rw first refl in
+    let long = length-take-le (end - start) (drop start bytes) (omega (arith, length-drop start bytes, first, bounds.0, bounds.1)) in
+    let size : length field ≡ end - start = ap length cut ∙ long in
+    let last : last_end 0 (take (i + 1) ends) ≡ end = rw (take_more ends i 0 there) (last-append 0 (take i ends) end) in
+    record {
+      within = omega (arith, size, first, bounds.0, bounds.1);
+      is = rw size (sym cut);
+      next = omega (arith, size, first, bounds.0, last);
+    }
 
 -- one field more of a row was put
 pub HasPut-more : (old mid new : Taken) (cuts : List ℕ) (row : Row) (field : List ℕ) → HasPut old mid cuts row → PutsField mid.bytes.items new.bytes.items mid.cuts.items new.cuts.items mid.used new.used field

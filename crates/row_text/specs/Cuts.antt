@@ -5,8 +5,8 @@ use Rattle.csv.specs.Records.{Rising, last_end}
 use Rattle.row_text.specs.Row.{Row}
 use Rattle.row_text.specs.Pieces.{pieces}
 
--- the fields that are cut from bytes at these places: each starts at its place and ends a byte before
--- the next one, so that one byte stands between two fields. The last place is past them all
+-- the fields that are cut from bytes at these places: each starts at its place and ends a byte
+-- before the next one, so that one byte stands between two fields. The last place is past them all
 unfoldable pub fields_cut_at : List ℕ → List ℕ → Row
 fields_cut_at bytes [] = []
 fields_cut_at bytes (start ∷ []) = []

@@ -1,10 +1,10 @@
 //! The fields of a row, kept as bytes and the places at which they are cut.
-ghost use Rattle.std.specs.Prelude.{◌≡◌, ◌+◌, ◌<◌, ◌≤◌, ◌^◌, ◌↔◌, [], ◌∷◌, ◌++◌, length, slice_index, vec_len, vec_capacity, IsTrue, IfSome, IfOk, OnOk, OnErr};
+ghost use Rattle.std.specs.Prelude.{◌≡◌, ◌+◌, ◌<◌, ◌≤◌, ◌^◌, ◌↔◌, [], ◌∷◌, ◌++◌, length, slice_index, take, drop, vec_len, vec_capacity, IsTrue, IfSome, IfOk, OnOk, OnErr};
 ghost use Rattle.csv.specs.Records.{prev};
 ghost use Rattle.row_text.specs.Cuts.{CutsIn, fields_cut_at, PutsField, with_first};
 ghost use Rattle.row_text.specs.Row.{field};
 
-use crate::put::{make_room, put_bytes};
+use crate::put::{make_room, put_part};
 use rail_model::OutOfMemory;
 use std::alloc::Global;
 use std::marker::Model;
@@ -211,27 +211,30 @@ pub(crate) fn put_field(
     }
     cuts.reserve(1)?;
     make_room(bytes, used, field.len() + 1)?;
-    Ok(put_reserved(bytes, cuts, used, field))
+    Ok(put_reserved(bytes, cuts, used, field, 0, field.len()))
 }
 
-// The same where there is room for it.
+// The same where there is room for it, of a field that is a part of a text.
 #[inline]
 pub(crate) fn put_reserved(
     bytes: &mut Vec<u8>,
     cuts: &mut Vec<u32>,
     used: usize,
-    field: &[u8],
+    text: &[u8],
+    start: usize,
+    len: usize,
 ) -> usize
-    requires bytes { used + length field.now + 1 ≤ length bytes.old.items }
+    requires within { start + len ≤ length text.now }
+    requires bytes { used + len + 1 ≤ length bytes.old.items }
     requires cuts { vec_len cuts.old < vec_capacity cuts.old }
-    requires small { used + length field.now + 1 < 2 ^ 32 }
+    requires small { used + len + 1 < 2 ^ 32 }
     ensures put { PutsField bytes.old.items bytes.new.items
-        cuts.old.items cuts.new.items used result field.now }
+        cuts.old.items cuts.new.items used result (take len (drop start text.now)) }
     ensures room { length bytes.new.items ≡ length bytes.old.items }
     ensures len { vec_len cuts.new ≡ vec_len cuts.old + 1 }
     ensures capacity { vec_capacity cuts.new ≡ vec_capacity cuts.old }
 {
-    let end = put_bytes(bytes, used, field) + 1;
+    let end = put_part(bytes, used, text, start, len) + 1;
     cuts.push_reserved(end as u32);
     end
 }

@@ -245,9 +245,19 @@ fn put_fields(taken: &mut Taken, row: &ByteRecord) -> Result<(), OutOfMemory>
 {
     make_row_room(taken, row)?;
     taken.cuts.push_reserved(taken.used as u32);
+    let text = row.as_slice();
+    let mut start = 0;
     for i in 0..row.len() {
-        let field = field_of(row, i);
-        taken.used = put_reserved(&mut taken.bytes, &mut taken.cuts, taken.used, field);
+        let len = field_of(row, i).len();
+        taken.used = put_reserved(
+            &mut taken.bytes,
+            &mut taken.cuts,
+            taken.used,
+            text,
+            start,
+            len,
+        );
+        start += len;
     }
     Ok(())
 }
