@@ -1,13 +1,13 @@
 -- The heads of sections' answers that are made side by side, and joined one after the other.
-use Rattle.std.proofs.Common.{◌≡◌, ℕ, zero, suc, ◌+◌, ◌<◌, List, [], ◌∷◌, ◌++◌, length, map, get_or, refl, sym, ap, ◌∙◌, subst, arith, Result, Ok, Err}
+use Rattle.std.proofs.Common.{◌≡◌, ℕ, zero, suc, ◌+◌, ◌<◌, List, [], ◌∷◌, ◌++◌, length, map, get_or, refl, ap, ◌∙◌, subst, arith, Result, Ok, Err}
 use Rattle.std.specs.Prelude.{cond, IfOk, MatchResult}
 use Rattle.std.specs.List.{AllZip, range_with_len}
-use Rattle.std.proofs.lemmas.List.{length-map}
 use Rattle.std.proofs.lemmas.List.FromFn.{length-range_with_len}
 use Rattle.std.proofs.lemmas.Slice.Zip.{AllZip-long}
 use Rattle.rail_model.specs.declared.items.Section.{Section}
 use Rattle.rail_model.specs.declared.tables.Tables.{Tables}
 use Rattle.rail_model.specs.Tables.{section_at}
+use Rattle.rail_model.proofs.Collected.{collected}
 use Rattle.row_text.specs.Row.{Row}
 use Rattle.plan_model.specs.declared.answer.Answer.{Answer}
 use Rattle.capacity_report.specs.Total.{Total, total_of, with_answer, joined, is_ordered, is_within_capacity, is_over_capacity, is_disordered, is_crowded}
@@ -18,39 +18,37 @@ use Rattle.capacity_cmd.specs.Report.{AddsHead}
 nothing_more : (n : ℕ) → 0 + n ≡ n
 nothing_more n = omega arith
 
--- what is made of the number at a place, where something is made of each
-module _ {X : Type 0} (E : Type 0) (R : ℕ → X → Type 0) where
-  made_at : (first count : ℕ) (xs : List X)
-      → AllZip (λ n (r : Result X E). IfOk r (R n)) (range_with_len first count) (map Ok xs)
+-- what holds of numbers and items in turn holds of the number at a place and the item there
+module _ {X : Type 0} (R : ℕ → X → Type 0) where
+  at_place : (first count : ℕ) (xs : List X) → AllZip R (range_with_len first count) xs
       → (n : ℕ) (d : X) → n < count → R (first + n) (get_or xs n d)
-  made_at first zero xs each n d there = absurd (omega (arith, there))
-  made_at first (suc count) [] each n d there = absurd each
-  made_at first (suc count) (x ∷ xs) each zero d there = subst (λ k. R k x) (omega arith) each.0
-  made_at first (suc count) (x ∷ xs) each (suc n) d there =
-      subst (λ k. R k (get_or xs n d)) (omega arith) (made_at (first + 1) count xs each.1 n d (omega (arith, there)))
+  at_place first zero xs each n d there = absurd (omega (arith, there))
+  at_place first (suc count) [] each n d there = absurd each
+  at_place first (suc count) (x ∷ xs) each zero d there = subst (λ k. R k x) (omega arith) each.0
+  at_place first (suc count) (x ∷ xs) each (suc n) d there =
+      subst (λ k. R k (get_or xs n d)) (omega arith) (at_place (first + 1) count xs each.1 n d (omega (arith, there)))
 
-module _ {V : Type 0} (E : Type 0) (items : V → List Head) where
-  abbrev Made : Tables → ℕ → Result Head E → Type 0
-  Made tables n made = IfOk made (IsHead tables (section_at tables n))
+abbrev HeadAt : Tables → ℕ → Head → Type 0
+HeadAt tables n = IsHead tables (section_at tables n)
 
-  all_made : (tables : Tables) (heads : List Head) → AllZip (Made tables) (range_with_len 0 (length tables.sections)) (map Ok heads)
-      → AreHeads tables heads
-  all_made tables heads each = record {
-    count = sym (length-map {B = Result Head E} heads Ok) ∙ AllZip-long (Made tables) _ _ each
-        ∙ length-range_with_len 0 (length tables.sections);
-    each = λ n d there. subst (λ k. IsHead tables (section_at tables k) (get_or heads n d)) (nothing_more n)
-        (made_at E (λ k. IsHead tables (section_at tables k)) 0 (length tables.sections) heads each n d there);
-  }
+all_heads : (tables : Tables) (heads : List Head) → AllZip (HeadAt tables) (range_with_len 0 (length tables.sections)) heads
+    → AreHeads tables heads
+all_heads tables heads each = record {
+  count = AllZip-long (HeadAt tables) _ _ each ∙ length-range_with_len 0 (length tables.sections);
+  each = λ n d there. subst (λ k. IsHead tables (section_at tables k) (get_or heads n d)) (nothing_more n)
+      (at_place (HeadAt tables) 0 (length tables.sections) heads each n d there);
+}
 
-  -- what is collected are the heads of all sections
-  pub heads_collected : (tables seen : Tables) (numbers : List ℕ) (results : List (Result Head E)) (whole : Result V E) (Q : E → Type 0)
-      → seen ≡ tables → numbers ≡ range_with_len 0 (length tables.sections) → AllZip (Made seen) numbers results
-      → MatchResult whole (λ v. (heads : List Head) × (results ≡ map Ok heads) × (items v ≡ heads)) Q
-      → IfOk whole (λ v. AreHeads tables (items v))
-  heads_collected tables seen numbers results (Ok v) Q same all each h =
-      subst (AreHeads tables) (sym h.2) (all_made tables h.0 (subst (AllZip (Made tables) (range_with_len 0 (length tables.sections))) h.1
-      (subst (λ some. AllZip (Made tables) some results) all (subst (λ t. AllZip (Made t) numbers results) same each))))
-  heads_collected tables seen numbers results (Err e) Q same all each h = tt
+-- what is collected are the heads of all sections
+pub heads_collected : {V E : Type 0} (items : V → List Head) (tables seen : Tables) (numbers : List ℕ) (results : List (Result Head E)) (whole : Result V E) (Q : E → Type 0)
+    → seen ≡ tables → numbers ≡ range_with_len 0 (length tables.sections) → AllZip (λ n (r : Result Head E). IfOk r (HeadAt seen n)) numbers results
+    → MatchResult whole (λ v. (heads : List Head) × (results ≡ map Ok heads) × (items v ≡ heads)) Q
+    → IfOk whole (λ v. AreHeads tables (items v))
+heads_collected {E = E} items tables seen numbers results (Ok v) Q same all each h =
+    let of_all = subst (λ some. AllZip (λ n (r : Result Head E). IfOk r (HeadAt seen n)) some results) all each in
+    let of_these = subst (λ t. AllZip (λ n (r : Result Head E). IfOk r (HeadAt t n)) (range_with_len 0 (length tables.sections)) results) same of_all in
+    all_heads tables (items v) (collected (HeadAt tables) items (range_with_len 0 (length tables.sections)) results (Ok v) Q of_these h)
+heads_collected items tables seen numbers results (Err e) Q same all each h = tt
 
 -- the total of one answer, counted with another total
 one_joined : (total : Total) (a : Answer) → joined total (with_answer (total_of []) a) ≡ with_answer total a

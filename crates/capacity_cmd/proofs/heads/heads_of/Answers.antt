@@ -26,5 +26,5 @@ returns g c =
     let h = c.in_ok-collect.ensures in
     let count : c.sections-count.result - 0 ≡ length tables.sections = omega (arith, c.sections-count.ensures.count) in
     let given = rw (c.map.ensures.base, c.with_min_len.ensures.base) at h.1.1 in
-    heads_collected _ (λ heads. heads.items) tables c.map.result.f.1.now h.1.0 h.0 c.in_ok-collect.field-0 _
+    heads_collected (λ heads. heads.items) tables c.map.result.f.1.now h.1.0 h.0 c.in_ok-collect.field-0 _
     (ap (λ f. f.1.now) c.map.ensures.f) (given ∙ (λ i. nat_range (ends.0 i) (ends.1 i)) ∙ ap (range_with_len 0) count) h.1.2 h.2
