@@ -11,11 +11,11 @@ use std::alloc::Global;
 
 // The fields and rows that were cut from a text so far.
 #[derive(Drop)]
-struct CutFields {
+pub(crate) struct CutFields {
     // Where the fields are cut. The place at which the field at hand starts isn't put yet.
-    cuts: Vec<u32>,
+    pub(crate) cuts: Vec<u32>,
     // How many places there are up to the end of each row.
-    ends: Vec<u32>,
+    pub(crate) ends: Vec<u32>,
     // Where the field at hand starts.
     start: usize,
     // How many places there are before the line at hand.
@@ -50,33 +50,50 @@ pub(crate) fn plain_rows(alloc: Global, text: &[u8]) -> Result<Option<RowList<'_
     if text.len() >= GREATEST_PLACE || starts_with_mark(text) {
         return Ok(None);
     }
-    let room = room_for(text);
+    match cut_from(alloc, text, 0)? {
+        Some(cut) => Ok(Some(RowList::of_cuts(text, cut.cuts, cut.ends))),
+        None => Ok(None),
+    }
+}
+
+// What is cut from a text from a place on. None where there is a double quote.
+pub(crate) fn cut_from(
+    alloc: Global,
+    text: &[u8],
+    from: usize,
+) -> Result<Option<CutFields>, OutOfMemory>
+    requires small { length text.now + 1 < 2 ^ 32 }
+    requires from { from ≤ length text.now }
+    ensures { IfOk result (λ found. IfSome found (HasCutAll text.now from)) }
+{
+    let room = room_for(&text[from..]);
     let mut cut = CutFields {
         cuts: Vec::with_capacity(alloc, room.cuts)?,
         ends: Vec::with_capacity(alloc, room.rows)?,
-        start: 0,
+        start: from,
         first: 0,
     };
-    if !cut_text(&mut cut, text)? {
+    if !cut_text(&mut cut, text, from)? {
         return Ok(None);
     }
-    Ok(Some(RowList::of_cuts(text, cut.cuts, cut.ends)))
+    Ok(Some(cut))
 }
 
 // Whether a text starts with the first byte of a byte order mark.
-fn starts_with_mark(text: &[u8]) -> bool
+pub(crate) fn starts_with_mark(text: &[u8]) -> bool
     ensures { IsTrue result ↔ (take 1 text.now ≡ 0xEF ∷ []) }
 {
     !text.is_empty() && text[0] == 0xEF
 }
 
-// Cuts a whole text. False where it has a double quote.
-fn cut_text(cut: &mut CutFields, text: &[u8]) -> Result<bool, OutOfMemory>
+// Cuts a text from a place on. False where there is a double quote.
+fn cut_text(cut: &mut CutFields, text: &[u8], from: usize) -> Result<bool, OutOfMemory>
     requires small { length text.now + 1 < 2 ^ 32 }
-    requires fresh { HasCut text.now cut.old 0 }
-    ensures { IfOk result (λ whole. IsTrue whole → HasCutAll text.now cut.new) }
+    requires from { from ≤ length text.now }
+    requires fresh { HasCut text.now from cut.old from }
+    ensures { IfOk result (λ whole. IsTrue whole → HasCutAll text.now from cut.new) }
 {
-    for i in 0..text.len() {
+    for i in from..text.len() {
         let byte = text[i];
         // Each byte that ends a field is a comma, or below it in ASCII.
         if byte > b',' {
