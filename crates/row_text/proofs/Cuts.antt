@@ -61,26 +61,26 @@ CutsIn-more most more [] next some lie rise within = absurd (omega arith)
 CutsIn-more most more (start ∷ []) next some lie rise within = (rise, within)
 CutsIn-more most more (start ∷ second ∷ cuts) next some lie rise within = (lie.0, CutsIn-more most more (second ∷ cuts) next (omega arith) lie.1 rise within)
 
--- fields stay where the bytes that they use stay
+-- fields stay where the bytes that they use stay: the last place may be one past these
 slice-same : (bytes other : List ℕ) (used start end : ℕ) → end ≤ used → take used other ≡ take used bytes → slice_range other start end ≡ slice_range bytes start end
 slice-same bytes other used start end within same =
     let first : take end other ≡ take end bytes = sym (take-take end used other within) ∙ ap (take end) same ∙ take-take end used bytes within in
     between_is other start end ∙ ap (drop start) first ∙ sym (between_is bytes start end)
 
-pub fields_cut_at-same : (bytes other : List ℕ) (used : ℕ) (cuts : List ℕ) → CutsIn used cuts → take used other ≡ take used bytes → fields_cut_at other cuts ≡ fields_cut_at bytes cuts
+pub fields_cut_at-same : (bytes other : List ℕ) (used : ℕ) (cuts : List ℕ) → CutsIn (used + 1) cuts → take used other ≡ take used bytes → fields_cut_at other cuts ≡ fields_cut_at bytes cuts
 unfolding fields_cut_at CutsIn
 fields_cut_at-same bytes other used [] lie same = refl
 fields_cut_at-same bytes other used (start ∷ []) lie same = refl
 fields_cut_at-same bytes other used (start ∷ next ∷ cuts) lie same =
-    let within : next - 1 ≤ used = omega (arith, first-in used next cuts lie.1) in
+    let within : next - 1 ≤ used = omega (arith, first-in (used + 1) next cuts lie.1) in
     ap (λ field. field ∷ fields_cut_at other (next ∷ cuts)) (slice-same bytes other used start (next - 1) within same)
     ∙ ap (λ fields. slice_range bytes start (next - 1) ∷ fields) (fields_cut_at-same bytes other used (next ∷ cuts) lie.1 same)
 
-pub rows-same : (bytes other : List ℕ) (used : ℕ) (rows : List (List ℕ)) → All (CutsIn used) rows → take used other ≡ take used bytes → map (fields_cut_at other) rows ≡ map (fields_cut_at bytes) rows
+pub rows-same : (bytes other : List ℕ) (used : ℕ) (rows : List (List ℕ)) → All (CutsIn (used + 1)) rows → take used other ≡ take used bytes → map (fields_cut_at other) rows ≡ map (fields_cut_at bytes) rows
 rows-same bytes other used [] each same = refl
 rows-same bytes other used (cuts ∷ rows) each same =
-    ap (λ fields. fields ∷ map (fields_cut_at other) rows) (fields_cut_at-same bytes other used cuts (All-head (CutsIn used) cuts rows each) same)
-    ∙ ap (λ more. fields_cut_at bytes cuts ∷ more) (rows-same bytes other used rows (All-tail (CutsIn used) cuts rows each) same)
+    ap (λ fields. fields ∷ map (fields_cut_at other) rows) (fields_cut_at-same bytes other used cuts (All-head (CutsIn (used + 1)) cuts rows each) same)
+    ∙ ap (λ more. fields_cut_at bytes cuts ∷ more) (rows-same bytes other used rows (All-tail (CutsIn (used + 1)) cuts rows each) same)
 
 pub each-weaker : (most more : ℕ) (rows : List (List ℕ)) → most ≤ more → All (CutsIn most) rows → All (CutsIn more) rows
 each-weaker most more rows le each = All-weaker (CutsIn most) (CutsIn more) (λ cuts lie. CutsIn-weaker most more cuts le lie) rows each
@@ -99,7 +99,7 @@ put-field old new before after used end field some ends_at put =
     let before_end : end - 1 ≡ whole = omega (arith, put.past) in
     let size : length (take used old) ≡ used = length-take-le used old ends_at.room in
     let kept : take used new ≡ take used old = take-kept old new field used whole ends_at.room (omega arith) put.bytes in
-    let first : fields_cut_at new before ≡ fields_cut_at old before = fields_cut_at-same old new used before ends_at.lie kept in
+    let first : fields_cut_at new before ≡ fields_cut_at old before = fields_cut_at-same old new used before (CutsIn-weaker used (used + 1) before (omega arith) ends_at.lie) kept in
     let last : slice_range new used whole ≡ field = between_is new used whole ∙ ap (drop used) put.bytes ∙ rw size at (drop-append_seam (take used old) field) in
     let rise : last_end 0 before < end = omega (arith, ends_at.last, put.past) in (
       rw (put.cuts, fields_cut_at-more new before end some, ends_at.last, before_end, first, last) refl,

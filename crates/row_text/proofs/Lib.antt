@@ -16,3 +16,4 @@ pub mod PlainFields
 pub mod PlainReads
 pub mod PlainRows
 pub mod Adds
+pub mod CutParts

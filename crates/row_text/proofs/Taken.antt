@@ -74,7 +74,7 @@ HasTaken-more old mid new rows cuts row put bytes used cuts_same ends has =
     let before = pieces 0 old.ends.items old.cuts.items in
     let all : pieces 0 new.ends.items new.cuts.items ≡ before ++ cuts ∷ [] =
     rw (ends, cuts_same, put.ends_kept, put.cuts_after) (pieces-append old.ends.items old.cuts.items cuts has.rise has.all) in
-    let kept : map (fields_cut_at mid.bytes.items) before ≡ map (fields_cut_at old.bytes.items) before = rows-same old.bytes.items mid.bytes.items old.used before has.each put.kept in
+    let kept : map (fields_cut_at mid.bytes.items) before ≡ map (fields_cut_at old.bytes.items) before = rows-same old.bytes.items mid.bytes.items old.used before (each-weaker old.used (old.used + 1) before (omega arith) has.each) put.kept in
     let grown : Rising 0 old.ends.items (length (old.cuts.items ++ cuts)) = rising-more 0 old.ends.items _ _ has.rise (omega (arith, length-append old.cuts.items cuts)) in
     record {
       rows = rw (all, bytes, map_push (fields_cut_at mid.bytes.items) before cuts, kept, has.rows, put.fields) refl;

@@ -15,3 +15,4 @@ pub mod Sheet
 pub mod SheetText
 pub mod Put
 pub mod PlainRows
+pub mod Parts

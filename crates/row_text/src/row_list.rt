@@ -181,7 +181,7 @@ pub fn rows(alloc: Global, text: &[u8]) -> Result<RowList<'_>, OutOfMemory>
 }
 
 // The same for any text, by a reader of CSV.
-fn rows_read(alloc: Global, text: &[u8]) -> Result<RowList<'_>, OutOfMemory>
+pub(crate) fn rows_read(alloc: Global, text: &[u8]) -> Result<RowList<'_>, OutOfMemory>
     ensures { IfOk result (λ rows. rows ≡ rows_of text.now) }
 {
     let mut taken = nothing_taken(alloc, text)?;
