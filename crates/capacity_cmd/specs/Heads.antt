@@ -14,4 +14,5 @@ IsHead tables section head = AddsHead tables section [] head.sheet.rows (total_o
 -- the head of each section's answer alone, in the order of the sections
 pub record AreHeads (tables : Tables) (heads : List Head) : Type 0 where
   pub count : length heads ≡ length tables.sections
-  pub each : (n : ℕ) (d : Head) → n < length tables.sections → IsHead tables (section_at tables n) (slice_index_or heads n d)
+  pub each : (n : ℕ) (d : Head) → n < length tables.sections
+      → IsHead tables (section_at tables n) (slice_index_or heads n d)

@@ -43,9 +43,10 @@ pub(crate) fn heads_of(
         .with_min_len((count / current_num_threads(rt)).max(1))
         .map(
             |number: usize| -> Result<Head, OutOfMemory>
-                requires { (number < length tables.now.sections) × (number < 4294967296)
+                requires { (number < length tables.now.sections) × (number < 4_294_967_296)
                     × (stairs.now ≡ timetable tables.now) }
-                ensures { IfOk result (IsHead tables.entry.now (section_at tables.entry.now number)) }
+                ensures { IfOk result
+                    (IsHead tables.entry.now (section_at tables.entry.now number)) }
             { head_of(alloc, tables, stairs, number as u32) },
         )
         .collect::<Result<Vec<Head>, OutOfMemory>>(rt, alloc)?
