@@ -2,6 +2,7 @@ pub mod Refused
 pub mod Outcomes
 pub mod RowCount
 pub mod Making
+pub mod ReadingAhead
 pub mod Cuts
 pub mod Commands
 pub mod Members

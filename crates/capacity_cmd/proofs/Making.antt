@@ -29,7 +29,7 @@ use Rattle.capacity_cmd.specs.declared.input.BaseSoFar.{BaseSoFar}
 use Rattle.capacity_cmd.specs.declared.input.InputSoFar.{InputSoFar}
 use Rattle.capacity_cmd.specs.Spelling.{Spelling, nothing, takes_planner, takes_task, where_it_stands, with_one_task, with_line}
 use Rattle.capacity_cmd.specs.Input.{Content, refused, at_row, in_form, spelling_from, unless_refused, tables_from, content_in}
-use Rattle.capacity_cmd.specs.InputSoFar.{accepted_in, IsWithin, or_refused, tables_so_far, by_rule, after_one_more, TakesIf, IsNothing, Holds, accepted_so_far, TakesLine, TakesRow, TakesRows}
+use Rattle.capacity_cmd.specs.InputSoFar.{accepted_in, IsWithin, or_refused, tables_so_far, by_rule, after_one_more, TakesIf, IsNothing, Holds, accepted_so_far, TakesLine, TakesRow, TakesEach, said_by, goes_on, HasTaken}
 
 -- ---- one edit more
 
@@ -208,14 +208,6 @@ grows planners s (line.Edit e) next is = grows_by_edit planners s e next (nat_lt
 
 -- ---- the rows that are left
 
--- what is said by what is spelled so far and by the rows that are left, the first of which has this number
-said_by : ℕ → Result Spelling Refusal → Result Content Refusal
-said_by first spelling =
-    spelling >>= λ (s : Spelling). tables_from first s.base >>= λ tables. Ok (record { spelling = s; tables = tables })
-
-pub goes_on : ℕ → ℕ → ℕ → ℕ → Spelling → List Row → Result Content Refusal
-goes_on planners version first number s rows = said_by first (spelling_from planners version number s rows)
-
 goes_on-line : (planners version first number : ℕ) (s : Spelling) (row : Row) (rows : List Row) (l : Line) (next : Spelling)
     → read_in version row ≡ Ok l → with_line planners s l ≡ Ok next
     → goes_on planners version first number s (row ∷ rows) ≡ goes_on planners version first (number + 1) next rows
@@ -235,16 +227,6 @@ unfolding goes_on said_by
 goes_on-place planners version first number s row rows l why read is = rw (read, is) refl
 
 -- ---- the rows so far
-
--- the rows before a place are taken, as a spelling, and the rest goes on from there
-pub record HasTaken (planners version : ℕ) (rows : List Row) (made : InputSoFar) (i : ℕ) : Type 0 where
-  pub spelling : Spelling
-  pub holds : Holds (first_line rows + 1) spelling made
-  pub few : length spelling.base ≤ i
-  pub edits : length spelling.base ≤ length rows
-  pub count : length spelling.scripts ≡ 0 → first_line rows + length spelling.base ≡ i
-  pub scripts : length spelling.scripts ≤ planners
-  pub rest : content_in planners (Ok version) rows ≡ goes_on planners version (first_line rows + 1) (i + 1) spelling (drop i rows)
 
 pub taken_none : (planners version : ℕ) (rows : List Row) (made : InputSoFar) → IsNothing made
     → HasTaken planners version rows made (first_line rows)
@@ -339,7 +321,7 @@ all_within planners rows made (Err refusal) is few edits tasks = tt
 
 pub taken_all : (planners version i : ℕ) (rows : List Row) (made : InputSoFar) → length rows ≤ i
     → HasTaken planners version rows made i
-    → TakesRows planners (length rows) (content_in planners (Ok version) rows) made None
+    → TakesEach planners (length rows) (content_in planners (Ok version) rows) made None
 unfolding goes_on said_by
 taken_all planners version i rows made end so_far =
     let first = first_line rows + 1 in

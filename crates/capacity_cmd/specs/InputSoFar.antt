@@ -1,5 +1,5 @@
 -- What the rows that were read so far give to a command.
-use Rattle.std.specs.Prelude.{◌≡◌, ℕ, ◌+◌, ◌≤◌, Bool, true, false, List, length, sum_by, Option, Some, None, Result, Ok, Err}
+use Rattle.std.specs.Prelude.{◌≡◌, ℕ, ◌+◌, ◌≤◌, Bool, true, false, List, length, drop, sum_by, Option, Some, None, Result, Ok, Err}
 use Rattle.std.specs.Result.{result_map_both}
 use Rattle.rail_model.specs.declared.edit.Edit.{Edit}
 use Rattle.rail_model.specs.declared.edit.Rule.{Rule}
@@ -8,6 +8,9 @@ use Rattle.rail_model.specs.declared.tables.Tables.{Tables}
 use Rattle.rail_model.specs.Edits.{no_tables, after}
 use Rattle.rail_model.specs.Rules.{rule_of}
 use Rattle.row_text.specs.declared.line.Line.{Line}
+use Rattle.row_text.specs.Row.{Row}
+use Rattle.row_text.specs.Lines.{◌>>=◌}
+use Rattle.row_text.specs.Versions.{first_line}
 use Rattle.plan_model.specs.declared.scripts.Task.{Task}
 use Rattle.plan_book.specs.declared.book.TheConstants.{TASKS}
 use Rattle.capacity_cmd.specs.declared.status.Cause.{Cause}
@@ -17,7 +20,7 @@ use Rattle.capacity_cmd.specs.declared.accepted.Accepted.{Accepted}
 use Rattle.capacity_cmd.specs.declared.input.BaseSoFar.{BaseSoFar}
 use Rattle.capacity_cmd.specs.declared.input.InputSoFar.{InputSoFar}
 use Rattle.capacity_cmd.specs.Spelling.{Spelling, with_line}
-use Rattle.capacity_cmd.specs.Input.{Content, accepted_of, refused, tables_from}
+use Rattle.capacity_cmd.specs.Input.{Content, accepted_of, refused, spelling_from, tables_from, content_in}
 
 -- what an input gives to a command, or its refusal
 abbrev pub accepted_in : Result Content Refusal → Result Accepted Refusal
@@ -95,6 +98,31 @@ pub record TakesAll (planners rows : ℕ) (whole : Result Content Refusal) (made
   pub scripts : length made.scripts ≤ planners
   pub edits : made.base.edits ≤ rows
 
-abbrev pub TakesRows : ℕ → ℕ → Result Content Refusal → InputSoFar → Option Refusal → Type 0
-TakesRows planners rows whole made None = TakesAll planners rows whole made
-TakesRows planners rows whole made (Some refusal) = whole ≡ Err refusal
+abbrev pub TakesEach : ℕ → ℕ → Result Content Refusal → InputSoFar → Option Refusal → Type 0
+TakesEach planners rows whole made None = TakesAll planners rows whole made
+TakesEach planners rows whole made (Some refusal) = whole ≡ Err refusal
+
+abbrev pub TakesRows : ℕ → ℕ → Result Content Refusal → Result InputSoFar Refusal → Type 0
+TakesRows planners rows whole (Ok made) = TakesAll planners rows whole made
+TakesRows planners rows whole (Err refusal) = whole ≡ Err refusal
+
+-- ---- the rows before a place
+
+-- what is said by what is spelled so far and by the rows that are left, the first of which has this
+-- number
+unfoldable pub said_by : ℕ → Result Spelling Refusal → Result Content Refusal
+said_by first spelling =
+    spelling >>= λ (s : Spelling). tables_from first s.base >>= λ tables. Ok (record { spelling = s; tables = tables })
+
+unfoldable pub goes_on : ℕ → ℕ → ℕ → ℕ → Spelling → List Row → Result Content Refusal
+goes_on planners version first number s rows = said_by first (spelling_from planners version number s rows)
+
+-- the rows before a place are taken, as a spelling, and the rest goes on from there
+pub record HasTaken (planners version : ℕ) (rows : List Row) (made : InputSoFar) (i : ℕ) : Type 0 where
+  pub spelling : Spelling
+  pub holds : Holds (first_line rows + 1) spelling made
+  pub few : length spelling.base ≤ i
+  pub edits : length spelling.base ≤ length rows
+  pub count : length spelling.scripts ≡ 0 → first_line rows + length spelling.base ≡ i
+  pub scripts : length spelling.scripts ≤ planners
+  pub rest : content_in planners (Ok version) rows ≡ goes_on planners version (first_line rows + 1) (i + 1) spelling (drop i rows)

@@ -19,6 +19,7 @@ pub mod Session
 pub mod Made
 pub mod Ends
 pub mod InputSoFar
+pub mod ReadAhead
 pub mod Reply
 pub mod Given
 pub mod Promise

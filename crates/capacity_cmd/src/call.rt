@@ -254,7 +254,7 @@ fn session_reply<R: AllocGlobal + Threads + Wait + Sync, S: Source, G: Gate>(
 
 // Reads the input: what it gives to a command, or the reply that refuses it. Or says why there is
 // neither.
-fn input_from<R: AllocGlobal, S: Source>(
+fn input_from<R: AllocGlobal + Threads + Sync, S: Source>(
     rt: &R,
     command: &Command,
     source: &mut S,
@@ -273,7 +273,7 @@ fn input_from<R: AllocGlobal, S: Source>(
 {
     let alloc = rt.alloc();
     match take_all(alloc, source, INPUT_BYTES)? {
-        Ok(input) => Ok(given_or_reply(alloc, command, input.slice(), told)?),
+        Ok(input) => Ok(given_or_reply(rt, alloc, command, input.slice(), told)?),
         Err(Taken::TooLong) => Ok(Err(refusal(alloc, 0, Cause::TooLong)?)),
         Err(Taken::Failed) => Err(Status::ReadFault),
     }

@@ -6,24 +6,29 @@ ghost use Rattle.row_text.specs.Lines.{read_in};
 ghost use Rattle.capacity_cmd.specs.Input.{content_of_rows, content_in};
 ghost use Rattle.capacity_cmd.specs.InputSoFar.{accepted_in, tables_so_far, accepted_so_far};
 ghost use Rattle.capacity_cmd.specs.InputSoFar.{after_one_more, IsWithin, IsNothing};
-ghost use Rattle.capacity_cmd.specs.InputSoFar.{TakesLine, TakesRow, TakesRows};
+ghost use Rattle.capacity_cmd.specs.InputSoFar.{TakesLine, TakesRow, TakesEach, TakesRows};
+ghost use Rattle.capacity_cmd.specs.ReadAhead.{IsBatch, TakesLines};
 
 use crate::Cause;
 use crate::accepted::Accepted;
+use crate::lines::{are_many, lines_from};
 use crate::refusal::Refusal;
 use crate::script_rows::ScriptRows;
 use line_tables::LineTables;
 use plan_model::Task;
-use rail_model::{Edit, OutOfMemory};
+use rail_model::{Edit, Form, OutOfMemory};
+use rayon::current_num_threads;
 use row_text::{Line, RowList};
 use std::alloc::Global;
+use std::thread::{Threads, join};
 
 // What rows give to a command that takes the scripts of so many planners, or the row at which they
 // are refused.
 pub(crate) fn accepted_of_rows(
+    rt: &(impl Threads + Sync),
     alloc: Global,
     planners: usize,
-    rows: &RowList,
+    rows: &RowList<'_>,
 ) -> Result<Result<Accepted, Refusal>, OutOfMemory>
     ensures same { IfOk result (λ made. made ≡ accepted_in (content_of_rows planners rows.now)) }
     ensures within { IfOk result (λ made. IfOk made (IsWithin planners (length rows.now))) }
@@ -35,7 +40,7 @@ pub(crate) fn accepted_of_rows(
             cause: Cause::Form(form),
         })),
     };
-    let mut so_far = InputSoFar {
+    let so_far = InputSoFar {
         base: BaseSoFar {
             tables: LineTables::new(alloc),
             edits: 0,
@@ -43,9 +48,9 @@ pub(crate) fn accepted_of_rows(
         },
         scripts: ScriptRows::new(alloc),
     };
-    match so_far.take_rows(alloc, planners, rows, version)? {
-        Some(refusal) => Ok(Err(refusal)),
-        None => Ok(so_far.end()),
+    match so_far.take_rows(rt, alloc, planners, rows, version)? {
+        Ok(all) => Ok(all.end()),
+        Err(refusal) => Ok(Err(refusal)),
     }
 }
 
@@ -89,16 +94,39 @@ struct InputSoFar {
 }
 
 impl InputSoFar {
-    // Takes all rows, up to the first that has a fault.
+    // Takes all rows, up to the first that has a fault. Where they are many and there are several
+    // processors, another thread reads the next of them while some are taken.
     fn take_rows(
+        mut self,
+        rt: &(impl Threads + Sync),
+        alloc: Global,
+        planners: usize,
+        rows: &RowList<'_>,
+        version: u32,
+    ) -> Result<Result<InputSoFar, Refusal>, OutOfMemory>
+        requires { IsNothing self }
+        ensures { IfOk result (TakesRows
+            planners (length rows.now) (content_in planners (Ok version) rows.now)) }
+    {
+        if are_many(rows) && current_num_threads(rt) > 1 {
+            return self.take_ahead(rt, alloc, planners, rows, version);
+        }
+        match self.take_each(alloc, planners, rows, version)? {
+            Some(refusal) => Ok(Err(refusal)),
+            None => Ok(Ok(self)),
+        }
+    }
+
+    // Takes all rows, each as soon as it is read.
+    fn take_each(
         &mut self,
         alloc: Global,
         planners: usize,
-        rows: &RowList,
+        rows: &RowList<'_>,
         version: u32,
     ) -> Result<Option<Refusal>, OutOfMemory>
         requires { IsNothing self.old }
-        ensures { IfOk result (TakesRows
+        ensures { IfOk result (TakesEach
             planners (length rows.now) (content_in planners (Ok version) rows.now) self.new) }
     {
         for i in rows.first_line()..rows.len() {
@@ -112,12 +140,71 @@ impl InputSoFar {
         Ok(None)
     }
 
+    // Takes all rows, some at a time, while another thread reads the next.
+    fn take_ahead(
+        self,
+        rt: &(impl Threads + Sync),
+        alloc: Global,
+        planners: usize,
+        rows: &RowList<'_>,
+        version: u32,
+    ) -> Result<Result<InputSoFar, Refusal>, OutOfMemory>
+        requires { IsNothing self }
+        ensures { IfOk result (TakesRows
+            planners (length rows.now) (content_in planners (Ok version) rows.now)) }
+    {
+        let mut so_far = self;
+        let mut at = rows.first_line();
+        let mut lines = lines_from(alloc, rows, version, at)?;
+        while at < rows.len() {
+            let next = at + lines.len();
+            let read = move || -> Result<Vec<Result<Line, Form>>, OutOfMemory>
+                requires { (next ≤ length rows.now) × (length rows.now < 2 ^ 64) }
+                ensures { IfOk result (λ lines. IsBatch version rows.entry.now next lines.items) }
+            { lines_from(alloc, rows, version, next) };
+            let take = move || -> Result<Result<InputSoFar, Refusal>, OutOfMemory>
+                requires { (so_far.base.edits ≤ at) × (at + length lines.items < 2 ^ 64) }
+                ensures { IfOk result (TakesLines planners at lines.items so_far) }
+            { so_far.take_lines(planners, at, lines) };
+            let (read, taken) = join(rt, read, take);
+            match taken? {
+                Ok(more) => so_far = more,
+                Err(refusal) => return Ok(Err(refusal)),
+            }
+            lines = read?;
+            at = next;
+        }
+        Ok(Ok(so_far))
+    }
+
+    // Takes the lines of rows that were read, the first of them that at a place, up to the first
+    // that has a fault.
+    fn take_lines(
+        mut self,
+        planners: usize,
+        at: usize,
+        lines: Vec<Result<Line, Form>>,
+    ) -> Result<Result<InputSoFar, Refusal>, OutOfMemory>
+        requires few { self.base.edits ≤ at }
+        requires counted { at + length lines.items < 2 ^ 64 }
+        ensures { IfOk result (TakesLines planners at lines.items self) }
+    {
+        let mut row = at as u64;
+        for found in lines {
+            row += 1;
+            if let Some(cause) = self.take_found(planners, row, found)? {
+                return Ok(Err(Refusal { row, cause }));
+            }
+        }
+        Ok(Ok(self))
+    }
+
     // Takes the row at a place, unless it has a fault.
     fn take_row(
         &mut self,
         alloc: Global,
         planners: usize,
-        rows: &RowList,
+        rows: &RowList<'_>,
         version: u32,
         i: usize,
     ) -> Result<Option<Cause>, OutOfMemory>
@@ -133,6 +220,23 @@ impl InputSoFar {
         }
     }
 
+    // Takes the line that a row was read as, unless the row has a fault.
+    fn take_found(
+        &mut self,
+        planners: usize,
+        row: u64,
+        found: Result<Line, Form>,
+    ) -> Result<Option<Cause>, OutOfMemory>
+        requires { self.old.base.edits < 2 ^ 64 - 1 }
+        ensures takes { IfOk result (TakesRow planners row found self.old self.new) }
+        ensures edits { IfOk result (λ _. self.new.base.edits ≤ self.old.base.edits + 1) }
+    {
+        match found {
+            Ok(line) => self.take_line(planners, row, line),
+            Err(form) => Ok(Some(Cause::Form(form))),
+        }
+    }
+
     // Takes the line of a row: an edit before the first script is one of the base, any other a
     // task.
     fn take_line(
@@ -142,7 +246,8 @@ impl InputSoFar {
         line: Line,
     ) -> Result<Option<Cause>, OutOfMemory>
         requires { self.old.base.edits < 2 ^ 64 - 1 }
-        ensures { IfOk result (TakesLine planners row line self.old self.new) }
+        ensures takes { IfOk result (TakesLine planners row line self.old self.new) }
+        ensures edits { IfOk result (λ _. self.new.base.edits ≤ self.old.base.edits + 1) }
     {
         match line {
             Line::Edit(edit) => {

@@ -21,6 +21,7 @@ mod input;
 pub mod laws;
 mod limit;
 mod line_number;
+mod lines;
 mod made;
 mod member_sentence;
 mod named;

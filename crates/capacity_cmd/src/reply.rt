@@ -24,7 +24,7 @@ use crate::{Cause, Command, Status, Told};
 use capacity_report::rule_text;
 use rail_model::{Form, OutOfMemory};
 use rail_outside::Gate;
-use row_text::{RowList, Sheet, Text, rows};
+use row_text::{RowList, Sheet, Text, rows_by_threads};
 use std::alloc::Global;
 use std::sync::Wait;
 use std::thread::Threads;
@@ -37,6 +37,7 @@ pub(crate) struct Reply {
 
 // What an input that isn't too long gives to a command, or the reply that refuses it.
 pub(crate) fn given_or_reply(
+    rt: &(impl Threads + Sync),
     alloc: Global,
     command: &Command,
     input: &[u8],
@@ -45,8 +46,8 @@ pub(crate) fn given_or_reply(
     requires { length input.now ≤ INPUT_BYTES }
     ensures { IfOk result (GivesOrRefuses command.now (EndsOn command.now input.now)) }
 {
-    let rows = rows(alloc, input)?;
-    match accepted_of_rows(alloc, command.planners(), &rows)? {
+    let rows = rows_by_threads(rt, alloc, input)?;
+    match accepted_of_rows(rt, alloc, command.planners(), &rows)? {
         Ok(given) => Ok(Ok(given)),
         Err(refused) => Ok(Err(refusal_told(
             alloc,
@@ -63,7 +64,7 @@ pub(crate) fn given_or_reply(
 fn refusal_told(
     alloc: Global,
     input: &[u8],
-    rows: &RowList,
+    rows: &RowList<'_>,
     planners: usize,
     refused: Refusal,
     told: &mut Told,

@@ -10,8 +10,8 @@ use Rattle.capacity_cmd.specs.InputSoFar.{TakesIf, TakesLine}
 use Rattle.capacity_cmd.proofs.Making.{planner_taken, ask_taken, edit_taken, base_taken, some_scripts}
 use Rattle.capacity_cmd.proofs.input.InputSoFar.take_line.Goals as goal
 
-pub returns-in-Planner : goal.returns-in-Planner
-returns-in-Planner c =
+pub returns-in-Planner-clause-takes : goal.returns-in-Planner-clause-takes
+returns-in-Planner-clause-takes c =
     let made = c.args.self.now in
     let n = c.in-Planner.planner in
     let scripts = c.begin.new.self in
@@ -21,8 +21,8 @@ returns-in-Planner c =
     (Takes (line.Planner n) made (record made { scripts = scripts }))
     (planner_taken c.args.planners c.args.row n made scripts) c.begin.ensures)
 
-pub returns-in-Ask : goal.returns-in-Ask
-returns-in-Ask c =
+pub returns-in-Ask-clause-takes : goal.returns-in-Ask-clause-takes
+returns-in-Ask-clause-takes c =
     let made = c.args.self.now in
     let section = c.in-Ask.section in
     let scripts = c.push-in-Ask.new.self in
@@ -32,16 +32,16 @@ returns-in-Ask c =
     (Takes (line.Ask section) made (record made { scripts = scripts }))
     (ask_taken c.args.planners c.args.row section made scripts) c.push-in-Ask.ensures)
 
-pub returns-then-is_empty : goal.returns-then-is_empty
-returns-then-is_empty c =
+pub returns-then-is_empty-clause-takes : goal.returns-then-is_empty-clause-takes
+returns-then-is_empty-clause-takes c =
     let made = c.args.self.now in
     let base = c.take.new.self in
     subst (λ (l : Line). TakesLine c.args.planners c.args.row l made (record made { base = base }) None) (sym c.in-Edit.is)
     (base_taken c.args.planners c.args.row c.in-Edit.edit made base (c.is_empty.ensures.0 c.if-is_empty.true)
     c.in_ok-take-in-Edit.ensures.tables c.in_ok-take-in-Edit.ensures.edits)
 
-pub returns-else-is_empty : goal.returns-else-is_empty
-returns-else-is_empty c =
+pub returns-else-is_empty-clause-takes : goal.returns-else-is_empty-clause-takes
+returns-else-is_empty-clause-takes c =
     let made = c.args.self.now in
     let e = c.in-Edit.edit in
     let scripts = c.push.new.self in

@@ -1,0 +1,98 @@
+-- Rows that are read ahead are taken as if each were read where it is taken.
+use Rattle.std.proofs.Common.{◌≡◌, ℕ, ◌+◌, ◌<◌, ◌≤◌, Bool, true, false, if◌then◌else◌, List, [], ◌∷◌, ◌++◌, get_or, length, Option, Some, None, Result, Ok, Err, refl, sym, ap, ◌∙◌, subst, ⊎_elim, arith, length-append}
+use Rattle.std.proofs.lemmas.Bool.{cases_lt}
+use Rattle.std.proofs.lemmas.List.{get_or_append_left}
+use Rattle.std.proofs.Math.Seq.{get_or-append_seam}
+use Rattle.rail_model.specs.declared.form.Form.{Form}
+use Rattle.row_text.specs.declared.line.Line.{Line}
+use Rattle.row_text.specs.Row.{Row}
+use Rattle.row_text.specs.Lines.{read_in}
+use Rattle.row_text.specs.Versions.{has_version_row, first_line}
+use Rattle.capacity_cmd.specs.declared.status.Cause.{Cause}
+use Rattle.capacity_cmd.specs.declared.input.InputSoFar.{InputSoFar}
+use Rattle.capacity_cmd.specs.InputSoFar.{TakesRow, HasTaken}
+use Rattle.capacity_cmd.specs.ReadAhead.{AreRead, TakesLines}
+use Rattle.capacity_cmd.proofs.Making.{taken_more, not_taken}
+
+at_most_one : (one : Bool) (n : ℕ) → 1 ≤ n → (if one then 1 else 0) ≤ n
+at_most_one true n some = some
+at_most_one false n some = omega arith
+
+pub first_within : (rows : List Row) → first_line rows ≤ length rows
+first_within [] = let none : 0 ≤ 0 = omega arith in none
+first_within (row ∷ rows) = at_most_one (has_version_row (row ∷ rows)) (length (row ∷ rows)) (omega arith)
+
+pub no_lines : (lines : List (Result Line Form)) → length lines ≡ 0 → lines ≡ []
+no_lines [] is = refl
+no_lines (found ∷ lines) is = absurd (omega (arith, is))
+
+-- ---- what was read
+
+pub none_read : (version from : ℕ) (rows : List Row) → from ≤ length rows → AreRead version rows from []
+none_read version from rows there = record {
+  there = omega (arith, there);
+  each = λ k d lt. absurd (omega (arith, lt));
+}
+
+-- one row more
+pub read_more : (version from i : ℕ) (rows : List Row) (lines : List (Result Line Form)) (found : Result Line Form)
+    → AreRead version rows from lines → from + length lines ≡ i → i < length rows
+    → found ≡ read_in version (get_or rows i [])
+    → AreRead version rows from (lines ++ found ∷ [])
+read_more version from i rows lines found read at there is = record {
+  there = omega (arith, length-append lines (found ∷ []), at, there);
+  each = λ k d lt. ⊎_elim
+      (λ (before : k < length lines). get_or_append_left lines (found ∷ []) d k before ∙ read.each k d before)
+      (λ (last : length lines ≤ k).
+      let k_is : k ≡ length lines = omega (arith, last, lt, length-append lines (found ∷ [])) in
+      let place : from + k ≡ i = omega (arith, k_is, at) in
+      rw (place, k_is) (get_or-append_seam lines found [] d ∙ is))
+      (cases_lt k (length lines));
+}
+
+-- the next of what was read
+next_read : (version i : ℕ) (rows : List Row) (all before : List (Result Line Form)) (found : Result Line Form) (rest : List (Result Line Form))
+    → AreRead version rows i all → all ≡ before ++ found ∷ rest
+    → (i + length before < length rows) × (read_in version (get_or rows (i + length before) []) ≡ found)
+next_read version i rows all before found rest read is =
+    let count = ap length is ∙ length-append before (found ∷ rest) in (
+      omega (arith, read.there, count),
+      sym (read.each (length before) found (omega (arith, count))) ∙ ap (λ xs. get_or xs (length before) found) is
+          ∙ get_or-append_seam before found rest found,
+    )
+
+-- ---- what was taken of it
+
+-- some of what was read is taken after the rows before it
+abbrev pub TakesSome : ℕ → ℕ → List (Result Line Form) → List (Result Line Form) → InputSoFar → InputSoFar → Type 0
+TakesSome planners i all before made more =
+    (version : ℕ) (rows : List Row) → HasTaken planners version rows made i → AreRead version rows i all
+    → HasTaken planners version rows more (i + length before)
+
+pub takes_none : (planners i : ℕ) (all : List (Result Line Form)) (made : InputSoFar) → TakesSome planners i all [] made made
+takes_none planners i all made = λ version rows so_far read. subst (HasTaken planners version rows made) (omega arith) so_far
+
+pub takes_more : (planners i row : ℕ) (all before : List (Result Line Form)) (found : Result Line Form) (rest : List (Result Line Form))
+    (made mid more : InputSoFar) → all ≡ before ++ found ∷ rest → row ≡ i + length before + 1
+    → TakesSome planners i all before made mid → TakesRow planners row found mid more None
+    → TakesSome planners i all (before ++ found ∷ []) made more
+takes_more planners i row all before found rest made mid more is number so_far takes = λ version rows taken read.
+    let next = next_read version i rows all before found rest read is in
+    subst (HasTaken planners version rows more) (omega (arith, length-append before (found ∷ [])))
+    (taken_more planners version (i + length before) rows mid more found next.0 (so_far version rows taken read) next.1
+    (subst (λ (n : ℕ). TakesRow planners n found mid more None) number takes))
+
+pub takes_not : (planners i row : ℕ) (all before : List (Result Line Form)) (found : Result Line Form) (rest : List (Result Line Form))
+    (made mid more : InputSoFar) (why : Cause) → all ≡ before ++ found ∷ rest → row ≡ i + length before + 1
+    → TakesSome planners i all before made mid → TakesRow planners row found mid more (Some why)
+    → TakesLines planners i all made (Err (record { row = row; cause = why }))
+takes_not planners i row all before found rest made mid more why is number so_far takes = λ version rows taken read.
+    let next = next_read version i rows all before found rest read is in
+    not_taken planners version (i + length before) rows mid more found why next.0 (so_far version rows taken read) next.1
+    (subst (λ (n : ℕ). TakesRow planners n found mid more (Some why)) number takes)
+    ∙ ap (λ (n : ℕ). Err (record { row = n; cause = why })) (sym number)
+
+pub takes_all : (planners i : ℕ) (all before : List (Result Line Form)) (made more : InputSoFar) → all ≡ before
+    → TakesSome planners i all before made more → TakesLines planners i all made (Ok more)
+takes_all planners i all before made more is so_far = λ version rows taken read.
+    subst (λ (xs : List (Result Line Form)). HasTaken planners version rows more (i + length xs)) (sym is) (so_far version rows taken read)
