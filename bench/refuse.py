@@ -47,6 +47,12 @@ def races(workers):
 RUNS = "".join("run,N%03d,R,100,10,%d,60,0,60\n" % (number, 600 + 300 * number) for number in range(126))
 LONG = LINE + RUNS + "section,Z,0,86400,0,A,B\n"
 
+# An input that several threads cut, and of which one reads rows while another takes them.
+WIDE = "".join("block,a-block-%03d,100\n" % number for number in range(256))
+WIDE += "".join("signal,a-signal-at-%03d,a-block-%03d,100,10,5,0,5\n" % (number, number) for number in range(256))
+SIGNALS = "".join(",a-signal-at-%03d" % number for number in range(256))
+WIDE += "".join("route,a-route-%03d%s\n" % (number, SIGNALS) for number in range(140))
+
 # The words of a call, its input, and its texts where threads make one of several.
 CALLS = [
     ("stairs", LINE, None),
@@ -66,6 +72,8 @@ CALLS = [
     ("check", LONG, None),
     ("headways Z", LONG, None),
     ("report", LONG, None),
+    ("check", WIDE, None),
+    ("check", WIDE + "drop-block,a-block-000\n", None),
     ("stairs", LINE + "drop-block,A\n", None),
     ("compress X", LINE, None),
     ("fill S T9", LINE, None),
