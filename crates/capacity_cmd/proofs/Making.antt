@@ -1,6 +1,6 @@
 -- Rows that are read one after the other give what the whole input says.
-use Rattle.std.proofs.Common.{◌≡◌, ℕ, zero, suc, ◌+◌, ◌<◌, ◌≤◌, Bool, true, false, if◌then◌else◌, nat_lt, List, [], ◌∷◌, ◌++◌, get_or, drop, length, Option, Some, None, Result, Ok, Err, refl, sym, ap, ◌∙◌, subst, inl, inr, arith, length-append}
-use Rattle.std.specs.Prelude.{◌==◌, option_map, sum_by, IfOk}
+use Rattle.std.proofs.Common.{◌≡◌, ℕ, zero, suc, ◌+◌, ◌<◌, ◌≤◌, Bool, true, false, if◌then◌else◌, nat_lt, List, [], ◌∷◌, ◌++◌, get_or, drop, length, Option, Some, None, Result, Ok, Err, refl, sym, ap, ◌∙◌, subst, arith, length-append}
+use Rattle.std.specs.Prelude.{option_map, sum_by, IfOk}
 use Rattle.std.proofs.lemmas.Bool.{and_parts, ltb-true, ltb-false, lt-ltb}
 use Rattle.std.proofs.lemmas.List.{drop_all, drop_more, length-set}
 use Rattle.std.proofs.lemmas.List.Sums.{fold-append}
@@ -28,7 +28,7 @@ use Rattle.capacity_cmd.specs.declared.accepted.Accepted.{Accepted}
 use Rattle.capacity_cmd.specs.declared.input.BaseSoFar.{BaseSoFar}
 use Rattle.capacity_cmd.specs.declared.input.InputSoFar.{InputSoFar}
 use Rattle.capacity_cmd.specs.Spelling.{Spelling, nothing, takes_planner, takes_task, where_it_stands, with_one_task, with_line}
-use Rattle.capacity_cmd.specs.Input.{Content, refused, at_row, in_form, spelling_from, unless_refused, tables_from, content_in}
+use Rattle.capacity_cmd.specs.Input.{refused, unless_refused, tables_from, content_in}
 use Rattle.capacity_cmd.specs.InputSoFar.{accepted_in, IsWithin, or_refused, tables_so_far, by_rule, after_one_more, TakesIf, IsNothing, Holds, accepted_so_far, TakesLine, TakesRow, TakesEach, said_by, goes_on, HasTaken}
 
 -- ---- one edit more
