@@ -1,5 +1,5 @@
 -- The text of `delays`.
-use Rattle.std.specs.Prelude.{◌≡◌, ◌⊎◌, ℕ, ◌≤◌, Bool, false, if◌then◌else◌, List, map, fold, All, slice_set, Option, None, Some, is_some, Result, Ok, Err}
+use Rattle.std.specs.Prelude.{◌≡◌, ◌⊎◌, ℕ, ◌≤◌, Bool, if◌then◌else◌, List, map, fold, All, slice_set, Option, None, Some, is_some, Result, Ok, Err}
 use Rattle.std.specs.List.{list_all}
 use Rattle.rail_model.specs.Name.{is_same}
 use Rattle.rail_model.specs.declared.tables.Tables.{Tables}

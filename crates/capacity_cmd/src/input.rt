@@ -221,6 +221,7 @@ impl InputSoFar {
     }
 
     // Takes the line that a row was read as, unless the row has a fault.
+    #[inline]
     fn take_found(
         &mut self,
         planners: usize,
