@@ -1,16 +1,17 @@
 -- A text that is cut in parts, one after the other.
-use Rattle.std.proofs.Common.{◌≡◌, ◌≢◌, ℕ, zero, suc, ◌+◌, ◌-◌, ◌<◌, ◌≤◌, ◌==◌, List, [], ◌∷◌, ◌++◌, length, get_or, map, take, drop, slice_range, inl, inr, refl, sym, ap, ◌∙◌, arith, append_assoc}
+use Rattle.std.proofs.Common.{◌≡◌, ◌≢◌, ℕ, zero, suc, ◌+◌, ◌-◌, ◌<◌, ◌≤◌, ◌==◌, List, [], ◌∷◌, ◌++◌, length, get_or, map, take, drop, slice_range, inl, inr, refl, sym, subst, ap, ◌∙◌, arith, append_assoc}
+use Rattle.std.specs.Prelude.{slice_index, Result, Ok, Option, Some}
 use Rattle.std.specs.List.{All}
 use Rattle.std.proofs.lemmas.Bool.{cases_Bool, eqb-true}
 use Rattle.std.proofs.lemmas.Bool.Decides.{nat_tests}
 use Rattle.std.proofs.lemmas.List.{append-nil, drop_all, length-append, length-take-le, map-append, take-append-drop, take-take, take_more}
 use Rattle.std.proofs.lemmas.List.Elements.{All-append, All-head, All-nil, All-tail}
-use Rattle.std.proofs.Math.Seq.{drop-append-add}
+use Rattle.std.proofs.Math.Seq.{drop-append-add, get_or-append_seam}
 use Rattle.csv.specs.Records.{Rising, last_end, prev}
 use Rattle.csv.proofs.RecordFacts.{rising-shrink}
 use Rattle.row_text.specs.declared.plain_rows.CutFields.{CutFields}
 use Rattle.row_text.specs.Cuts.{CutsIn, fields_cut_at}
-use Rattle.row_text.specs.Parts.{EndsPart, HasPlaces}
+use Rattle.row_text.specs.Parts.{AreParts, EndsPart, HasPlaces, IsPart}
 use Rattle.row_text.specs.Pieces.{pieces}
 use Rattle.row_text.specs.PlainRows.{cut_rows, ends_line, HasCutAll, is_blank, with_line}
 use Rattle.row_text.specs.Row.{Row}
@@ -161,6 +162,18 @@ HasPlaces-more text from to cuts ends part line order within has cut =
       all = last-after 0 ends (after (length cuts) part.ends.items) ∙ ap (λ n. last_end n (after (length cuts) part.ends.items)) start ∙ last-shift (length cuts) 0 part.ends.items
           ∙ ap (λ n. length cuts + n) (cut.fits.first ∙ cut.all) ∙ sym (length-append cuts part.cuts.items);
     }
+
+-- what was cut from the part that comes after some others
+module _ {E : Type 0} (text ends : List ℕ) (before rest : List (Result (Option CutFields) E)) where
+  pub part-cut : (parts : List (Result (Option CutFields) E)) (part : Result (Option CutFields) E) (cut : CutFields) → AreParts text ends parts → parts ≡ before ++ part ∷ rest → length before < length ends → part ≡ Ok (Some cut)
+      → HasCutAll (take (slice_index ends (length before)) text) (prev 0 ends (length before)) cut
+  part-cut parts part cut are is there whole =
+      let here : get_or parts (length before) part ≡ part = ap (λ xs. get_or xs (length before) part) is ∙ get_or-append_seam before part rest part in
+      subst (IsPart text ends (length before)) (here ∙ whole) (are.each (length before) part there)
+
+pub none-left : {X : Type 0} (xs : List X) → length xs ≡ 0 → xs ≡ []
+none-left [] none = refl
+none-left (x ∷ xs) none = absurd (omega (arith, none))
 
 -- a part starts where the one before it ends
 pub prev-past : (start : ℕ) (ends : List ℕ) (i : ℕ) → i < length ends → prev start ends (i + 1) ≡ get_or ends i 0

@@ -4,7 +4,7 @@ ghost use Rattle.csv.specs.Records.{prev};
 ghost use Rattle.row_text.specs.Cuts.{CutsIn, fields_cut_at, PutsField, with_first};
 ghost use Rattle.row_text.specs.Row.{field};
 
-use crate::put::{make_room, put_part};
+use crate::put::{make_room, put_piece};
 use rail_model::OutOfMemory;
 use std::alloc::Global;
 use std::marker::Model;
@@ -234,7 +234,7 @@ pub(crate) fn put_reserved(
     ensures len { vec_len cuts.new ≡ vec_len cuts.old + 1 }
     ensures capacity { vec_capacity cuts.new ≡ vec_capacity cuts.old }
 {
-    let end = put_part(bytes, used, text, start, len) + 1;
+    let end = put_piece(bytes, used, text, start, len) + 1;
     cuts.push_reserved(end as u32);
     end
 }

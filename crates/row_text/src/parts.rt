@@ -45,7 +45,11 @@ fn parts_of(rt: &impl Threads, len: usize) -> usize
     ensures some { 0 < result }
     ensures long { 1 < result → result * LEAST_PART ≤ len }
 {
-    current_num_threads(rt).min(len / LEAST_PART).max(1)
+    let most = len / LEAST_PART;
+    if most < 2 {
+        return 1;
+    }
+    current_num_threads(rt).min(most).max(1)
 }
 
 // The rows of a text that is split into so many parts. None where there is a double quote.
@@ -62,7 +66,7 @@ fn rows_in_parts<'a>(
 {
     let ends = part_ends(alloc, text, parts)?;
     let cut = cut_parts(rt, alloc, text, &ends)?;
-    joined(alloc, text, &ends, &cut)
+    joined(alloc, text, &ends, cut)
 }
 
 // Where the parts of a text end: each but the last where a line starts, at or after the place at
@@ -137,28 +141,28 @@ struct Places {
     ends: Vec<u32>,
 }
 
-// The rows of a text from what is cut from its parts.
+// The rows of a text from what is cut from its parts. Each part goes when its places are put after
+// those of the others, so that not all places are there twice.
 fn joined<'a>(
     alloc: Global,
     text: &'a [u8],
     ends: &[u32],
-    parts: &[Part],
+    parts: Vec<Part>,
 ) -> Result<Option<RowList<'a>>, OutOfMemory>
     requires no_mark { strip_bom text.now ≡ text.now }
     requires ends { Splits text.now ends.now }
-    requires parts { AreParts text.now ends.now parts.now }
+    requires parts { AreParts text.now ends.now parts.items }
     ensures { IfOk result (λ found. IfSome found (λ rows. rows ≡ rows_of text.now)) }
 {
-    let room = room_of(parts);
+    let room = room_of(&parts);
     let mut places = Places {
         cuts: Vec::with_capacity(alloc, room.cuts)?,
         ends: Vec::with_capacity(alloc, room.rows)?,
     };
-    for i in 0..ends.len() {
-        match &parts[i] {
-            Ok(Some(part)) => put_part(&mut places, part)?,
-            Ok(None) => return Ok(None),
-            Err(_) => return Err(OutOfMemory),
+    for part in parts {
+        match part? {
+            Some(cut) => put_part(&mut places, &cut)?,
+            None => return Ok(None),
         }
     }
     Ok(Some(RowList::of_cuts(text, places.cuts, places.ends)))

@@ -20,8 +20,7 @@ pub(crate) fn make_room(text: &mut Vec<u8>, used: usize, room: usize) -> Result<
     grow(text, used, room)
 }
 
-// The room grows by blocks of zeros, which are copied many bytes at a time. Within the capacity a
-// block is a short step, whose zeros are still in the cache when they are written over.
+// The room grows by blocks of zeros, which are copied many bytes at a time.
 #[inline(never)]
 fn grow(text: &mut Vec<u8>, used: usize, room: usize) -> Result<(), OutOfMemory>
     requires { used ≤ length text.old.items }
@@ -52,7 +51,7 @@ fn take_memory(text: &mut Vec<u8>, least: usize) -> Result<(), OutOfMemory>
 }
 
 // Adds zeros, a block at a time, until a text has so many bytes at least. Its memory has room for
-// them.
+// them. A block is short, so its zeros are still in the cache when they are written over.
 fn fill(text: &mut Vec<u8>, least: usize)
     requires { least ≤ vec_capacity text.old }
     ensures long { least ≤ length text.new.items }
@@ -171,10 +170,10 @@ pub(crate) fn put_bytes(text: &mut [u8], used: usize, bytes: &[u8]) -> usize
     end
 }
 
-// The same of a part of a text. A short one is written as eight bytes, which takes fewer
-// instructions than a copy of so few: the bytes past it are written over later.
+// Writes a piece of some bytes after the bytes that are used. A short one is written as eight bytes,
+// which takes fewer instructions than a copy of so few: those past it are not among the used ones.
 #[inline]
-pub(crate) fn put_part(
+pub(crate) fn put_piece(
     text: &mut [u8],
     used: usize,
     bytes: &[u8],
@@ -194,7 +193,7 @@ pub(crate) fn put_part(
     put_bytes(text, used, &bytes[start..start + len])
 }
 
-// The most bytes of a short part.
+// The most bytes of a short piece.
 const SHORT: usize = 8;
 
 #[inline]

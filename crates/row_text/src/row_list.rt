@@ -19,7 +19,7 @@ use std::marker::Model;
 
 /// The rows of a text. Contracts see the list of the rows, each the list of its fields.
 ///
-/// A text without double quotes isn't copied: its rows lie in it.
+/// A text without double quotes and without a byte order mark isn't copied: its rows lie in it.
 #[derive(Drop)]
 pub struct RowList<'a> {
     // The bytes in which the fields stand.

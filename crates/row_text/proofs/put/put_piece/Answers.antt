@@ -1,7 +1,7 @@
 use Rattle.std.proofs.Common.{◌≡◌, ◌+◌, ◌-◌, length, take, drop, arith}
 use Rattle.std.proofs.lemmas.List.{length-drop, length-take-le}
 use Rattle.row_text.proofs.Digits.{take-part}
-use Rattle.row_text.proofs.put.put_part.Goals as goal
+use Rattle.row_text.proofs.put.put_piece.Goals as goal
 
 pub returns-then-text-used-ge-SHORT-clause-written : goal.returns-then-text-used-ge-SHORT-clause-written
 returns-then-text-used-ge-SHORT-clause-written c =
