@@ -10,9 +10,11 @@ use Rattle.row_text.specs.Lines.{read_in}
 use Rattle.row_text.specs.Versions.{has_version_row, first_line}
 use Rattle.capacity_cmd.specs.declared.status.Cause.{Cause}
 use Rattle.capacity_cmd.specs.declared.input.InputSoFar.{InputSoFar}
-use Rattle.capacity_cmd.specs.InputSoFar.{TakesRow, HasTaken}
+use Rattle.capacity_cmd.specs.declared.refusal.Refusal.{Refusal}
+use Rattle.capacity_cmd.specs.Input.{content_in}
+use Rattle.capacity_cmd.specs.InputSoFar.{TakesRow, TakesRows, HasTaken}
 use Rattle.capacity_cmd.specs.ReadAhead.{AreRead, TakesLines}
-use Rattle.capacity_cmd.proofs.Making.{taken_more, not_taken}
+use Rattle.capacity_cmd.proofs.Making.{taken_more, not_taken, taken_all}
 
 at_most_one : (one : Bool) (n : ℕ) → 1 ≤ n → (if one then 1 else 0) ≤ n
 at_most_one true n some = some
@@ -96,3 +98,11 @@ pub takes_all : (planners i : ℕ) (all before : List (Result Line Form)) (made 
     → TakesSome planners i all before made more → TakesLines planners i all made (Ok more)
 takes_all planners i all before made more is so_far = λ version rows taken read.
     subst (λ (xs : List (Result Line Form)). HasTaken planners version rows more (i + length xs)) (sym is) (so_far version rows taken read)
+
+-- the last rows are taken
+pub taken_whole : (planners version i : ℕ) (rows : List Row) (lines : List (Result Line Form)) (made : InputSoFar) (taken : Result InputSoFar Refusal)
+    → i + length lines ≡ length rows → HasTaken planners version rows made i → AreRead version rows i lines
+    → TakesLines planners i lines made taken → TakesRows planners (length rows) (content_in planners (Ok version) rows) taken
+taken_whole planners version i rows lines made (Ok more) all so_far read takes =
+    taken_all planners version (i + length lines) rows more (omega (arith, all)) (takes version rows so_far read)
+taken_whole planners version i rows lines made (Err refusal) all so_far read takes = takes version rows so_far read

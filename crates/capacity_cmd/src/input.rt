@@ -109,7 +109,7 @@ impl InputSoFar {
             planners (length rows.now) (content_in planners (Ok version) rows.now)) }
     {
         if are_many(rows) && current_num_threads(rt) > 1 {
-            return self.take_ahead(rt, alloc, planners, rows, version);
+            return self.take_while_reading(rt, alloc, planners, rows, version);
         }
         match self.take_each(alloc, planners, rows, version)? {
             Some(refusal) => Ok(Err(refusal)),
@@ -141,7 +141,7 @@ impl InputSoFar {
     }
 
     // Takes all rows, some at a time, while another thread reads the next.
-    fn take_ahead(
+    fn take_while_reading(
         self,
         rt: &(impl Threads + Sync),
         alloc: Global,
@@ -158,6 +158,9 @@ impl InputSoFar {
         let mut lines = lines_from(alloc, rows, version, at)?;
         while at < rows.len() {
             let next = at + lines.len();
+            if next == rows.len() {
+                return so_far.take_lines(planners, at, lines);
+            }
             let read = move || -> Result<Vec<Result<Line, Form>>, OutOfMemory>
                 requires { (next ≤ length rows.now) × (length rows.now < 2 ^ 64) }
                 ensures { IfOk result (λ lines. IsBatch version rows.entry.now next lines.items) }
@@ -192,7 +195,7 @@ impl InputSoFar {
         let mut row = at as u64;
         for found in lines {
             row += 1;
-            if let Some(cause) = self.take_found(planners, row, found)? {
+            if let Some(cause) = self.take_read(planners, row, found)? {
                 return Ok(Err(Refusal { row, cause }));
             }
         }
@@ -214,15 +217,13 @@ impl InputSoFar {
         ensures { IfOk result (TakesRow
             planners (i + 1) (read_in version (slice_index_or rows.now i [])) self.old self.new) }
     {
-        match rows.line(alloc, version, i)? {
-            Ok(line) => self.take_line(planners, i as u64 + 1, line),
-            Err(form) => Ok(Some(Cause::Form(form))),
-        }
+        let found = rows.line(alloc, version, i)?;
+        self.take_read(planners, i as u64 + 1, found)
     }
 
     // Takes the line that a row was read as, unless the row has a fault.
     #[inline]
-    fn take_found(
+    fn take_read(
         &mut self,
         planners: usize,
         row: u64,

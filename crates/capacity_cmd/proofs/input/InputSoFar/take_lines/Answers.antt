@@ -19,8 +19,8 @@ loop-found-preserved c =
       omega (arith, so_far.2, length-append before (found ∷ [])),
       omega (arith, so_far.3, c.in_ok-cause.ensures.edits),
       takes_more c.args.planners c.args.at (c.loop-found.row + 1) c.args.lines.items before found rest c.args.self c.loop-found.self
-          c.take_found.new.self is (omega (arith, so_far.2)) so_far.4
-          (subst (TakesRow c.args.planners (c.loop-found.row + 1) found c.loop-found.self c.take_found.new.self) c.in_default.is
+          c.take_read.new.self is (omega (arith, so_far.2)) so_far.4
+          (subst (TakesRow c.args.planners (c.loop-found.row + 1) found c.loop-found.self c.take_read.new.self) c.in_default.is
           c.in_ok-cause.ensures.takes),
     )
 
@@ -32,8 +32,8 @@ returns-in-Some-2 c =
     let rest = c.next.new.self.rest.items in
     let is : c.args.lines.items ≡ before ++ found ∷ rest = so_far.1 ∙ ap (λ xs. before ++ xs) c.in-Some.ensures.steps.0 in
     takes_not c.args.planners c.args.at (c.loop-found.row + 1) c.args.lines.items before found rest c.args.self c.loop-found.self
-    c.take_found.new.self c.in-Some-2.cause is (omega (arith, so_far.2)) so_far.4
-    (subst (TakesRow c.args.planners (c.loop-found.row + 1) found c.loop-found.self c.take_found.new.self) c.in-Some-2.is
+    c.take_read.new.self c.in-Some-2.cause is (omega (arith, so_far.2)) so_far.4
+    (subst (TakesRow c.args.planners (c.loop-found.row + 1) found c.loop-found.self c.take_read.new.self) c.in-Some-2.is
     c.in_ok-cause.ensures.takes)
 
 pub returns : goal.returns

@@ -1,7 +1,7 @@
 use Rattle.std.proofs.Common.{◌-◌, length}
 use Rattle.capacity_cmd.specs.InputSoFar.{HasTaken}
 use Rattle.capacity_cmd.specs.ReadAhead.{IsBatch}
-use Rattle.capacity_cmd.proofs.input.InputSoFar.take_ahead.Given as goal
+use Rattle.capacity_cmd.proofs.input.InputSoFar.take_while_reading.Given as goal
 
 -- the rows so far are taken, and the next are read
 abbrev pub invariant-loop-at : goal.invariant-loop-at

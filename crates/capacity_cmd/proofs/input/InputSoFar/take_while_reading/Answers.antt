@@ -1,10 +1,12 @@
 use Rattle.std.proofs.Common.{◌≡◌, ℕ, ◌+◌, length, Ok, ap, ◌∙◌, sym, subst, arith, rules}
 use Rattle.std.specs.Prelude.{IfOk}
-use Rattle.capacity_cmd.specs.InputSoFar.{HasTaken}
+use Rattle.std.proofs.lemmas.Result.{IfOk-weaker}
+use Rattle.capacity_cmd.specs.Input.{content_in}
+use Rattle.capacity_cmd.specs.InputSoFar.{HasTaken, TakesRows}
 use Rattle.capacity_cmd.specs.ReadAhead.{IsBatch, TakesLines}
 use Rattle.capacity_cmd.proofs.Making.{taken_none, taken_all}
-use Rattle.capacity_cmd.proofs.ReadingAhead.{first_within}
-use Rattle.capacity_cmd.proofs.input.InputSoFar.take_ahead.Goals as goal
+use Rattle.capacity_cmd.proofs.ReadingAhead.{first_within, taken_whole}
+use Rattle.capacity_cmd.proofs.input.InputSoFar.take_while_reading.Goals as goal
 
 pub lines_from-requires : goal.lines_from-requires
 lines_from-requires g c = omega (arith, c.first_line-at.ensures, first_within c.args.rows.now)
@@ -41,3 +43,15 @@ pub returns : goal.returns
 returns g c =
     taken_all c.args.planners c.args.version c.loop-at.at c.args.rows.now c.loop-at.so_far
     (omega (arith, c.loop-at-test.false, c.len.ensures)) c.loop-at.invariant.0
+
+pub returns-then-next-len : goal.returns-then-next-len
+returns-then-next-len g c =
+    let rows = c.args.rows.now in
+    let so_far = c.loop-at.invariant in
+    let lines = c.loop-at.lines.items in
+    let count : c.len-in-loop-at.result ≡ length lines = search rules in
+    let all : c.loop-at.at + length lines ≡ length rows = omega (arith, count, c.if-next-len.true, c.len-in-loop-at-2.ensures) in
+    IfOk-weaker c.take_lines.result (TakesLines c.args.planners c.loop-at.at lines c.loop-at.so_far)
+    (TakesRows c.args.planners (length rows) (content_in c.args.planners (Ok c.args.version) rows))
+    (λ taken takes. taken_whole c.args.planners c.args.version c.loop-at.at rows lines c.loop-at.so_far taken all so_far.0 so_far.1.read takes)
+    c.take_lines.ensures
