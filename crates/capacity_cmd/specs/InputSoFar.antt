@@ -108,12 +108,14 @@ TakesRows planners rows whole (Err refusal) = whole ≡ Err refusal
 
 -- ---- the rows before a place
 
--- what is said by what is spelled so far and by the rows that are left, the first of which has this
--- number
+-- what a spelling says: besides itself the tables that its base makes, whose first edit stands in the
+-- row of this number
 unfoldable pub said_by : ℕ → Result Spelling Refusal → Result Content Refusal
 said_by first spelling =
     spelling >>= λ (s : Spelling). tables_from first s.base >>= λ tables. Ok (record { spelling = s; tables = tables })
 
+-- what is said by what is spelled so far and by the rows that are left, the first of which has this
+-- number
 unfoldable pub goes_on : ℕ → ℕ → ℕ → ℕ → Spelling → List Row → Result Content Refusal
 goes_on planners version first number s rows = said_by first (spelling_from planners version number s rows)
 
