@@ -47,6 +47,11 @@ def races(workers):
 RUNS = "".join("run,N%03d,R,100,10,%d,60,0,60\n" % (number, 600 + 300 * number) for number in range(126))
 LONG = LINE + RUNS + "section,Z,0,86400,0,A,B\n"
 
+# A line whose conflicts several threads find.
+MANY = "".join("block,B%02d,500\nsignal,S%02d,B%02d,500,10,5,0,5\n" % (number, number, number) for number in range(20))
+MANY += "route,R" + "".join(",S%02d" % number for number in range(20)) + "\n"
+MANY += "".join("run,N%02d,R,100,10,%d,30%s\n" % (number, 100 * number, ",0,30" * 19) for number in range(68))
+
 # An input that several threads cut, and of which one reads rows while another takes them.
 WIDE = "".join("block,a-block-%03d,100\n" % number for number in range(256))
 WIDE += "".join("signal,a-signal-at-%03d,a-block-%03d,100,10,5,0,5\n" % (number, number) for number in range(256))
@@ -69,7 +74,7 @@ CALLS = [
     ("session 2", LINE + TASKS, races(2)),
     ("session 16", LINE + TASKS, races(16)),
     ("stairs", LONG, None),
-    ("check", LONG, None),
+    ("check", MANY, None),
     ("headways Z", LONG, None),
     ("report", LONG, None),
     ("check", WIDE, None),
