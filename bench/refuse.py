@@ -50,7 +50,7 @@ LONG = LINE + RUNS + "section,Z,0,86400,0,A,B\n"
 # A line whose conflicts several threads find.
 MANY = "".join("block,B%02d,500\nsignal,S%02d,B%02d,500,10,5,0,5\n" % (number, number, number) for number in range(20))
 MANY += "route,R" + "".join(",S%02d" % number for number in range(20)) + "\n"
-MANY += "".join("run,N%02d,R,100,10,%d,30%s\n" % (number, 100 * number, ",0,30" * 19) for number in range(68))
+MANY += "".join("run,N%02d,R,100,10,%d,30%s\n" % (number, 20 * number, ",0,30" * 19) for number in range(68))
 
 # An input that several threads cut, and of which one reads rows while another takes them.
 WIDE = "".join("block,a-block-%03d,100\n" % number for number in range(256))
