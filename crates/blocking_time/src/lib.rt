@@ -1,8 +1,21 @@
 //! The motion of a train's head along its path, and the blocking times of a run, after Pachl's
 //! theory of blocking times.
 //!
-//! `motion` says when the head reaches a place of a path, `approach` and `moments` say when a block
-//! is kept, and `walk` gives the blockings of all hops at once, by the table of marks in `course`.
+//! `motion` says when the head reaches a place of a path. `approach` and `moments` say from when
+//! until when a block is kept. `reach`, `reach_down`, `approach_moment` and `parts` answer for one
+//! place or block, and sum anew for each, as the definitions do.
+//!
+//! `walk` gives the blockings of all hops at once. It fills a table of marks first, in `course`:
+//! the place of each block's end, and the departure from it. A place is looked for among the
+//! nearest marks, and else by halving. The last stop is carried along.
+//!
+//! ```text
+//! let path = tables.paths()?.path(run)?;
+//! for blocking in blockings(alloc, &path)?.slice() {
+//!     let [form, watch, approach, running, clearing, release] = blocking.parts;
+//!     let Use { block, start, end } = blocking.used;
+//! }
+//! ```
 #![tactic(auto)]
 
 mod approach;

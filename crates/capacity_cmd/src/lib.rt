@@ -1,5 +1,18 @@
 //! The program's commands, from bytes to bytes: rows are read, their edits make tables, and the
 //! text of a command is written.
+//!
+//! A call goes through `command` (words), `input` (rows and edits), one file for each command (its
+//! text), `reply` and `send`. The whole text is made before any of it is written. The files named
+//! `_sentence`, `notes`, `clashes`, `shown` and `standing` say in words why an input is refused and
+//! what `compress` leaves out; no answer rests on them.
+//!
+//! ```text
+//! match run(rt, &words, &mut source, &mut sink, &OpenGate) {
+//!     Status::Done => ..,
+//!     Status::Refused { row, cause } => ..,
+//!     status => exit(status.number()),
+//! }
+//! ```
 #![tactic(auto)]
 
 mod accepted;

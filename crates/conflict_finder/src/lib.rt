@@ -1,4 +1,21 @@
 //! The conflicts of a timetable: which runs block one block at one time, and from when until when.
+//!
+//! All blockings are laid out by block, in one list for each. Runs are taken in the order in which
+//! they enter the line, so a list is nearly in the order of its starts. Each blocking is moved back
+//! to its place where that is near, and else the list is sorted.
+//!
+//! Each list is then swept by itself. What conflicts with a blocking follows it, up to the first
+//! that starts at its end or later. That end is found by a few tests, and else by halving, so
+//! conflicts that are not listed are counted without a walk over them. Where there are many runs,
+//! threads share the lists.
+//!
+//! ```text
+//! let found = conflicts(rt, alloc, &stairways)?;
+//! for conflict in found.list.slice() {
+//!     let Conflict { block, first, second, from, to } = conflict;
+//! }
+//! let all = found.list.len() as u64 + found.more;
+//! ```
 #![tactic(auto)]
 
 mod by_block;

@@ -1,6 +1,23 @@
 //! The least cycle time of a section: after how many seconds its pattern of trains can repeat
 //! without end, with running times, dwell times and order kept, and a ring of trains that refuses
-//! each lesser period. Who has such a cycle from elsewhere can see by `shows` that it is one.
+//! each lesser period. `shows` tells whether a cycle from elsewhere is one.
+//!
+//! On each place an edge leads to a train from the last train that used the place. On each block
+//! one more leads from the last train to the first of the next pattern. An edge's weight says how
+//! long after the first train the second must enter. Entries that keep the edges keep all pairs.
+//!
+//! To try a period, all trains enter at the window's start at first. Each round raises the second
+//! train of each edge that isn't kept, and the edge stays with it as the cause. After a round the
+//! causes are followed back from the latest raised train:
+//!
+//! - They end at a train that was never raised: there is another round.
+//! - They come to a train twice: a ring, which asks for more than this period gives. The next
+//!   period that is tried is the least that the ring allows.
+//!
+//! The first period that no ring refuses is the least, and the last ring refuses every lesser one.
+//!
+//! `shows` takes the visits of each place in the order of precedence, sees that each train is off
+//! before the next comes, and adds the weights along the ring. It takes no memory.
 //!
 //! ```text
 //! match cycle(alloc, &cut)? {

@@ -1,10 +1,27 @@
 //! What a planner asks of a section and gets: the cut of a section, its readings, and the answer;
 //! and the journal of what planners did and were answered.
 //!
-//! The definitions stand in `specs/`, for all crates above: what a section's cut is, what
-//! precedes what, what a schedule is and which is the least, what disorder is, what the occupancy
-//! time is, and which answer a cut has; which edits touch a section, when it is current, and which
-//! journals are legal.
+//! The definitions stand in `specs/`, for all crates above:
+//!
+//! - of a section: its cut, what precedes what, schedules and the least of them, disorder, the
+//!   occupancy time, and which answer a cut has;
+//! - of a journal: which edits touch a section, when a section is current, and which journals are
+//!   legal.
+//!
+//! A cut has a row for each train, and each row the train's uses of the section's places. The
+//! places are the section's blocks and then the connections that bind. A `Reading` shows a cut
+//! row by row and counts the uses that are taken. A `Board` is access to a journal that others
+//! may add to.
+//!
+//! ```text
+//! let cut = SoundCut::of(&cut);
+//! for i in 0..cut.member_count() {
+//!     let row = cut.row(i);
+//!     for used in row.uses.slice() {
+//!         let place = cut.place_name(used.block);
+//!     }
+//! }
+//! ```
 #![tactic(auto)]
 
 mod answer;

@@ -2,6 +2,16 @@
 //! kept from an earlier reading with their name and stamp. Where few rows change, the net of the
 //! kept ones is mended, and the answer is read off it.
 //!
+//! A `Keep` has the rows of the last reading, and the net of its trains if they have an order.
+//! `repair` goes through kept rows and read rows side by side, in the order of names. A kept row of
+//! the name and stamp that is read is moved into the new cut, and its uses are neither taken nor
+//! copied. Of every other row the uses are taken and copied once. Section and connections come from
+//! the reading. What is known on the way is one record, `IsRenewing` in `specs/Left.antt`.
+//!
+//! The net is mended where at most a quarter of the rows is fresh and the places are the same.
+//! Else the order is found and the net made from all uses, as for a first answer. A cut without an
+//! order has no net. Of a crowded cut nothing is taken and nothing kept.
+//!
 //! ```text
 //! let (keep, answer) = Keep::first(alloc, &mut reading)?;
 //! let (keep, answer) = keep.repair(alloc, &mut later)?;

@@ -1,8 +1,16 @@
 //! What a planner's files speak of: names, lists, the items of a line, the tables that hold them,
 //! and the paths and stairways of runs.
 //!
-//! The definitions of motion, blocking time, conflict and edits stand in `specs/`, for all crates
-//! above.
+//! The definitions of motion, blocking time, conflict, rules and edits stand in `specs/`, for all
+//! crates above. They speak of whole lists: the place of a block's end is a sum over the blocks
+//! before it, and an edit is tested by what the tables hold.
+//!
+//! ```text
+//! let name = Name::read(b"W1")?;
+//! let block = Block { name, length_m: 1_000 };
+//! let edit = Edit::Put(Item::Block(block));
+//! let again = edit.copy(alloc)?;
+//! ```
 #![tactic(auto)]
 
 mod copies;

@@ -1,11 +1,23 @@
-//! The program's outside: its words, where bytes come from, where they go, and a gate that threads
-//! pass.
+//! What the program touches outside: its words, where bytes come from, where they go, and a gate
+//! that threads pass.
 //!
-//! A source or a sink raises its count of faults by one where it answers a fault, and nowhere else;
-//! at 2^64 - 1 the count stands still. A source in memory fails at exactly the reads that it is
-//! told to; a sink in memory fails at the writes and flushes that it is told to, and at a write for
-//! which it has no room. Words in memory tell themselves; those of the process tell nothing of
-//! their words and bytes.
+//! Each of the traits `Words`, `Source` and `Sink` has one form in memory and one for the process.
+//! A source or a sink raises its count of faults by one where it answers a fault, and nowhere
+//! else. At 2^64 - 1 the count stands still.
+//!
+//! - A source in memory fails at exactly the reads that it is told to.
+//! - A sink in memory fails at the writes and flushes that it is told to, and at a write for which
+//!   it has no room.
+//! - Words in memory tell what they are.
+//! - The words and streams of the process tell a contract nothing of their words and bytes.
+//!
+//! ```text
+//! match take_all(alloc, &mut source, 16_777_216)? {
+//!     Ok(bytes) => send_all(&mut sink, bytes.slice())?,
+//!     Err(Taken::TooLong) => ..,
+//!     Err(Taken::Failed) => ..,
+//! }
+//! ```
 #![tactic(auto)]
 
 mod faults;

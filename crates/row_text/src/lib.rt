@@ -1,5 +1,28 @@
 //! Rows of a planner's text to lines and back: what a row spells, or its first fault; the row that
 //! spells a line; and the text of rows that are written.
+//!
+//! A text without double quotes is cut at its commas and line ends, in one pass over its bytes. Its
+//! rows lie in the text itself. Any other text, and one that may begin with a byte order mark, is
+//! read by a `csv` reader, which copies the fields. By the contract both give the rows of CSV.
+//!
+//! `rows_by_threads` parts a long text at line feeds, at most into as many parts as there are
+//! processors. Each thread cuts one part. `rows` does the same with one thread.
+//!
+//! Rows that are written go to a `Sheet`. A `Text` is a text in pieces, so that the sheets of
+//! several threads need not be copied into one.
+//!
+//! ```text
+//! let rows = rows(alloc, b"block,A,1000\nblock,B,1000\n")?;
+//! let version = rows.version()?;
+//! for i in rows.first_line()..rows.len() {
+//!     match rows.line(alloc, version, i)? {
+//!         Ok(Line::Edit(edit)) => ..,
+//!         Ok(Line::Planner(number)) => ..,
+//!         Ok(Line::Ask(section)) => ..,
+//!         Err(form) => ..,
+//!     }
+//! }
+//! ```
 #![tactic(auto)]
 
 mod fields;

@@ -1,6 +1,27 @@
 //! The net of a cut: for each train, edges from the trains that stand nearest before it at its
-//! places. From the edges alone come the entries of the compressed timetable, and where few trains
-//! change, few edges do.
+//! places, each with the headway there.
+//!
+//! Who stands farther before has left when the nearest comes. So entries that keep the edges keep
+//! all pairs of trains, and the earliest that do are the compressed timetable. Entries and ties are
+//! read off the net. For the occupancy time only the first and the last use of each block are
+//! looked at.
+//!
+//! `mend` makes the net of a later cut from that of an earlier one, where few trains are fresh:
+//!
+//! 1. Kept trains stand as before, and fresh ones by their entries.
+//! 2. A kept train has the edges that it had, unless a train from which one came is gone, or a
+//!    fresh train stands nearest before it at a place.
+//! 3. The edges to every other train are made from its uses, and it is compared with its nearest at
+//!    each place. Where it doesn't follow its nearest, there is no mended net.
+//!
+//! A net speaks of its own cut alone (`IsNetOf`), so nothing about entries is carried from one cut
+//! to the next.
+//!
+//! ```text
+//! let net = net_of(alloc, &sound, order.positions)?;
+//! let plan = plan_by(alloc, &fit, &net)?;
+//! let later = mend(alloc, &later_cut, &net, &origin)?;
+//! ```
 #![tactic(auto)]
 
 mod edge;

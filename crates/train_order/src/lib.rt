@@ -1,5 +1,20 @@
 //! The order in time of a cut's trains, or why they have none: two trains each of which precedes
 //! the other at some place, or a ring of trains each of which precedes the next.
+//!
+//! The definition takes trains out in rounds. `order` first takes the trains by their entries, and
+//! answers at once where each place keeps that order. Else the users of each place are sorted once.
+//! Each train gets a set of bits with those that it precedes and a count of those that precede it,
+//! and trains are taken out as their counts come to 0.
+//!
+//! `disorder_of` and `place_of_link` say the same without memory, with sets on the stack.
+//!
+//! ```text
+//! match order(alloc, &cut)? {
+//!     Ok(order) => place_in_window(alloc, &fit, order.positions.slice())?,
+//!     Err(Disorder::Opposite { first, second, block1, block2 }) => ..,
+//!     Err(Disorder::Ring(links)) => ..,
+//! }
+//! ```
 #![tactic(auto)]
 
 mod disorder;

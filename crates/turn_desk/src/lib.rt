@@ -1,6 +1,28 @@
 //! A lock that hands one value from thread to thread, so that each can prove what the others may
-//! have done meanwhile: what a pass finds begins with what it had seen, and no entry of the rest is
-//! its own.
+//! have done meanwhile.
+//!
+//! A `Desk` has a word and a slot. The word is 0 where the turn is free, and the slot then holds
+//! the value. The thread that changes the word from 0 to 1 has the turn. It takes the value out,
+//! works on it alone, puts it back, and stores 0. A thread that finds 1 sleeps until it is woken,
+//! or goes away with `Busy`.
+//!
+//! The value keeps a journal, to which each change adds an entry with the number of a pass. A
+//! `Pass` is a thread's access. At run time it is a number; what else it knows exists in proofs:
+//! the part of the journal that it has seen, and the pass numbers that are its own.
+//!
+//! - `take`, `try_take`: the journal is what the pass had seen, and then entries of others alone.
+//! - `give`: what the pass has seen is the value's journal.
+//! - `enter`: new passes, which start with all that the drawing pass has seen.
+//! - `leave`: the longer of two seen parts stays, with the numbers of both passes.
+//! - `shut`, `close`: the value, and no desk any more.
+//!
+//! ```text
+//! let (desk, mut pass) = Desk::start(alloc, value)?;
+//! let mut turn = desk.take(rt, &mut pass);
+//! change(turn.value_mut())?;
+//! desk.give(&mut pass, turn);
+//! let value = desk.close(rt, pass);
+//! ```
 #![tactic(auto)]
 
 mod crossing;
