@@ -2,7 +2,6 @@
 ghost use Rattle.std.specs.Prelude.{◌<◌, length, IfOk, IfSome};
 ghost use Rattle.plan_model.specs.Cut.{IsSoundCut};
 
-use crate::lines::joined;
 use line_tables::LineTables;
 use plan_model::Cut;
 use rail_model::{Edit, Name, OutOfMemory};
@@ -12,7 +11,12 @@ use std::alloc::Global;
 
 /// The edit that the first row of a text spells, if it spells one.
 pub fn edit_of(alloc: Global, row: &str) -> Result<Option<Edit>, OutOfMemory> {
-    let rows = rows(alloc, row.as_bytes())?;
+    edit_of_row(alloc, row.as_bytes())
+}
+
+/// The same of bytes.
+pub fn edit_of_row(alloc: Global, row: &[u8]) -> Result<Option<Edit>, OutOfMemory> {
+    let rows = rows(alloc, row)?;
     if rows.is_empty() {
         return Ok(None);
     }
@@ -30,7 +34,12 @@ fn edit_at(alloc: Global, rows: &RowList<'_>, i: usize) -> Result<Option<Edit>, 
 
 /// The tables that the rows of a text make; none where one of them spells no edit or is refused.
 pub fn tables_of(alloc: Global, text: &str) -> Result<Option<LineTables>, OutOfMemory> {
-    let rows = rows(alloc, text.as_bytes())?;
+    tables_of_rows(alloc, text.as_bytes())
+}
+
+/// The same of bytes.
+pub fn tables_of_rows(alloc: Global, text: &[u8]) -> Result<Option<LineTables>, OutOfMemory> {
+    let rows = rows(alloc, text)?;
     let mut tables = LineTables::new(alloc);
     for i in 0..rows.len() {
         let Some(edit) = edit_at(alloc, &rows, i)? else {
@@ -43,16 +52,21 @@ pub fn tables_of(alloc: Global, text: &str) -> Result<Option<LineTables>, OutOfM
     Ok(Some(tables))
 }
 
-/// The cut of the section S of a line with these rows after its own, if all rows are taken and
-/// there is one.
-pub fn cut(alloc: Global, line: &str, rows: &str) -> Result<Option<Cut>, OutOfMemory>
+/// The cut of the section of a name, whose rows get this stamp, if all rows are taken and the
+/// section is there.
+pub fn cut_at(
+    alloc: Global,
+    rows: &[u8],
+    section: &[u8],
+    stamp: u64,
+) -> Result<Option<Cut>, OutOfMemory>
     ensures { IfOk result (λ cut. IfSome cut IsSoundCut) }
 {
-    let Some(tables) = tables_of(alloc, &joined(alloc, &[line, rows])?)? else {
+    let Ok(name) = Name::read(section) else {
         return Ok(None);
     };
-    let Ok(name) = Name::read(b"S") else {
-        return Ok(None);
-    };
-    cut_of(alloc, &tables, &name, 0)
+    match tables_of_rows(alloc, rows)? {
+        Some(tables) => cut_of(alloc, &tables, &name, stamp),
+        None => Ok(None),
+    }
 }
