@@ -1,0 +1,49 @@
+//! The first fault of a row, if it has one.
+use crate::escapes::bytes_of;
+use rail_model::{Form, OutOfMemory};
+use row_text::{read_row_in, rows};
+use small_lines::{after_blanks, number_of, put_line, small_number, word};
+use std::alloc::Global;
+
+/// Of the first row of a text, in a version.
+pub(crate) fn write_fault(
+    alloc: Global,
+    text: &mut String,
+    line: &[u8],
+) -> Result<(), OutOfMemory> {
+    let row = bytes_of(alloc, after_blanks(line, 2))?;
+    put_line(text, fault_of(alloc, small_number(word(line, 1)), &row)?)
+}
+
+/// Of a row with so many times a piece after its start, and before its end, in version 1.
+pub(crate) fn write_long(alloc: Global, text: &mut String, line: &[u8]) -> Result<(), OutOfMemory> {
+    let mut row = Vec::from_slice(alloc, word(line, 3))?;
+    for _ in 0..number_of(word(line, 1)).min(10_000) {
+        row.extend_from_slice(word(line, 2))?;
+    }
+    row.extend_from_slice(word(line, 4))?;
+    put_line(text, fault_of(alloc, 1, &row)?)
+}
+
+fn fault_of(alloc: Global, version: u32, text: &[u8]) -> Result<&'static [u8], OutOfMemory> {
+    let rows = rows(alloc, text)?;
+    if rows.is_empty() {
+        return Ok(b"no row");
+    }
+    let fields = rows.row(alloc, 0)?;
+    match read_row_in(alloc, version, &fields)? {
+        Ok(_) => Ok(b"a line"),
+        Err(fault) => Ok(told(fault)),
+    }
+}
+
+/// A fault's word.
+pub(crate) fn told(fault: Form) -> &'static [u8] {
+    match fault {
+        Form::Kind => b"fault: kind",
+        Form::Fields => b"fault: fields",
+        Form::Number => b"fault: number",
+        Form::BadName => b"fault: name",
+        Form::Order => b"fault: order",
+    }
+}
