@@ -1,3 +1,0 @@
-//! Tables and blocking times.
-mod blockings;
-mod edits;

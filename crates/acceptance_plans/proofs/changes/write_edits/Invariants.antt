@@ -1,0 +1,9 @@
+use Rattle.std.proofs.Common.{◌≡◌}
+use Rattle.std.specs.Prelude.{option_map}
+use Rattle.plan_model.specs.Cut.{stamped}
+use Rattle.plan_model.specs.SectionCut.{cut_of}
+use Rattle.acceptance_plans.proofs.changes.write_edits.Given as goal
+
+-- the cut is that of the tables
+abbrev pub invariant-loop-row : goal.invariant-loop-row
+invariant-loop-row g l = cut_of l.tables l.name ≡ option_map (stamped 0) l.cut

@@ -1,9 +1,0 @@
-use Rattle.std.proofs.Common.{◌≡◌}
-use Rattle.std.specs.Prelude.{option_map}
-use Rattle.plan_model.specs.Cut.{stamped}
-use Rattle.plan_model.specs.SectionCut.{cut_of}
-use Rattle.acceptance_plans.proofs.tests.changes.edits_of_a_section.Given as goal
-
--- the cut is that of the tables
-abbrev pub invariant-loop-number : goal.invariant-loop-number
-invariant-loop-number g l = cut_of l.tables l.name ≡ option_map (stamped 0) l.cut
