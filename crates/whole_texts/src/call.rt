@@ -1,44 +1,85 @@
 //! One call of the program over bytes in memory.
-use capacity_cmd::run;
-use rail_model::{List, OutOfMemory};
-use rail_outside::{MemorySink, MemorySource, OpenGate};
-use std::alloc::Global;
+use crate::outside::Outside;
+use crate::printing::{push, push_answer, push_line, push_status, push_whole_status, push_written};
+use crate::words::words_of;
+use capacity_cmd::{Status, run};
+use rail_model::OutOfMemory;
+use rail_outside::{MemorySource, OpenGate, Source};
 use std::sync::Wait;
 use std::thread::Threads;
 
-// The room for the text of one call.
-const ROOM: usize = 65_536;
+/// A call: its words, its input and its outside.
+#[derive(Clone, Copy)]
+pub(crate) struct Call<'a> {
+    pub(crate) words: &'a [String],
+    pub(crate) input: &'a [u8],
+    pub(crate) outside: Outside,
+}
 
-/// Adds the line of a call's words, the number of its status and its text.
+/// Makes a call. Adds the line of its words, the number of its status and its text. Where a line
+/// says something of the outside, it adds all that the status says, and what two more reads answer.
 pub(crate) fn write_call<R: AllocGlobal + Threads + Wait + Sync>(
     rt: &R,
     text: &mut Vec<u8>,
     words: &[u8],
-    rows: &[u8],
+    input: &[u8],
+    outside: Outside,
 ) -> Result<(), OutOfMemory> {
-    let alloc = rt.alloc();
-    let mut sink = MemorySink::new(alloc, ROOM, List::new(alloc));
-    sink.reserve(ROOM)?;
-    let bytes = List::from_vec(Vec::from_slice(alloc, rows)?);
-    let mut source = MemorySource::new(bytes, ROOM, List::new(alloc));
-    let owned = words_of(alloc, words)?;
-    let status = run(rt, &owned, &mut source, &mut sink, &OpenGate);
-    let number = format!(in alloc; "\n={}\n", status.number())?;
-    text.push(b'?')?;
-    text.extend_from_slice(words)?;
-    text.extend_from_slice(number.as_bytes())?;
-    text.extend_from_slice(sink.bytes())?;
-    Ok(())
+    push(text, b"?")?;
+    push_line(text, words)?;
+    let words = words_of(rt.alloc(), words)?;
+    let call = Call {
+        words: &words,
+        input,
+        outside,
+    };
+    write_made(rt, text, call)
 }
 
-// The words between blanks; an empty line has none.
-fn words_of(alloc: Global, line: &[u8]) -> Result<Vec<String>, OutOfMemory> {
-    let mut words = Vec::new(alloc);
-    if line.is_empty() {
-        return Ok(words);
+fn write_made<R: AllocGlobal + Threads + Wait + Sync>(
+    rt: &R,
+    text: &mut Vec<u8>,
+    call: Call<'_>,
+) -> Result<(), OutOfMemory> {
+    let mut source = call.outside.source(rt.alloc(), call.input)?;
+    write_from(rt, text, call, &mut source)
+}
+
+fn write_from<R: AllocGlobal + Threads + Wait + Sync>(
+    rt: &R,
+    text: &mut Vec<u8>,
+    call: Call<'_>,
+    source: &mut MemorySource,
+) -> Result<(), OutOfMemory> {
+    let mut sink = call.outside.sink(rt.alloc())?;
+    let status = run(rt, call.words, source, &mut sink, &OpenGate);
+    write_end(text, call.outside, source, status, sink.bytes())
+}
+
+fn write_end(
+    text: &mut Vec<u8>,
+    outside: Outside,
+    source: &mut MemorySource,
+    status: Status,
+    written: &[u8],
+) -> Result<(), OutOfMemory> {
+    if outside.is_set {
+        push_whole_status(text, status)?;
+        push_written(text, written)?;
+        return write_reads(text, source);
     }
-    for word in line.split(|byte: &u8| -> bool { *byte == b' ' }) {
-        words.push(String::from_utf8_lossy(alloc, word)?)?;
-    }
-    Ok(words)
+    push(text, b"=")?;
+    push_status(text, status)?;
+    push(text, b"\n")?;
+    push_written(text, written)
+}
+
+// Adds what two more reads of a source answer.
+fn write_reads(text: &mut Vec<u8>, source: &mut MemorySource) -> Result<(), OutOfMemory> {
+    let mut piece = [0u8; 16];
+    push(text, b"then ")?;
+    push_answer(text, source.read(&mut piece))?;
+    push(text, b" ")?;
+    push_answer(text, source.read(&mut piece))?;
+    push(text, b"\n")
 }

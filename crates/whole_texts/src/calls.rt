@@ -1,8 +1,15 @@
 //! The lines of a script: pieces of rows, and calls on rows.
 use crate::call::write_call;
-use crate::repeat::push_repeated;
+use crate::each_way::write_each_way;
+use crate::outside::{Outside, WHOLE};
+use crate::printing::push_line;
+use crate::rows::push_rows;
+use crate::telling::write_told;
+use crate::times::{Text, write_times};
+use crate::tries::write_try;
 use rail_model::OutOfMemory;
 use std::alloc::Global;
+use std::mem::replace;
 use std::sync::Wait;
 use std::thread::Threads;
 
@@ -12,6 +19,9 @@ enum Begun {
     Nothing,
     Piece,
     Call,
+    EachWay,
+    Told,
+    Text,
 }
 
 // The rows of a piece.
@@ -30,6 +40,11 @@ pub(crate) struct Calls {
     // The name of the piece, or the words of the call.
     head: Vec<u8>,
     rows: Vec<u8>,
+    // The rows of the call, where those that are read now are of a text that it may write, and the
+    // texts before that.
+    input: Vec<u8>,
+    texts: Vec<Text>,
+    outside: Outside,
     text: Vec<u8>,
 }
 
@@ -42,6 +57,9 @@ impl Calls {
             begun: Begun::Nothing,
             head: Vec::new(alloc),
             rows: Vec::new(alloc),
+            input: Vec::new(alloc),
+            texts: Vec::new(alloc),
+            outside: WHOLE,
             text: Vec::new(alloc),
         }
     }
@@ -57,10 +75,13 @@ impl Calls {
             Some((b'#', _)) => Ok(()),
             Some((b'=', name)) => self.begin(rt, Begun::Piece, name),
             Some((b'?', words)) => self.begin(rt, Begun::Call, words),
+            Some((b'%', words)) => self.begin(rt, Begun::EachWay, words),
+            Some((b'>', words)) => self.begin(rt, Begun::Told, words),
+            Some((b'|', _)) => self.begin_text(),
+            Some((b'~', setting)) => self.set(rt, setting),
+            Some((b':', line)) => self.try_once(rt, line),
             Some((b'<', name)) => self.push_piece(name),
-            Some((b'*', repeated)) => push_repeated(self.alloc, &mut self.rows, repeated),
-            Some((b'!', bytes)) => self.push(bytes),
-            Some(_) => self.push_row(line),
+            Some(_) => push_rows(self.alloc, &mut self.rows, line),
         }
     }
 
@@ -69,7 +90,7 @@ impl Calls {
         mut self,
         rt: &R,
     ) -> Result<Vec<u8>, OutOfMemory> {
-        self.begin(rt, Begun::Nothing, b"")?;
+        self.end_begun(rt)?;
         Ok(self.text)
     }
 
@@ -80,25 +101,94 @@ impl Calls {
         next: Begun,
         head: &[u8],
     ) -> Result<(), OutOfMemory> {
-        let rows = std::mem::replace(&mut self.rows, Vec::new(self.alloc));
-        let name = std::mem::replace(&mut self.head, Vec::from_slice(self.alloc, head)?);
-        match self.begun {
-            Begun::Nothing => {}
-            Begun::Piece => self.pieces.push(Piece { name, rows })?,
-            Begun::Call => write_call(rt, &mut self.text, &name, &rows)?,
-        }
+        self.end_begun(rt)?;
         self.begun = next;
+        self.head.extend_from_slice(head)?;
         Ok(())
     }
 
-    fn push(&mut self, bytes: &[u8]) -> Result<(), OutOfMemory> {
-        self.rows.extend_from_slice(bytes)?;
+    fn end_begun<R: AllocGlobal + Threads + Wait + Sync>(
+        &mut self,
+        rt: &R,
+    ) -> Result<(), OutOfMemory> {
+        match self.begun {
+            Begun::Nothing => return Ok(()),
+            Begun::Piece => self.keep_piece()?,
+            Begun::Text => self.keep_text()?,
+            _ => {}
+        }
+        self.write(rt)?;
+        if self.begun != Begun::Piece {
+            self.outside = WHOLE;
+        }
+        self.begun = Begun::Nothing;
+        self.head.clear();
+        self.rows.clear();
         Ok(())
     }
 
-    fn push_row(&mut self, row: &[u8]) -> Result<(), OutOfMemory> {
-        self.push(row)?;
-        self.push(b"\n")
+    // Makes the call that is begun.
+    fn write<R: AllocGlobal + Threads + Wait + Sync>(&mut self, rt: &R) -> Result<(), OutOfMemory> {
+        let text = &mut self.text;
+        match self.begun {
+            Begun::Nothing | Begun::Piece => Ok(()),
+            Begun::Call => write_call(rt, text, &self.head, &self.rows, self.outside),
+            Begun::EachWay => write_each_way(rt, text, &self.head, &self.rows),
+            Begun::Told => write_told(rt, text, &self.head, &self.rows),
+            Begun::Text => write_times(
+                rt,
+                text,
+                &self.head,
+                &self.input,
+                self.outside,
+                &self.texts,
+            ),
+        }
+    }
+
+    fn keep_piece(&mut self) -> Result<(), OutOfMemory> {
+        let name = replace(&mut self.head, Vec::new(self.alloc));
+        let rows = replace(&mut self.rows, Vec::new(self.alloc));
+        self.pieces.push(Piece { name, rows })?;
+        Ok(())
+    }
+
+    fn keep_text(&mut self) -> Result<(), OutOfMemory> {
+        let bytes = replace(&mut self.rows, Vec::new(self.alloc));
+        self.texts.push(Text { bytes })?;
+        Ok(())
+    }
+
+    // Begins a text that the call may write.
+    fn begin_text(&mut self) -> Result<(), OutOfMemory> {
+        if self.begun == Begun::Text {
+            return self.keep_text();
+        }
+        self.begun = Begun::Text;
+        self.texts.clear();
+        self.input = replace(&mut self.rows, Vec::new(self.alloc));
+        Ok(())
+    }
+
+    // Says more of the outside of the next call.
+    fn set<R: AllocGlobal + Threads + Wait + Sync>(
+        &mut self,
+        rt: &R,
+        setting: &[u8],
+    ) -> Result<(), OutOfMemory> {
+        self.end_begun(rt)?;
+        self.outside = self.outside.and(setting);
+        Ok(())
+    }
+
+    // Makes a call of another kind.
+    fn try_once<R: AllocGlobal + Threads + Wait + Sync>(
+        &mut self,
+        rt: &R,
+        line: &[u8],
+    ) -> Result<(), OutOfMemory> {
+        self.end_begun(rt)?;
+        write_try(self.alloc, &mut self.text, line)
     }
 
     // The rows of a piece; a name that no piece has leaves its line among the rows, where the call
@@ -110,6 +200,6 @@ impl Calls {
                 return Ok(());
             }
         }
-        self.push_row(name)
+        push_line(&mut self.rows, name)
     }
 }

@@ -4,8 +4,8 @@ ghost use Rattle.std.specs.Prelude.{◌-◌, ◌^◌};
 use rail_outside::{Failed, Sink, Source};
 
 #[derive(Drop)]
-pub(super) struct WornSource<S> {
-    pub(super) source: S,
+pub(crate) struct WornSource<S> {
+    pub(crate) source: S,
 }
 
 impl<S: Source> Source for WornSource<S> {
@@ -21,8 +21,8 @@ impl<S: Source> Source for WornSource<S> {
 }
 
 #[derive(Drop)]
-pub(super) struct WornSink<K> {
-    pub(super) sink: K,
+pub(crate) struct WornSink<K> {
+    pub(crate) sink: K,
 }
 
 impl<K: Sink> Sink for WornSink<K> {
