@@ -39,6 +39,7 @@ mod path;
 mod remove;
 mod replace;
 mod route_sets;
+mod route_signals;
 mod rules;
 mod run_paths;
 
