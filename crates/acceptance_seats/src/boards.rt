@@ -98,12 +98,7 @@ fn push_turned(text: &mut Vec<u8>, turned: &Turned) -> Result<(), OutOfMemory> {
     }
 }
 
-fn push_of(
-    text: &mut Vec<u8>,
-    word: &[u8],
-    section: &Name,
-    at: u64,
-) -> Result<(), OutOfMemory> {
+fn push_of(text: &mut Vec<u8>, word: &[u8], section: &Name, at: u64) -> Result<(), OutOfMemory> {
     push(text, word)?;
     push(text, section.bytes())?;
     push_number(text, b",", at)

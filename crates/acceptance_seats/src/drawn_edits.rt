@@ -155,12 +155,7 @@ fn held_once(
     Ok(Some(keep))
 }
 
-fn edit_drawn(
-    alloc: Global,
-    book: &mut Book,
-    keep: &Keep,
-    number: u64,
-) -> Result<(), OutOfMemory>
+fn edit_drawn(alloc: Global, book: &mut Book, keep: &Keep, number: u64) -> Result<(), OutOfMemory>
     requires { IsKept book.old keep.now }
     ensures { OnOk result (IsKept book.new keep.now) }
 {
@@ -179,7 +174,9 @@ fn count_same(
     tell_from_scratch(alloc, book, &mut other)?;
     if other.as_slice() == told && !told.is_empty() {
         found.same = found.same.saturating_add(1);
-        found.orders = found.orders.saturating_add(u64::from(told.starts_with(b"ordered")));
+        found.orders = found
+            .orders
+            .saturating_add(u64::from(told.starts_with(b"ordered")));
     }
     Ok(())
 }

@@ -27,11 +27,7 @@ pub(crate) fn tell(
     }
 }
 
-fn tell_reading(
-    text: &mut Vec<u8>,
-    reading: &Reading,
-    answer: &Answer,
-) -> Result<(), OutOfMemory> {
+fn tell_reading(text: &mut Vec<u8>, reading: &Reading, answer: &Answer) -> Result<(), OutOfMemory> {
     push_number(text, b"", reading.at())?;
     for i in 0..reading.count() {
         push_number(text, b",", reading.stamp(i))?;

@@ -126,10 +126,7 @@ fn enter_route(
     let name = *route.name();
     let key = put_linked(routes, uses, route, found.keys)?;
     let signals = routes.get(key).refs.slice();
-    if sets
-        .make_room(signals, found.blocks.slice(), key)
-        .is_err()
-    {
+    if sets.make_room(signals, found.blocks.slice(), key).is_err() {
         take_linked(routes, uses, &name);
         return Err(OutOfMemory);
     }

@@ -11,11 +11,7 @@ const MOST: u32 = 10_000;
 const MOST_LINE_ENDS: usize = 20_000_000;
 
 /// Adds what a line tells that tells no piece.
-pub(crate) fn push_rows(
-    alloc: Global,
-    rows: &mut Vec<u8>,
-    line: &[u8],
-) -> Result<(), OutOfMemory> {
+pub(crate) fn push_rows(alloc: Global, rows: &mut Vec<u8>, line: &[u8]) -> Result<(), OutOfMemory> {
     match line.split_first() {
         Some((b'*', repeated)) => push_numbered(alloc, rows, repeated),
         Some((b'^', count)) => push_line_ends(rows, number_of(count)),

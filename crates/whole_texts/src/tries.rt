@@ -13,21 +13,16 @@ use crate::printing::{push, push_answer, push_line, push_status};
 use crate::words::{number_of, parts_of, two_of, words_of};
 use capacity_cmd::{Cause, Status, alone};
 use rail_model::OutOfMemory;
-use rail_outside::{
-    MemorySink, MemorySource, Sink, Source, Taken, send_all, take_all,
-};
+use rail_outside::{MemorySink, MemorySource, Sink, Source, Taken, send_all, take_all};
 use std::alloc::Global;
 
 // The bytes of a source, and a text to send.
 const BYTES: &[u8] = b"abcde";
+
 const TEXT: &[u8] = b"0123456789abcdefghij";
 
 /// Makes such a call. Adds its line, and what it answers.
-pub(crate) fn write_try(
-    alloc: Global,
-    text: &mut Vec<u8>,
-    line: &[u8],
-) -> Result<(), OutOfMemory> {
+pub(crate) fn write_try(alloc: Global, text: &mut Vec<u8>, line: &[u8]) -> Result<(), OutOfMemory> {
     push(text, b":")?;
     push_line(text, line)?;
     let (word, rest) = parts_of(line);
