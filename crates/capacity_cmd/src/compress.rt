@@ -7,7 +7,6 @@ ghost use Rattle.capacity_cmd.specs.Named.{cut_named, EndsOnNamed};
 ghost use Rattle.capacity_cmd.specs.Compress.{IsCompressText};
 
 use crate::named::cut_named;
-use crate::notes::told_of_cut;
 use crate::{Cause, Told};
 use capacity_report::{Detail, answer_rows};
 use compression::answer;
@@ -15,6 +14,7 @@ use line_tables::LineTables;
 use plan_model::{Answer, Cut, Reading};
 use rail_model::{Name, OutOfMemory};
 use row_text::Sheet;
+use sentences::told_of_cut;
 use std::alloc::Global;
 
 // The rows of the answer of the section that is named, or why there is none.

@@ -12,7 +12,6 @@ ghost use Rattle.capacity_cmd.specs.Delays.{delays_in, are_members, delayed_name
 
 use crate::given_delay::GivenDelay;
 use crate::head::{crowded_text, head_text, is_crowded};
-use crate::member_sentence::{told_of_no_member, told_of_run};
 use crate::named::{cut_named, row_named};
 use crate::{Cause, Told};
 use delay_spread::{Spread, spread, spread_rows};
@@ -20,6 +19,7 @@ use line_tables::LineTables;
 use plan_model::Cut;
 use rail_model::{List, Name, OutOfMemory};
 use row_text::Sheet;
+use sentences::told_of_run;
 use std::alloc::Global;
 
 // The rows of the delays that are spread over the section that is named, or why there are none.
@@ -144,4 +144,16 @@ fn spread_text(
     let mut sheet = Sheet::new(alloc);
     spread_rows(&mut sheet, cut, spread)?;
     Ok(sheet.into_text())
+}
+
+// The sentence about the first run to which a delay is given and that is no train of a cut.
+fn told_of_no_member(alloc: Global, cut: &Cut, given: &[GivenDelay]) -> Told
+    requires { IsSoundCut cut.now }
+{
+    for one in given {
+        if row_named(cut, Some(one.run)).is_none() {
+            return told_of_run(alloc, cut, Some(one.run));
+        }
+    }
+    Told::nothing()
 }

@@ -8,7 +8,6 @@ ghost use Rattle.capacity_cmd.specs.Named.{EndsOnNamed};
 ghost use Rattle.capacity_cmd.specs.Fill.{member_named, with_member, IsFillText, IsFilledText};
 
 use crate::head::{crowded_text, head_text, is_crowded};
-use crate::member_sentence::told_of_run;
 use crate::named::{cut_named, row_named};
 use crate::{Cause, Told};
 use line_tables::LineTables;
@@ -16,6 +15,7 @@ use path_fill::{Fill, fill_of_cut, fill_rows};
 use plan_model::Cut;
 use rail_model::{Name, OutOfMemory};
 use row_text::Sheet;
+use sentences::told_of_run;
 use std::alloc::Global;
 
 // The rows of the section that is named, filled with copies of the run that is named, or why there

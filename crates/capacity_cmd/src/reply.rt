@@ -17,14 +17,15 @@ use crate::input::accepted_of_rows;
 use crate::limit::INPUT_BYTES;
 use crate::made::made_text;
 use crate::refusal::Refusal;
-use crate::sentence::told_of;
 use crate::session::text_on_threads;
 use crate::texts::text_of;
 use crate::{Cause, Command, Status, Told};
 use capacity_report::rule_text;
+use plan_book::TASKS;
 use rail_model::{Form, OutOfMemory};
 use rail_outside::Gate;
 use row_text::{RowList, Sheet, Text, rows_by_threads};
+use sentences::{Fault, told_of_row};
 use std::alloc::Global;
 use std::sync::Wait;
 use std::thread::Threads;
@@ -71,8 +72,24 @@ fn refusal_told(
 ) -> Result<Reply, OutOfMemory>
     ensures { IfOk result (Says (Refuses refused.row refused.cause)) }
 {
-    *told = told_of(alloc, input, rows, planners, refused);
+    if let Some(fault) = fault_of(planners, refused.cause) {
+        *told = told_of_row(alloc, input, rows, refused.row, fault);
+    }
     refusal(alloc, refused.row, refused.cause)
+}
+
+// What a sentence says of a row that is refused for a cause, for a command that takes the scripts
+// of so many planners. No row is refused for the last three.
+fn fault_of(planners: usize, cause: Cause) -> Option<Fault> {
+    match cause {
+        Cause::Form(form) => Some(Fault::Form(form)),
+        Cause::Rule(rule) => Some(Fault::Rule(rule)),
+        Cause::Script => Some(Fault::Script {
+            planners,
+            tasks: TASKS,
+        }),
+        Cause::TooLong | Cause::NoSection | Cause::NoMember => None,
+    }
 }
 
 // The reply of a command without workers to an input that is not refused.

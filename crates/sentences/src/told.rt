@@ -1,8 +1,6 @@
 //! What is told of a call for people, beside its status.
 
-/// Lines for people about a call, to be written on standard error: why a row is refused, which run
-/// that the words name is no train of their section, and what the answer of `compress` leaves out.
-/// No contract speaks of them, and without memory for them nothing is told.
+/// Lines for people about a call, or nothing.
 #[derive(Drop)]
 pub struct Told {
     text: Option<String>,

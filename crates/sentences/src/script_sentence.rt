@@ -1,15 +1,15 @@
 //! Why a row may not stand at its place, in a sentence.
 use crate::row_at::{First, RowAt, is_planner_row};
 use crate::shown::{shown, so_many};
-use plan_book::TASKS;
 use rail_model::OutOfMemory;
 use std::alloc::Global;
 
-// For a command that takes the scripts of so many planners.
+// For a command that takes the scripts of so many planners, with so many tasks in all.
 pub(crate) fn script_sentence(
     alloc: Global,
     row: &RowAt<'_>,
     planners: usize,
+    tasks: usize,
 ) -> Result<String, OutOfMemory> {
     if planners == 0 {
         return Ok(String::from_str(
@@ -26,7 +26,7 @@ pub(crate) fn script_sentence(
             "a question is a task of a planner, and no row planner stands above it",
         )?),
         _ => Ok(format!(in alloc;
-            "the scripts have {TASKS} tasks above this row, and more are not taken"
+            "the scripts have {tasks} tasks above this row, and more are not taken"
         )?),
     }
 }

@@ -8,8 +8,8 @@ use plan_model::Cut;
 use rail_model::{Hop, Name, OutOfMemory, Section, Stair};
 use std::alloc::Global;
 
-// What is told of a section's cut beside its answer. Without memory for it nothing is told.
-pub(crate) fn told_of_cut(alloc: Global, tables: &LineTables, cut: &Cut) -> Told {
+/// What is told of a section's cut beside its answer.
+pub fn told_of_cut(alloc: Global, tables: &LineTables, cut: &Cut) -> Told {
     match notes(alloc, tables, cut) {
         Ok(text) if !text.is_empty() => Told::of(text),
         Ok(_) | Err(OutOfMemory) => Told::nothing(),
