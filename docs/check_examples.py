@@ -11,7 +11,7 @@ An example is a line that is indented by four spaces (in a list by more):
 
     capacity compress S < examples/two-blocks.csv
 
-`$ ` may stand before it. Below it, in the same indented block or in the next one, stands the text of standard
+`$ ` may stand before it. Where `2>&1 >/dev/null` stands behind it, the text is that of standard error. Below it, in the same indented block or in the next one, stands the text of standard
 output. A line `..` there stands for any number of lines. A command may be followed by another one in the same
 block only behind the text of the first. `capacity made 1` has no input.
 
@@ -35,7 +35,7 @@ import subprocess
 import sys
 
 ROOT = os.path.dirname(os.path.dirname(os.path.abspath(__file__)))
-COMMAND = re.compile(r"(?:\$ )?(?:\S*/)?capacity ((?:[^<>|]*?\S)?)\s*(?:< *(\S+))?$")
+COMMAND = re.compile(r"(?:\$ )?(?:\S*/)?capacity ([^<>|]*[^<>| ]) *(?:< *(\S+))?( 2>&1 >/dev/null)?$")
 WORDS = {"stairs", "check", "report", "compress", "headways", "cut", "cycle", "delays", "fill", "session", "made"}
 INPUT = re.compile(r"# (\S+\.csv)(?:: (\S+\.csv) and)?$")
 
@@ -62,14 +62,14 @@ class Checker:
         for line in written:
             print("  program   %s" % line)
 
-    def compare(self, where, words, data, said):
+    def compare(self, where, words, data, said, on_error):
         """The text of one example, line by line; `..` stands for any number of lines."""
         self.compared += 1
-        status, out, _ = self.run(words, data)
-        written = out.split("\n")
+        status, out, err = self.run(words, data)
+        expected = 1 if out.startswith("refused,") else 0
+        written = (err if on_error else out).split("\n")
         if written and written[-1] == "":
             written.pop()
-        expected = 1 if written and written[0].startswith("refused,") else 0
         if status != expected:
             self.tell(where, "status %s of %s" % (status, " ".join(words)), [], written[:3])
         elif not matches(said, written):
@@ -145,10 +145,10 @@ def data_of(name, shown):
 
 def command_of(line):
     found = COMMAND.match(line)
-    if not found or not found.group(1):
+    if not found:
         return None
     words = found.group(1).split()
-    return (words, found.group(2)) if words[0] in WORDS else None
+    return (words, found.group(2), found.group(3) is not None) if words[0] in WORDS else None
 
 
 def check_blocks(checker, name, lines, shown):
@@ -181,14 +181,14 @@ def check_blocks(checker, name, lines, shown):
 
 
 def run_example(checker, waiting, text, shown):
-    where, words, source = waiting
+    where, words, source, on_error = waiting
     data = b"" if source is None else data_of(source, shown)
     if data is None:
         # a reader's own file, as LINE.csv
         if source.startswith("examples/") or source != source.upper().replace(".CSV", ".csv"):
             checker.tell(where, "no input %s" % source, [], [])
         return
-    checker.compare(where, words, data, text)
+    checker.compare(where, words, data, text, on_error)
 
 
 def codes(cell):

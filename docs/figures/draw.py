@@ -158,7 +158,7 @@ def draw_blocking_time(program):
     for k, (name, place, wide) in enumerate([(uses[0][0], 0, first), (block, first, second)]):
         picture.rect(x_at(place), 50, wide * 0.19, 20, "#eeeeee", GREY)
         picture.text(x_at(place + wide / 2), 65, "block %s" % name, anchor="middle")
-    names = ["route formation", "signal watching time", "approach time", "time between block signals",
+    names = ["time for clearing the signal", "signal watching time", "approach time", "time between block signals",
              "clearing time", "release time"]
     picture.text(left + 52, top - 8, "second", 12, "end", GREY)
     moment = start
