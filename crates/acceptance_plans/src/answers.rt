@@ -6,7 +6,7 @@ use compression::answer;
 use critical_chain::is_answer;
 use plan_model::{Answer, Cut, Plan, Reading, Tie};
 use rail_model::OutOfMemory;
-use small_lines::{cut_at, number_of, piece_at, put_line, signed_number, small_number, word};
+use small_lines::{cut_at, number_of, piece_at, put, put_line, signed_number, small_number, word};
 use std::alloc::Global;
 
 /// What is answered of so many trains over the route R, named by their numbers, one second after
@@ -26,22 +26,35 @@ pub(crate) fn write_many(
 
 // Rows, and so many runs after them.
 fn with_runs(alloc: Global, rows: &[u8], count: u64) -> Result<String, OutOfMemory> {
-    let mut all = String::from_utf8_lossy(alloc, rows)?;
+    let mut all = String::new(alloc);
+    put(&mut all, rows)?;
+    put_runs(&mut all, count)?;
+    Ok(all)
+}
+
+fn put_runs(all: &mut String, count: u64) -> Result<(), OutOfMemory> {
     for n in 0..count.min(2_000) {
         let start = 100 + n;
         writeln!(all, "run,t{n:04},R,100,10,{start},60,0,60")?;
     }
-    Ok(all)
+    Ok(())
 }
 
 fn write_answer(alloc: Global, text: &mut String, cut: Cut) -> Result<(), OutOfMemory>
     requires { IsSoundCut cut }
 {
-    let mut reading = Reading::new(cut, 9);
-    let (kind, number) = kind_of(&answer(alloc, &mut reading)?);
-    let taken = reading.taken();
+    let ((kind, number), taken) = told(alloc, cut)?;
     writeln!(text, "{kind} {number}, taken {taken}")?;
     Ok(())
+}
+
+// What is answered, and how many uses are taken for it.
+fn told(alloc: Global, cut: Cut) -> Result<((&'static str, u64), u64), OutOfMemory>
+    requires { IsSoundCut cut }
+{
+    let mut reading = Reading::new(cut, 9);
+    let kind = kind_of(&answer(alloc, &mut reading)?);
+    Ok((kind, reading.taken()))
 }
 
 // An answer's kind, with the occupancy time or the number of trains.
@@ -61,39 +74,63 @@ pub(crate) fn write_is_answer(
     line: &[u8],
     rows: &[u8],
 ) -> Result<(), OutOfMemory> {
-    let Some(mut plan) = plan_of(alloc, rows)? else {
-        return put_line(text, b"no plan");
-    };
+    match plan_of(alloc, rows)? {
+        Some(plan) => write_moved(alloc, text, line, rows, plan),
+        None => put_line(text, b"no plan"),
+    }
+}
+
+fn write_moved(
+    alloc: Global,
+    text: &mut String,
+    line: &[u8],
+    rows: &[u8],
+    plan: Plan,
+) -> Result<(), OutOfMemory> {
+    let mut plan = plan;
     move_last(
         &mut plan,
         signed_number(word(line, 1)),
         tie_of(word(line, 2)),
-    )?;
+    );
+    write_checked(alloc, text, rows, &Answer::Ordered(plan))
+}
+
+fn write_checked(
+    alloc: Global,
+    text: &mut String,
+    rows: &[u8],
+    answer: &Answer,
+) -> Result<(), OutOfMemory> {
     match cut_at(alloc, rows, b"S", 0)? {
-        Some(cut) => write_taken(text, is_answer(&cut, &Answer::Ordered(plan))),
+        Some(cut) => write_taken(text, is_answer(&cut, answer)),
         None => put_line(text, b"no cut"),
     }
 }
 
 // The compressed timetable of the section S.
 fn plan_of(alloc: Global, rows: &[u8]) -> Result<Option<Plan>, OutOfMemory> {
-    let Some(cut) = cut_at(alloc, rows, b"S", 0)? else {
-        return Ok(None);
-    };
+    match cut_at(alloc, rows, b"S", 0)? {
+        Some(cut) => compressed(alloc, cut),
+        None => Ok(None),
+    }
+}
+
+fn compressed(alloc: Global, cut: Cut) -> Result<Option<Plan>, OutOfMemory>
+    requires { IsSoundCut cut }
+{
     match answer(alloc, &mut Reading::new(cut, 9))? {
         Answer::Ordered(plan) => Ok(Some(plan)),
         _ => Ok(None),
     }
 }
 
-fn move_last(plan: &mut Plan, entry: i64, tie: Tie) -> Result<(), OutOfMemory> {
-    match plan.placed.pop() {
-        Some(mut last) => {
-            last.entry = entry;
-            last.tie = tie;
-            plan.placed.push(last)
-        }
-        None => Ok(()),
+fn move_last(plan: &mut Plan, entry: i64, tie: Tie) {
+    let count = plan.placed.len();
+    if count > 0 {
+        let last = plan.placed.get_mut(count - 1);
+        last.entry = entry;
+        last.tie = tie;
     }
 }
 

@@ -1,11 +1,12 @@
 //! The blocking times of the first run of a line.
-ghost use Rattle.std.specs.Prelude.{◌≡◌, ◌<◌, ◌≤◌, ◌+◌, IfOk};
+ghost use Rattle.std.specs.Prelude.{◌≡◌, ◌<◌, ◌≤◌, ◌+◌, IfOk, IfSome};
 ghost use Rattle.rail_model.specs.Path.{hop_count, Fits};
 
 use blocking_time::{
-    approach_moment, blockings, constant_speed_law, parts, reach, reach_down, stairs,
+    Blocking, approach_moment, blockings, constant_speed_law, parts, reach, reach_down, stairs,
 };
-use rail_model::{OutOfMemory, Path};
+use line_tables::LineTables;
+use rail_model::{OutOfMemory, Path, Use};
 use small_lines::{number_of, put_line, tables_of_rows, word};
 use std::alloc::Global;
 
@@ -14,9 +15,18 @@ fn first_path(alloc: Global, rows: &[u8]) -> Result<Option<Path>, OutOfMemory>
     ensures { IfOk result (λ path. IfSome path Fits) }
 {
     match tables_of_rows(alloc, rows)? {
-        Some(tables) if tables.runs() > 0 => Ok(Some(tables.path(0)?)),
-        _ => Ok(None),
+        Some(tables) => path_in(&tables),
+        None => Ok(None),
     }
+}
+
+fn path_in(tables: &LineTables) -> Result<Option<Path>, OutOfMemory>
+    ensures { IfOk result (λ path. IfSome path Fits) }
+{
+    if tables.runs() == 0 {
+        return Ok(None);
+    }
+    Ok(Some(tables.path(0)?))
 }
 
 /// From when until when each block is kept; the parts of the first two blockings; and both of each
@@ -49,7 +59,11 @@ fn write_stair(alloc: Global, text: &mut String, path: &Path) -> Result<(), OutO
     requires { Fits path.now }
 {
     let stair = stairs(alloc, path)?;
-    for one in stair.uses.slice() {
+    put_uses(text, stair.uses.slice())
+}
+
+fn put_uses(text: &mut String, uses: &[Use]) -> Result<(), OutOfMemory> {
+    for one in uses {
         let (start, end) = (one.start, one.end);
         writeln!(text, "kept from {start} until {end}")?;
     }
@@ -61,7 +75,11 @@ fn write_list(alloc: Global, text: &mut String, path: &Path) -> Result<(), OutOf
 {
     constant_speed_law(path);
     let all = blockings(alloc, path)?;
-    for one in all.slice() {
+    put_blockings(text, all.slice())
+}
+
+fn put_blockings(text: &mut String, all: &[Blocking]) -> Result<(), OutOfMemory> {
+    for one in all {
         let (start, end, parts) = (one.used.start, one.used.end, one.parts);
         writeln!(text, "from {start} until {end}: {parts:?}")?;
     }

@@ -10,22 +10,8 @@ use rail_model::{Name, OutOfMemory};
 use small_lines::{edit_of_row, halves, put, put_line, tables_of_rows};
 use std::alloc::Global;
 
-// What a call answers.
-#[derive(Clone, Copy, Debug)]
-enum Told {
-    Read,
-    Idle { left: u64 },
-    Published,
-    OutOfDate { by: u64 },
-    Current { at: u64 },
-    Edited { at: u64 },
-    Refused,
-    Ready { at: u64 },
-    Stale { at: u64, by: u64 },
-    NotYet,
-    Unknown,
-    NoCall,
-}
+// What a call answers: a word, the number of an edit, and that of a later one; 0 for none.
+type Told = (&'static str, u64, u64);
 
 /// A book of the tables that rows make, opened at 8.
 pub(crate) fn opened(alloc: Global, rows: &[u8]) -> Result<Option<Book>, OutOfMemory>
@@ -77,14 +63,25 @@ fn write_call(
     requires { AreHeld book.old held.old.items }
     ensures { OnOk result (AreHeld book.new held.new.items) }
 {
-    put(text, call)?;
-    text.push_str(" -> ")?;
     if call == b"read".as_slice() {
-        return read(alloc, text, book, held);
+        write_next(text, book)?;
+        return read(alloc, book, held);
     }
     let told = played(alloc, book, held, call)?;
-    writeln!(text, "{told:?}")?;
-    Ok(())
+    put_told(text, call, told)
+}
+
+fn put_told(text: &mut String, call: &[u8], told: Told) -> Result<(), OutOfMemory> {
+    let (word, at, by) = told;
+    put(text, call)?;
+    write!(text, " -> {word}")?;
+    if at > 0 {
+        write!(text, ", at {at}")?;
+    }
+    if by > 0 {
+        write!(text, ", by {by}")?;
+    }
+    put_line(text, b"")
 }
 
 fn played(
@@ -103,35 +100,42 @@ fn played(
     }
 }
 
-// Reads the next section, and holds its answer.
-fn read(
-    alloc: Global,
-    text: &mut String,
-    book: &Book,
-    held: &mut Vec<Done>,
-) -> Result<(), OutOfMemory>
-    requires { AreHeld book.now held.old.items }
-    ensures { OnOk result (AreHeld book.now held.new.items) }
-{
-    match book.read_next(0, 1)? {
-        Next::Reading(reading) => {
-            put_reading(text, &reading)?;
-            held.push(answered(alloc, book, reading)?)?;
-        }
-        Next::Idle { left } => writeln!(text, "idle, {left} tasks left")?,
+// Tells what the next section is that is read.
+fn write_next(text: &mut String, book: &Book) -> Result<(), OutOfMemory> {
+    let next = book.read_next(0, 1)?;
+    put_next(text, &next)
+}
+
+fn put_next(text: &mut String, next: &Next<Reading>) -> Result<(), OutOfMemory> {
+    match next {
+        Next::Reading(reading) => put_reading(text, reading),
+        Next::Idle { left } => put_told(text, b"read", ("idle", 0, *left)),
     }
-    Ok(())
 }
 
 // The number of a reading, and the stamps of its rows.
 fn put_reading(text: &mut String, reading: &Reading) -> Result<(), OutOfMemory> {
     let at = reading.at();
-    write!(text, "reading {at}, stamps")?;
+    write!(text, "read -> reading, at {at}, stamps")?;
     for i in 0..reading.count() {
         let stamp = reading.stamp(i);
         write!(text, " {stamp}")?;
     }
     put_line(text, b"")
+}
+
+// Reads the next section, and holds its answer.
+fn read(alloc: Global, book: &Book, held: &mut Vec<Done>) -> Result<(), OutOfMemory>
+    requires { AreHeld book.now held.old.items }
+    ensures { OnOk result (AreHeld book.now held.new.items) }
+{
+    match book.read_next(0, 1)? {
+        Next::Reading(reading) => {
+            held.push(answered(alloc, book, reading)?)?;
+            Ok(())
+        }
+        Next::Idle { .. } => Ok(()),
+    }
 }
 
 // The answer of a reading.
@@ -154,14 +158,14 @@ fn publish(book: &mut Book, held: &mut Vec<Done>) -> Result<Told, OutOfMemory>
     ensures { OnOk result (AreHeld book.new held.new.items) }
 {
     if held.is_empty() {
-        return Ok(Told::NoCall);
+        return Ok(("no call", 0, 0));
     }
     let done = held.remove(0);
     let _found = book.journal();
     Ok(match book.publish(0, done)? {
-        Ok(()) => Told::Published,
-        Err(NotTaken::Stale { by }) => Told::OutOfDate { by },
-        Err(NotTaken::Current { at }) => Told::Current { at },
+        Ok(()) => ("published", 0, 0),
+        Err(NotTaken::Stale { by }) => ("stale", 0, by),
+        Err(NotTaken::Current { at }) => ("current", at, 0),
     })
 }
 
@@ -171,12 +175,12 @@ fn edit(alloc: Global, book: &mut Book, held: &Vec<Done>, row: &[u8]) -> Result<
     ensures { OnOk result (AreHeld book.new held.now.items) }
 {
     let Some(edit) = edit_of_row(alloc, row)? else {
-        return Ok(Told::NoCall);
+        return Ok(("no call", 0, 0));
     };
     let _found = book.journal();
     Ok(match book.edit(0, edit)? {
-        Ok(at) => Told::Edited { at },
-        Err(_) => Told::Refused,
+        Ok(at) => ("edited", at, 0),
+        Err(_) => ("refused", 0, 0),
     })
 }
 
@@ -186,13 +190,13 @@ fn ask(book: &mut Book, held: &Vec<Done>, name: &[u8]) -> Result<Told, OutOfMemo
     ensures { OnOk result (AreHeld book.new held.now.items) }
 {
     let Ok(section) = Name::read(name) else {
-        return Ok(Told::NoCall);
+        return Ok(("no call", 0, 0));
     };
     let _found = book.journal();
     Ok(match book.ask(0, section)? {
-        Asked::Ready { at, .. } => Told::Ready { at },
-        Asked::Stale { at, by } => Told::Stale { at, by },
-        Asked::NotYet => Told::NotYet,
-        Asked::Unknown => Told::Unknown,
+        Asked::Ready { at, .. } => ("ready", at, 0),
+        Asked::Stale { at, by } => ("stale", at, by),
+        Asked::NotYet => ("not yet", 0, 0),
+        Asked::Unknown => ("unknown", 0, 0),
     })
 }

@@ -1,7 +1,9 @@
 //! Cuts of sections.
+ghost use Rattle.std.specs.Prelude.{◌≡◌, length};
+
 use line_tables::LineTables;
 use plan_model::{Cut, CutRow};
-use rail_model::OutOfMemory;
+use rail_model::{Name, OutOfMemory};
 use section_cut::{AllStairways, cut_among, stairways};
 use small_lines::{cut_at, number_of, put, put_line, tables_of_rows, word};
 use std::alloc::Global;
@@ -22,13 +24,19 @@ pub(crate) fn write_cut(
 /// The names of a cut's connections, each before a comma; then for each train the place, start and
 /// end of each use, and its entry, stamp and name.
 pub(crate) fn put_cut(text: &mut String, cut: &Cut) -> Result<(), OutOfMemory> {
-    for name in cut.connections.slice() {
-        put(text, name.bytes())?;
-        text.push(',')?;
-    }
+    put_names(text, cut.connections.slice())?;
     put_line(text, b"cut")?;
     for row in cut.rows.slice() {
         put_row(text, row)?;
+    }
+    Ok(())
+}
+
+/// Names, each before a comma.
+pub(crate) fn put_names(text: &mut String, names: &[Name]) -> Result<(), OutOfMemory> {
+    for name in names {
+        put(text, name.bytes())?;
+        text.push(',')?;
     }
     Ok(())
 }
@@ -50,15 +58,22 @@ pub(crate) fn write_cut_among(
     rows: &[u8],
 ) -> Result<(), OutOfMemory> {
     match tables_of_rows(alloc, rows)? {
-        Some(tables) if tables.sections() == 1 => put_cut_among(alloc, text, &tables),
-        _ => put_line(text, b"not one section"),
+        Some(tables) => write_among(alloc, text, &tables),
+        None => put_line(text, b"no tables"),
     }
 }
 
-fn put_cut_among(alloc: Global, text: &mut String, tables: &LineTables) -> Result<(), OutOfMemory> {
+fn write_among(alloc: Global, text: &mut String, tables: &LineTables) -> Result<(), OutOfMemory> {
     if tables.sections() != 1 {
-        return Ok(());
+        return put_line(text, b"not one section");
     }
+    let cut = only_cut(alloc, tables)?;
+    put_cut(text, &cut)
+}
+
+fn only_cut(alloc: Global, tables: &LineTables) -> Result<Cut, OutOfMemory>
+    requires { length tables.now.sections ≡ 1 }
+{
     let stairs = AllStairways::of(alloc, stairways(alloc, tables)?)?;
-    put_cut(text, &cut_among(alloc, tables, &stairs, 0, 7)?)
+    cut_among(alloc, tables, &stairs, 0, 7)
 }

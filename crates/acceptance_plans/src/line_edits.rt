@@ -1,8 +1,8 @@
 //! Edits of a line's tables, each with the rule that refuses it, and what is looked up in tables.
-ghost use Rattle.std.specs.Prelude.{◌≡◌, length};
+ghost use Rattle.std.specs.Prelude.{◌<◌, length};
 
 use line_tables::LineTables;
-use rail_model::{Name, OutOfMemory};
+use rail_model::{Name, OutOfMemory, Path, Rule};
 use small_lines::{edit_of_row, halves, put, put_line, tables_of_rows, word};
 use std::alloc::Global;
 
@@ -15,12 +15,19 @@ pub(crate) fn write_edits(
 ) -> Result<(), OutOfMemory> {
     let (before, edits) = halves(rows);
     match tables_of_rows(alloc, before)? {
-        Some(mut tables) => {
-            write_answers(alloc, text, &mut tables, edits)?;
-            write_counts(text, &tables)
-        }
+        Some(mut tables) => write_made(alloc, text, &mut tables, edits),
         None => put_line(text, b"no tables"),
     }
+}
+
+fn write_made(
+    alloc: Global,
+    text: &mut String,
+    tables: &mut LineTables,
+    edits: &[u8],
+) -> Result<(), OutOfMemory> {
+    write_answers(alloc, text, tables, edits)?;
+    write_counts(text, tables)
 }
 
 fn write_answers(
@@ -44,12 +51,22 @@ fn write_answer(
     tables: &mut LineTables,
     row: &[u8],
 ) -> Result<(), OutOfMemory> {
-    let Some(edit) = edit_of_row(alloc, row)? else {
-        return put_line(text, b" is no edit");
-    };
-    let answer = tables.apply(&edit)?;
-    writeln!(text, " -> {answer:?}")?;
+    match answer_of(alloc, tables, row)? {
+        Some(answer) => writeln!(text, " -> {answer:?}")?,
+        None => text.push_str(" is no edit\n")?,
+    }
     Ok(())
+}
+
+fn answer_of(
+    alloc: Global,
+    tables: &mut LineTables,
+    row: &[u8],
+) -> Result<Option<Result<(), Rule>>, OutOfMemory> {
+    match edit_of_row(alloc, row)? {
+        Some(edit) => Ok(Some(tables.apply(&edit)?)),
+        None => Ok(None),
+    }
 }
 
 fn write_counts(text: &mut String, tables: &LineTables) -> Result<(), OutOfMemory> {
@@ -70,12 +87,21 @@ pub(crate) fn write_look_ups(
     line: &[u8],
     rows: &[u8],
 ) -> Result<(), OutOfMemory> {
-    let Some(tables) = tables_of_rows(alloc, rows)? else {
-        return put_line(text, b"no tables");
-    };
-    write_numbers(text, &tables, word(line, 1), word(line, 2))?;
-    write_second_hop(text, &tables)?;
-    write_plain(text, &tables)
+    match tables_of_rows(alloc, rows)? {
+        Some(tables) => write_found(text, &tables, word(line, 1), word(line, 2)),
+        None => put_line(text, b"no tables"),
+    }
+}
+
+fn write_found(
+    text: &mut String,
+    tables: &LineTables,
+    block: &[u8],
+    run: &[u8],
+) -> Result<(), OutOfMemory> {
+    write_numbers(text, tables, block, run)?;
+    write_second_hop(text, tables)?;
+    write_plain(text, tables)
 }
 
 fn write_numbers(
@@ -99,28 +125,48 @@ fn write_numbers(
     Ok(())
 }
 
-// The block, its length and the running time, where the path among those of all runs is the same.
+// By the path alone, and by that among the paths of all runs.
 fn write_second_hop(text: &mut String, tables: &LineTables) -> Result<(), OutOfMemory> {
-    if tables.runs() != 2 {
+    if tables.runs() < 2 {
         return put_line(text, b"not two runs");
     }
-    let one = tables.paths()?.path(1)?.hops;
-    let other = tables.path(1)?.hops;
-    let (Some(hop), Some(same)) = (one.get(1), other.get(1)) else {
-        return put_line(text, b"no second hop");
-    };
-    let is_same = hop.block == same.block && one.len() == other.len();
-    let (block, length, seconds) = (hop.block, hop.block_m, hop.running_s);
-    writeln!(
-        text,
-        "second hop: block {block}, {length} m, {seconds} s, the same {is_same}"
-    )?;
+    let alone = hop_alone(tables)?;
+    let among = hop_among(tables)?;
+    writeln!(text, "second hop: {alone:?}, among all {among:?}")?;
     Ok(())
 }
 
+fn hop_alone(tables: &LineTables) -> Result<Option<(u32, u32, u32)>, OutOfMemory>
+    requires { 1 < length tables.now.runs }
+{
+    let path = tables.path(1)?;
+    Ok(second_hop(&path))
+}
+
+fn hop_among(tables: &LineTables) -> Result<Option<(u32, u32, u32)>, OutOfMemory>
+    requires { 1 < length tables.now.runs }
+{
+    let paths = tables.paths()?;
+    let path = paths.path(1)?;
+    Ok(second_hop(&path))
+}
+
+// The block of the second of two hops, its length, and the running time.
+fn second_hop(path: &Path) -> Option<(u32, u32, u32)> {
+    match path.hops.slice() {
+        [_, hop] => Some((hop.block, hop.block_m, hop.running_s)),
+        _ => None,
+    }
+}
+
 fn write_plain(text: &mut String, tables: &LineTables) -> Result<(), OutOfMemory> {
-    let plain = tables.copy()?.plain()?;
-    let (runs, connections) = (plain.runs.len(), plain.connections.len());
+    let (runs, connections) = plain_counts(tables)?;
     writeln!(text, "plain tables: runs {runs}, connections {connections}")?;
     Ok(())
+}
+
+fn plain_counts(tables: &LineTables) -> Result<(usize, usize), OutOfMemory> {
+    let copy = tables.copy()?;
+    let plain = copy.plain()?;
+    Ok((plain.runs.len(), plain.connections.len()))
 }

@@ -56,6 +56,61 @@ fn text_of<R: AllocGlobal + Wait>(rt: &R, script: &[u8]) -> Result<String, OutOf
     Ok(text)
 }
 
+// What is done with a case.
+#[derive(Clone, Copy)]
+enum Case {
+    Edits,
+    LookUps,
+    Blockings,
+    Reach,
+    Cut,
+    CutAmong,
+    Changes,
+    Reading,
+    Copies,
+    Order,
+    Occupancy,
+    Rate,
+    Many,
+    IsAnswer,
+    Cycle,
+    Shows,
+    Book,
+    Desk,
+}
+
+const CASES: [(&[u8], Case); 18] = [
+    (b"?edits", Case::Edits),
+    (b"?look-ups", Case::LookUps),
+    (b"?blockings", Case::Blockings),
+    (b"?reach", Case::Reach),
+    (b"?cut", Case::Cut),
+    (b"?cut-among", Case::CutAmong),
+    (b"?changes", Case::Changes),
+    (b"?reading", Case::Reading),
+    (b"?copies", Case::Copies),
+    (b"?order", Case::Order),
+    (b"?occupancy", Case::Occupancy),
+    (b"?rate", Case::Rate),
+    (b"?many", Case::Many),
+    (b"?is-answer", Case::IsAnswer),
+    (b"?cycle", Case::Cycle),
+    (b"?shows", Case::Shows),
+    (b"?book", Case::Book),
+    (b"?desk", Case::Desk),
+];
+
+// The case of a line, if it has one.
+fn case_of(line: &[u8]) -> Option<Case> {
+    let first = word(line, 0);
+    for (name, case) in CASES {
+        if first == name {
+            return Some(case);
+        }
+    }
+    None
+}
+
 // Repeats the line of a case, and writes what comes of it.
 fn write_case<R: AllocGlobal + Wait>(
     rt: &R,
@@ -66,48 +121,38 @@ fn write_case<R: AllocGlobal + Wait>(
     let line = line_at(script, at);
     put_line(text, line)?;
     let rows = rows_of_case(rt.alloc(), script, at)?;
-    match word(line, 0) {
-        b"?desk" => desk::write_desk(rt, text, &rows),
-        b"?book" => books::write_calls(rt.alloc(), text, &rows),
-        b"?cycle" => cycles::write_cycle(rt.alloc(), text, &rows),
-        b"?shows" => shown::write_shown(rt.alloc(), text, line, &rows),
-        _ => write_line_case(rt.alloc(), text, line, &rows),
+    match case_of(line) {
+        Some(Case::Desk) => desk::write_desk(rt, text, &rows),
+        Some(case) => write_of(rt.alloc(), text, case, line, &rows),
+        None => put_line(text, b"no such case"),
     }
 }
 
-// The same of a case of a line's tables, or of one section.
-fn write_line_case(
+fn write_of(
     alloc: Global,
     text: &mut String,
+    case: Case,
     line: &[u8],
     rows: &[u8],
 ) -> Result<(), OutOfMemory> {
-    match word(line, 0) {
-        b"?edits" => line_edits::write_edits(alloc, text, rows),
-        b"?look-ups" => line_edits::write_look_ups(alloc, text, line, rows),
-        b"?blockings" => blockings::write_blockings(alloc, text, rows),
-        b"?reach" => blockings::write_reach(alloc, text, line, rows),
-        b"?cut" => cuts::write_cut(alloc, text, line, rows),
-        b"?cut-among" => cuts::write_cut_among(alloc, text, rows),
-        b"?changes" => changes::write_changes(alloc, text, rows),
-        b"?reading" => readings::write_reading(alloc, text, line, rows),
-        b"?copies" => readings::write_copies(alloc, text, rows),
-        _ => write_section_case(alloc, text, line, rows),
-    }
-}
-
-fn write_section_case(
-    alloc: Global,
-    text: &mut String,
-    line: &[u8],
-    rows: &[u8],
-) -> Result<(), OutOfMemory> {
-    match word(line, 0) {
-        b"?order" => orders::write_order(alloc, text, rows),
-        b"?occupancy" => orders::write_occupancy(alloc, text, line, rows),
-        b"?rate" => rates::write_rate(text, line),
-        b"?many" => answers::write_many(alloc, text, line, rows),
-        b"?is-answer" => answers::write_is_answer(alloc, text, line, rows),
-        _ => put_line(text, b"no such case"),
+    match case {
+        Case::Desk => Ok(()),
+        Case::Edits => line_edits::write_edits(alloc, text, rows),
+        Case::LookUps => line_edits::write_look_ups(alloc, text, line, rows),
+        Case::Blockings => blockings::write_blockings(alloc, text, rows),
+        Case::Reach => blockings::write_reach(alloc, text, line, rows),
+        Case::Cut => cuts::write_cut(alloc, text, line, rows),
+        Case::CutAmong => cuts::write_cut_among(alloc, text, rows),
+        Case::Changes => changes::write_changes(alloc, text, rows),
+        Case::Reading => readings::write_reading(alloc, text, line, rows),
+        Case::Copies => readings::write_copies(alloc, text, rows),
+        Case::Order => orders::write_order(alloc, text, rows),
+        Case::Occupancy => orders::write_occupancy(alloc, text, line, rows),
+        Case::Rate => rates::write_rate(text, line),
+        Case::Many => answers::write_many(alloc, text, line, rows),
+        Case::IsAnswer => answers::write_is_answer(alloc, text, line, rows),
+        Case::Cycle => cycles::write_cycle(alloc, text, rows),
+        Case::Shows => shown::write_shown(alloc, text, line, rows),
+        Case::Book => books::write_calls(alloc, text, rows),
     }
 }

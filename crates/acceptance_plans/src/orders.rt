@@ -1,10 +1,11 @@
 //! The order of a section's trains, their disorder, and the occupancy time.
 ghost use Rattle.plan_model.specs.Cut.{IsSoundCut};
 
+use crate::cuts::put_names;
 use occupancy_rate::occupancy;
-use plan_model::{Cut, MEMBERS};
+use plan_model::{Cut, Link, MEMBERS};
 use rail_model::{Name, OutOfMemory};
-use small_lines::{cut_at, put, put_line, small_number, word};
+use small_lines::{cut_at, put_line, small_number, word};
 use std::alloc::Global;
 use train_order::{Disorder, Order, order};
 
@@ -16,9 +17,19 @@ pub(crate) fn write_order(
     rows: &[u8],
 ) -> Result<(), OutOfMemory> {
     match cut_at(alloc, rows, b"S", 0)? {
-        Some(cut) if cut.rows.len() <= MEMBERS => put_order(text, &order(alloc, &cut)?),
-        _ => put_line(text, b"no cut"),
+        Some(cut) => write_found(alloc, text, &cut),
+        None => put_line(text, b"no cut"),
     }
+}
+
+fn write_found(alloc: Global, text: &mut String, cut: &Cut) -> Result<(), OutOfMemory>
+    requires { IsSoundCut cut.now }
+{
+    if cut.rows.len() > MEMBERS {
+        return put_line(text, b"too many trains");
+    }
+    let found = order(alloc, cut)?;
+    put_order(text, &found)
 }
 
 fn put_order(text: &mut String, found: &Result<Order, Disorder>) -> Result<(), OutOfMemory> {
@@ -31,14 +42,16 @@ fn put_order(text: &mut String, found: &Result<Order, Disorder>) -> Result<(), O
                 block1,
                 block2,
             },
-        ) => put_names(text, &[*first, *second, *block1, *block2], b"opposite"),
-        Err(Disorder::Ring(links)) => {
-            for link in links.slice() {
-                put_names(text, &[link.train, link.block, link.next], b"link")?;
-            }
-            Ok(())
-        }
+        ) => put_named(text, &[*first, *second, *block1, *block2], b"opposite"),
+        Err(Disorder::Ring(links)) => put_links(text, links.slice()),
     }
+}
+
+fn put_links(text: &mut String, links: &[Link]) -> Result<(), OutOfMemory> {
+    for link in links {
+        put_named(text, &[link.train, link.block, link.next], b"link")?;
+    }
+    Ok(())
 }
 
 fn put_positions(text: &mut String, positions: &[u32]) -> Result<(), OutOfMemory> {
@@ -49,11 +62,8 @@ fn put_positions(text: &mut String, positions: &[u32]) -> Result<(), OutOfMemory
 }
 
 // A row of names that ends with a word.
-fn put_names(text: &mut String, names: &[Name], last: &[u8]) -> Result<(), OutOfMemory> {
-    for name in names {
-        put(text, name.bytes())?;
-        text.push(',')?;
-    }
+fn put_named(text: &mut String, names: &[Name], last: &[u8]) -> Result<(), OutOfMemory> {
+    put_names(text, names)?;
     put_line(text, last)
 }
 

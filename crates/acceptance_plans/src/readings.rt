@@ -65,26 +65,39 @@ pub(crate) fn write_copies(
     rows: &[u8],
 ) -> Result<(), OutOfMemory> {
     match cut_at(alloc, rows, b"S", 7)? {
-        Some(cut) => {
-            write_cut_copy(alloc, text, &cut)?;
-            write_answer_copy(alloc, text, cut)
-        }
+        Some(cut) => write_both_copies(alloc, text, cut),
         None => put_line(text, b"no cut"),
     }
 }
 
+fn write_both_copies(alloc: Global, text: &mut String, cut: Cut) -> Result<(), OutOfMemory>
+    requires { IsSoundCut cut }
+{
+    write_cut_copy(alloc, text, &cut)?;
+    write_answer_copy(alloc, text, cut)
+}
+
 fn write_cut_copy(alloc: Global, text: &mut String, cut: &Cut) -> Result<(), OutOfMemory> {
-    let copy = cut.copy(alloc)?;
-    let (blocks, rows) = (copy.section.blocks.len(), copy.rows.len());
+    let (blocks, rows) = size_of_copy(alloc, cut)?;
     writeln!(text, "cut: blocks {blocks}, rows {rows}")?;
     Ok(())
+}
+
+fn size_of_copy(alloc: Global, cut: &Cut) -> Result<(usize, usize), OutOfMemory> {
+    let copy = cut.copy(alloc)?;
+    Ok((copy.section.blocks.len(), copy.rows.len()))
 }
 
 fn write_answer_copy(alloc: Global, text: &mut String, cut: Cut) -> Result<(), OutOfMemory>
     requires { IsSoundCut cut }
 {
     let answer = answer(alloc, &mut Reading::new(cut, 9))?;
-    write_answer(text, &answer.copy(alloc)?)
+    write_copy(alloc, text, &answer)
+}
+
+fn write_copy(alloc: Global, text: &mut String, answer: &Answer) -> Result<(), OutOfMemory> {
+    let copy = answer.copy(alloc)?;
+    write_answer(text, &copy)
 }
 
 // What an answer speaks of, with the number of its trains or links.

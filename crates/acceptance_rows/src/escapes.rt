@@ -5,16 +5,22 @@ use std::alloc::Global;
 /// The bytes that an escaped text stands for.
 pub(crate) fn bytes_of(alloc: Global, escaped: &[u8]) -> Result<Vec<u8>, OutOfMemory> {
     let mut bytes = Vec::new(alloc);
+    push_bytes(&mut bytes, escaped)?;
+    Ok(bytes)
+}
+
+/// Adds these bytes to others.
+pub(crate) fn push_bytes(bytes: &mut Vec<u8>, escaped: &[u8]) -> Result<(), OutOfMemory> {
     let mut is_first = true;
     for piece in escaped.split(|byte: &u8| -> bool { *byte == b'\\' }) {
         if is_first {
             bytes.extend_from_slice(piece)?;
             is_first = false;
         } else {
-            push_escape(&mut bytes, piece)?;
+            push_escape(bytes, piece)?;
         }
     }
-    Ok(bytes)
+    Ok(())
 }
 
 // Adds the byte that an escape stands for, and what comes after it.

@@ -15,6 +15,7 @@ mod texts;
 use rail_model::OutOfMemory;
 use rail_outside::{StdSink, StdSource, send_all, take_all};
 use small_lines::{line_at, put_line, starts_line, word};
+use std::alloc::Global;
 use std::process::ExitCode;
 use std::thread::Threads;
 
@@ -46,6 +47,49 @@ fn text_of<R: AllocGlobal + Threads + Sync>(rt: &R, script: &[u8]) -> Result<Str
     Ok(text)
 }
 
+// What is done with a case.
+#[derive(Clone, Copy)]
+enum Case {
+    Parts,
+    List,
+    Name,
+    Names,
+    Fault,
+    Long,
+    Spell,
+    Again,
+    Sheet,
+    Version,
+    Line,
+    Rows,
+}
+
+const CASES: [(&[u8], Case); 12] = [
+    (b"?parts", Case::Parts),
+    (b"?list", Case::List),
+    (b"?name", Case::Name),
+    (b"?names", Case::Names),
+    (b"?fault", Case::Fault),
+    (b"?long", Case::Long),
+    (b"?spell", Case::Spell),
+    (b"?again", Case::Again),
+    (b"?sheet", Case::Sheet),
+    (b"?version", Case::Version),
+    (b"?line", Case::Line),
+    (b"?rows", Case::Rows),
+];
+
+// The case of a line; none of a remark.
+fn case_of(line: &[u8]) -> Option<Case> {
+    let first = word(line, 0);
+    for (name, case) in CASES {
+        if first == name {
+            return Some(case);
+        }
+    }
+    None
+}
+
 // Repeats a remark or a case, and writes what comes of it.
 fn write_line<R: AllocGlobal + Threads + Sync>(
     rt: &R,
@@ -53,19 +97,31 @@ fn write_line<R: AllocGlobal + Threads + Sync>(
     line: &[u8],
 ) -> Result<(), OutOfMemory> {
     put_line(text, line)?;
-    match word(line, 0) {
-        b"?parts" => texts::write_parts(rt, text, line),
-        b"?list" => names::write_list(rt.alloc(), text),
-        b"?name" => names::write_name(rt.alloc(), text, line),
-        b"?names" => names::write_names(rt.alloc(), text, line),
-        b"?fault" => faults::write_fault(rt.alloc(), text, line),
-        b"?long" => faults::write_long(rt.alloc(), text, line),
-        b"?spell" => spelling::write_spelled(rt.alloc(), text, line),
-        b"?again" => spelling::write_again(rt.alloc(), text, line),
-        b"?sheet" => sheets::write_sheet(rt.alloc(), text),
-        b"?version" => texts::write_version(rt.alloc(), text, line),
-        b"?line" => texts::write_fault(rt.alloc(), text, line),
-        b"?rows" => texts::write_rows(rt.alloc(), text, line),
-        _ => Ok(()),
+    match case_of(line) {
+        Some(Case::Parts) => texts::write_parts(rt, text, line),
+        Some(case) => write_case(rt.alloc(), text, case, line),
+        None => Ok(()),
+    }
+}
+
+fn write_case(
+    alloc: Global,
+    text: &mut String,
+    case: Case,
+    line: &[u8],
+) -> Result<(), OutOfMemory> {
+    match case {
+        Case::Parts => Ok(()),
+        Case::List => names::write_list(alloc, text),
+        Case::Name => names::write_name(alloc, text, line),
+        Case::Names => names::write_names(alloc, text, line),
+        Case::Fault => faults::write_fault(alloc, text, line),
+        Case::Long => faults::write_long(alloc, text, line),
+        Case::Spell => spelling::write_spelled(alloc, text, line),
+        Case::Again => spelling::write_again(alloc, text, line),
+        Case::Sheet => sheets::write_sheet(alloc, text),
+        Case::Version => texts::write_version(alloc, text, line),
+        Case::Line => texts::write_fault(alloc, text, line),
+        Case::Rows => texts::write_rows(alloc, text, line),
     }
 }

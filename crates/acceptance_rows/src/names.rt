@@ -45,8 +45,17 @@ fn write_emptied(text: &mut String, list: &mut List<u8>) -> Result<(), OutOfMemo
 // Of its copy.
 fn write_copied(alloc: Global, text: &mut String, list: &List<u8>) -> Result<(), OutOfMemory> {
     let items = list.copy(alloc)?.into_vec();
-    writeln!(text, "copy: {:?}", items.as_slice())?;
-    let count = List::from_vec(items).len();
+    put_items(text, &items)?;
+    put_count(text, &List::from_vec(items))
+}
+
+fn put_items(text: &mut String, items: &[u8]) -> Result<(), OutOfMemory> {
+    writeln!(text, "copy: {items:?}")?;
+    Ok(())
+}
+
+fn put_count(text: &mut String, list: &List<u8>) -> Result<(), OutOfMemory> {
+    let count = list.len();
     writeln!(text, "from_vec, len: {count}")?;
     Ok(())
 }
@@ -72,18 +81,35 @@ pub(crate) fn write_names(
     text: &mut String,
     line: &[u8],
 ) -> Result<(), OutOfMemory> {
-    let (Ok(one), Ok(other)) = (Name::read(word(line, 1)), Name::read(word(line, 2))) else {
-        return Ok(());
-    };
+    match (Name::read(word(line, 1)), Name::read(word(line, 2))) {
+        (Ok(one), Ok(other)) => write_two(alloc, text, &one, &other),
+        _ => put_line(text, b"not two names"),
+    }
+}
+
+fn write_two(
+    alloc: Global,
+    text: &mut String,
+    one: &Name,
+    other: &Name,
+) -> Result<(), OutOfMemory> {
     put(text, one.bytes())?;
     put(text, b" and ")?;
     put(text, other.bytes())?;
-    let (order, is_same) = (one.cmp(&other), one == other);
-    let (has_one, has_other) = (has(alloc, one, &one)?, has(alloc, one, &other)?);
-    writeln!(
-        text,
-        ": {order:?}, same {is_same}, in the set {has_one} and {has_other}"
-    )?;
+    let (order, is_same) = (one.cmp(other), *one == *other);
+    writeln!(text, ": {order:?}, same {is_same}")?;
+    write_sets(alloc, text, one, other)
+}
+
+fn write_sets(
+    alloc: Global,
+    text: &mut String,
+    one: &Name,
+    other: &Name,
+) -> Result<(), OutOfMemory> {
+    let has_one = has(alloc, *one, one)?;
+    let has_other = has(alloc, *one, other)?;
+    writeln!(text, "in a set of the first {has_one}, {has_other}")?;
     Ok(())
 }
 

@@ -7,15 +7,28 @@ use std::alloc::Global;
 /// The text of a sheet with three rows, after which a field is dropped.
 pub(crate) fn write_sheet(alloc: Global, text: &mut String) -> Result<(), OutOfMemory> {
     let mut sheet = Sheet::new(alloc);
-    push_long_row(alloc, &mut sheet)?;
-    push_short_rows(&mut sheet)?;
-    sheet.push_field(b"dropped")?;
-    put(text, &sheet.into_text())
+    push_written(alloc, &mut sheet)?;
+    push_rows(&mut sheet)?;
+    put_text(text, sheet)
 }
 
-fn push_long_row(alloc: Global, sheet: &mut Sheet) -> Result<(), OutOfMemory> {
+fn push_rows(sheet: &mut Sheet) -> Result<(), OutOfMemory> {
+    push_numbers(sheet)?;
+    push_short_rows(sheet)?;
+    sheet.push_field(b"dropped")
+}
+
+fn put_text(text: &mut String, sheet: Sheet) -> Result<(), OutOfMemory> {
+    let written = sheet.into_text();
+    put(text, &written)
+}
+
+fn push_written(alloc: Global, sheet: &mut Sheet) -> Result<(), OutOfMemory> {
     let written = Written::new(alloc, b"use")?.with(alloc, b"say \"x\"")?;
-    sheet.push_written(&written)?;
+    sheet.push_written(&written)
+}
+
+fn push_numbers(sheet: &mut Sheet) -> Result<(), OutOfMemory> {
     sheet.push_field(b"a,b")?;
     sheet.push_numbers(&[-1, 0, 99, 100, 12_345, i64::MIN])?;
     sheet.push_count(u64::MAX)?;

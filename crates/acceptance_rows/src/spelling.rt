@@ -1,8 +1,6 @@
 //! Lines that are spelled again.
-ghost use Rattle.std.specs.Prelude.{◌<◌, length};
-
 use rail_model::OutOfMemory;
-use row_text::{Fields, Line, RowList, Sheet, has_times_in, read_row, rows, spell, spell_in};
+use row_text::{Fields, Line, Sheet, has_times_in, read_row, rows, spell, spell_in};
 use small_lines::{after_blanks, put, put_line, small_number, word};
 use std::alloc::Global;
 
@@ -13,25 +11,36 @@ pub(crate) fn write_spelled(
     text: &mut String,
     line: &[u8],
 ) -> Result<(), OutOfMemory> {
-    let rows = rows(alloc, after_blanks(line, 2))?;
     let mut sheet = Sheet::new(alloc);
-    for i in 0..rows.len() {
-        spell_row(alloc, &mut sheet, &rows, i, small_number(word(line, 1)))?;
-    }
+    spell_rows(
+        alloc,
+        &mut sheet,
+        after_blanks(line, 2),
+        small_number(word(line, 1)),
+    )?;
     put(text, sheet.text())
+}
+
+fn spell_rows(
+    alloc: Global,
+    sheet: &mut Sheet,
+    bytes: &[u8],
+    version: u32,
+) -> Result<(), OutOfMemory> {
+    let rows = rows(alloc, bytes)?;
+    for i in 0..rows.len() {
+        spell_row(alloc, sheet, &rows.row(alloc, i)?, version)?;
+    }
+    Ok(())
 }
 
 fn spell_row(
     alloc: Global,
     sheet: &mut Sheet,
-    rows: &RowList<'_>,
-    i: usize,
+    row: &Fields,
     version: u32,
-) -> Result<(), OutOfMemory>
-    requires { i < length rows.now }
-{
-    let row = rows.row(alloc, i)?;
-    match read_row(alloc, &row)? {
+) -> Result<(), OutOfMemory> {
+    match read_row(alloc, row)? {
         Ok(line) => spell_line(alloc, sheet, version, &line),
         Err(_) => Ok(()),
     }
@@ -61,12 +70,25 @@ pub(crate) fn write_again(
     line: &[u8],
 ) -> Result<(), OutOfMemory> {
     let mut fields = Fields::new(alloc);
-    fields.push(word(line, 1))?;
-    fields.push(word(line, 2))?;
-    match read_row(alloc, &fields)? {
-        Ok(line) => write_fields(text, &spell(alloc, &line)?),
+    push_two(&mut fields, word(line, 1), word(line, 2))?;
+    write_read(alloc, text, &fields)
+}
+
+fn push_two(fields: &mut Fields, one: &[u8], other: &[u8]) -> Result<(), OutOfMemory> {
+    fields.push(one)?;
+    fields.push(other)
+}
+
+fn write_read(alloc: Global, text: &mut String, fields: &Fields) -> Result<(), OutOfMemory> {
+    match read_row(alloc, fields)? {
+        Ok(line) => write_line(alloc, text, &line),
         Err(_) => put_line(text, b"no line"),
     }
+}
+
+fn write_line(alloc: Global, text: &mut String, line: &Line) -> Result<(), OutOfMemory> {
+    let fields = spell(alloc, line)?;
+    write_fields(text, &fields)
 }
 
 fn write_fields(text: &mut String, fields: &Fields) -> Result<(), OutOfMemory> {

@@ -1,7 +1,7 @@
 //! The rows of texts.
-use crate::escapes::{bytes_of, put_escaped};
+use crate::escapes::{bytes_of, push_bytes, put_escaped};
 use crate::faults::told;
-use rail_model::OutOfMemory;
+use rail_model::{Form, OutOfMemory};
 use row_text::{Row, RowList, rows, rows_by_threads};
 use small_lines::{after_blanks, number_of, put_line, word};
 use std::alloc::Global;
@@ -11,7 +11,15 @@ use std::thread::Threads;
 /// how a text is read, and not what its other rows are.
 pub(crate) fn write_rows(alloc: Global, text: &mut String, line: &[u8]) -> Result<(), OutOfMemory> {
     let bytes = bytes_of(alloc, after_blanks(line, 1))?;
-    let rows = rows(alloc, &bytes)?;
+    write_rows_of(alloc, text, &bytes)
+}
+
+fn write_rows_of(alloc: Global, text: &mut String, bytes: &[u8]) -> Result<(), OutOfMemory> {
+    let rows = rows(alloc, bytes)?;
+    put_rows(text, &rows)
+}
+
+fn put_rows(text: &mut String, rows: &RowList<'_>) -> Result<(), OutOfMemory> {
     for i in 0..rows.len() {
         put_row(text, &rows.get(i))?;
     }
@@ -35,10 +43,14 @@ pub(crate) fn write_version(
     line: &[u8],
 ) -> Result<(), OutOfMemory> {
     let bytes = bytes_of(alloc, after_blanks(line, 1))?;
-    let rows = rows(alloc, &bytes)?;
-    let (version, first, count) = (rows.version(), rows.first_line(), rows.len());
+    let (version, first, count) = said(alloc, &bytes)?;
     writeln!(text, "{version:?}, first line {first}, rows {count}")?;
     Ok(())
+}
+
+fn said(alloc: Global, bytes: &[u8]) -> Result<(Result<u32, Form>, usize, usize), OutOfMemory> {
+    let rows = rows(alloc, bytes)?;
+    Ok((rows.version(), rows.first_line(), rows.len()))
 }
 
 /// The first fault of the row at a place, in version 1.
@@ -48,15 +60,23 @@ pub(crate) fn write_fault(
     line: &[u8],
 ) -> Result<(), OutOfMemory> {
     let bytes = bytes_of(alloc, after_blanks(line, 2))?;
-    let rows = rows(alloc, &bytes)?;
-    let place = number_of(word(line, 1)) as usize;
+    put_line(
+        text,
+        fault_in(alloc, &bytes, number_of(word(line, 1)) as usize)?,
+    )
+}
+
+fn fault_in(alloc: Global, bytes: &[u8], place: usize) -> Result<&'static [u8], OutOfMemory> {
+    let rows = rows(alloc, bytes)?;
+    fault_at(alloc, &rows, place)
+}
+
+fn fault_at(alloc: Global, rows: &RowList<'_>, place: usize) -> Result<&'static [u8], OutOfMemory> {
     if place >= rows.len() {
-        return put_line(text, b"no row");
+        return Ok(b"no row");
     }
-    match rows.line(alloc, 1, place)? {
-        Ok(_) => put_line(text, b"a line"),
-        Err(fault) => put_line(text, told(fault)),
-    }
+    let found = rows.line(alloc, 1, place)?;
+    Ok(told(&found))
 }
 
 /// A long text, with some bytes after its rows, of which several threads cut parts: how many rows
@@ -66,12 +86,18 @@ pub(crate) fn write_parts<R: AllocGlobal + Threads + Sync>(
     text: &mut String,
     line: &[u8],
 ) -> Result<(), OutOfMemory> {
-    let alloc = rt.alloc();
-    let bytes = long_text(alloc, after_blanks(line, 1))?;
-    let parts = rows_by_threads(rt, alloc, &bytes)?;
-    let (count, are_same) = (parts.len(), are_same(&rows(alloc, &bytes)?, &parts));
+    let bytes = long_text(rt.alloc(), after_blanks(line, 1))?;
+    let (count, are_same) = compared(rt, &bytes)?;
     writeln!(text, "{count} rows, the same {are_same}")?;
     Ok(())
+}
+
+fn compared<R: AllocGlobal + Threads + Sync>(
+    rt: &R,
+    bytes: &[u8],
+) -> Result<(usize, bool), OutOfMemory> {
+    let parts = rows_by_threads(rt, rt.alloc(), bytes)?;
+    Ok((parts.len(), are_same(&rows(rt.alloc(), bytes)?, &parts)))
 }
 
 // 60,000 rows, enough for two parts, with blank lines among them and some bytes after them.
@@ -80,7 +106,7 @@ fn long_text(alloc: Global, last: &[u8]) -> Result<Vec<u8>, OutOfMemory> {
     for _ in 0..30_000 {
         text.extend_from_slice(b"block,A,1000\n\r\nask,,S\n")?;
     }
-    text.extend_from_slice(&bytes_of(alloc, last)?)?;
+    push_bytes(&mut text, last)?;
     Ok(text)
 }
 
