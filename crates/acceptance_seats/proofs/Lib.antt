@@ -1,3 +1,3 @@
+pub mod Agreeing
 pub mod Keeping
-pub mod Repairs
 pub mod Starting

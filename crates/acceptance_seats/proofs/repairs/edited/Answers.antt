@@ -1,6 +1,6 @@
 use Rattle.plan_model.specs.Outcome.{EditsTo}
 use Rattle.plan_model.proofs.Adding.{gives_adds, edit_adds}
-use Rattle.acceptance_seats.proofs.Repairs.{kept_after}
+use Rattle.acceptance_seats.proofs.Agreeing.{kept_after}
 use Rattle.acceptance_seats.proofs.Starting.{zero_issued}
 use Rattle.acceptance_seats.proofs.repairs.edited.Goals as goal
 

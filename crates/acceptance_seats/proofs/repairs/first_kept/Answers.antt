@@ -1,7 +1,7 @@
 use Rattle.std.proofs.Common.{subst}
 use Rattle.std.specs.Prelude.{IfSome}
 use Rattle.plan_model.specs.Outcome.{IsNextReading}
-use Rattle.acceptance_seats.proofs.Repairs.{is_kept}
+use Rattle.acceptance_seats.proofs.Agreeing.{is_kept}
 use Rattle.acceptance_seats.proofs.repairs.first_kept.Goals as goal
 
 pub returns : goal.returns

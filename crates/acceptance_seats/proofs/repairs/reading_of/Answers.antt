@@ -3,7 +3,7 @@ use Rattle.std.specs.Prelude.{IfSome}
 use Rattle.rail_model.specs.declared.items.Section.{Section}
 use Rattle.rail_model.proofs.NameOrder.{same_name}
 use Rattle.plan_model.specs.Outcome.{IsNextReading}
-use Rattle.acceptance_seats.proofs.Repairs.{agrees}
+use Rattle.acceptance_seats.proofs.Agreeing.{agrees}
 use Rattle.acceptance_seats.proofs.repairs.reading_of.Goals as goal
 
 pub returns-then-eq : goal.returns-then-eq

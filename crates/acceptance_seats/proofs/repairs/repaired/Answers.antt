@@ -2,7 +2,7 @@ use Rattle.std.proofs.Common.{subst}
 use Rattle.std.specs.Prelude.{IfSome}
 use Rattle.plan_model.specs.Outcome.{IsNextReading}
 use Rattle.plan_repair.specs.Kept.{AgreesWith}
-use Rattle.acceptance_seats.proofs.Repairs.{is_kept}
+use Rattle.acceptance_seats.proofs.Agreeing.{is_kept}
 use Rattle.acceptance_seats.proofs.repairs.repaired.Goals as goal
 
 pub returns : goal.returns
