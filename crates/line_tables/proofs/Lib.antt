@@ -10,7 +10,6 @@ pub mod Legs
 pub mod Bits
 pub mod Repeats
 pub mod Meets
-pub mod FoundSignals
 pub mod Along
 pub mod Under
 pub mod Reaches

@@ -4,7 +4,6 @@ pub mod KeyCounts
 pub mod KeySet
 pub mod Links
 pub mod RouteSets
-pub mod RouteSignals
 pub mod References
 pub mod Inside
 pub mod Hops

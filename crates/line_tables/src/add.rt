@@ -13,11 +13,11 @@ ghost use Rattle.line_tables.specs.RouteSets.{SameSets, IsPutAt};
 use crate::LineTables;
 use crate::kept_route::KeptRoute;
 use crate::key_counts::KeyCounts;
-use crate::linked::{Linked, keys_of, put_linked, take_linked};
+use crate::key_set::repeats;
+use crate::linked::{Linked, blocks_of, keys_of, known_keys, put_linked, take_linked};
 use crate::named_table::NamedTable;
 use crate::route_sets::RouteSets;
-use crate::route_signals::{RouteSignals, route_signals};
-use rail_model::{Block, Connection, Named, OutOfMemory, Route, Rule, Run, Section, Signal};
+use rail_model::{Block, Connection, List, Named, OutOfMemory, Route, Rule, Run, Section, Signal};
 
 impl LineTables {
     pub(crate) fn add_block(&mut self, block: Block) -> Result<(), OutOfMemory>
@@ -47,18 +47,21 @@ impl LineTables {
             result self.old self.new }
     {
         self.blocks.learn_order();
-        let Some(found) = route_signals(self.alloc, &self.signals, &route.signals)? else {
+        let Some(signals) = known_keys(self.alloc, &self.signals, &route.signals)? else {
             return Ok(Err(Rule::Unknown));
         };
-        if found.twice {
+        let blocks = blocks_of(self.alloc, &self.signals, &signals)?;
+        if repeats(self.alloc, blocks.slice())? {
             return Ok(Err(Rule::Twice));
         }
+        let kept = KeptRoute::of(self.alloc, route)?;
         enter_route(
             &mut self.routes,
             &mut self.signal_uses,
             &mut self.route_sets,
-            KeptRoute::of(self.alloc, route)?,
-            found,
+            kept,
+            signals,
+            blocks.slice(),
         )?;
         Ok(Ok(()))
     }
@@ -105,18 +108,19 @@ fn enter_route(
     uses: &mut KeyCounts,
     sets: &mut RouteSets,
     route: KeptRoute,
-    found: RouteSignals,
+    signals: List<usize>,
+    blocks: &[usize],
 ) -> Result<usize, OutOfMemory>
     requires { is_named (λ e. e.1.item.name) routes.old route.name ≡ false }
     ensures put { IfOk result (λ key. routes.new ≡ with_item (λ e. e.1.item.name) routes.old
-        (key, record { item = route; refs = found.keys })) }
+        (key, record { item = route; refs = signals })) }
     ensures fresh { IfOk result (λ key. under routes.old key ≡ None) }
     ensures counted { OnOk result
-        ((k : ℕ) → count_of uses.new k ≡ count_of uses.old k + times k found.keys) }
+        ((k : ℕ) → count_of uses.new k ≡ count_of uses.old k + times k signals) }
     ensures signals { IfOk result
-        (λ key. IsPutAt (λ q. q) found.keys key sets.old.of_signals sets.new.of_signals) }
+        (λ key. IsPutAt (λ q. q) signals key sets.old.of_signals sets.new.of_signals) }
     ensures blocks { IfOk result
-        (λ key. IsPutAt (λ q. q) found.blocks key sets.old.of_blocks sets.new.of_blocks) }
+        (λ key. IsPutAt (λ q. q) blocks.now key sets.old.of_blocks sets.new.of_blocks) }
     ensures kept { OnErr result (routes.new ≡ routes.old) }
     ensures kept_counts { OnErr result (SameCounts uses.old uses.new) }
     ensures kept_signals { OnErr result (SameSets sets.old.of_signals sets.new.of_signals) }
@@ -124,12 +128,14 @@ fn enter_route(
     ensures table { OnOk result (IsTable (λ e. e.item.name) routes.old) }
 {
     let name = *route.name();
-    let key = put_linked(routes, uses, route, found.keys)?;
-    let signals = routes.get(key).refs.slice();
-    if sets.make_room(signals, found.blocks.slice(), key).is_err() {
+    let key = put_linked(routes, uses, route, signals)?;
+    if sets
+        .make_room(routes.get(key).refs.slice(), blocks, key)
+        .is_err()
+    {
         take_linked(routes, uses, &name);
         return Err(OutOfMemory);
     }
-    sets.put(signals, found.blocks.slice(), key);
+    sets.put(routes.get(key).refs.slice(), blocks, key);
     Ok(key)
 }

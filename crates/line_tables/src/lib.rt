@@ -39,7 +39,6 @@ mod path;
 mod remove;
 mod replace;
 mod route_sets;
-mod route_signals;
 mod rules;
 mod run_paths;
 
