@@ -49,7 +49,7 @@ class Checker:
 
     def run(self, words, data):
         try:
-            done = subprocess.run([self.program] + words, input=data, capture_output=True, timeout=120)
+            done = subprocess.run([self.program] + words, input=data, capture_output=True, timeout=1800)
         except (OSError, subprocess.TimeoutExpired) as why:
             return None, str(why), ""
         return done.returncode, done.stdout.decode("utf-8", "replace"), done.stderr.decode("utf-8", "replace")
