@@ -63,17 +63,23 @@ fn push_cause(text: &mut Vec<u8>, status: Status) -> Result<(), OutOfMemory> {
 pub(crate) fn push_written(text: &mut Vec<u8>, written: &[u8]) -> Result<(), OutOfMemory> {
     let lines = written.iter().filter(|byte| **byte == b'\n').count();
     if lines > MOST_LINES {
-        push(text, written.split_at(start_of_line(written, 1)).0)?;
-        push(text, b".. ")?;
-        push_number(text, lines as u64)?;
-        push(text, b" lines ..\n")?;
-        return push(text, written.split_at(start_of_line(written, lines - 2)).1);
+        return push_long(text, written, lines);
     }
     push(text, written)?;
     match written.last() {
         None | Some(b'\n') => Ok(()),
         Some(_) => push(text, b"\\\n"),
     }
+}
+
+fn push_long(text: &mut Vec<u8>, written: &[u8], lines: usize) -> Result<(), OutOfMemory> {
+    let first = start_of_line(written, 1).min(written.len());
+    let last = start_of_line(written, lines.saturating_sub(2)).min(written.len());
+    push(text, &written[..first])?;
+    push(text, b".. ")?;
+    push_number(text, lines as u64)?;
+    push(text, b" lines ..\n")?;
+    push(text, &written[last..])
 }
 
 // Where the line after so many line ends starts.
