@@ -8,7 +8,7 @@ use crate::printing::{push, push_number};
 use line_tables::LineTables;
 use plan_book::Book;
 use plan_model::{Asked, Board, Scripts};
-use rail_model::{Edit, Name, OutOfMemory};
+use rail_model::{Edit, Name, OutOfMemory, Rule};
 use rail_outside::Gate;
 use section_worker::{Turned, Worker};
 use small_lines::{FIRST_RUN, LINE, REST, joined, tables_of};
@@ -40,7 +40,13 @@ pub(crate) fn edited<R: Wait, B: Board>(
     ensures { OnOk result (Calls (B.access board.old).pass (B.access board.old).numbers
         (B.access board.old).seen (B.access board.new).seen) }
 {
-    match board.edit(rt, edit)? {
+    let answer = board.edit(rt, edit)?;
+    push_edited(text, answer)?;
+    Ok(())
+}
+
+fn push_edited(text: &mut Vec<u8>, answer: Result<u64, Rule>) -> Result<(), OutOfMemory> {
+    match answer {
         Ok(at) => push_number(text, b"edited,", at),
         Err(_) => push(text, b"refused"),
     }

@@ -1,6 +1,6 @@
 //! Drawn edits of one section, after each of which the repair is held against the answer from
 //! scratch.
-ghost use Rattle.std.specs.Prelude.{IfOk, IfSome, OnOk};
+ghost use Rattle.std.specs.Prelude.{◌≡◌, IfOk, IfSome, OnOk};
 ghost use Rattle.acceptance_seats.specs.Kept.{IsKept};
 
 use crate::printing::{push, push_number};
@@ -125,7 +125,7 @@ fn held_against(alloc: Global, book: &mut Book, first: u64) -> Result<Found, Out
         return Ok(found);
     };
     let mut number = first;
-    for _ in 0..EDITS {
+    for _edit in 0..EDITS {
         number = next_number(number);
         let Some(next) = held_once(alloc, book, keep, number, &mut found)? else {
             return Ok(found);

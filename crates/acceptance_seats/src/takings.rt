@@ -1,4 +1,7 @@
 //! How many uses the turns of a worker take.
+ghost use Rattle.std.specs.Prelude.{◌≡◌, ◌<◌};
+ghost use Rattle.plan_model.specs.Journal.{issued};
+
 use crate::boards::{edited, opened, turned};
 use crate::printing::{number_of, parts_of, push};
 use plan_book::{Alone, Book};
