@@ -1,6 +1,5 @@
 //! What edits make of a section's cut.
-ghost use Rattle.std.specs.Prelude.{◌≡◌, IfOk, OnOk, option_map};
-ghost use Rattle.rail_model.specs.Edits as edits;
+ghost use Rattle.std.specs.Prelude.{◌≡◌, IfOk, option_map};
 ghost use Rattle.plan_model.specs.Cut.{stamped};
 ghost use Rattle.plan_model.specs.SectionCut.{cut_of};
 
@@ -11,9 +10,6 @@ use rail_model::{Name, OutOfMemory};
 use section_cut::{cut_change, cut_of};
 use small_lines::{edit_of_row, halves, put, put_line, tables_of_rows};
 use std::alloc::Global;
-
-// The number before the first edit.
-const FIRST: u64 = 8;
 
 /// The section S of the line that the rows before `--` make: its rows are stamped 8 before all. For
 /// each edit after them, with the numbers from 9 on, whether it touches the section, and the
@@ -29,7 +25,7 @@ pub(crate) fn write_changes(
     };
     match tables_of_rows(alloc, before)? {
         Some(mut tables) => {
-            let mut cut = cut_of(alloc, &tables, &name, FIRST)?;
+            let mut cut = cut_of(alloc, &tables, &name, 8)?;
             write_edits(alloc, text, &mut tables, &mut cut, &name, edits)
         }
         None => put_line(text, b"no tables"),
@@ -46,7 +42,7 @@ fn write_edits(
 ) -> Result<(), OutOfMemory>
     requires { cut_of tables.old name.now ≡ option_map (stamped 0) cut.old }
 {
-    let mut number = FIRST;
+    let mut number = 8u64;
     for row in edits.split(|byte: &u8| -> bool { *byte == b'\n' }) {
         if !row.is_empty() {
             number = number.saturating_add(1);

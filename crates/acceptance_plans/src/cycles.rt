@@ -1,7 +1,8 @@
 //! Cycle times as text.
 ghost use Rattle.std.specs.Prelude.{◌≤◌};
-ghost use Rattle.plan_model.specs.Cut.{IsSoundCut, member_count};
 ghost use Rattle.plan_model.specs.declared.limits.TheConstants.{MEMBERS};
+ghost use Rattle.plan_model.specs.Cut.{IsSoundCut};
+ghost use Rattle.plan_model.specs.Members.{member_count};
 
 use cycle_time::{cycle, cycle_rows};
 use plan_model::{Cut, MEMBERS};

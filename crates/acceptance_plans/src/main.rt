@@ -140,7 +140,7 @@ fn write_of(
         Case::Edits => line_edits::write_edits(alloc, text, rows),
         Case::LookUps => line_edits::write_look_ups(alloc, text, line, rows),
         Case::Blockings => blockings::write_blockings(alloc, text, rows),
-        Case::Reach => blockings::write_reach(alloc, text, line, rows),
+        Case::Reach => blockings::write_reach(alloc, text, line),
         Case::Cut => cuts::write_cut(alloc, text, line, rows),
         Case::CutAmong => cuts::write_cut_among(alloc, text, rows),
         Case::Changes => changes::write_changes(alloc, text, rows),

@@ -2,5 +2,5 @@ use Rattle.section_cut.proofs.Anew.{value_of}
 use Rattle.acceptance_plans.proofs.changes.write_changes.Goals as goal
 
 pub write_edits-requires : goal.write_edits-requires
-write_edits-requires g c =
-    value_of c.in-Some.tables c.in_ok-name.name 8 c.in_ok-cut.cut c.in_ok-cut.ensures.same
+write_edits-requires c =
+    value_of c.in-Some.tables c.in-Ok.name 8 c.in_ok-cut.cut c.in_ok-cut.ensures.same

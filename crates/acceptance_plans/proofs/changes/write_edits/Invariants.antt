@@ -6,4 +6,4 @@ use Rattle.acceptance_plans.proofs.changes.write_edits.Given as goal
 
 -- the cut is that of the tables
 abbrev pub invariant-loop-row : goal.invariant-loop-row
-invariant-loop-row g l = cut_of l.tables l.name ≡ option_map (stamped 0) l.cut
+invariant-loop-row l = cut_of l.tables l.name ≡ option_map (stamped 0) l.cut
