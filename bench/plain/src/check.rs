@@ -1,0 +1,56 @@
+//! The command `check`: the conflicts of the timetable on its blocks.
+
+use crate::stairs::Way;
+use crate::tables::Line;
+use crate::text::Text;
+
+const MOST_LISTED: u64 = 10_000;
+
+struct Blocking {
+    start: i32,
+    end: i32,
+    /// The place of the run in the order of names.
+    rank: u32,
+}
+
+pub fn check(line: &Line) -> Text {
+    let runs = line.runs.by_name();
+    let mut by_block: Vec<Vec<Blocking>> = line.blocks.names().iter().map(|_| Vec::new()).collect();
+    for (rank, way) in ways_by_start(line, &runs) {
+        for each in way.uses {
+            by_block[each.place as usize].push(Blocking { start: each.start, end: each.end, rank });
+        }
+    }
+    let mut text = Text::default();
+    let (mut listed, mut more) = (0, 0);
+    for block in line.blocks.by_name() {
+        let blockings = &mut by_block[block as usize];
+        if !blockings.is_sorted_by_key(|blocking| (blocking.start, blocking.rank)) {
+            blockings.sort_unstable_by_key(|blocking| (blocking.start, blocking.rank));
+        }
+        for (at, one) in blockings.iter().enumerate() {
+            for other in blockings[at + 1..].iter().take_while(|other| other.start < one.end) {
+                if listed == MOST_LISTED {
+                    more += 1;
+                    continue;
+                }
+                listed += 1;
+                text.row("conflict").name(line.blocks.name(block));
+                for run in [one, other] {
+                    text.name(line.runs.name(runs[run.rank as usize]));
+                }
+                text.number(other.start.into()).number(one.end.min(other.end).into()).end();
+            }
+        }
+    }
+    text.row("conflicts").number(listed as i64).number(more).end();
+    text
+}
+
+/// The runs' ranks and ways in the order in which they start, so that the blockings of a block are
+/// nearly in order already.
+fn ways_by_start<'a>(line: &'a Line, runs: &'a [u32]) -> impl Iterator<Item = (u32, Way)> + 'a {
+    let mut ranks: Vec<u32> = (0..runs.len() as u32).collect();
+    ranks.sort_unstable_by_key(|&rank| (line.runs.item(runs[rank as usize]).start, rank));
+    ranks.into_iter().map(|rank| (rank, Way::of(line, line.runs.item(runs[rank as usize]))))
+}

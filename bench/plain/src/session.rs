@@ -1,0 +1,393 @@
+//! The command `session`: planners edit the timetable and ask, workers answer, and the journal
+//! tells it.
+
+use crate::answer::{Answer, Reading};
+use crate::compress::{crowded, head, write_total, write_trains, Head};
+use crate::cut::{Cut, Traffic};
+use crate::input::{Edit, Input, Row, Task};
+use crate::stairs::Way;
+use crate::tables::{Change, Line, Name};
+use crate::text::Text;
+use indexmap::IndexMap;
+use std::sync::{Arc, Condvar, Mutex, MutexGuard};
+
+/// A session that is over.
+pub struct Session {
+    pub journal: Text,
+    /// The heads of the answers in the end, in the order of the sections' names.
+    pub heads: Vec<Head>,
+    /// The number of the last edit.
+    pub at: u64,
+}
+
+impl Session {
+    /// The journal, and the report of the timetable as it is in the end.
+    pub fn text(self) -> Text {
+        let mut text = self.journal;
+        for head in &self.heads {
+            text.bytes.extend_from_slice(&head.rows);
+        }
+        write_total(&mut text, self.heads.iter());
+        text
+    }
+}
+
+pub fn session(input: Input, workers: usize) -> Session {
+    let scripts = input.scripts;
+    let mut book = Book::open(input.line, input.edits, scripts.len());
+    if workers == 0 {
+        for (script, planner) in scripts.iter().zip(1..) {
+            for task in script {
+                book.publish_all();
+                book.do_task(planner, task);
+            }
+        }
+        book.publish_all();
+        return book.close();
+    }
+    for pass in 1..=scripts.len() + workers {
+        book.journal.row("entered").number(pass as i64).end();
+    }
+    let desk = Desk { book: Mutex::new(book), changed: Condvar::new() };
+    std::thread::scope(|threads| {
+        for (script, planner) in scripts.iter().zip(1..) {
+            let desk = &desk;
+            threads.spawn(move || desk.plan(planner, script));
+        }
+        for _ in 0..workers {
+            threads.spawn(|| desk.work());
+        }
+    });
+    desk.book.into_inner().expect("no thread panics").close()
+}
+
+/// The book, where one thread at a time looks into it.
+struct Desk {
+    book: Mutex<Book>,
+    changed: Condvar,
+}
+
+impl Desk {
+    fn take(&self) -> MutexGuard<'_, Book> {
+        self.book.lock().expect("no thread panics")
+    }
+
+    fn plan(&self, planner: i64, script: &[Task]) {
+        for task in script {
+            self.take().do_task(planner, task);
+            self.changed.notify_all();
+        }
+        self.take().planning -= 1;
+        self.changed.notify_all();
+    }
+
+    /// Answers the first section that isn't current and that no other worker has in hand, until
+    /// there is none and the planners are done. Answers are worked out while others have the book.
+    fn work(&self) {
+        let mut book = self.take();
+        loop {
+            if let Some(section) = book.first_open() {
+                let work = book.take_up(section);
+                drop(book);
+                let done = work.done();
+                book = self.take();
+                book.publish(done);
+                self.changed.notify_all();
+            } else if book.planning == 0 {
+                return;
+            } else {
+                book = self.changed.wait(book).expect("no thread panics");
+            }
+        }
+    }
+}
+
+/// What the journal says of the sections of one name. It outlives the section.
+#[derive(Default)]
+struct Standing {
+    published: Option<u64>,
+    touched: u64,
+}
+
+impl Standing {
+    fn is_current(&self) -> bool {
+        self.published.is_some_and(|published| published >= self.touched)
+    }
+}
+
+/// A section of the book.
+struct Shelf {
+    cut: Cut,
+    places: Arc<Vec<Name>>,
+    /// The edit that put or changed the section.
+    since: u64,
+    in_hand: bool,
+    /// The last answer that was worked out, to be mended, and the head of the last one published.
+    answer: Option<Box<Answer>>,
+    head: Option<Head>,
+}
+
+struct Book {
+    line: Line,
+    traffic: Traffic,
+    /// By the sections' numbers.
+    shelves: Vec<Option<Shelf>>,
+    standings: IndexMap<Name, Standing>,
+    at: u64,
+    /// How many planners aren't done.
+    planning: usize,
+    journal: Text,
+}
+
+impl Book {
+    fn open(line: Line, at: u64, planners: usize) -> Book {
+        let traffic = Traffic::of(&line);
+        let shelf = |section| line.sections.get(section).map(|_| Shelf::of(&line, &traffic, section, at));
+        let shelves = (0..line.sections.room() as u32).map(shelf).collect();
+        let sections = line.sections.by_name();
+        let standing = |&section: &u32| (line.sections.name(section).clone(), Standing::default());
+        let standings = sections.iter().map(standing).collect();
+        let mut journal = Text::default();
+        journal.row("opened").number(at as i64).number(planners as i64).number(sections.len() as i64).end();
+        Book { line, traffic, shelves, standings, at, planning: planners, journal }
+    }
+
+    fn close(self) -> Session {
+        let head = |&section: &u32| self.shelf(section).head.clone().expect("each section is current in the end");
+        let heads = self.line.sections.by_name().iter().map(head).collect();
+        Session { journal: self.journal, heads, at: self.at }
+    }
+
+    fn shelf(&self, section: u32) -> &Shelf {
+        self.shelves[section as usize].as_ref().expect("each section has its shelf")
+    }
+
+    fn do_task(&mut self, planner: i64, task: &Task) {
+        match task.row() {
+            Row::Ask(name) => self.ask(planner, name),
+            Row::Edit(edit) => self.edit(planner, edit),
+            Row::Planner(_) => unreachable!("a row of a planner is no task"),
+        }
+    }
+
+    fn ask(&mut self, planner: i64, name: &[u8]) {
+        let reply = self.journal.row("asked").number(planner).name(name);
+        if self.line.sections.find(name).is_none() {
+            return reply.word("unknown").end();
+        }
+        match self.standings[name] {
+            Standing { published: None, .. } => reply.word("not-yet").end(),
+            Standing { published: Some(at), touched } if touched > at => {
+                reply.word("stale").number(at as i64).number(touched as i64).end();
+            }
+            Standing { published: Some(at), .. } => reply.word("ready").number(at as i64).end(),
+        }
+    }
+
+    fn edit(&mut self, planner: i64, edit: Edit) {
+        let mut row = Text::default();
+        edit.write(&mut row);
+        match self.line.apply(edit) {
+            Err(cause) => {
+                self.journal.row("rejected").number(planner).word(cause.word()).append(&row);
+            }
+            Ok(change) => {
+                self.at += 1;
+                self.journal.row("edited").number(planner).number(self.at as i64).append(&row);
+                self.follow(&change);
+            }
+        }
+    }
+
+    /// Brings the cuts up to an edit.
+    fn follow(&mut self, change: &Change) {
+        match change {
+            Change::Section(section) => self.follow_section(*section),
+            Change::Connect(runs) => {
+                self.traffic.links = Traffic::links_of(&self.line);
+                for shelf in self.shelves.iter_mut().flatten() {
+                    shelf.places = Arc::new(shelf.cut.place_names(&self.line));
+                }
+                self.refresh(runs, |_| true);
+            }
+            Change::Run(run) => {
+                self.traffic.ways.resize_with(self.line.runs.room(), Way::default);
+                self.traffic.links.resize(self.line.runs.room(), Vec::new());
+                let blocks = self.walk_again(&[*run]);
+                // A connection of the run may bind otherwise where no blocking has changed.
+                let linked = !self.traffic.links[*run as usize].is_empty();
+                self.refresh(&[*run], |cut| linked || cut.has_any(&blocks));
+            }
+            Change::Block(_) | Change::Signal(_) | Change::Route(_) => {
+                let line = &self.line;
+                let runs: Vec<u32> = line.runs.numbers().filter(|&run| line.depends(run, change)).collect();
+                let blocks = self.walk_again(&runs);
+                self.refresh(&runs, |cut| cut.has_any(&blocks));
+            }
+        }
+    }
+
+    /// Makes the ways of these runs anew; gives on which blocks they differ.
+    fn walk_again(&mut self, runs: &[u32]) -> Vec<bool> {
+        let mut differ = vec![false; self.line.blocks.room()];
+        for &run in runs {
+            let new = self.line.runs.get(run).map_or_else(Way::default, |run| Way::of(&self.line, run));
+            let old = std::mem::replace(&mut self.traffic.ways[run as usize], new);
+            let new = &self.traffic.ways[run as usize];
+            let common = old.uses.len().min(new.uses.len());
+            for at in 0..common {
+                if old.uses[at] != new.uses[at] {
+                    differ[old.uses[at].place as usize] = true;
+                    differ[new.uses[at].place as usize] = true;
+                }
+            }
+            for each in old.uses[common..].iter().chain(&new.uses[common..]) {
+                differ[each.place as usize] = true;
+            }
+        }
+        differ
+    }
+
+    /// Brings the members of these runs up to date in the cuts that may have changed.
+    fn refresh(&mut self, runs: &[u32], may_differ: impl Fn(&Cut) -> bool) {
+        for shelf in self.shelves.iter_mut().flatten() {
+            if may_differ(&shelf.cut) && shelf.cut.refresh(&self.line, &self.traffic, runs) {
+                self.standings[&shelf.cut.name].touched = self.at;
+            }
+        }
+    }
+
+    fn follow_section(&mut self, section: u32) {
+        self.shelves.resize_with(self.line.sections.room(), || None);
+        let old = self.shelves[section as usize].take();
+        let there = self.line.sections.get(section).is_some();
+        let mut new = there.then(|| Shelf::of(&self.line, &self.traffic, section, self.at));
+        let same = matches!((&old, &new), (Some(old), Some(new)) if old.cut.same(&new.cut));
+        if let (Some(old), Some(new), true) = (old, &mut new, same) {
+            new.head = old.head;
+        }
+        self.shelves[section as usize] = new;
+        if !same {
+            let name = self.line.sections.name(section).clone();
+            self.standings.entry(name).or_default().touched = self.at;
+        }
+    }
+
+    /// The sections that aren't current, in the order of names.
+    fn open_sections(&self) -> impl Iterator<Item = u32> + '_ {
+        let open = |section: &u32| {
+            let shelf = self.shelf(*section);
+            !shelf.in_hand && !self.standings[&shelf.cut.name].is_current()
+        };
+        self.line.sections.by_name().into_iter().filter(open)
+    }
+
+    fn first_open(&self) -> Option<u32> {
+        self.open_sections().next()
+    }
+
+    /// Reads a section, to work its answer out.
+    fn take_up(&mut self, section: u32) -> Work {
+        let shelf = self.shelves[section as usize].as_mut().expect("the section is there");
+        shelf.in_hand = true;
+        let cut = &shelf.cut;
+        let task = if cut.is_crowded() {
+            shelf.answer = None;
+            WorkOn::Crowd(crowded(cut))
+        } else {
+            WorkOn::Trains(shelf.reading(), shelf.answer.take())
+        };
+        Work { section, at: self.at, since: shelf.since, task }
+    }
+
+    /// Publishes an answer, if no edit has touched its section since it was read.
+    fn publish(&mut self, done: Done) {
+        let Some(shelf) = self.shelves[done.section as usize].as_mut() else { return };
+        if shelf.since != done.since {
+            return;
+        }
+        shelf.in_hand = false;
+        shelf.answer = done.answer;
+        let standing = &mut self.standings[&shelf.cut.name];
+        if standing.touched <= done.at {
+            standing.published = Some(done.at);
+            self.journal.row("published").name(&shelf.cut.name).number(done.at as i64).end();
+            self.journal.bytes.extend_from_slice(&done.head.rows);
+            self.journal.append(&done.trains);
+            shelf.head = Some(done.head);
+        }
+    }
+
+    fn publish_all(&mut self) {
+        let open: Vec<u32> = self.open_sections().collect();
+        for section in open {
+            let done = self.take_up(section).done();
+            self.publish(done);
+        }
+    }
+}
+
+impl Shelf {
+    fn of(line: &Line, traffic: &Traffic, section: u32, since: u64) -> Shelf {
+        let cut = Cut::of(line, traffic, section);
+        let places = Arc::new(cut.place_names(line));
+        Shelf { cut, places, since, in_hand: false, answer: None, head: None }
+    }
+
+    fn reading(&self) -> Reading {
+        let cut = &self.cut;
+        Reading {
+            name: cut.name.clone(),
+            from: cut.from,
+            to: cut.to,
+            rate: cut.rate,
+            places: self.places.clone(),
+            blocks: cut.blocks.len(),
+            members: cut.members.clone(),
+        }
+    }
+}
+
+/// A section whose answer is to be worked out, and its answer.
+struct Work {
+    section: u32,
+    at: u64,
+    since: u64,
+    task: WorkOn,
+}
+
+enum WorkOn {
+    Crowd(Head),
+    Trains(Reading, Option<Box<Answer>>),
+}
+
+struct Done {
+    section: u32,
+    at: u64,
+    since: u64,
+    head: Head,
+    trains: Text,
+    answer: Option<Box<Answer>>,
+}
+
+impl Work {
+    fn done(self) -> Done {
+        let Work { section, at, since, task } = self;
+        let mut trains = Text::default();
+        let (head, answer) = match task {
+            WorkOn::Crowd(head) => (head, None),
+            WorkOn::Trains(reading, old) => {
+                let answer = match old {
+                    Some(mut answer) => {
+                        answer.mend(reading);
+                        answer
+                    }
+                    None => Box::new(Answer::compressed(reading)),
+                };
+                write_trains(&mut trains, &answer);
+                (head(&answer), Some(answer))
+            }
+        };
+        Done { section, at, since, head, trains, answer }
+    }
+}

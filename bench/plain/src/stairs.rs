@@ -1,0 +1,172 @@
+//! Blocking times: the walk along each path, and the command `stairs`.
+
+use crate::tables::{Line, Run};
+use crate::text::Text;
+
+/// What a run blocks of one block, with the six parts of its blocking.
+pub struct Hop {
+    pub block: u32,
+    pub start: i32,
+    pub end: i32,
+    pub form: i32,
+    pub watch: i32,
+    pub approach: i32,
+    pub running: i32,
+    pub clearing: i32,
+    pub release: i32,
+}
+
+/// A block and when it is kept. In a cut `place` counts the section's blocks.
+#[derive(Clone, Copy, PartialEq, Eq)]
+pub struct Use {
+    pub place: u32,
+    pub start: i32,
+    pub end: i32,
+}
+
+/// The blockings of a run along its path.
+#[derive(Default)]
+pub struct Way {
+    pub uses: Vec<Use>,
+    /// The least and the greatest start of them.
+    pub first: i32,
+    pub last: i32,
+    /// When the run starts, and when it arrives at the path's end.
+    pub start: i32,
+    pub arrival: i32,
+}
+
+/// The head's motion: where each block ends, and when the head departs from there. The first place
+/// is the path's start.
+struct Motion<'a> {
+    run: &'a Run,
+    places: [u32; 257],
+    departures: [i32; 257],
+}
+
+impl<'a> Motion<'a> {
+    fn of(line: &Line, run: &'a Run) -> Motion<'a> {
+        let mut motion = Motion { run, places: [0; 257], departures: [0; 257] };
+        let (mut place, mut moment) = (0, run.start);
+        motion.departures[0] = moment as i32;
+        let signals = &line.routes.item(run.route).signals;
+        for (k, (&signal, leg)) in signals.iter().zip(&run.legs).enumerate() {
+            place += line.blocks.item(line.signals.item(signal).block).length;
+            moment += leg.running + leg.dwell;
+            motion.places[k + 1] = place;
+            motion.departures[k + 1] = moment as i32;
+        }
+        motion
+    }
+
+    fn arrival(&self) -> i32 {
+        self.departures[self.run.legs.len()]
+    }
+
+    /// How long the head takes from the start of block `k` to a place in it, and the rest of the
+    /// division that is rounded down.
+    fn share(&self, k: usize, place: u32) -> (i32, bool) {
+        let way = u64::from(place - self.places[k]);
+        let length = u64::from(self.places[k + 1] - self.places[k]);
+        let product = u64::from(self.run.legs[k].running) * way;
+        ((product / length) as i32, product % length > 0)
+    }
+
+    /// When the head comes to the approach point of block `k`, or departs from its last stop there
+    /// or beyond.
+    fn approach_moment(&self, k: usize, approach: u32) -> i32 {
+        let point = self.places[k].saturating_sub(approach);
+        let mut at = k;
+        while self.places[at] > point {
+            if self.run.legs[at - 1].dwell > 0 {
+                return self.departures[at];
+            }
+            at -= 1;
+        }
+        if self.places[at] == point {
+            return self.departures[at];
+        }
+        self.departures[at] + self.share(at, point).0
+    }
+
+    /// When the rear has left block `k` and its overlap.
+    fn clearing_moment(&self, k: usize, overlap: u32) -> i32 {
+        let place = self.places[k + 1] + overlap + self.run.length;
+        let mut at = k + 1;
+        while at < self.run.legs.len() {
+            if place <= self.places[at + 1] {
+                let (whole, more) = self.share(at, place);
+                return self.departures[at] + whole + i32::from(more);
+            }
+            at += 1;
+        }
+        self.arrival() + self.run.tail as i32
+    }
+}
+
+/// Walks along a run's path, and hands on each of its hops; gives the last arrival.
+#[inline(always)]
+fn walk(line: &Line, run: &Run, mut hand_on: impl FnMut(Hop)) -> i32 {
+    let motion = Motion::of(line, run);
+    for (k, &signal) in line.routes.item(run.route).signals.iter().enumerate() {
+        let signal = line.signals.item(signal);
+        let seen = motion.approach_moment(k, signal.approach);
+        let cleared = motion.clearing_moment(k, signal.overlap);
+        let (form, watch, release) = (signal.form as i32, signal.watch as i32, signal.release as i32);
+        hand_on(Hop {
+            block: signal.block,
+            start: seen - watch - form,
+            end: cleared + release,
+            form,
+            watch,
+            approach: motion.departures[k] - seen,
+            running: motion.departures[k + 1] - motion.departures[k],
+            clearing: cleared - motion.departures[k + 1],
+            release,
+        });
+    }
+    motion.arrival()
+}
+
+impl Way {
+    pub fn of(line: &Line, run: &Run) -> Way {
+        let mut uses = Vec::with_capacity(run.legs.len());
+        let (mut first, mut last) = (i32::MAX, i32::MIN);
+        let arrival = walk(line, run, |hop| {
+            first = first.min(hop.start);
+            last = last.max(hop.start);
+            uses.push(Use { place: hop.block, start: hop.start, end: hop.end });
+        });
+        Way { uses, first, last, start: run.start as i32, arrival }
+    }
+
+    /// The ways of all runs, by their numbers; an empty one where there is no run.
+    pub fn all(line: &Line) -> Vec<Way> {
+        let way = |run| line.runs.get(run).map_or_else(Way::default, |run| Way::of(line, run));
+        (0..line.runs.room() as u32).map(way).collect()
+    }
+}
+
+pub fn stairs(line: &Line) -> Text {
+    let mut text = Text::default();
+    let fields: Vec<Text> = line.blocks.names().iter().map(|name| field(name)).collect();
+    for number in line.runs.by_name() {
+        let name = field(line.runs.name(number));
+        walk(line, line.runs.item(number), |hop| {
+            text.row("use");
+            text.append(&name);
+            text.append(&fields[hop.block as usize]);
+            for part in [hop.start, hop.end, hop.form, hop.watch, hop.approach, hop.running, hop.clearing, hop.release] {
+                text.number(part.into());
+            }
+            text.end();
+        });
+    }
+    text
+}
+
+fn field(name: &[u8]) -> Text {
+    let mut text = Text::default();
+    text.name(name);
+    text
+}
