@@ -4,45 +4,9 @@
 //! At each place the uses are kept in order. A use is never empty, so a train that comes after its
 //! neighbour comes after all before it too, and the neighbours alone are looked at.
 
-use crate::cut::{Cut, Member};
+use crate::cut::{Cut, FIRST_BLOCK};
 use crate::stairs::Use;
-use crate::tables::{Line, Name};
 use std::sync::Arc;
-
-/// A section's cut at one moment. Trains are the places of its members in the order of names.
-#[derive(Clone)]
-pub struct Reading {
-    pub name: Name,
-    pub from: i32,
-    pub to: i32,
-    pub rate: u32,
-    /// The names of the places, and how many of them are blocks: the others are connections.
-    pub places: Arc<Vec<Name>>,
-    pub blocks: usize,
-    pub members: Vec<Arc<Member>>,
-}
-
-impl Reading {
-    pub fn of(cut: &Cut, line: &Line) -> Reading {
-        Reading {
-            name: cut.name.clone(),
-            from: cut.from,
-            to: cut.to,
-            rate: cut.rate,
-            places: Arc::new(cut.place_names(line)),
-            blocks: cut.blocks.len(),
-            members: cut.members.clone(),
-        }
-    }
-
-    pub fn train(&self, train: u32) -> &Name {
-        &self.members[train as usize].name
-    }
-
-    pub fn place(&self, place: u32) -> &Name {
-        &self.places[place as usize]
-    }
-}
 
 /// A use in the list of its place.
 #[derive(Clone, Copy)]
@@ -80,7 +44,7 @@ pub struct Busiest {
 }
 
 pub struct Answer {
-    pub reading: Reading,
+    pub cut: Cut,
     /// The uses of each place, by their starts and then by the names of the trains.
     pub lists: Vec<Vec<Spot>>,
     /// The least shift of each train from its planned entry.
@@ -90,98 +54,77 @@ pub struct Answer {
     pub ties: Vec<Option<Tie>>,
     /// Trains, each after all that precede it; not all where they have no order.
     order: Vec<u32>,
-    ranks: Vec<u32>,
+    /// The place of each train in this order.
+    pub ranks: Vec<u32>,
 }
 
 /// No use ends as early as this.
 const NEVER: i64 = i64::MIN / 4;
-const GONE: u32 = u32::MAX;
 
 impl Answer {
     /// The compressed timetable: no train enters before the window.
-    pub fn compressed(reading: Reading) -> Answer {
-        let floors = floors_of(&reading);
-        Answer::above(reading, floors)
+    pub fn compressed(cut: Cut) -> Answer {
+        let floors = floors_of(&cut);
+        Answer::above(cut, floors)
     }
 
     /// The least schedule in which no train has a lesser shift than its floor.
-    pub fn above(reading: Reading, floors: Vec<i64>) -> Answer {
-        let mut answer = Answer {
-            reading,
-            lists: Vec::new(),
-            floors,
-            shifts: Vec::new(),
-            ties: Vec::new(),
-            order: Vec::new(),
-            ranks: Vec::new(),
-        };
-        answer.lay_out();
+    pub fn above(cut: Cut, floors: Vec<i64>) -> Answer {
+        let (lists, shifts, ties) = (lay_out(&cut), Vec::new(), Vec::new());
+        let mut answer = Answer { cut, lists, floors, shifts, ties, order: Vec::new(), ranks: Vec::new() };
         answer.solve();
         answer
     }
 
     pub fn is_ordered(&self) -> bool {
-        self.order.len() == self.reading.members.len()
+        self.order.len() == self.cut.members.len()
     }
 
-    pub fn order(&self) -> &[u32] {
-        &self.order
-    }
-
-    pub fn floors(&self) -> &[i64] {
-        &self.floors
+    /// The least shift that a train may have.
+    pub fn floor(&self, train: usize) -> i64 {
+        self.floors[train]
     }
 
     /// When a train enters.
     pub fn entry(&self, train: usize) -> i64 {
-        i64::from(self.reading.members[train].entry) + self.shifts[train]
-    }
-
-    /// Lays the uses out by place, in the order of the trains' entries, in which most lists are
-    /// nearly sorted at once.
-    fn lay_out(&mut self) {
-        let members = &self.reading.members;
-        let mut counts = vec![0usize; self.reading.places.len()];
-        for each in members.iter().flat_map(|member| &member.uses) {
-            counts[each.place as usize] += 1;
-        }
-        let mut lists: Vec<Vec<Spot>> = counts.into_iter().map(Vec::with_capacity).collect();
-        let mut trains: Vec<u32> = (0..members.len() as u32).collect();
-        trains.sort_unstable_by_key(|&train| (members[train as usize].entry, train));
-        for train in trains {
-            for each in &members[train as usize].uses {
-                lists[each.place as usize].push(Spot { start: each.start, end: each.end, train });
-            }
-        }
-        for list in &mut lists {
-            if !list.is_sorted_by_key(Spot::key) {
-                list.sort_unstable_by_key(Spot::key);
-            }
-        }
-        self.lists = lists;
+        i64::from(self.cut.members[train].entry) + self.shifts[train]
     }
 
     /// Takes the trains in order, each when it is the next at all its places.
     fn solve(&mut self) {
-        let members = &self.reading.members;
+        let members = &self.cut.members;
         self.shifts = vec![0; members.len()];
         self.ties = vec![None; members.len()];
         self.order.clear();
         let mut free = vec![NEVER; self.lists.len()];
-        let mut queue = Queue::new(&self.lists, members);
-        while let Some(train) = queue.ready.pop() {
+        // How many uses of each place are done, and of each train are not yet the next at their place.
+        let mut done = vec![0; self.lists.len()];
+        let mut waiting: Vec<usize> = members.iter().map(|member| member.uses.len()).collect();
+        let mut ready = Vec::new();
+        let mut reach = |spot: Option<&Spot>, ready: &mut Vec<u32>| {
+            if let Some(spot) = spot {
+                waiting[spot.train as usize] -= 1;
+                if waiting[spot.train as usize] == 0 {
+                    ready.push(spot.train);
+                }
+            }
+        };
+        self.lists.iter().for_each(|list| reach(list.first(), &mut ready));
+        while let Some(train) = ready.pop() {
             let uses = &members[train as usize].uses;
             let floor = self.floors[train as usize];
-            let shift = uses.iter().fold(floor, |shift, each| shift.max(free[each.place as usize] - i64::from(each.start)));
+            let held = |each: &Use| free[each.place as usize] - i64::from(each.start);
+            let shift = uses.iter().map(held).fold(floor, i64::max);
             let mut tie = None;
             for each in uses {
                 let place = each.place as usize;
+                let list = &self.lists[place];
                 if shift > floor && free[place] == i64::from(each.start) + shift {
-                    let before = self.lists[place][queue.heads[place] as usize - 1].train;
-                    tie = self.lesser_tie(tie, Tie { train: before, place: each.place });
+                    tie = self.cut.lesser_tie(tie, Tie { train: list[done[place] - 1].train, place: each.place });
                 }
                 free[place] = i64::from(each.end) + shift;
-                queue.leave(&self.lists, place);
+                done[place] += 1;
+                reach(list.get(done[place]), &mut ready);
             }
             self.shifts[train as usize] = shift;
             self.ties[train as usize] = tie;
@@ -191,38 +134,32 @@ impl Answer {
     }
 
     fn rank(&mut self) {
-        self.ranks.resize(self.reading.members.len(), 0);
+        self.ranks.resize(self.cut.members.len(), 0);
         for (rank, &train) in self.order.iter().enumerate() {
             self.ranks[train as usize] = rank as u32;
         }
     }
 
-    /// Of two ties the one with the first train, and of these that with the first place.
-    fn lesser_tie(&self, old: Option<Tie>, new: Tie) -> Option<Tie> {
-        match old {
-            Some(old) if old.train < new.train => Some(old),
-            Some(old) if old.train == new.train && self.reading.place(old.place) < self.reading.place(new.place) => Some(old),
-            _ => Some(new),
-        }
+    /// From when until when a place that is used is kept.
+    pub fn kept(&self, place: u32) -> (i64, i64) {
+        let list = &self.lists[place as usize];
+        let (first, last) = (list[0], list[list.len() - 1]);
+        let moved = |moment: i32, train: u32| i64::from(moment) + self.shifts[train as usize];
+        (moved(first.start, first.train), moved(last.end, last.train))
     }
 
     /// The block that is kept longest, where there is a train; of several the first by name.
     pub fn busiest(&self) -> Option<Busiest> {
-        let mut busiest: Option<Busiest> = None;
-        for (place, list) in self.lists[..self.reading.blocks].iter().enumerate() {
-            let (Some(first), Some(last)) = (list.first(), list.last()) else { continue };
-            let place = place as u32;
-            let until = i64::from(last.end) + self.shifts[last.train as usize];
-            let occupancy = until - i64::from(first.start) - self.shifts[first.train as usize];
-            let busier = busiest.as_ref().map_or(true, |old| {
-                occupancy > old.occupancy
-                    || occupancy == old.occupancy && self.reading.place(place) < self.reading.place(old.place)
-            });
-            if busier {
-                busiest = Some(Busiest { place, occupancy, last: last.train });
-            }
-        }
-        busiest
+        let used = (FIRST_BLOCK..self.lists.len() as u32).filter(|&place| !self.lists[place as usize].is_empty());
+        let kept = used.map(|place| {
+            let (from, until) = self.kept(place);
+            let last = self.lists[place as usize].last().map_or(0, |spot| spot.train);
+            Busiest { place, occupancy: until - from, last }
+        });
+        kept.max_by(|a, b| {
+            let names = || self.cut.place(b.place).cmp(self.cut.place(a.place));
+            a.occupancy.cmp(&b.occupancy).then_with(names)
+        })
     }
 
     /// The links that lead from a train back to one that is at its floor, the last one first.
@@ -237,7 +174,7 @@ impl Answer {
 
     /// Where the trains have no order.
     pub fn disorder(&self) -> Option<Disorder> {
-        let mut remaining = vec![true; self.reading.members.len()];
+        let mut remaining = vec![true; self.cut.members.len()];
         for &train in &self.order {
             remaining[train as usize] = false;
         }
@@ -254,8 +191,8 @@ impl Answer {
     fn opposite_of(&self, train: u32) -> Option<u32> {
         const BEFORE: u8 = 1;
         const AFTER: u8 = 2;
-        let mut sides = vec![0; self.reading.members.len()];
-        for each in &self.reading.members[train as usize].uses {
+        let mut sides = vec![0; self.cut.members.len()];
+        for each in &self.cut.members[train as usize].uses {
             let mut side = BEFORE;
             for spot in &self.lists[each.place as usize] {
                 if spot.train == train {
@@ -270,14 +207,14 @@ impl Answer {
 
     /// The first place by name at which one train precedes another.
     fn first_place(&self, first: u32, second: u32) -> u32 {
-        let uses = |train: u32| &self.reading.members[train as usize].uses;
+        let uses = |train: u32| &self.cut.members[train as usize].uses;
         let mut starts = vec![i32::MIN; self.lists.len()];
         for each in uses(second) {
             starts[each.place as usize] = each.start;
         }
         let precedes = |each: &&Use| (each.start, first) < (starts[each.place as usize], second);
         let places = uses(first).iter().filter(precedes).map(|each| each.place);
-        places.min_by_key(|&place| self.reading.place(place)).expect("the first precedes the second")
+        places.min_by_key(|&place| self.cut.place(place)).expect("the first precedes the second")
     }
 
     /// Goes from the least train to its least predecessor, again and again, until one comes again.
@@ -300,8 +237,8 @@ impl Answer {
     }
 
     fn least_before(&self, train: u32, remaining: &[bool]) -> u32 {
-        let mut least = GONE;
-        for each in &self.reading.members[train as usize].uses {
+        let mut least = u32::MAX;
+        for each in &self.cut.members[train as usize].uses {
             for spot in &self.lists[each.place as usize] {
                 if spot.train == train {
                     break;
@@ -314,28 +251,28 @@ impl Answer {
         least
     }
 
-    /// Mends the answer, so that it is that of another cut of the same places: only the trains whose
-    /// rows are others are laid out again, and only those that they reach get new shifts.
-    pub fn mend(&mut self, reading: Reading) {
-        let change = Difference::of(&self.reading, &reading);
-        let many = change.gone.len().max(change.come.len()) * 4 > reading.members.len();
-        if many || (self.reading.from, self.reading.blocks) != (reading.from, reading.blocks) {
-            *self = Answer::compressed(reading);
+    /// Mends the answer, so that it is that of another cut of the section: only the trains whose rows
+    /// are others are laid out again, and only those that they reach get new shifts. Where trains came
+    /// or went, all are numbered anew, and the answer is made from scratch.
+    pub fn mend(&mut self, cut: &Cut) {
+        let pairs = || self.cut.members.iter().zip(&cut.members);
+        let same_trains = self.cut.members.len() == cut.members.len()
+            && pairs().all(|(old, new)| Arc::ptr_eq(old, new) || old.name == new.name);
+        let differ = pairs().zip(0..).filter(|((old, new), _)| !Arc::ptr_eq(old, new));
+        let trains: Vec<u32> = differ.map(|(_, train)| train).collect();
+        if !same_trains || cut.from != self.cut.from || trains.len() * 4 > cut.members.len() {
+            *self = Answer::compressed(cut.clone());
             return;
         }
-        let was_ordered = self.is_ordered();
+        let mut orderly = self.is_ordered();
         let mut dirty = Vec::new();
-        for &train in &change.gone {
+        for &train in &trains {
             self.take_out(train, &mut dirty);
         }
-        if change.renumbers {
-            self.renumber(&change.numbers, reading.members.len(), &mut dirty);
-        }
-        self.reading = reading;
-        self.floors = floors_of(&self.reading);
-        self.lists.resize_with(self.reading.places.len(), Vec::new);
-        let mut orderly = was_ordered;
-        for &train in &change.come {
+        self.cut = cut.clone();
+        self.floors = floors_of(cut);
+        self.lists.resize_with(self.cut.places.len(), Vec::new);
+        for &train in &trains {
             let between = self.lay_in(train, &mut dirty);
             orderly = orderly && self.move_between(train, between);
         }
@@ -352,7 +289,7 @@ impl Answer {
 
     /// Takes a train's uses out of the lists; those that came after it have to be looked at again.
     fn take_out(&mut self, train: u32, dirty: &mut Vec<u32>) {
-        let member = self.reading.members[train as usize].clone();
+        let member = self.cut.members[train as usize].clone();
         for each in &member.uses {
             let at = self.find(each, train);
             let list = &mut self.lists[each.place as usize];
@@ -363,7 +300,7 @@ impl Answer {
 
     /// Puts a train's uses into the lists; gives between which ranks it has to stand.
     fn lay_in(&mut self, train: u32, dirty: &mut Vec<u32>) -> (i64, i64) {
-        let member = self.reading.members[train as usize].clone();
+        let member = self.cut.members[train as usize].clone();
         let (mut after, mut before) = (-1, i64::MAX);
         dirty.push(train);
         for each in &member.uses {
@@ -398,27 +335,6 @@ impl Answer {
         true
     }
 
-    /// Gives the trains their new numbers; new ones come last in the order, for they have no uses yet.
-    fn renumber(&mut self, numbers: &[u32], count: usize, dirty: &mut Vec<u32>) {
-        let number = |train: u32| numbers[train as usize];
-        for spot in self.lists.iter_mut().flatten() {
-            spot.train = number(spot.train);
-        }
-        let (mut shifts, mut ties, mut known) = (vec![0; count], vec![None; count], vec![false; count]);
-        for (train, &new) in numbers.iter().enumerate().filter(|(_, &new)| new != GONE) {
-            shifts[new as usize] = self.shifts[train];
-            ties[new as usize] = self.ties[train].map(|tie| Tie { train: number(tie.train), ..tie });
-            known[new as usize] = true;
-        }
-        (self.shifts, self.ties) = (shifts, ties);
-        let renumbered = self.order.iter().map(|&train| number(train)).filter(|&train| train != GONE);
-        let new = (0..count as u32).filter(|&train| !known[train as usize]);
-        self.order = renumbered.chain(new).collect();
-        dirty.iter_mut().for_each(|train| *train = number(*train));
-        dirty.retain(|&train| train != GONE);
-        self.rank();
-    }
-
     /// Works the shifts of these trains out again, in order, and of those that they then reach.
     fn settle(&mut self, dirty: &[u32]) {
         let mut waits = vec![false; self.order.len()];
@@ -436,7 +352,7 @@ impl Answer {
             let old = self.shifts[train as usize];
             let ats = self.resolve(train);
             if self.shifts[train as usize] != old {
-                for (each, at) in self.reading.members[train as usize].uses.iter().zip(ats) {
+                for (each, at) in self.cut.members[train as usize].uses.iter().zip(ats) {
                     if let Some(next) = self.lists[each.place as usize].get(at + 1) {
                         waits[self.ranks[next.train as usize] as usize] = true;
                     }
@@ -447,7 +363,7 @@ impl Answer {
 
     /// The shift and the tie of one train, out of those of its neighbours; gives where its uses stand.
     fn resolve(&mut self, train: u32) -> Vec<usize> {
-        let uses = &self.reading.members[train as usize].uses;
+        let uses = &self.cut.members[train as usize].uses;
         let floor = self.floors[train as usize];
         let mut shift = floor;
         let mut tie = None;
@@ -461,7 +377,7 @@ impl Answer {
                 (shift, tie) = (held, None);
             }
             if held == shift && held > floor {
-                tie = self.lesser_tie(tie, Tie { train: before.train, place: each.place });
+                tie = self.cut.lesser_tie(tie, Tie { train: before.train, place: each.place });
             }
         }
         self.shifts[train as usize] = shift;
@@ -470,8 +386,8 @@ impl Answer {
     }
 }
 
-fn floors_of(reading: &Reading) -> Vec<i64> {
-    reading.members.iter().map(|member| i64::from(reading.from) - i64::from(member.entry)).collect()
+fn floors_of(cut: &Cut) -> Vec<i64> {
+    cut.members.iter().map(|member| i64::from(cut.from) - i64::from(member.entry)).collect()
 }
 
 fn note(dirty: &mut Vec<u32>, spot: Option<&Spot>) {
@@ -483,76 +399,31 @@ fn note(dirty: &mut Vec<u32>, spot: Option<&Spot>) {
     }
 }
 
-/// Which uses come next at their places, and which trains are next at all of theirs.
-pub struct Queue {
-    pub heads: Vec<u32>,
-    waiting: Vec<u32>,
-    pub ready: Vec<u32>,
-}
-
-impl Queue {
-    fn new(lists: &[Vec<Spot>], members: &[Arc<Member>]) -> Queue {
-        let waiting = members.iter().map(|member| member.uses.len() as u32).collect();
-        let mut queue = Queue { heads: vec![0; lists.len()], waiting, ready: Vec::new() };
-        for list in lists {
-            queue.reach(list.first());
-        }
-        queue
-    }
-
-    fn leave(&mut self, lists: &[Vec<Spot>], place: usize) {
-        self.heads[place] += 1;
-        self.reach(lists[place].get(self.heads[place] as usize));
-    }
-
-    fn reach(&mut self, spot: Option<&Spot>) {
-        if let Some(spot) = spot {
-            let waiting = &mut self.waiting[spot.train as usize];
-            *waiting -= 1;
-            if *waiting == 0 {
-                self.ready.push(spot.train);
-            }
-        }
+impl Cut {
+    /// Of two ties the one with the first train, and of these that with the first place.
+    fn lesser_tie(&self, old: Option<Tie>, new: Tie) -> Option<Tie> {
+        let key = |tie: Tie| (tie.train, self.place(tie.place));
+        old.filter(|&old| old.train < new.train || old.train == new.train && key(old) < key(new)).or(Some(new))
     }
 }
 
-/// How the members of two readings of a section differ. Rows that are one and the same are equal.
-struct Difference {
-    /// The trains of the old reading whose rows are no more, and those of the new with new rows.
-    gone: Vec<u32>,
-    come: Vec<u32>,
-    /// For each train of the old reading its number in the new one, and whether any number differs.
-    numbers: Vec<u32>,
-    renumbers: bool,
-}
-
-impl Difference {
-    fn of(old: &Reading, new: &Reading) -> Difference {
-        let mut change = Difference { gone: Vec::new(), come: Vec::new(), numbers: Vec::new(), renumbers: false };
-        let mut at = 0;
-        for (train, member) in old.members.iter().enumerate() {
-            while new.members.get(at).is_some_and(|other| !Arc::ptr_eq(other, member) && other.name < member.name) {
-                change.come.push(at as u32);
-                at += 1;
-            }
-            match new.members.get(at) {
-                Some(other) if Arc::ptr_eq(other, member) => (),
-                Some(other) if other.name == member.name => {
-                    change.gone.push(train as u32);
-                    change.come.push(at as u32);
-                }
-                _ => {
-                    change.gone.push(train as u32);
-                    change.numbers.push(GONE);
-                    continue;
-                }
-            }
-            change.numbers.push(at as u32);
-            at += 1;
-        }
-        change.come.extend(at as u32..new.members.len() as u32);
-        change.renumbers = change.numbers.len() != new.members.len()
-            || change.numbers.iter().enumerate().any(|(train, &number)| train as u32 != number);
-        change
+/// Lays the uses out by place, in the order of the trains' entries, in which most lists are nearly
+/// sorted at once.
+fn lay_out(cut: &Cut) -> Vec<Vec<Spot>> {
+    let mut counts = vec![0; cut.places.len()];
+    for each in cut.members.iter().flat_map(|member| &member.uses) {
+        counts[each.place as usize] += 1;
     }
+    let mut lists: Vec<Vec<Spot>> = counts.into_iter().map(Vec::with_capacity).collect();
+    let mut trains: Vec<u32> = (0..cut.members.len() as u32).collect();
+    trains.sort_unstable_by_key(|&train| (cut.members[train as usize].entry, train));
+    for train in trains {
+        for each in &cut.members[train as usize].uses {
+            lists[each.place as usize].push(Spot { start: each.start, end: each.end, train });
+        }
+    }
+    for list in lists.iter_mut().filter(|list| !list.is_sorted_by_key(Spot::key)) {
+        list.sort_unstable_by_key(Spot::key);
+    }
+    lists
 }

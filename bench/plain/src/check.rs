@@ -1,5 +1,6 @@
 //! The command `check`: the conflicts of the timetable on its blocks.
 
+use crate::cut::FIRST_BLOCK;
 use crate::stairs::Way;
 use crate::tables::Line;
 use crate::text::Text;
@@ -18,7 +19,7 @@ pub fn check(line: &Line) -> Text {
     let mut by_block: Vec<Vec<Blocking>> = line.blocks.names().iter().map(|_| Vec::new()).collect();
     for (rank, way) in ways_by_start(line, &runs) {
         for each in way.uses {
-            by_block[each.place as usize].push(Blocking { start: each.start, end: each.end, rank });
+            by_block[(each.place - FIRST_BLOCK) as usize].push(Blocking { start: each.start, end: each.end, rank });
         }
     }
     let mut text = Text::default();
@@ -52,5 +53,5 @@ pub fn check(line: &Line) -> Text {
 fn ways_by_start<'a>(line: &'a Line, runs: &'a [u32]) -> impl Iterator<Item = (u32, Way)> + 'a {
     let mut ranks: Vec<u32> = (0..runs.len() as u32).collect();
     ranks.sort_unstable_by_key(|&rank| (line.runs.item(runs[rank as usize]).start, rank));
-    ranks.into_iter().map(|rank| (rank, Way::of(line, line.runs.item(runs[rank as usize]))))
+    ranks.into_iter().map(|rank| (rank, Way::of(line, runs[rank as usize])))
 }

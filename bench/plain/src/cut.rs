@@ -6,11 +6,8 @@ use std::sync::Arc;
 
 /// A section with more members is crowded.
 pub const MOST_MEMBERS: usize = 768;
-
-/// Stands for a block that is none of the section's.
-const NO_PLACE: u16 = u16::MAX;
-/// Stands for the entry of a run that is no member.
-const NO_ENTRY: i32 = i32::MIN;
+/// Places are numbered over the whole line: first the connections, then the blocks.
+pub const FIRST_BLOCK: u32 = 1024;
 
 /// A train of a section.
 #[derive(PartialEq, Eq)]
@@ -21,114 +18,141 @@ pub struct Member {
     pub uses: Vec<Use>,
 }
 
-/// What is made of the timetable for all sections: the ways of the runs, and the connections that
-/// name each run, both by the runs' numbers.
+/// What is made of the line for all its sections.
 pub struct Traffic {
+    /// By the runs' numbers their ways, and the connections that name them.
     pub ways: Vec<Way>,
     pub links: Vec<Vec<u32>>,
+    /// The names of all places.
+    pub places: Arc<Vec<Name>>,
 }
 
 impl Traffic {
     pub fn of(line: &Line) -> Traffic {
-        Traffic { ways: Way::all(line), links: Traffic::links_of(line) }
+        let mut traffic = Traffic { ways: Way::all(line), links: Vec::new(), places: Arc::default() };
+        traffic.follow_names(line);
+        traffic
     }
 
-    pub fn links_of(line: &Line) -> Vec<Vec<u32>> {
-        let mut links = vec![Vec::new(); line.runs.room()];
+    /// Brings what speaks of names up to date.
+    pub fn follow_names(&mut self, line: &Line) {
+        self.links = vec![Vec::new(); line.runs.room()];
         for number in line.connects.numbers() {
             let connect = line.connects.item(number);
-            links[connect.first as usize].push(number);
-            links[connect.second as usize].push(number);
+            self.links[connect.first as usize].push(number);
+            self.links[connect.second as usize].push(number);
         }
-        links
+        let mut places = line.connects.names();
+        places.resize(FIRST_BLOCK as usize, Name::from(&b""[..]));
+        places.extend(line.blocks.names());
+        self.places = Arc::new(places);
     }
 }
 
+/// Two cuts are equal where they have the same trains in the same window, at the same rate.
+#[derive(Clone)]
 pub struct Cut {
     pub name: Name,
     pub from: i32,
     pub to: i32,
     pub rate: u32,
-    /// The section's blocks, by their numbers. Places count them, and then the connections.
-    pub blocks: Vec<u32>,
     /// In the order of names.
     pub members: Vec<Arc<Member>>,
-    /// The place of each block.
-    places: Vec<u16>,
-    /// The entry of each run.
-    entries: Vec<i32>,
+    pub places: Arc<Vec<Name>>,
+}
+
+impl PartialEq for Cut {
+    fn eq(&self, other: &Cut) -> bool {
+        (self.from, self.to, self.rate) == (other.from, other.to, other.rate) && self.members == other.members
+    }
 }
 
 impl Cut {
-    pub fn of(line: &Line, traffic: &Traffic, section: u32) -> Cut {
+    pub fn is_crowded(&self) -> bool {
+        self.members.len() > MOST_MEMBERS
+    }
+
+    pub fn train(&self, train: u32) -> &Name {
+        &self.members[train as usize].name
+    }
+
+    pub fn place(&self, place: u32) -> &Name {
+        &self.places[place as usize]
+    }
+
+    pub fn find(&self, name: &[u8]) -> Result<usize, usize> {
+        self.members.binary_search_by(|member| (*member.name).cmp(name))
+    }
+
+    /// The length of the window.
+    pub fn window(&self) -> u64 {
+        (self.to - self.from) as u64
+    }
+}
+
+/// A cut that follows the line's edits.
+pub struct Cutter {
+    pub cut: Cut,
+    /// Which blocks are the section's.
+    ours: Vec<bool>,
+    /// The entry of each run that is a member.
+    entries: Vec<Option<i32>>,
+}
+
+impl Cutter {
+    pub fn of(line: &Line, traffic: &Traffic, section: u32) -> Cutter {
         let item = line.sections.item(section);
-        let mut places = vec![NO_PLACE; line.blocks.room()];
-        for (place, &block) in item.blocks.iter().enumerate() {
-            places[block as usize] = place as u16;
-        }
-        let mut cut = Cut {
-            name: line.sections.name(section).clone(),
-            from: item.from as i32,
-            to: item.to as i32,
-            rate: item.rate,
-            blocks: item.blocks.clone(),
-            members: Vec::new(),
-            places,
-            entries: Vec::new(),
-        };
-        cut.entries = traffic.ways.iter().map(|way| cut.entry(way)).collect();
+        let mut ours = vec![false; line.blocks.room()];
+        item.blocks.iter().for_each(|&block| ours[block as usize] = true);
+        let (name, places) = (line.sections.name(section).clone(), traffic.places.clone());
+        let (from, to) = (item.from as i32, item.to as i32);
+        let cut = Cut { name, from, to, rate: item.rate, members: Vec::new(), places };
+        let mut cutter = Cutter { cut, ours, entries: Vec::new() };
+        cutter.entries = traffic.ways.iter().map(|way| cutter.entry(way)).collect();
         for run in line.runs.by_name() {
-            if cut.entries[run as usize] != NO_ENTRY {
-                let uses = cut.uses(line, traffic, run);
-                cut.members.push(cut.member(line, run, uses));
+            if let Some(entry) = cutter.entries[run as usize] {
+                let uses = cutter.uses(line, traffic, run);
+                cutter.cut.members.push(Arc::new(Member { name: line.runs.name(run).clone(), entry, uses }));
             }
         }
-        cut
+        cutter
+    }
+
+    fn uses_of<'a>(&'a self, way: &'a Way) -> impl Iterator<Item = Use> + 'a {
+        let ours = |each: &&Use| self.ours.get((each.place - FIRST_BLOCK) as usize) == Some(&true);
+        way.uses.iter().filter(ours).copied()
     }
 
     /// Where the run uses a block of the section and enters within the window, its entry.
-    fn entry(&self, way: &Way) -> i32 {
-        if way.uses.is_empty() || way.first >= self.to || way.last < self.from {
-            return NO_ENTRY;
+    fn entry(&self, way: &Way) -> Option<i32> {
+        let Cut { from, to, .. } = self.cut;
+        if way.first >= to || way.last < from {
+            return None;
         }
-        let ours = |each: &&Use| self.places.get(each.place as usize).is_some_and(|&place| place != NO_PLACE);
-        let entry = way.uses.iter().filter(ours).map(|each| each.start).min();
-        entry.filter(|entry| (self.from..self.to).contains(entry)).unwrap_or(NO_ENTRY)
-    }
-
-    fn member(&self, line: &Line, run: u32, uses: Vec<Use>) -> Arc<Member> {
-        Arc::new(Member { name: line.runs.name(run).clone(), entry: self.entries[run as usize], uses })
+        self.uses_of(way).map(|each| each.start).min().filter(|entry| (from..to).contains(entry))
     }
 
     /// A member's uses of the section's blocks and of the connections that bind in it.
     fn uses(&self, line: &Line, traffic: &Traffic, run: u32) -> Vec<Use> {
         let way = &traffic.ways[run as usize];
-        let mut uses = Vec::with_capacity(self.blocks.len().min(way.uses.len()));
-        for each in &way.uses {
-            match self.places.get(each.place as usize) {
-                None | Some(&NO_PLACE) => (),
-                Some(&place) => uses.push(Use { place: place.into(), ..*each }),
-            }
-        }
+        let mut uses = Vec::with_capacity(way.uses.len());
+        uses.extend(self.uses_of(way));
         let links = traffic.links[run as usize].iter();
         uses.extend(links.filter_map(|&link| self.link_use(line, traffic, run, link)));
+        uses.shrink_to_fit();
         uses
     }
 
     /// A run's use of a connection that names it, where that binds: the first run keeps it from its
     /// entry until the second may start, and the second for the second in which it starts.
-    fn link_use(&self, line: &Line, traffic: &Traffic, run: u32, link: u32) -> Option<Use> {
-        let connect = line.connects.item(link);
-        let entry = self.entries[connect.first as usize];
-        if entry == NO_ENTRY || self.entries[connect.second as usize] == NO_ENTRY {
-            return None;
-        }
+    fn link_use(&self, line: &Line, traffic: &Traffic, run: u32, place: u32) -> Option<Use> {
+        let connect = line.connects.item(place);
+        let entry = self.entries[connect.first as usize]?;
+        self.entries[connect.second as usize]?;
         let start = traffic.ways[connect.second as usize].start;
-        let named_first = line.runs.name(connect.first) < line.runs.name(connect.second);
-        if start < entry || start == entry && !named_first {
+        if (start, line.runs.name(connect.second)) < (entry, line.runs.name(connect.first)) {
             return None;
         }
-        let place = self.blocks.len() as u32 + link;
         let until = traffic.ways[connect.first as usize].arrival + connect.minimum as i32;
         Some(match run == connect.first {
             true => Use { place, start: entry, end: until },
@@ -138,13 +162,13 @@ impl Cut {
 
     /// Whether the section has one of these blocks.
     pub fn has_any(&self, blocks: &[bool]) -> bool {
-        self.blocks.iter().any(|&block| blocks[block as usize])
+        self.ours.iter().zip(blocks).any(|(&ours, &block)| ours && block)
     }
 
     /// Makes the members anew where these runs, or connections that name them, were edited; tells
     /// whether the cut is another one now.
     pub fn refresh(&mut self, line: &Line, traffic: &Traffic, runs: &[u32]) -> bool {
-        self.entries.resize(line.runs.room(), NO_ENTRY);
+        self.entries.resize(line.runs.room(), None);
         for &run in runs {
             self.entries[run as usize] = self.entry(&traffic.ways[run as usize]);
         }
@@ -162,55 +186,16 @@ impl Cut {
 
     fn renew(&mut self, line: &Line, traffic: &Traffic, run: u32) -> bool {
         let name = line.runs.name(run);
-        let found = self.members.binary_search_by(|member| member.name.cmp(name));
-        let entry = self.entries[run as usize];
-        if entry == NO_ENTRY {
-            return found.map(|at| self.members.remove(at)).is_ok();
-        }
-        let uses = self.uses(line, traffic, run);
+        let found = self.cut.find(name);
+        let Some(entry) = self.entries[run as usize] else {
+            return found.map(|at| self.cut.members.remove(at)).is_ok();
+        };
+        let new = Member { name: name.clone(), entry, uses: self.uses(line, traffic, run) };
         match found {
-            Ok(at) if self.members[at].entry == entry && self.members[at].uses == uses => return false,
-            Ok(at) => self.members[at] = self.member(line, run, uses),
-            Err(at) => self.members.insert(at, self.member(line, run, uses)),
+            Ok(at) if *self.cut.members[at] == new => return false,
+            Ok(at) => self.cut.members[at] = Arc::new(new),
+            Err(at) => self.cut.members.insert(at, Arc::new(new)),
         }
         true
-    }
-
-    /// Whether two cuts of sections of one name are the same, though their blocks may be in another
-    /// order, or be more where no member uses them.
-    pub fn same(&self, other: &Cut) -> bool {
-        let same_use = |(a, b): (&Use, &Use)| {
-            let places = self.place_key(a.place) == other.place_key(b.place);
-            places && a.start == b.start && a.end == b.end
-        };
-        let same_member = |(a, b): (&Arc<Member>, &Arc<Member>)| {
-            let heads = a.name == b.name && a.entry == b.entry && a.uses.len() == b.uses.len();
-            heads && a.uses.iter().zip(&b.uses).all(same_use)
-        };
-        (self.from, self.to, self.rate) == (other.from, other.to, other.rate)
-            && self.members.len() == other.members.len()
-            && self.members.iter().zip(&other.members).all(same_member)
-    }
-
-    /// A block's number, or that of a connection, which is told by the sign.
-    fn place_key(&self, place: u32) -> i64 {
-        match self.blocks.get(place as usize) {
-            Some(&block) => block.into(),
-            None => self.blocks.len() as i64 - i64::from(place) - 1,
-        }
-    }
-
-    pub fn is_crowded(&self) -> bool {
-        self.members.len() > MOST_MEMBERS
-    }
-
-    /// The names of the places.
-    pub fn place_names(&self, line: &Line) -> Vec<Name> {
-        let blocks = self.blocks.iter().map(|&block| line.blocks.name(block).clone());
-        blocks.chain(line.connects.names()).collect()
-    }
-
-    pub fn find_member(&self, name: &[u8]) -> Option<usize> {
-        self.members.binary_search_by(|member| (*member.name).cmp(name)).ok()
     }
 }

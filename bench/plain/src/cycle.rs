@@ -1,9 +1,8 @@
 //! The command `cycle`: how soon the trains of a section can come again.
 
-use crate::answer::{Answer, Reading, Spot};
-use crate::compress::{head, write_crowded};
-use crate::cut::{Cut, Traffic};
-use crate::tables::Line;
+use crate::answer::{Answer, Spot};
+use crate::compress::on_ordered;
+use crate::cut::{Cut, FIRST_BLOCK};
 use crate::text::Text;
 
 /// One train has to enter so long after another, in shifts from their planned entries.
@@ -20,40 +19,33 @@ struct Step {
 /// Steps that lead back to the train with which they begin.
 type Ring = Vec<Step>;
 
-pub fn cycle(line: &Line, section: u32) -> Text {
-    let cut = Cut::of(line, &Traffic::of(line), section);
-    let mut text = Text::default();
-    if cut.is_crowded() {
-        write_crowded(&mut text, &cut);
-        return text;
-    }
-    let answer = Answer::compressed(Reading::of(&cut, line));
-    if !answer.is_ordered() {
-        text.bytes = head(&answer).rows;
-        return text;
-    }
-    let (period, shifts, mut ring) = least_period(&answer);
+pub fn cycle(text: &mut Text, cut: Cut) {
+    let answer = Answer::compressed(cut);
+    on_ordered(text, &answer, |text| write_cycle(text, &answer));
+}
+
+fn write_cycle(text: &mut Text, answer: &Answer) {
+    let cut = &answer.cut;
+    let (period, shifts, mut ring) = least_period(answer);
     let lead = (0..ring.len()).min_by_key(|&at| ring[at].from).unwrap_or(0);
     ring.rotate_left(lead);
-    let reading = &answer.reading;
     text.row("period").name(&cut.name).number(period).number(ring.len() as i64).end();
-    for (member, shift) in reading.members.iter().zip(shifts) {
+    for (member, shift) in cut.members.iter().zip(shifts) {
         text.row("slot").name(&member.name).number(i64::from(member.entry) + shift).end();
     }
     for step in &ring {
-        text.row("step").name(reading.train(step.from)).name(reading.place(step.place));
-        text.name(reading.train(step.to)).word(if step.next { "next" } else { "same" }).end();
+        text.row("step").name(cut.train(step.from)).name(cut.place(step.place)).name(cut.train(step.to));
+        text.word(if step.next { "next" } else { "same" }).end();
     }
-    text
 }
 
 /// Raises the period by the rings that refuse it, until none does.
 fn least_period(answer: &Answer) -> (i64, Vec<i64>, Ring) {
-    let (same, next) = steps(answer);
+    let steps = steps(answer);
     let mut ring = block_ring(answer);
     loop {
         let period = period_of(&ring);
-        match repeat(answer, &same, &next, period) {
+        match repeat(answer, &steps, period) {
             Ok(shifts) => return (period, shifts, ring),
             Err(refusing) => ring = refusing,
         }
@@ -64,73 +56,72 @@ fn least_period(answer: &Answer) -> (i64, Vec<i64>, Ring) {
 fn period_of(ring: &Ring) -> i64 {
     let time: i64 = ring.iter().map(|step| step.time).sum();
     let patterns = ring.iter().filter(|step| step.next).count().max(1) as i64;
-    // Rounded up; a ring that asks for less than nothing refuses no period.
     (time + patterns - 1).div_euclid(patterns)
 }
 
-/// The steps between neighbours: those in one pattern in the order of the trains, and those to the
-/// next pattern, from the last train on a block to the first.
-fn steps(answer: &Answer) -> (Vec<Step>, Vec<Step>) {
-    let mut ranks = vec![0; answer.reading.members.len()];
-    for (rank, &train) in answer.order().iter().enumerate() {
-        ranks[train as usize] = rank;
-    }
-    let (mut same, mut next): (Vec<Step>, Vec<Step>) = (Vec::new(), Vec::new());
+/// The steps between neighbours: those in one pattern, in the order of the trains, and then those to
+/// the next pattern, from the last train on a block to the first.
+fn steps(answer: &Answer) -> Vec<Step> {
+    let mut same: Vec<Step> = Vec::new();
+    let mut next = Vec::new();
     // Between the same two trains the greatest time counts. Neighbours on one block are mostly
     // neighbours on the one before.
-    let mut latest = vec![usize::MAX; ranks.len()];
-    for (place, list) in answer.lists.iter().enumerate() {
+    let mut latest = vec![usize::MAX; answer.cut.members.len()];
+    for (list, place) in answer.lists.iter().zip(0..) {
         for pair in list.windows(2) {
             let step = step(&pair[0], &pair[1], place, false);
-            let known = &mut latest[step.from as usize];
-            match same.get_mut(*known) {
-                Some(old) if old.to == step.to => *old = longer(*old, step),
+            match same.get_mut(latest[step.from as usize]) {
+                Some(old) if old.to == step.to && old.time >= step.time => (),
+                Some(old) if old.to == step.to => *old = step,
                 _ => {
-                    *known = same.len();
+                    latest[step.from as usize] = same.len();
                     same.push(step);
                 }
             }
         }
-        if let (Some(first), Some(last), true) = (list.first(), list.last(), place < answer.reading.blocks) {
+        if let (Some(first), Some(last), true) = (list.first(), list.last(), place >= FIRST_BLOCK) {
             next.push(step(last, first, place, true));
         }
     }
-    same.sort_by_key(|step: &Step| ranks[step.from as usize]);
-    (same, next)
+    same.sort_by_key(|step| answer.ranks[step.from as usize]);
+    same.extend(next);
+    same
 }
 
-fn step(from: &Spot, to: &Spot, place: usize, next: bool) -> Step {
+fn step(from: &Spot, to: &Spot, place: u32, next: bool) -> Step {
     let time = i64::from(from.end) - i64::from(to.start);
-    Step { from: from.train, to: to.train, place: place as u32, time, next }
-}
-
-fn longer(old: Step, new: Step) -> Step {
-    if new.time > old.time {
-        new
-    } else {
-        old
-    }
+    Step { from: from.train, to: to.train, place, time, next }
 }
 
 /// The trains of a block one after the other, and the first again: the ring of the block that is
 /// kept longest.
 fn block_ring(answer: &Answer) -> Ring {
-    let kept = |list: &&[Spot]| list.iter().map(|spot| i64::from(spot.end - spot.start)).sum::<i64>();
-    let blocks = answer.lists[..answer.reading.blocks].iter().map(Vec::as_slice).enumerate();
-    let Some((place, list)) = blocks.max_by_key(|(_, list)| kept(list)) else { return Vec::new() };
-    let follow = list.iter().skip(1).chain(list.first());
-    let last = list.len().wrapping_sub(1);
-    list.iter().zip(follow).enumerate().map(|(at, (from, to))| step(from, to, place, at == last)).collect()
+    let kept = |list: &[Spot]| list.iter().map(|spot| i64::from(spot.end - spot.start)).sum::<i64>();
+    let blocks = answer.lists.iter().zip(0..).skip(FIRST_BLOCK as usize);
+    let Some((list, place)) = blocks.max_by_key(|(list, _)| kept(list)) else { return Vec::new() };
+    let mut ring: Ring = list.windows(2).map(|pair| step(&pair[0], &pair[1], place, false)).collect();
+    if let (Some(first), Some(last)) = (list.first(), list.last()) {
+        ring.push(step(last, first, place, true));
+    }
+    ring
 }
 
 /// The earliest shifts that repeat in a period, or a ring that refuses it.
-fn repeat(answer: &Answer, same: &[Step], next: &[Step], period: i64) -> Result<Vec<i64>, Ring> {
-    let mut shifts = answer.floors().to_vec();
+fn repeat(answer: &Answer, steps: &[Step], period: i64) -> Result<Vec<i64>, Ring> {
+    let mut shifts: Vec<i64> = (0..answer.cut.members.len()).map(|train| answer.floor(train)).collect();
     // What raised each shift last.
     let mut raised: Vec<Option<Step>> = vec![None; shifts.len()];
     loop {
-        raise(&mut shifts, &mut raised, same, 0);
-        if !raise(&mut shifts, &mut raised, next, period) {
+        let mut any = false;
+        for step in steps {
+            let least = shifts[step.from as usize] + step.time - if step.next { period } else { 0 };
+            if least > shifts[step.to as usize] {
+                shifts[step.to as usize] = least;
+                raised[step.to as usize] = Some(*step);
+                any = true;
+            }
+        }
+        if !any {
             return Ok(shifts);
         }
         if let Some(ring) = ring_of(&raised) {
@@ -139,49 +130,24 @@ fn repeat(answer: &Answer, same: &[Step], next: &[Step], period: i64) -> Result<
     }
 }
 
-fn raise(shifts: &mut [i64], raised: &mut [Option<Step>], steps: &[Step], period: i64) -> bool {
-    let mut any = false;
-    for step in steps {
-        let least = shifts[step.from as usize] + step.time - period;
-        if least > shifts[step.to as usize] {
-            shifts[step.to as usize] = least;
-            raised[step.to as usize] = Some(*step);
-            any = true;
-        }
-    }
-    any
-}
-
 /// Where shifts raise one another in a circle, no period as short can do.
 fn ring_of(raised: &[Option<Step>]) -> Option<Ring> {
-    // For each train the walk that came to it.
-    let mut walks = vec![0; raised.len()];
-    for train in 0..raised.len() {
-        let mut at = train;
-        while walks[at] == 0 {
-            walks[at] = train + 1;
-            match raised[at] {
-                Some(step) => at = step.from as usize,
-                None => break,
-            }
+    // For each train the walk that came to it first.
+    let mut walks = vec![usize::MAX; raised.len()];
+    for walk in 0..raised.len() {
+        let mut at = walk;
+        while let Some(step) = raised[at].filter(|_| walks[at] == usize::MAX) {
+            walks[at] = walk;
+            at = step.from as usize;
         }
-        if walks[at] == train + 1 && raised[at].is_some() {
-            return Some(ring_from(raised, at));
+        if walks[at] == walk {
+            let mut ring = vec![raised[at]?];
+            while ring[ring.len() - 1].from as usize != at {
+                ring.push(raised[ring[ring.len() - 1].from as usize]?);
+            }
+            ring.reverse();
+            return Some(ring);
         }
     }
     None
-}
-
-fn ring_from(raised: &[Option<Step>], train: usize) -> Ring {
-    let mut ring = Vec::new();
-    let mut at = train;
-    loop {
-        let step = raised[at].expect("each train of a circle was raised");
-        ring.push(step);
-        at = step.from as usize;
-        if at == train {
-            ring.reverse();
-            return ring;
-        }
-    }
 }

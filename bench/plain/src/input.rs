@@ -1,6 +1,6 @@
 //! The rows of the input: what each spells, and which is refused for its form or its place.
 
-use crate::tables::{Line, Leg};
+use crate::tables::{Leg, Line};
 use crate::text::Text;
 use csv::ByteRecord;
 
@@ -11,46 +11,8 @@ const MOST_TASKS: usize = 256;
 /// Signals of a route, legs of a run, blocks of a section.
 const MOST_PARTS: usize = 256;
 
-#[derive(Clone, Copy, PartialEq, Eq, Debug)]
-pub enum Cause {
-    Kind,
-    Fields,
-    Number,
-    Name,
-    Order,
-    Script,
-    Range,
-    Twice,
-    Unknown,
-    Limit,
-    Count,
-    InUse,
-    TooLong,
-    NoSection,
-    NoMember,
-}
-
-impl Cause {
-    pub fn word(self) -> &'static str {
-        match self {
-            Cause::Kind => "kind",
-            Cause::Fields => "fields",
-            Cause::Number => "number",
-            Cause::Name => "name",
-            Cause::Order => "order",
-            Cause::Script => "script",
-            Cause::Range => "range",
-            Cause::Twice => "twice",
-            Cause::Unknown => "unknown",
-            Cause::Limit => "limit",
-            Cause::Count => "count",
-            Cause::InUse => "in-use",
-            Cause::TooLong => "too-long",
-            Cause::NoSection => "no-section",
-            Cause::NoMember => "no-member",
-        }
-    }
-}
+/// Why a row is refused, in the word that the output has for it.
+pub type Cause = &'static str;
 
 /// A refused input: the row, counted from 1, or 0 where it is refused as a whole.
 #[derive(Clone, Copy, Debug)]
@@ -59,13 +21,7 @@ pub struct Refusal {
     pub cause: Cause,
 }
 
-impl Refusal {
-    pub fn whole(cause: Cause) -> Refusal {
-        Refusal { row: 0, cause }
-    }
-}
-
-#[derive(Clone, Copy, PartialEq, Eq, Debug)]
+#[derive(Clone, Copy, PartialEq, Eq)]
 pub enum Kind {
     Block,
     Signal,
@@ -75,32 +31,52 @@ pub enum Kind {
     Connect,
 }
 
-impl Kind {
-    fn of(noun: &[u8]) -> Option<Kind> {
-        Some(match noun {
-            b"block" => Kind::Block,
-            b"signal" => Kind::Signal,
-            b"route" => Kind::Route,
-            b"run" => Kind::Run,
-            b"section" => Kind::Section,
-            b"connect" => Kind::Connect,
-            _ => return None,
-        })
-    }
-
-    fn noun(self) -> &'static str {
-        match self {
-            Kind::Block => "block",
-            Kind::Signal => "signal",
-            Kind::Route => "route",
-            Kind::Run => "run",
-            Kind::Section => "section",
-            Kind::Connect => "connect",
-        }
-    }
+/// How a number may be written.
+#[derive(Clone, Copy)]
+enum Sort {
+    Plain,
+    Time,
+    Rate,
 }
 
-#[derive(Clone, Copy, PartialEq, Eq, Debug)]
+/// What stands at the end of a row.
+#[derive(Clone, Copy)]
+enum Tail {
+    Nothing,
+    Names,
+    Legs,
+}
+
+/// The fields of a row that puts or changes an item, behind its word and name: some names, some
+/// numbers with their limits, and a tail.
+struct Shape {
+    kind: Kind,
+    noun: &'static str,
+    names: usize,
+    numbers: &'static [(Sort, u32, u32)],
+    tail: Tail,
+}
+
+const DAY: u32 = 86_400;
+const FAR: u32 = 1_000_000;
+const LENGTH: (Sort, u32, u32) = (Sort::Plain, 1, FAR);
+const AT_MOST_FAR: (Sort, u32, u32) = (Sort::Plain, 0, FAR);
+const AT_MOST_A_DAY: (Sort, u32, u32) = (Sort::Plain, 0, DAY);
+const IN_A_WEEK: (Sort, u32, u32) = (Sort::Time, 0, 604_800);
+const SIGNAL: [(Sort, u32, u32); 5] = [AT_MOST_FAR, AT_MOST_A_DAY, AT_MOST_A_DAY, AT_MOST_FAR, AT_MOST_A_DAY];
+const WINDOW: [(Sort, u32, u32); 3] = [IN_A_WEEK, (Sort::Time, 1, 1_209_600), (Sort::Rate, 0, 1000)];
+
+#[rustfmt::skip]
+static SHAPES: [Shape; 6] = [
+    Shape { kind: Kind::Block, noun: "block", names: 0, numbers: &[LENGTH], tail: Tail::Nothing },
+    Shape { kind: Kind::Signal, noun: "signal", names: 1, numbers: &SIGNAL, tail: Tail::Nothing },
+    Shape { kind: Kind::Route, noun: "route", names: 0, numbers: &[], tail: Tail::Names },
+    Shape { kind: Kind::Run, noun: "run", names: 1, numbers: &[LENGTH, AT_MOST_A_DAY, IN_A_WEEK], tail: Tail::Legs },
+    Shape { kind: Kind::Section, noun: "section", names: 0, numbers: &WINDOW, tail: Tail::Names },
+    Shape { kind: Kind::Connect, noun: "connect", names: 2, numbers: &[AT_MOST_A_DAY], tail: Tail::Nothing },
+];
+
+#[derive(Clone, Copy, PartialEq, Eq)]
 pub enum Verb {
     Put,
     Change,
@@ -114,38 +90,32 @@ pub enum Row<'a> {
     Ask(&'a [u8]),
 }
 
+/// An edit; a drop has a name alone.
 pub struct Edit<'a> {
     pub verb: Verb,
     pub kind: Kind,
     pub name: &'a [u8],
-    pub item: Item<'a>,
+    /// The names that the item refers to, and its numbers, in the order of the row.
+    pub names: Names<'a>,
+    pub numbers: [u32; 5],
+    pub legs: Vec<Leg>,
 }
 
-pub enum Item<'a> {
-    /// A drop has a name alone.
-    Nothing,
-    Block { length: u32 },
-    Signal { block: &'a [u8], approach: u32, watch: u32, form: u32, overlap: u32, release: u32 },
-    Route { signals: Names<'a> },
-    Run { route: &'a [u8], length: u32, tail: u32, start: u32, legs: Vec<Leg> },
-    Section { from: u32, to: u32, rate: u32, blocks: Names<'a> },
-    Connect { first: &'a [u8], second: &'a [u8], minimum: u32 },
-}
-
-/// The names at the end of a row, from one of its fields on.
+/// The names in some fields of a row.
 #[derive(Clone, Copy)]
 pub struct Names<'a> {
     record: &'a ByteRecord,
     from: usize,
+    to: usize,
 }
 
 impl<'a> Names<'a> {
-    pub fn iter(self) -> impl Iterator<Item = &'a [u8]> {
-        (self.from..self.record.len()).map(move |field| &self.record[field])
+    pub fn iter(self) -> impl ExactSizeIterator<Item = &'a [u8]> {
+        (self.from..self.to).map(move |field| &self.record[field])
     }
 
-    pub fn len(self) -> usize {
-        self.record.len() - self.from
+    pub fn at(self, at: usize) -> &'a [u8] {
+        &self.record[self.from + at]
     }
 }
 
@@ -173,14 +143,11 @@ pub struct Input {
 /// Reads the whole input. A row that spells nothing, or may not stand where it does, is refused
 /// before any row whose edit a rule refuses, so the rows are looked at to the end in any case.
 pub fn read(bytes: &[u8], scripts_allowed: bool) -> Result<Input, Refusal> {
-    let mut reader =
-        csv::ReaderBuilder::new().has_headers(false).flexible(true).from_reader(bytes);
+    let mut reader = csv::ReaderBuilder::new().has_headers(false).flexible(true).from_reader(bytes);
     let mut record = ByteRecord::new();
     let mut input = Input::default();
     let mut refused = None;
-    let mut version = 1;
-    let mut row = 0;
-    let mut tasks = 0;
+    let (mut version, mut row, mut tasks) = (1, 0, 0);
     while reader.read_byte_record(&mut record).expect("memory can be read") {
         row += 1;
         let refuse = |cause| Refusal { row, cause };
@@ -198,16 +165,13 @@ pub fn read(bytes: &[u8], scripts_allowed: bool) -> Result<Input, Refusal> {
             Row::Planner(number) => {
                 let next = input.scripts.len() + 1;
                 if !scripts_allowed || number as usize != next || next > MOST_PLANNERS {
-                    return Err(refuse(Cause::Script));
+                    return Err(refuse("script"));
                 }
                 input.scripts.push(Vec::new());
             }
             Row::Edit(_) | Row::Ask(_) => {
-                let script = input.scripts.last_mut().ok_or(refuse(Cause::Script))?;
+                let script = input.scripts.last_mut().filter(|_| tasks < MOST_TASKS).ok_or(refuse("script"))?;
                 tasks += 1;
-                if tasks > MOST_TASKS {
-                    return Err(refuse(Cause::Script));
-                }
                 script.push(Task { record: record.clone(), version });
             }
         }
@@ -217,12 +181,9 @@ pub fn read(bytes: &[u8], scripts_allowed: bool) -> Result<Input, Refusal> {
 
 fn version_of(record: &ByteRecord) -> Result<u32, Cause> {
     if record.len() != 2 {
-        return Err(Cause::Fields);
+        return Err("fields");
     }
-    match number(&record[1])? {
-        version @ 1..=2 => Ok(version),
-        _ => Err(Cause::Number),
-    }
+    number(&record[1]).and_then(|version| if matches!(version, 1 | 2) { Ok(version) } else { Err("number") })
 }
 
 /// What a row spells, or the first fault of its form.
@@ -232,141 +193,116 @@ fn spell(record: &ByteRecord, version: u32) -> Result<Row<'_>, Cause> {
     match word {
         b"planner" if single => return Ok(Row::Planner(number(&record[1])?)),
         b"ask" if single => return Ok(Row::Ask(name(&record[1])?)),
-        b"planner" | b"ask" => return Err(Cause::Fields),
+        b"planner" | b"ask" => return Err("fields"),
         _ => (),
     }
-    let (verb, noun) = if let Some(noun) = word.strip_prefix(b"change-") {
-        (Verb::Change, noun)
-    } else if let Some(noun) = word.strip_prefix(b"drop-") {
-        (Verb::Drop, noun)
-    } else {
-        (Verb::Put, word)
+    let (verb, noun) = match (word.strip_prefix(b"change-"), word.strip_prefix(b"drop-")) {
+        (Some(noun), _) => (Verb::Change, noun),
+        (_, Some(noun)) => (Verb::Drop, noun),
+        _ => (Verb::Put, word),
     };
-    let kind = Kind::of(noun).ok_or(Cause::Kind)?;
-    if !(if verb == Verb::Drop { single } else { may_have(kind, record.len()) }) {
-        return Err(Cause::Fields);
+    let shape = SHAPES.iter().find(|shape| shape.noun.as_bytes() == noun).ok_or("kind")?;
+    if !(if verb == Verb::Drop { single } else { shape.may_have(record.len()) }) {
+        return Err("fields");
     }
-    let own = name(&record[1])?;
-    let item = if verb == Verb::Drop { Item::Nothing } else { item(kind, record, version)? };
-    Ok(Row::Edit(Edit { verb, kind, name: own, item }))
+    let mut edit = Edit {
+        verb,
+        kind: shape.kind,
+        name: name(&record[1])?,
+        names: Names { record, from: 2, to: 2 },
+        numbers: [0; 5],
+        legs: Vec::new(),
+    };
+    if verb != Verb::Drop {
+        shape.spell(&mut edit, record, version)?;
+    }
+    Ok(Row::Edit(edit))
 }
 
-/// Whether a row that puts or changes an item may have so many fields.
-fn may_have(kind: Kind, fields: usize) -> bool {
-    match kind {
-        Kind::Block => fields == 3,
-        Kind::Signal => fields == 8,
-        Kind::Route => (3..=2 + MOST_PARTS).contains(&fields),
-        Kind::Run => fields % 2 == 1 && (7..=5 + 2 * MOST_PARTS).contains(&fields),
-        Kind::Section => (6..=5 + MOST_PARTS).contains(&fields),
-        Kind::Connect => fields == 5,
+impl Shape {
+    /// How many fields there are before the tail.
+    fn head(&self) -> usize {
+        2 + self.names + self.numbers.len()
     }
-}
 
-/// The fields after the name, in their order, so that the first bad one decides.
-fn item(kind: Kind, record: &ByteRecord, version: u32) -> Result<Item<'_>, Cause> {
-    Ok(match kind {
-        Kind::Block => Item::Block { length: number(&record[2])? },
-        Kind::Signal => Item::Signal {
-            block: name(&record[2])?,
-            approach: number(&record[3])?,
-            watch: number(&record[4])?,
-            form: number(&record[5])?,
-            overlap: number(&record[6])?,
-            release: number(&record[7])?,
-        },
-        Kind::Route => Item::Route { signals: names(record, 2)? },
-        Kind::Run => {
-            let route = name(&record[2])?;
-            let length = number(&record[3])?;
-            let tail = number(&record[4])?;
-            let start = time(&record[5], version)?;
-            let legs = if version == 1 { legs(record)? } else { legs_of_times(record, start)? };
-            Item::Run { route, length, tail, start, legs }
+    fn may_have(&self, fields: usize) -> bool {
+        let tail = fields.wrapping_sub(self.head());
+        match self.tail {
+            Tail::Nothing => tail == 0,
+            Tail::Names => (1..=MOST_PARTS).contains(&tail),
+            Tail::Legs => tail % 2 == 1 && tail < 2 * MOST_PARTS,
         }
-        Kind::Section => Item::Section {
-            from: time(&record[2], version)?,
-            to: time(&record[3], version)?,
-            rate: rate(&record[4])?,
-            blocks: names(record, 5)?,
-        },
-        Kind::Connect => Item::Connect {
-            first: name(&record[2])?,
-            second: name(&record[3])?,
-            minimum: number(&record[4])?,
-        },
-    })
+    }
+
+    /// Reads the fields behind the name, in their order, so that the first bad one decides.
+    fn spell<'a>(&self, edit: &mut Edit<'a>, record: &'a ByteRecord, version: u32) -> Result<(), Cause> {
+        edit.names = names(record, 2, 2 + self.names)?;
+        for (at, &(sort, ..)) in self.numbers.iter().enumerate() {
+            let field = &record[2 + self.names + at];
+            edit.numbers[at] = match sort {
+                Sort::Plain => number(field)?,
+                Sort::Time => time(field, version)?,
+                Sort::Rate => rate(field)?,
+            };
+        }
+        match self.tail {
+            Tail::Nothing => (),
+            Tail::Names => edit.names = names(record, self.head(), record.len())?,
+            Tail::Legs if version == 1 => edit.legs = legs(record)?,
+            Tail::Legs => edit.legs = legs_of_times(record, edit.numbers[2])?,
+        }
+        Ok(())
+    }
 }
 
 /// A run's running and dwell times; the last leg has no dwell.
 fn legs(record: &ByteRecord) -> Result<Vec<Leg>, Cause> {
-    let mut legs = Vec::with_capacity((record.len() - 5) / 2);
-    let mut field = 6;
-    while field < record.len() {
+    let leg = |field| {
         let running = number(&record[field])?;
-        let dwell = if field + 1 < record.len() { number(&record[field + 1])? } else { 0 };
-        legs.push(Leg { running, dwell });
-        field += 2;
-    }
-    Ok(legs)
+        Ok(Leg { running, dwell: record.get(field + 1).map_or(Ok(0), number)? })
+    };
+    (6..record.len()).step_by(2).map(leg).collect()
 }
 
 /// The same from the times of arrivals and departures, as the second version has them.
 fn legs_of_times(record: &ByteRecord, start: u32) -> Result<Vec<Leg>, Cause> {
-    let times: Vec<u32> =
-        (6..record.len()).map(|field| time(&record[field], 2)).collect::<Result<_, _>>()?;
+    let times: Vec<u32> = (6..record.len()).map(|field| time(&record[field], 2)).collect::<Result<_, _>>()?;
     let mut before = start;
-    let mut legs = Vec::with_capacity(times.len().div_ceil(2));
-    for pair in times.chunks(2) {
-        let (arrival, departure) = (pair[0], *pair.last().expect("a chunk has one at least"));
-        let running = arrival.checked_sub(before).ok_or(Cause::Order)?;
-        let dwell = departure.checked_sub(arrival).ok_or(Cause::Order)?;
-        legs.push(Leg { running, dwell });
+    let leg = |pair: &[u32]| {
+        let (arrival, departure) = (pair[0], *pair.last()?);
+        let leg = Leg { running: arrival.checked_sub(before)?, dwell: departure.checked_sub(arrival)? };
         before = departure;
-    }
-    Ok(legs)
+        Some(leg)
+    };
+    times.chunks(2).map(leg).collect::<Option<_>>().ok_or("order")
 }
 
-fn names(record: &ByteRecord, from: usize) -> Result<Names<'_>, Cause> {
-    for field in from..record.len() {
-        name(&record[field])?;
-    }
-    Ok(Names { record, from })
+fn names(record: &ByteRecord, from: usize, to: usize) -> Result<Names<'_>, Cause> {
+    (from..to).try_for_each(|field| name(&record[field]).map(|_| ()))?;
+    Ok(Names { record, from, to })
 }
 
-pub fn is_name(field: &[u8]) -> bool {
-    let mut plain = true;
-    for &byte in field {
-        if byte < b' ' || byte == 0x7f {
-            return false;
-        }
-        plain &= byte < 0x80;
-    }
-    (1..=64).contains(&field.len()) && (plain || std::str::from_utf8(field).is_ok())
-}
-
+/// 1 to 64 bytes of UTF-8 without a control character.
 fn name(field: &[u8]) -> Result<&[u8], Cause> {
-    if is_name(field) {
-        Ok(field)
-    } else {
-        Err(Cause::Name)
-    }
+    let control = field.iter().any(|&byte| byte < b' ' || byte == 0x7f);
+    let good = !control && (1..=64).contains(&field.len()) && (field.is_ascii() || std::str::from_utf8(field).is_ok());
+    if good { Ok(field) } else { Err("name") }
 }
 
 /// One to nine digits.
 pub fn number(field: &[u8]) -> Result<u32, Cause> {
     if field.is_empty() || field.len() > 9 {
-        return Err(Cause::Number);
+        return Err("number");
     }
     field.iter().try_fold(0, |sum, &byte| match byte.wrapping_sub(b'0') {
         digit @ 0..=9 => Ok(sum * 10 + u32::from(digit)),
-        _ => Err(Cause::Number),
+        _ => Err("number"),
     })
 }
 
 fn time(field: &[u8], version: u32) -> Result<u32, Cause> {
     if version == 2 && field.contains(&b':') {
-        clock(field).ok_or(Cause::Number)
+        clock(field).ok_or("number")
     } else {
         number(field)
     }
@@ -374,15 +310,11 @@ fn time(field: &[u8], version: u32) -> Result<u32, Cause> {
 
 /// `HOURS:MM:SS`, with one to five digits of hours.
 fn clock(field: &[u8]) -> Option<u32> {
-    let colon = field.len().checked_sub(6)?;
-    let [b':', minutes @ .., _, _, _] = &field[colon..] else { return None };
-    if field[colon + 3] != b':' || colon > 5 {
-        return None;
-    }
-    let hours = number(&field[..colon]).ok()?;
-    let minutes = number(minutes).ok().filter(|&minutes| minutes < 60)?;
-    let seconds = number(&field[colon + 4..]).ok().filter(|&seconds| seconds < 60)?;
-    Some(hours * 3600 + minutes * 60 + seconds)
+    let colon = field.len().checked_sub(6).filter(|&hours| hours <= 5)?;
+    let (b':', b':') = (field[colon], field[colon + 3]) else { return None };
+    let below_60 = |digits| number(digits).ok().filter(|&part| part < 60);
+    let (minutes, seconds) = (below_60(&field[colon + 1..colon + 3])?, below_60(&field[colon + 4..])?);
+    Some(number(&field[..colon]).ok()? * 3600 + minutes * 60 + seconds)
 }
 
 fn rate(field: &[u8]) -> Result<u32, Cause> {
@@ -396,47 +328,37 @@ fn rate(field: &[u8]) -> Result<u32, Cause> {
 }
 
 impl Edit<'_> {
-    /// The edit's row as the first version spells it, behind what stands in the text already.
+    /// Whether all numbers lie within their limits, and a window ends after it begins.
+    pub fn is_in_range(&self) -> bool {
+        let limits = SHAPES[self.kind as usize].numbers.iter();
+        let within = |(&(_, least, most), number)| (least..=most).contains(number);
+        let timely = |leg: &Leg| (1..=DAY).contains(&leg.running) && leg.dwell <= DAY;
+        let windowless = self.kind != Kind::Section || self.numbers[0] < self.numbers[1];
+        self.verb == Verb::Drop || windowless && limits.zip(&self.numbers).all(within) && self.legs.iter().all(timely)
+    }
+
+    /// The edit's row as the first version spells it, as fields behind those of the text.
     pub fn write(&self, text: &mut Text) {
-        text.bytes.extend_from_slice(match self.verb {
-            Verb::Put => b",",
-            Verb::Change => b",change-",
-            Verb::Drop => b",drop-",
-        });
-        text.row(self.kind.noun()).name(self.name);
-        match &self.item {
-            Item::Nothing => (),
-            Item::Block { length } => write_numbers(text, &[*length]),
-            Item::Signal { block, approach, watch, form, overlap, release } => {
-                write_numbers(text.name(block), &[*approach, *watch, *form, *overlap, *release]);
-            }
-            Item::Route { signals } => write_names(text, *signals),
-            Item::Run { route, length, tail, start, legs } => {
-                write_numbers(text.name(route), &[*length, *tail, *start, legs[0].running]);
-                for legs in legs.windows(2) {
-                    write_numbers(text, &[legs[0].dwell, legs[1].running]);
-                }
-            }
-            Item::Section { from, to, rate, blocks } => {
-                write_numbers(text, &[*from, *to, *rate]);
-                write_names(text, *blocks);
-            }
-            Item::Connect { first, second, minimum } => {
-                write_numbers(text.name(first).name(second), &[*minimum]);
+        let shape = &SHAPES[self.kind as usize];
+        let verb = ["", "change-", "drop-"][self.verb as usize];
+        text.word(verb).row(shape.noun).name(self.name);
+        let names = |text: &mut Text| self.names.iter().for_each(|name| _ = text.name(name));
+        let number = |text: &mut Text, number: u32| _ = text.number(number.into());
+        if shape.names > 0 {
+            names(text);
+        }
+        if self.verb != Verb::Drop {
+            self.numbers[..shape.numbers.len()].iter().for_each(|&each| number(text, each));
+        }
+        if shape.names == 0 {
+            names(text);
+        }
+        for (at, leg) in self.legs.iter().enumerate() {
+            number(text, leg.running);
+            if at + 1 < self.legs.len() {
+                number(text, leg.dwell);
             }
         }
         text.end();
-    }
-}
-
-fn write_numbers(text: &mut Text, numbers: &[u32]) {
-    for &number in numbers {
-        text.number(number.into());
-    }
-}
-
-fn write_names(text: &mut Text, names: Names) {
-    for name in names.iter() {
-        text.name(name);
     }
 }

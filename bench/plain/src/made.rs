@@ -37,7 +37,7 @@ pub fn made(seed: u32) -> Text {
 }
 
 fn write_sums(text: &mut Text, heads: &[Head]) {
-    write_total(text, heads.iter());
+    write_total(text, heads);
     text.row("occupancy").number(heads.iter().map(|head| head.occupancy).sum()).end();
 }
 

@@ -20,7 +20,8 @@ mod tables;
 mod text;
 mod words;
 
-use input::{Cause, Refusal};
+use compress::on_section;
+use input::Refusal;
 use std::io::{Read, Write};
 use std::process::ExitCode;
 use tables::Line;
@@ -47,7 +48,11 @@ fn main() -> ExitCode {
     };
     let (text, refusal) = match outcome(&command, &bytes) {
         Ok(text) => (text, None),
-        Err(refusal) => (refusal_row(refusal), Some(refusal)),
+        Err(refusal) => {
+            let mut text = Text::default();
+            text.row("refused").number(refusal.row as i64).word(refusal.cause).end();
+            (text, Some(refusal))
+        }
     };
     let mut output = std::io::stdout().lock();
     if output.write_all(&text.bytes).and_then(|()| output.flush()).is_err() {
@@ -80,44 +85,39 @@ fn outcome(command: &Command, bytes: &[u8]) -> Result<Text, Refusal> {
         return Ok(made::made(*number));
     }
     if bytes.len() > input::MOST_BYTES {
-        return Err(Refusal::whole(Cause::TooLong));
+        return Err(Refusal { row: 0, cause: "too-long" });
     }
     let input = input::read(bytes, matches!(command, Command::Session(_)))?;
     let line = &input.line;
-    Ok(match command {
-        Command::Stairs => stairs::stairs(line),
-        Command::Check => check::check(line),
-        Command::Report => compress::report(line),
-        Command::Compress(name) => compress::compress(line, section(line, name)?),
-        Command::Headways(name) => headways::headways(line, section(line, name)?),
-        Command::Cut(name) => pieces::cut(line, section(line, name)?),
-        Command::Cycle(name) => cycle::cycle(line, section(line, name)?),
-        Command::Delays(name, delays) => delays::delays(line, section(line, name)?, delays)?,
-        Command::Fill(name, run) => fill::fill(line, section(line, name)?, run)?,
-        Command::Session(workers) => session::session(input, *workers).text(),
+    match command {
+        Command::Stairs => Ok(stairs::stairs(line)),
+        Command::Check => Ok(check::check(line)),
+        Command::Report => Ok(compress::report(line)),
+        Command::Compress(name) => on_section(line, name, &[], |text, cut, _| compress::compress(text, cut)),
+        Command::Headways(name) => on_section(line, name, &[], |text, cut, _| headways::headways(text, cut)),
+        Command::Cut(name) => on_section(line, name, &[], |text, cut, _| pieces::cut(text, cut, blocks(line, name))),
+        Command::Cycle(name) => on_section(line, name, &[], |text, cut, _| cycle::cycle(text, cut)),
+        Command::Delays(name, runs, seconds) => {
+            on_section(line, name, runs, |text, cut, trains| delays::delays(text, cut, trains, seconds))
+        }
+        Command::Fill(name, run) => {
+            on_section(line, name, &[run], |text, cut, trains| fill::fill(text, cut, trains[0]))
+        }
+        Command::Session(workers) => Ok(session::session(input, *workers).text()),
         Command::Made(_) => unreachable!("it has its text already"),
-    })
+    }
 }
 
-fn section(line: &Line, name: &[u8]) -> Result<u32, Refusal> {
-    line.sections.find(name).ok_or(Refusal::whole(Cause::NoSection))
-}
-
-fn refusal_row(refusal: Refusal) -> Text {
-    let mut text = Text::default();
-    text.row("refused").number(refusal.row as i64).word(refusal.cause.word()).end();
-    text
+/// The blocks of a section that is there, in its order.
+fn blocks<'a>(line: &'a Line, name: &[u8]) -> &'a [u32] {
+    line.sections.find(name).map_or(&[], |section| &line.sections.item(section).blocks)
 }
 
 fn why(refusal: Refusal) -> String {
-    use Cause::*;
     match refusal.cause {
-        TooLong => "the input is longer than 16,777,216 bytes".into(),
-        NoSection => "no section has that name".into(),
-        NoMember => "a run of the words is no train of the section".into(),
-        Kind | Fields | Number | Name | Order | Script => format!("row {}: the row has a wrong form", refusal.row),
-        Range | Twice | Unknown | Limit | Count | InUse => {
-            format!("row {}: the row breaks a rule of the tables", refusal.row)
-        }
+        "too-long" => "the input is longer than 16,777,216 bytes".into(),
+        "no-section" => "no section has that name".into(),
+        "no-member" => "a run of the words is no train of the section".into(),
+        cause => format!("row {}: the row is refused, {cause}", refusal.row),
     }
 }

@@ -1,102 +1,79 @@
 //! The command `cut`: the fewest pieces of a section whose trains have an order.
 
-use crate::answer::{Answer, Reading};
-use crate::compress::{write_crowded, write_disorder};
-use crate::cut::{Cut, Member, Traffic};
-use crate::tables::Line;
+use crate::answer::Answer;
+use crate::compress::write_disorder;
+use crate::cut::{Cut, Member, FIRST_BLOCK};
+use crate::stairs::Use;
+use crate::tables::Name;
 use crate::text::Text;
 use std::ops::Range;
 use std::sync::Arc;
 
-pub fn cut(line: &Line, section: u32) -> Text {
-    let cut = Cut::of(line, &Traffic::of(line), section);
-    let mut text = Text::default();
-    if cut.is_crowded() {
-        write_crowded(&mut text, &cut);
-        return text;
-    }
-    let reading = by_place(Reading::of(&cut, line));
-    let mut pieces = Vec::new();
+pub fn cut(text: &mut Text, cut: Cut, blocks: &[u32]) {
+    let cut = by_position(cut, blocks);
+    let mut pieces: Vec<Range<usize>> = Vec::new();
     let mut from = 0;
-    while from < reading.blocks {
-        let piece = from..longest(&reading, from);
-        from = piece.end;
-        pieces.push(piece);
+    while from < blocks.len() {
+        pieces.push(from..longest(&cut, from));
+        from = pieces[pieces.len() - 1].end;
     }
-    for (number, piece) in pieces.iter().enumerate() {
-        text.row("piece").name(&cut.name).number(number as i64 + 1);
-        write_ends(&mut text, &reading, piece);
+    for (piece, number) in pieces.iter().zip(1..) {
+        text.row("piece").name(&cut.name).number(number);
+        text.name(&cut.places[piece.start]).name(&cut.places[piece.end - 1]).end();
     }
     for piece in &pieces[..pieces.len() - 1] {
-        let stretch = piece.start..piece.end + 1;
-        text.row("stretch");
-        write_ends(&mut text, &reading, &stretch);
-        let answer = Answer::compressed(part(&reading, &stretch));
+        text.row("stretch").name(&cut.places[piece.start]).name(&cut.places[piece.end]).end();
+        let answer = Answer::compressed(part(&cut, piece.start..piece.end + 1));
         let disorder = answer.disorder().expect("no order reaches beyond the longest piece");
-        write_disorder(&mut text, &answer, &disorder);
+        write_disorder(text, &answer.cut, &disorder);
     }
     text.row("cut").name(&cut.name).number(pieces.len() as i64).end();
-    text
 }
 
-fn write_ends(text: &mut Text, reading: &Reading, piece: &Range<usize>) {
-    text.name(&reading.places[piece.start]).name(&reading.places[piece.end - 1]).end();
-}
-
-/// The same without connections, and with each train's uses in the order of the section's blocks.
-fn by_place(mut reading: Reading) -> Reading {
-    for member in &mut reading.members {
-        let mut uses = member.uses.clone();
-        uses.retain(|each| (each.place as usize) < reading.blocks);
+/// The same without connections, with the section's blocks as the places, in their order, and with
+/// each train's uses in this order.
+fn by_position(mut cut: Cut, blocks: &[u32]) -> Cut {
+    let mut positions = vec![None; cut.places.len()];
+    for (&block, position) in blocks.iter().zip(0..) {
+        positions[(FIRST_BLOCK + block) as usize] = Some(position);
+    }
+    for member in &mut cut.members {
+        let moved = |each: &Use| Some(Use { place: positions[each.place as usize]?, ..*each });
+        let mut uses: Vec<Use> = member.uses.iter().filter_map(moved).collect();
         uses.sort_unstable_by_key(|each| each.place);
         *member = Arc::new(Member { name: member.name.clone(), entry: member.entry, uses });
     }
-    Arc::make_mut(&mut reading.places).truncate(reading.blocks);
-    reading
+    let places: Vec<Name> = blocks.iter().map(|&block| cut.place(FIRST_BLOCK + block).clone()).collect();
+    Cut { places: Arc::new(places), ..cut }
 }
 
 /// The trains that use one of a piece's blocks, with these uses alone.
-fn part(reading: &Reading, piece: &Range<usize>) -> Reading {
+fn part(cut: &Cut, piece: Range<usize>) -> Cut {
     let base = piece.start as u32;
-    let members = reading.members.iter().filter_map(|member| {
+    let members = cut.members.iter().filter_map(|member| {
         let at = |place: usize| member.uses.partition_point(|each| (each.place as usize) < place);
-        let mut uses = member.uses[at(piece.start)..at(piece.end)].to_vec();
-        uses.iter_mut().for_each(|each| each.place -= base);
-        let used = !uses.is_empty();
-        used.then(|| Arc::new(Member { name: member.name.clone(), entry: member.entry, uses }))
+        let uses = &member.uses[at(piece.start)..at(piece.end)];
+        let uses: Vec<Use> = uses.iter().map(|each| Use { place: each.place - base, ..*each }).collect();
+        let member = Member { name: member.name.clone(), entry: member.entry, uses };
+        if member.uses.is_empty() { None } else { Some(Arc::new(member)) }
     });
-    Reading {
-        members: members.collect(),
-        places: Arc::new(reading.places[piece.clone()].to_vec()),
-        blocks: piece.len(),
-        ..reading.clone()
-    }
-}
-
-fn is_orderly(reading: &Reading, piece: Range<usize>) -> bool {
-    piece.len() == 1 || Answer::compressed(part(reading, &piece)).is_ordered()
+    Cut { members: members.collect(), places: Arc::new(cut.places[piece.clone()].to_vec()), ..cut.clone() }
 }
 
 /// Where the longest orderly piece from a block on ends. A part of an orderly piece is orderly, so
-/// lengths are doubled until one is too long, and then the one between is looked for.
-fn longest(reading: &Reading, from: usize) -> usize {
-    let (mut good, mut step) = (from + 1, 1);
-    let mut bad = reading.blocks + 1;
-    while good < reading.blocks {
-        let next = (good + step).min(reading.blocks);
-        if !is_orderly(reading, from..next) {
-            bad = next;
-            break;
-        }
-        (good, step) = (next, step * 2);
+/// steps are doubled until one is too long, and then halved.
+fn longest(cut: &Cut, from: usize) -> usize {
+    let is_orderly = |end: usize| end <= cut.places.len() && Answer::compressed(part(cut, from..end)).is_ordered();
+    let (mut end, mut step) = (from + 1, 1);
+    while is_orderly(end + step) {
+        end += step;
+        step *= 2;
     }
-    while good + 1 < bad.min(reading.blocks + 1) {
-        let middle = (good + bad) / 2;
-        if is_orderly(reading, from..middle) {
-            good = middle;
-        } else {
-            bad = middle;
+    while step > 1 {
+        step /= 2;
+        if is_orderly(end + step) {
+            end += step;
         }
     }
-    good
+    end
 }

@@ -1,15 +1,15 @@
 //! The command `session`: planners edit the timetable and ask, workers answer, and the journal
 //! tells it.
 
-use crate::answer::{Answer, Reading};
-use crate::compress::{crowded, head, write_total, write_trains, Head};
-use crate::cut::{Cut, Traffic};
-use crate::input::{Edit, Input, Row, Task};
+use crate::answer::Answer;
+use crate::compress::{crowded, head, write_report, write_trains, Head};
+use crate::cut::{Cut, Cutter, Traffic, FIRST_BLOCK};
+use crate::input::{Edit, Input, Kind, Row, Task};
 use crate::stairs::Way;
 use crate::tables::{Change, Line, Name};
 use crate::text::Text;
 use indexmap::IndexMap;
-use std::sync::{Arc, Condvar, Mutex, MutexGuard};
+use std::sync::{Condvar, Mutex, MutexGuard};
 
 /// A session that is over.
 pub struct Session {
@@ -22,13 +22,9 @@ pub struct Session {
 
 impl Session {
     /// The journal, and the report of the timetable as it is in the end.
-    pub fn text(self) -> Text {
-        let mut text = self.journal;
-        for head in &self.heads {
-            text.bytes.extend_from_slice(&head.rows);
-        }
-        write_total(&mut text, self.heads.iter());
-        text
+    pub fn text(mut self) -> Text {
+        write_report(&mut self.journal, &self.heads);
+        self.journal
     }
 }
 
@@ -86,7 +82,8 @@ impl Desk {
     fn work(&self) {
         let mut book = self.take();
         loop {
-            if let Some(section) = book.first_open() {
+            let open = book.open_sections().next();
+            if let Some(section) = open {
                 let work = book.take_up(section);
                 drop(book);
                 let done = work.done();
@@ -117,8 +114,7 @@ impl Standing {
 
 /// A section of the book.
 struct Shelf {
-    cut: Cut,
-    places: Arc<Vec<Name>>,
+    cutter: Cutter,
     /// The edit that put or changed the section.
     since: u64,
     in_hand: bool,
@@ -142,8 +138,7 @@ struct Book {
 impl Book {
     fn open(line: Line, at: u64, planners: usize) -> Book {
         let traffic = Traffic::of(&line);
-        let shelf = |section| line.sections.get(section).map(|_| Shelf::of(&line, &traffic, section, at));
-        let shelves = (0..line.sections.room() as u32).map(shelf).collect();
+        let shelves = (0..line.sections.room() as u32).map(|section| shelf(&line, &traffic, section, at)).collect();
         let sections = line.sections.by_name();
         let standing = |&section: &u32| (line.sections.name(section).clone(), Standing::default());
         let standings = sections.iter().map(standing).collect();
@@ -175,12 +170,11 @@ impl Book {
         if self.line.sections.find(name).is_none() {
             return reply.word("unknown").end();
         }
-        match self.standings[name] {
-            Standing { published: None, .. } => reply.word("not-yet").end(),
-            Standing { published: Some(at), touched } if touched > at => {
-                reply.word("stale").number(at as i64).number(touched as i64).end();
-            }
-            Standing { published: Some(at), .. } => reply.word("ready").number(at as i64).end(),
+        let standing = &self.standings[name];
+        match standing.published {
+            None => reply.word("not-yet").end(),
+            Some(at) if standing.is_current() => reply.word("ready").number(at as i64).end(),
+            Some(at) => reply.word("stale").number(at as i64).number(standing.touched as i64).end(),
         }
     }
 
@@ -189,7 +183,7 @@ impl Book {
         edit.write(&mut row);
         match self.line.apply(edit) {
             Err(cause) => {
-                self.journal.row("rejected").number(planner).word(cause.word()).append(&row);
+                self.journal.row("rejected").number(planner).word(cause).append(&row);
             }
             Ok(change) => {
                 self.at += 1;
@@ -201,28 +195,29 @@ impl Book {
 
     /// Brings the cuts up to an edit.
     fn follow(&mut self, change: &Change) {
-        match change {
-            Change::Section(section) => self.follow_section(*section),
-            Change::Connect(runs) => {
-                self.traffic.links = Traffic::links_of(&self.line);
-                for shelf in self.shelves.iter_mut().flatten() {
-                    shelf.places = Arc::new(shelf.cut.place_names(&self.line));
+        match change.kind {
+            Kind::Section => self.follow_section(change.number),
+            Kind::Connect => {
+                self.traffic.follow_names(&self.line);
+                self.refresh(&change.runs, |_| true);
+            }
+            Kind::Run => {
+                let run = change.number;
+                if self.line.runs.room() > self.traffic.ways.len() {
+                    self.traffic.ways.push(Way::of(&self.line, run));
+                    self.traffic.links.push(Vec::new());
                 }
-                self.refresh(runs, |_| true);
+                // A connection of the run may bind otherwise where no blocking has changed; and a new
+                // run has changed all.
+                self.walk_again(&[run]);
+                self.refresh(&[run], |_| true);
             }
-            Change::Run(run) => {
-                self.traffic.ways.resize_with(self.line.runs.room(), Way::default);
-                self.traffic.links.resize(self.line.runs.room(), Vec::new());
-                let blocks = self.walk_again(&[*run]);
-                // A connection of the run may bind otherwise where no blocking has changed.
-                let linked = !self.traffic.links[*run as usize].is_empty();
-                self.refresh(&[*run], |cut| linked || cut.has_any(&blocks));
-            }
-            Change::Block(_) | Change::Signal(_) | Change::Route(_) => {
+            Kind::Block | Kind::Signal | Kind::Route => {
+                self.traffic.follow_names(&self.line);
                 let line = &self.line;
                 let runs: Vec<u32> = line.runs.numbers().filter(|&run| line.depends(run, change)).collect();
                 let blocks = self.walk_again(&runs);
-                self.refresh(&runs, |cut| cut.has_any(&blocks));
+                self.refresh(&runs, |cutter| cutter.has_any(&blocks));
             }
         }
     }
@@ -231,28 +226,23 @@ impl Book {
     fn walk_again(&mut self, runs: &[u32]) -> Vec<bool> {
         let mut differ = vec![false; self.line.blocks.room()];
         for &run in runs {
-            let new = self.line.runs.get(run).map_or_else(Way::default, |run| Way::of(&self.line, run));
+            let new = Way::of(&self.line, run);
             let old = std::mem::replace(&mut self.traffic.ways[run as usize], new);
             let new = &self.traffic.ways[run as usize];
-            let common = old.uses.len().min(new.uses.len());
-            for at in 0..common {
-                if old.uses[at] != new.uses[at] {
-                    differ[old.uses[at].place as usize] = true;
-                    differ[new.uses[at].place as usize] = true;
-                }
-            }
-            for each in old.uses[common..].iter().chain(&new.uses[common..]) {
-                differ[each.place as usize] = true;
+            for (old, new) in old.uses.iter().zip(&new.uses).filter(|(old, new)| old != new) {
+                differ[(old.place - FIRST_BLOCK) as usize] = true;
+                differ[(new.place - FIRST_BLOCK) as usize] = true;
             }
         }
         differ
     }
 
     /// Brings the members of these runs up to date in the cuts that may have changed.
-    fn refresh(&mut self, runs: &[u32], may_differ: impl Fn(&Cut) -> bool) {
+    fn refresh(&mut self, runs: &[u32], may_differ: impl Fn(&Cutter) -> bool) {
         for shelf in self.shelves.iter_mut().flatten() {
-            if may_differ(&shelf.cut) && shelf.cut.refresh(&self.line, &self.traffic, runs) {
-                self.standings[&shelf.cut.name].touched = self.at;
+            shelf.cutter.cut.places = self.traffic.places.clone();
+            if may_differ(&shelf.cutter) && shelf.cutter.refresh(&self.line, &self.traffic, runs) {
+                self.standings[&shelf.cutter.cut.name].touched = self.at;
             }
         }
     }
@@ -260,61 +250,47 @@ impl Book {
     fn follow_section(&mut self, section: u32) {
         self.shelves.resize_with(self.line.sections.room(), || None);
         let old = self.shelves[section as usize].take();
-        let there = self.line.sections.get(section).is_some();
-        let mut new = there.then(|| Shelf::of(&self.line, &self.traffic, section, self.at));
-        let same = matches!((&old, &new), (Some(old), Some(new)) if old.cut.same(&new.cut));
-        if let (Some(old), Some(new), true) = (old, &mut new, same) {
-            new.head = old.head;
+        let mut new = shelf(&self.line, &self.traffic, section, self.at);
+        match (old, &mut new) {
+            (Some(old), Some(new)) if old.cutter.cut == new.cutter.cut => new.head = old.head,
+            _ => {
+                let name = self.line.sections.name(section).clone();
+                self.standings.entry(name).or_default().touched = self.at;
+            }
         }
         self.shelves[section as usize] = new;
-        if !same {
-            let name = self.line.sections.name(section).clone();
-            self.standings.entry(name).or_default().touched = self.at;
-        }
     }
 
     /// The sections that aren't current, in the order of names.
     fn open_sections(&self) -> impl Iterator<Item = u32> + '_ {
         let open = |section: &u32| {
             let shelf = self.shelf(*section);
-            !shelf.in_hand && !self.standings[&shelf.cut.name].is_current()
+            !shelf.in_hand && !self.standings[&shelf.cutter.cut.name].is_current()
         };
         self.line.sections.by_name().into_iter().filter(open)
-    }
-
-    fn first_open(&self) -> Option<u32> {
-        self.open_sections().next()
     }
 
     /// Reads a section, to work its answer out.
     fn take_up(&mut self, section: u32) -> Work {
         let shelf = self.shelves[section as usize].as_mut().expect("the section is there");
         shelf.in_hand = true;
-        let cut = &shelf.cut;
-        let task = if cut.is_crowded() {
-            shelf.answer = None;
-            WorkOn::Crowd(crowded(cut))
-        } else {
-            WorkOn::Trains(shelf.reading(), shelf.answer.take())
-        };
-        Work { section, at: self.at, since: shelf.since, task }
+        let (cut, answer) = (shelf.cutter.cut.clone(), shelf.answer.take());
+        Work { section, at: self.at, since: shelf.since, cut, answer, head: None, trains: Text::default() }
     }
 
     /// Publishes an answer, if no edit has touched its section since it was read.
-    fn publish(&mut self, done: Done) {
-        let Some(shelf) = self.shelves[done.section as usize].as_mut() else { return };
-        if shelf.since != done.since {
-            return;
-        }
+    fn publish(&mut self, done: Work) {
+        let shelf = self.shelves[done.section as usize].as_mut();
+        let Some(shelf) = shelf.filter(|shelf| shelf.since == done.since) else { return };
         shelf.in_hand = false;
         shelf.answer = done.answer;
-        let standing = &mut self.standings[&shelf.cut.name];
+        let standing = &mut self.standings[&shelf.cutter.cut.name];
         if standing.touched <= done.at {
             standing.published = Some(done.at);
-            self.journal.row("published").name(&shelf.cut.name).number(done.at as i64).end();
-            self.journal.bytes.extend_from_slice(&done.head.rows);
+            shelf.head = done.head;
+            self.journal.row("published").name(&shelf.cutter.cut.name).number(done.at as i64).end();
+            shelf.head.iter().for_each(|head| self.journal.append(&head.rows));
             self.journal.append(&done.trains);
-            shelf.head = Some(done.head);
         }
     }
 
@@ -327,67 +303,39 @@ impl Book {
     }
 }
 
-impl Shelf {
-    fn of(line: &Line, traffic: &Traffic, section: u32, since: u64) -> Shelf {
-        let cut = Cut::of(line, traffic, section);
-        let places = Arc::new(cut.place_names(line));
-        Shelf { cut, places, since, in_hand: false, answer: None, head: None }
-    }
-
-    fn reading(&self) -> Reading {
-        let cut = &self.cut;
-        Reading {
-            name: cut.name.clone(),
-            from: cut.from,
-            to: cut.to,
-            rate: cut.rate,
-            places: self.places.clone(),
-            blocks: cut.blocks.len(),
-            members: cut.members.clone(),
-        }
-    }
+/// The shelf of a section, where there is one of this number.
+fn shelf(line: &Line, traffic: &Traffic, section: u32, since: u64) -> Option<Shelf> {
+    line.sections.get(section)?;
+    let cutter = Cutter::of(line, traffic, section);
+    Some(Shelf { cutter, since, in_hand: false, answer: None, head: None })
 }
 
-/// A section whose answer is to be worked out, and its answer.
+/// A section whose answer is to be worked out from the one of an earlier cut, or has been.
 struct Work {
     section: u32,
     at: u64,
     since: u64,
-    task: WorkOn,
-}
-
-enum WorkOn {
-    Crowd(Head),
-    Trains(Reading, Option<Box<Answer>>),
-}
-
-struct Done {
-    section: u32,
-    at: u64,
-    since: u64,
-    head: Head,
-    trains: Text,
+    cut: Cut,
     answer: Option<Box<Answer>>,
+    head: Option<Head>,
+    trains: Text,
 }
 
 impl Work {
-    fn done(self) -> Done {
-        let Work { section, at, since, task } = self;
-        let mut trains = Text::default();
-        let (head, answer) = match task {
-            WorkOn::Crowd(head) => (head, None),
-            WorkOn::Trains(reading, old) => {
-                let answer = match old {
-                    Some(mut answer) => {
-                        answer.mend(reading);
-                        answer
-                    }
-                    None => Box::new(Answer::compressed(reading)),
-                };
-                write_trains(&mut trains, &answer);
-                (head(&answer), Some(answer))
+    fn done(mut self) -> Work {
+        if self.cut.is_crowded() {
+            (self.head, self.answer) = (Some(crowded(&self.cut)), None);
+            return self;
+        }
+        let answer = match self.answer.take() {
+            Some(mut answer) => {
+                answer.mend(&self.cut);
+                answer
             }
+            None => Box::new(Answer::compressed(self.cut.clone())),
         };
-        Done { section, at, since, head, trains, answer }
+        write_trains(&mut self.trains, &answer);
+        self.head = Some(head(&answer));
+        Work { answer: Some(answer), ..self }
     }
 }

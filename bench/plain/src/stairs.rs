@@ -1,5 +1,6 @@
 //! Blocking times: the walk along each path, and the command `stairs`.
 
+use crate::cut::FIRST_BLOCK;
 use crate::tables::{Line, Run};
 use crate::text::Text;
 
@@ -16,7 +17,7 @@ pub struct Hop {
     pub release: i32,
 }
 
-/// A block and when it is kept. In a cut `place` counts the section's blocks.
+/// A place, and when it is kept.
 #[derive(Clone, Copy, PartialEq, Eq)]
 pub struct Use {
     pub place: u32,
@@ -25,7 +26,6 @@ pub struct Use {
 }
 
 /// The blockings of a run along its path.
-#[derive(Default)]
 pub struct Way {
     pub uses: Vec<Use>,
     /// The least and the greatest start of them.
@@ -129,21 +129,24 @@ fn walk(line: &Line, run: &Run, mut hand_on: impl FnMut(Hop)) -> i32 {
 }
 
 impl Way {
-    pub fn of(line: &Line, run: &Run) -> Way {
+    /// The way of a run; where there is none of this number, one without blocks.
+    pub fn of(line: &Line, run: u32) -> Way {
+        let Some(run) = line.runs.get(run) else {
+            return Way { uses: Vec::new(), first: i32::MAX, last: i32::MIN, start: 0, arrival: 0 };
+        };
         let mut uses = Vec::with_capacity(run.legs.len());
         let (mut first, mut last) = (i32::MAX, i32::MIN);
         let arrival = walk(line, run, |hop| {
             first = first.min(hop.start);
             last = last.max(hop.start);
-            uses.push(Use { place: hop.block, start: hop.start, end: hop.end });
+            uses.push(Use { place: FIRST_BLOCK + hop.block, start: hop.start, end: hop.end });
         });
         Way { uses, first, last, start: run.start as i32, arrival }
     }
 
-    /// The ways of all runs, by their numbers; an empty one where there is no run.
+    /// The ways of all runs, by their numbers.
     pub fn all(line: &Line) -> Vec<Way> {
-        let way = |run| line.runs.get(run).map_or_else(Way::default, |run| Way::of(line, run));
-        (0..line.runs.room() as u32).map(way).collect()
+        (0..line.runs.room() as u32).map(|run| Way::of(line, run)).collect()
     }
 }
 

@@ -1,8 +1,7 @@
 //! The tables of a line, and the rules that refuse edits of them.
 
-use crate::input::{Cause, Edit, Item, Kind, Names, Verb};
+use crate::input::{Cause, Edit, Kind, Names, Verb};
 use std::collections::HashMap;
-use std::hash::{BuildHasherDefault, Hasher};
 use std::sync::Arc;
 
 pub type Name = Arc<[u8]>;
@@ -51,33 +50,6 @@ pub struct Connect {
     pub minimum: u32,
 }
 
-/// Names are short and many: eight bytes a step, each folded by a long product.
-#[derive(Default)]
-struct NameHasher(u64);
-
-impl Hasher for NameHasher {
-    fn write(&mut self, bytes: &[u8]) {
-        for part in bytes.chunks(8) {
-            let mut word = [0; 8];
-            word[..part.len()].copy_from_slice(part);
-            self.write_u64(u64::from_le_bytes(word));
-        }
-    }
-
-    fn write_u64(&mut self, word: u64) {
-        let product = u128::from(self.0 ^ word) * 0x9e37_79b9_7f4a_7c15_f39c_c060_5ced_c835;
-        self.0 = product as u64 ^ (product >> 64) as u64;
-    }
-
-    fn write_usize(&mut self, length: usize) {
-        self.0 = self.0.wrapping_add(length as u64);
-    }
-
-    fn finish(&self) -> u64 {
-        self.0
-    }
-}
-
 struct Slot<T> {
     name: Name,
     /// How many items name this one.
@@ -88,7 +60,7 @@ struct Slot<T> {
 /// The items of one kind. Each has a number, by which others name it; the number of a dropped item
 /// is given to one that is put later, so numbers stay below the limit of the kind.
 pub struct Table<T> {
-    numbers: HashMap<Name, u32, BuildHasherDefault<NameHasher>>,
+    numbers: HashMap<Name, u32>,
     slots: Vec<Slot<T>>,
     free: Vec<u32>,
 }
@@ -104,24 +76,16 @@ impl<T> Table<T> {
         self.numbers.get(name).copied()
     }
 
-    /// The same, where the name is likely that of the number `near`.
-    fn find_near(&self, name: &[u8], near: u32) -> Option<u32> {
-        match self.slots.get(near as usize) {
-            Some(slot) if slot.item.is_some() && *slot.name == *name => Some(near),
-            _ => self.find(name),
-        }
-    }
-
     /// The numbers of a list of names, which often follows the order in which they were put.
     fn find_all(&self, names: Names) -> Result<Vec<u32>, Cause> {
-        let mut found = Vec::with_capacity(names.len());
         let mut near = 0;
-        for name in names.iter() {
-            let number = self.find_near(name, near).ok_or(Cause::Unknown)?;
-            found.push(number);
-            near = number + 1;
-        }
-        Ok(found)
+        let number = |name: &[u8]| {
+            let guess = self.slots.get(near).filter(|slot| slot.item.is_some() && *slot.name == *name);
+            let found = guess.map_or_else(|| self.find(name), |_| Some(near as u32))?;
+            near = found as usize + 1;
+            Some(found)
+        };
+        names.iter().map(number).collect::<Option<_>>().ok_or("unknown")
     }
 
     pub fn get(&self, number: u32) -> Option<&T> {
@@ -162,26 +126,20 @@ impl<T> Table<T> {
         self.slots.iter().map(|slot| slot.name.clone()).collect()
     }
 
-    fn used(&mut self, numbers: &[u32]) {
-        for &number in numbers {
-            self.slots[number as usize].users += 1;
-        }
+    /// Items are named by one more, or no longer by one.
+    fn name_by(&mut self, new: &[u32], old: &[u32]) {
+        new.iter().for_each(|&number| self.slots[number as usize].users += 1);
+        old.iter().for_each(|&number| self.slots[number as usize].users -= 1);
     }
 
-    fn unused(&mut self, numbers: &[u32]) {
-        for &number in numbers {
-            self.slots[number as usize].users -= 1;
-        }
-    }
-
-    /// Where an item of this name is put or changed: no number yet, or the one that it has.
-    fn seat(&self, verb: Verb, name: &[u8], taken: bool, most: usize) -> Result<Option<u32>, Cause> {
-        match (verb, self.find(name)) {
-            (Verb::Put, Some(_)) => Err(Cause::Twice),
-            (Verb::Put, None) if taken => Err(Cause::Twice),
-            (Verb::Put, None) if self.len() == most => Err(Cause::Limit),
+    /// Where the item of an edit is put or changed: no number yet, or the one that it has.
+    fn seat(&self, edit: &Edit, taken: bool, most: usize) -> Result<Option<u32>, Cause> {
+        match (edit.verb, self.find(edit.name)) {
+            (Verb::Put, Some(_)) => Err("twice"),
+            (Verb::Put, None) if taken => Err("twice"),
+            (Verb::Put, None) if self.len() == most => Err("limit"),
             (Verb::Put, None) => Ok(None),
-            (_, found) => found.ok_or(Cause::Unknown).map(Some),
+            (_, found) => found.ok_or("unknown").map(Some),
         }
     }
 
@@ -208,10 +166,10 @@ impl<T> Table<T> {
 
     /// Takes the item of this name out. The slot keeps the name until the number is given again.
     fn take(&mut self, name: &[u8]) -> Result<(u32, T), Cause> {
-        let number = self.find(name).ok_or(Cause::Unknown)?;
+        let number = self.find(name).ok_or("unknown")?;
         let slot = &mut self.slots[number as usize];
         if slot.users > 0 {
-            return Err(Cause::InUse);
+            return Err("in-use");
         }
         let item = slot.item.take().expect("a named item is there");
         self.numbers.remove(name);
@@ -220,45 +178,12 @@ impl<T> Table<T> {
     }
 }
 
-/// A set of routes, by their numbers.
-#[derive(Clone, Default)]
-struct Routes(Vec<u64>);
-
-impl Routes {
-    fn insert(&mut self, route: u32) {
-        let word = route as usize / 64;
-        if self.0.len() <= word {
-            self.0.resize(word + 1, 0);
-        }
-        self.0[word] |= 1 << (route % 64);
-    }
-
-    fn remove(&mut self, route: u32) {
-        self.0[route as usize / 64] &= !(1 << (route % 64));
-    }
-
-    fn has(&self, route: u32) -> bool {
-        self.0.get(route as usize / 64).is_some_and(|word| word >> (route % 64) & 1 == 1)
-    }
-
-    fn meet(&self, other: &Routes) -> bool {
-        self.0.iter().zip(&other.0).any(|(a, b)| a & b != 0)
-    }
-
-    fn members(&self) -> Vec<u32> {
-        (0..self.0.len() as u32 * 64).filter(|&route| self.has(route)).collect()
-    }
-}
-
-/// What an edit that was made has put, changed or dropped.
-pub enum Change {
-    Block(u32),
-    Signal(u32),
-    Route(u32),
-    Run(u32),
-    Section(u32),
-    /// The runs that the connection names, or named before.
-    Connect(Vec<u32>),
+/// The item that an edit has put, changed or dropped; and of a connection the runs that it names, or
+/// named before.
+pub struct Change {
+    pub kind: Kind,
+    pub number: u32,
+    pub runs: Vec<u32>,
 }
 
 #[derive(Default)]
@@ -269,9 +194,6 @@ pub struct Line {
     pub runs: Table<Run>,
     pub sections: Table<Section>,
     pub connects: Table<Connect>,
-    /// The routes that list a signal, and those that pass a block.
-    signal_routes: Vec<Routes>,
-    block_routes: Vec<Routes>,
     /// For each block the last look at a list of blocks that saw it.
     seen: Vec<u32>,
     looks: u32,
@@ -280,225 +202,163 @@ pub struct Line {
 impl Line {
     /// Makes an edit, or tells the first rule that refuses it.
     pub fn apply(&mut self, edit: Edit) -> Result<Change, Cause> {
-        if !in_range(&edit.item) {
-            return Err(Cause::Range);
+        if !edit.is_in_range() {
+            return Err("range");
         }
-        let Edit { verb, kind, name, item } = edit;
-        match item {
-            Item::Nothing => self.take_out(kind, name),
-            Item::Block { length } => self.set_block(verb, name, Block { length }),
-            Item::Signal { block, approach, watch, form, overlap, release } => {
-                let signal = Signal { block: 0, approach, watch, form, overlap, release };
-                self.set_signal(verb, name, block, signal)
-            }
-            Item::Route { signals } => self.set_route(verb, name, signals),
-            Item::Run { route, length, tail, start, legs } => {
-                self.set_run(verb, name, route, Run { route: 0, length, tail, start, legs })
-            }
-            Item::Section { from, to, rate, blocks } => {
-                self.set_section(verb, name, blocks, Section { from, to, rate, blocks: vec![] })
-            }
-            Item::Connect { first, second, minimum } => {
-                self.set_connect(verb, name, [first, second], minimum)
-            }
-        }
+        let (kind, mut runs) = (edit.kind, Vec::new());
+        let number = match kind {
+            _ if edit.verb == Verb::Drop => self.take_out(kind, edit.name, &mut runs)?,
+            Kind::Block => self.set_block(&edit)?,
+            Kind::Signal => self.set_signal(&edit)?,
+            Kind::Route => self.set_route(&edit)?,
+            Kind::Run => self.set_run(edit)?,
+            Kind::Section => self.set_section(&edit)?,
+            Kind::Connect => self.set_connect(&edit, &mut runs)?,
+        };
+        Ok(Change { kind, number, runs })
     }
 
-    /// Whether the path of a run that is there depends on what was changed.
+    /// The block beyond a signal.
+    pub fn block_of(&self, signal: u32) -> u32 {
+        self.signals.item(signal).block
+    }
+
+    /// Whether the way of a run depends on the block, signal or route of a change.
     pub fn depends(&self, run: u32, change: &Change) -> bool {
         let route = self.runs.item(run).route;
-        match change {
-            Change::Block(block) => self.block_routes[*block as usize].has(route),
-            Change::Signal(signal) => self.signal_routes[*signal as usize].has(route),
-            Change::Route(changed) => *changed == route,
-            Change::Run(changed) => *changed == run,
-            Change::Section(_) | Change::Connect(_) => false,
+        let signals = &self.routes.item(route).signals;
+        match change.kind {
+            Kind::Block => signals.iter().any(|&signal| self.block_of(signal) == change.number),
+            Kind::Signal => signals.contains(&change.number),
+            _ => change.number == route,
         }
     }
 
-    fn set_block(&mut self, verb: Verb, name: &[u8], block: Block) -> Result<Change, Cause> {
-        let taken = self.connects.find(name).is_some();
-        let seat = self.blocks.seat(verb, name, taken, 4096)?;
-        let (number, _) = self.blocks.store(seat, name, block);
-        self.block_routes.resize(self.blocks.room(), Routes::default());
+    fn set_block(&mut self, edit: &Edit) -> Result<u32, Cause> {
+        let seat = self.blocks.seat(edit, self.connects.find(edit.name).is_some(), 4096)?;
+        let (number, _) = self.blocks.store(seat, edit.name, Block { length: edit.numbers[0] });
         self.seen.resize(self.blocks.room(), 0);
-        Ok(Change::Block(number))
+        Ok(number)
     }
 
-    fn set_signal(&mut self, verb: Verb, name: &[u8], block: &[u8], mut signal: Signal) -> Result<Change, Cause> {
-        let seat = self.signals.seat(verb, name, false, 8192)?;
-        signal.block = self.blocks.find(block).ok_or(Cause::Unknown)?;
-        if let Some(number) = seat {
-            self.move_signal(number, signal.block)?;
+    fn set_signal(&mut self, edit: &Edit) -> Result<u32, Cause> {
+        let seat = self.signals.seat(edit, false, 8192)?;
+        let block = self.blocks.find(edit.names.at(0)).ok_or("unknown")?;
+        if seat.is_some_and(|number| self.meets(number, block)) {
+            return Err("twice");
         }
-        self.blocks.used(&[signal.block]);
-        let (number, old) = self.signals.store(seat, name, signal);
-        if let Some(old) = old {
-            self.blocks.unused(&[old.block]);
-        }
-        self.signal_routes.resize(self.signals.room(), Routes::default());
-        Ok(Change::Signal(number))
+        self.blocks.name_by(&[block], &[]);
+        let [approach, watch, form, overlap, release] = edit.numbers;
+        let signal = Signal { block, approach, watch, form, overlap, release };
+        let (number, old) = self.signals.store(seat, edit.name, signal);
+        old.iter().for_each(|old| self.blocks.name_by(&[], &[old.block]));
+        Ok(number)
     }
 
-    /// The routes of a signal pass its new block from now on; none may pass it already.
-    fn move_signal(&mut self, signal: u32, block: u32) -> Result<(), Cause> {
-        let old = self.signals.item(signal).block;
-        if old == block {
-            return Ok(());
-        }
-        let routes = &self.signal_routes[signal as usize];
-        if routes.meet(&self.block_routes[block as usize]) {
-            return Err(Cause::Twice);
-        }
-        for route in routes.members() {
-            self.block_routes[old as usize].remove(route);
-            self.block_routes[block as usize].insert(route);
-        }
-        Ok(())
+    /// Whether a route of the signal has another one at the block.
+    fn meets(&self, signal: u32, block: u32) -> bool {
+        let passes = |&other: &u32| other != signal && self.block_of(other) == block;
+        let meets = |route: &Route| route.signals.contains(&signal) && route.signals.iter().any(passes);
+        self.block_of(signal) != block && self.routes.numbers().any(|route| meets(self.routes.item(route)))
     }
 
-    fn set_route(&mut self, verb: Verb, name: &[u8], signals: Names) -> Result<Change, Cause> {
-        let seat = self.routes.seat(verb, name, false, 4096)?;
-        let signals = self.signals.find_all(signals)?;
-        let blocks: Vec<u32> = signals.iter().map(|&signal| self.signals.item(signal).block).collect();
+    fn set_route(&mut self, edit: &Edit) -> Result<u32, Cause> {
+        let seat = self.routes.seat(edit, false, 4096)?;
+        let signals = self.signals.find_all(edit.names)?;
+        let blocks: Vec<u32> = signals.iter().map(|&signal| self.block_of(signal)).collect();
         self.all_differ(&blocks)?;
-        if let Some(number) = seat {
+        let miscounts = |number: u32| {
             let used = self.routes.slots[number as usize].users > 0;
-            if used && self.routes.item(number).signals.len() != signals.len() {
-                return Err(Cause::Count);
-            }
-            self.unlist(number);
+            used && self.routes.item(number).signals.len() != signals.len()
+        };
+        if seat.is_some_and(miscounts) {
+            return Err("count");
         }
-        let (number, _) = self.routes.store(seat, name, Route { signals });
-        self.list(number, &blocks);
-        Ok(Change::Route(number))
-    }
-
-    /// Notes in its signals and blocks that a route lists and passes them.
-    fn list(&mut self, route: u32, blocks: &[u32]) {
-        let signals = &self.routes.item(route).signals;
-        self.signals.used(signals);
-        for (&signal, &block) in signals.iter().zip(blocks) {
-            self.signal_routes[signal as usize].insert(route);
-            self.block_routes[block as usize].insert(route);
-        }
-    }
-
-    fn unlist(&mut self, route: u32) {
-        let signals = &self.routes.item(route).signals;
-        self.signals.unused(signals);
-        for &signal in signals {
-            let block = self.signals.item(signal).block;
-            self.signal_routes[signal as usize].remove(route);
-            self.block_routes[block as usize].remove(route);
-        }
+        self.signals.name_by(&signals, &[]);
+        let (number, old) = self.routes.store(seat, edit.name, Route { signals });
+        old.iter().for_each(|old| self.signals.name_by(&[], &old.signals));
+        Ok(number)
     }
 
     fn all_differ(&mut self, blocks: &[u32]) -> Result<(), Cause> {
         self.looks += 1;
-        for &block in blocks {
-            if std::mem::replace(&mut self.seen[block as usize], self.looks) == self.looks {
-                return Err(Cause::Twice);
-            }
-        }
-        Ok(())
+        let again = |&block: &u32| std::mem::replace(&mut self.seen[block as usize], self.looks) == self.looks;
+        if blocks.iter().any(again) { Err("twice") } else { Ok(()) }
     }
 
-    fn set_run(&mut self, verb: Verb, name: &[u8], route: &[u8], mut run: Run) -> Result<Change, Cause> {
-        let seat = self.runs.seat(verb, name, false, 2048)?;
-        run.route = self.routes.find(route).ok_or(Cause::Unknown)?;
-        if self.routes.item(run.route).signals.len() != run.legs.len() {
-            return Err(Cause::Count);
+    fn set_run(&mut self, edit: Edit) -> Result<u32, Cause> {
+        let seat = self.runs.seat(&edit, false, 2048)?;
+        let route = self.routes.find(edit.names.at(0)).ok_or("unknown")?;
+        if self.routes.item(route).signals.len() != edit.legs.len() {
+            return Err("count");
         }
-        self.routes.used(&[run.route]);
-        let (number, old) = self.runs.store(seat, name, run);
-        if let Some(old) = old {
-            self.routes.unused(&[old.route]);
-        }
-        Ok(Change::Run(number))
+        self.routes.name_by(&[route], &[]);
+        let [length, tail, start, ..] = edit.numbers;
+        let (number, old) = self.runs.store(seat, edit.name, Run { route, length, tail, start, legs: edit.legs });
+        old.iter().for_each(|old| self.routes.name_by(&[], &[old.route]));
+        Ok(number)
     }
 
-    fn set_section(&mut self, verb: Verb, name: &[u8], blocks: Names, mut section: Section) -> Result<Change, Cause> {
-        let seat = self.sections.seat(verb, name, false, 64)?;
-        section.blocks = self.blocks.find_all(blocks)?;
-        self.all_differ(&section.blocks)?;
-        self.blocks.used(&section.blocks);
-        let (number, old) = self.sections.store(seat, name, section);
-        if let Some(old) = old {
-            self.blocks.unused(&old.blocks);
-        }
-        Ok(Change::Section(number))
+    fn set_section(&mut self, edit: &Edit) -> Result<u32, Cause> {
+        let seat = self.sections.seat(edit, false, 64)?;
+        let blocks = self.blocks.find_all(edit.names)?;
+        self.all_differ(&blocks)?;
+        self.blocks.name_by(&blocks, &[]);
+        let [from, to, rate, ..] = edit.numbers;
+        let (number, old) = self.sections.store(seat, edit.name, Section { from, to, rate, blocks });
+        old.iter().for_each(|old| self.blocks.name_by(&[], &old.blocks));
+        Ok(number)
     }
 
-    fn set_connect(&mut self, verb: Verb, name: &[u8], runs: [&[u8]; 2], minimum: u32) -> Result<Change, Cause> {
-        let taken = self.blocks.find(name).is_some();
-        let seat = self.connects.seat(verb, name, taken, 1024)?;
-        let first = self.runs.find(runs[0]).ok_or(Cause::Unknown)?;
-        let second = self.runs.find(runs[1]).ok_or(Cause::Unknown)?;
+    fn set_connect(&mut self, edit: &Edit, runs: &mut Vec<u32>) -> Result<u32, Cause> {
+        let seat = self.connects.seat(edit, self.blocks.find(edit.name).is_some(), 1024)?;
+        let first = self.runs.find(edit.names.at(0)).ok_or("unknown")?;
+        let second = self.runs.find(edit.names.at(1)).ok_or("unknown")?;
         if first == second {
-            return Err(Cause::Twice);
+            return Err("twice");
         }
-        self.runs.used(&[first, second]);
-        let mut named = vec![first, second];
-        if let (_, Some(old)) = self.connects.store(seat, name, Connect { first, second, minimum }) {
-            self.runs.unused(&[old.first, old.second]);
-            named.extend([old.first, old.second]);
-        }
-        Ok(Change::Connect(named))
+        self.runs.name_by(&[first, second], &[]);
+        runs.extend([first, second]);
+        let connect = Connect { first, second, minimum: edit.numbers[0] };
+        let (number, old) = self.connects.store(seat, edit.name, connect);
+        old.iter().for_each(|old| self.forget(old, runs));
+        Ok(number)
     }
 
-    fn take_out(&mut self, kind: Kind, name: &[u8]) -> Result<Change, Cause> {
-        Ok(match kind {
-            Kind::Block => Change::Block(self.blocks.take(name)?.0),
+    /// A connection's runs are no longer named by it.
+    fn forget(&mut self, connect: &Connect, runs: &mut Vec<u32>) {
+        self.runs.name_by(&[], &[connect.first, connect.second]);
+        runs.extend([connect.first, connect.second]);
+    }
+
+    fn take_out(&mut self, kind: Kind, name: &[u8], runs: &mut Vec<u32>) -> Result<u32, Cause> {
+        match kind {
+            Kind::Block => self.blocks.take(name).map(|(number, _)| number),
             Kind::Signal => {
                 let (number, signal) = self.signals.take(name)?;
-                self.blocks.unused(&[signal.block]);
-                Change::Signal(number)
+                self.blocks.name_by(&[], &[signal.block]);
+                Ok(number)
             }
             Kind::Route => {
-                // Its signals forget it first, which they can only while it is there.
-                let number = self.routes.find(name).ok_or(Cause::Unknown)?;
-                if self.routes.slots[number as usize].users == 0 {
-                    self.unlist(number);
-                }
-                Change::Route(self.routes.take(name)?.0)
+                let (number, route) = self.routes.take(name)?;
+                self.signals.name_by(&[], &route.signals);
+                Ok(number)
             }
             Kind::Run => {
                 let (number, run) = self.runs.take(name)?;
-                self.routes.unused(&[run.route]);
-                Change::Run(number)
+                self.routes.name_by(&[], &[run.route]);
+                Ok(number)
             }
             Kind::Section => {
                 let (number, section) = self.sections.take(name)?;
-                self.blocks.unused(&section.blocks);
-                Change::Section(number)
+                self.blocks.name_by(&[], &section.blocks);
+                Ok(number)
             }
             Kind::Connect => {
-                let (_, connect) = self.connects.take(name)?;
-                self.runs.unused(&[connect.first, connect.second]);
-                Change::Connect(vec![connect.first, connect.second])
+                let (number, connect) = self.connects.take(name)?;
+                self.forget(&connect, runs);
+                Ok(number)
             }
-        })
-    }
-}
-
-/// Whether all numbers of an item lie within their limits.
-fn in_range(item: &Item) -> bool {
-    const DAY: u32 = 86_400;
-    const FAR: u32 = 1_000_000;
-    match item {
-        Item::Nothing | Item::Route { .. } => true,
-        Item::Block { length } => (1..=FAR).contains(length),
-        Item::Signal { approach, watch, form, overlap, release, .. } => {
-            *approach <= FAR && *overlap <= FAR && [watch, form, release].iter().all(|&&time| time <= DAY)
         }
-        Item::Run { length, tail, start, legs, .. } => {
-            let timely = |leg: &Leg| (1..=DAY).contains(&leg.running) && leg.dwell <= DAY;
-            (1..=FAR).contains(length) && *tail <= DAY && *start <= 604_800 && legs.iter().all(timely)
-        }
-        Item::Section { from, to, rate, .. } => {
-            *from <= 604_800 && (1..=1_209_600).contains(to) && *rate <= 1000 && from < to
-        }
-        Item::Connect { minimum, .. } => *minimum <= DAY,
     }
 }

@@ -10,50 +10,41 @@ pub enum Command<'a> {
     Headways(&'a [u8]),
     Cut(&'a [u8]),
     Cycle(&'a [u8]),
-    Delays(&'a [u8], Vec<(&'a [u8], u32)>),
+    Delays(&'a [u8], Vec<&'a [u8]>, Vec<u32>),
     Fill(&'a [u8], &'a [u8]),
     Session(usize),
     Made(u32),
 }
 
-const MOST_DELAYS: usize = 64;
-const MOST_DELAY: u32 = 86_400;
-const MOST_WORKERS: u32 = 16;
-
 /// The command that the words spell, where they spell one.
 pub fn command(words: &[String]) -> Option<Command<'_>> {
-    let (first, rest) = words.split_first()?;
-    let rest: Vec<&[u8]> = rest.iter().map(|word| word.as_bytes()).collect();
-    Some(match (first.as_str(), &rest[..]) {
-        ("stairs", []) => Command::Stairs,
-        ("check", []) => Command::Check,
-        ("report", []) => Command::Report,
-        ("compress", [name]) => Command::Compress(name),
-        ("headways", [name]) => Command::Headways(name),
-        ("cut", [name]) => Command::Cut(name),
-        ("cycle", [name]) => Command::Cycle(name),
-        ("delays", [name, pairs @ ..]) => Command::Delays(name, delays(pairs)?),
-        ("fill", [name, run]) => Command::Fill(name, run),
-        ("session", [workers]) => {
-            Command::Session(number(workers).ok().filter(|&workers| workers <= MOST_WORKERS)? as usize)
-        }
-        ("made", [seed]) => Command::Made(number(seed).ok()?),
+    let words: Vec<&[u8]> = words.iter().map(|word| word.as_bytes()).collect();
+    Some(match words[..] {
+        [b"stairs"] => Command::Stairs,
+        [b"check"] => Command::Check,
+        [b"report"] => Command::Report,
+        [b"compress", name] => Command::Compress(name),
+        [b"headways", name] => Command::Headways(name),
+        [b"cut", name] => Command::Cut(name),
+        [b"cycle", name] => Command::Cycle(name),
+        [b"delays", name, ref pairs @ ..] if pairs.len() % 2 == 0 => delays(name, pairs)?,
+        [b"fill", name, run] => Command::Fill(name, run),
+        [b"session", workers] => Command::Session(number(workers).ok().filter(|&workers| workers <= 16)? as usize),
+        [b"made", seed] => Command::Made(number(seed).ok()?),
         _ => return None,
     })
 }
 
-/// Pairs of a run and its seconds, one to five digits; no run comes twice.
-fn delays<'a>(words: &[&'a [u8]]) -> Option<Vec<(&'a [u8], u32)>> {
-    if words.len() % 2 == 1 || !(1..=MOST_DELAYS).contains(&(words.len() / 2)) {
-        return None;
-    }
-    let mut delays: Vec<(&[u8], u32)> = Vec::new();
-    for pair in words.chunks(2) {
-        let seconds = number(pair[1]).ok().filter(|&seconds| seconds <= MOST_DELAY && pair[1].len() <= 5)?;
-        if delays.iter().any(|&(run, _)| run == pair[0]) {
+/// 1 to 64 pairs of a run and its seconds, of one to five digits; no run comes twice.
+fn delays<'a>(name: &'a [u8], pairs: &[&'a [u8]]) -> Option<Command<'a>> {
+    let (mut runs, mut seconds) = (Vec::new(), Vec::new());
+    for pair in pairs.chunks(2) {
+        let delay = number(pair[1]).ok().filter(|&delay| delay <= 86_400 && pair[1].len() <= 5)?;
+        if runs.contains(&pair[0]) {
             return None;
         }
-        delays.push((pair[0], seconds));
+        runs.push(pair[0]);
+        seconds.push(delay);
     }
-    Some(delays)
+    (1..=64).contains(&runs.len()).then_some(Command::Delays(name, runs, seconds))
 }
