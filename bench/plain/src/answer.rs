@@ -10,11 +10,7 @@ use std::sync::Arc;
 
 /// A use in the list of its place.
 #[derive(Clone, Copy)]
-pub struct Spot {
-    pub start: i32,
-    pub end: i32,
-    pub train: u32,
-}
+pub struct Spot { pub start: i32, pub end: i32, pub train: u32 }
 
 impl Spot {
     fn key(&self) -> (i32, u32) {
@@ -24,10 +20,7 @@ impl Spot {
 
 /// One train precedes another at a place.
 #[derive(Clone, Copy, PartialEq, Eq)]
-pub struct Tie {
-    pub train: u32,
-    pub place: u32,
-}
+pub struct Tie { pub train: u32, pub place: u32 }
 
 pub enum Disorder {
     /// The first precedes the second at the one place, and the second the first at the other.
@@ -36,19 +29,12 @@ pub enum Disorder {
     Ring(Vec<Tie>),
 }
 
-pub struct Busiest {
-    pub place: u32,
-    pub occupancy: i64,
-    /// The train that leaves the block last.
-    pub last: u32,
-}
-
 pub struct Answer {
     pub cut: Cut,
     /// The uses of each place, by their starts and then by the names of the trains.
     pub lists: Vec<Vec<Spot>>,
     /// The least shift of each train from its planned entry.
-    floors: Vec<i64>,
+    pub floors: Vec<i64>,
     /// The shifts of the least schedule, and what holds each train that isn't at its floor.
     pub shifts: Vec<i64>,
     pub ties: Vec<Option<Tie>>,
@@ -78,11 +64,6 @@ impl Answer {
 
     pub fn is_ordered(&self) -> bool {
         self.order.len() == self.cut.members.len()
-    }
-
-    /// The least shift that a train may have.
-    pub fn floor(&self, train: usize) -> i64 {
-        self.floors[train]
     }
 
     /// When a train enters.
@@ -148,18 +129,18 @@ impl Answer {
         (moved(first.start, first.train), moved(last.end, last.train))
     }
 
-    /// The block that is kept longest, where there is a train; of several the first by name.
-    pub fn busiest(&self) -> Option<Busiest> {
+    /// The block that is kept longest, where there is a train, and for how long; of several the first
+    /// by name.
+    pub fn busiest(&self) -> Option<(u32, i64)> {
         let used = (FIRST_BLOCK..self.lists.len() as u32).filter(|&place| !self.lists[place as usize].is_empty());
-        let kept = used.map(|place| {
-            let (from, until) = self.kept(place);
-            let last = self.lists[place as usize].last().map_or(0, |spot| spot.train);
-            Busiest { place, occupancy: until - from, last }
-        });
-        kept.max_by(|a, b| {
-            let names = || self.cut.place(b.place).cmp(self.cut.place(a.place));
-            a.occupancy.cmp(&b.occupancy).then_with(names)
-        })
+        let kept = used.map(|place| (place, self.kept(place).1 - self.kept(place).0));
+        let names = |a: u32, b: u32| self.cut.place(a).cmp(self.cut.place(b));
+        kept.max_by(|a, b| a.1.cmp(&b.1).then_with(|| names(b.0, a.0)))
+    }
+
+    /// The train that leaves a block last.
+    pub fn last_on(&self, block: u32) -> u32 {
+        self.lists[block as usize].last().map_or(0, |spot| spot.train)
     }
 
     /// The links that lead from a train back to one that is at its floor, the last one first.
@@ -265,7 +246,8 @@ impl Answer {
             return;
         }
         let mut orderly = self.is_ordered();
-        let mut dirty = Vec::new();
+        // The trains that have to be looked at again.
+        let mut dirty = vec![false; cut.members.len()];
         for &train in &trains {
             self.take_out(train, &mut dirty);
         }
@@ -277,7 +259,7 @@ impl Answer {
             orderly = orderly && self.move_between(train, between);
         }
         if orderly {
-            self.settle(&dirty);
+            self.settle(dirty);
         } else {
             self.solve();
         }
@@ -287,22 +269,22 @@ impl Answer {
         self.lists[each.place as usize].partition_point(|spot| spot.key() < (each.start, train))
     }
 
-    /// Takes a train's uses out of the lists; those that came after it have to be looked at again.
-    fn take_out(&mut self, train: u32, dirty: &mut Vec<u32>) {
+    /// Takes a train's uses out of the lists.
+    fn take_out(&mut self, train: u32, dirty: &mut [bool]) {
         let member = self.cut.members[train as usize].clone();
         for each in &member.uses {
             let at = self.find(each, train);
             let list = &mut self.lists[each.place as usize];
             list.remove(at);
-            note(dirty, list.get(at));
+            list.get(at).iter().for_each(|next| dirty[next.train as usize] = true);
         }
     }
 
     /// Puts a train's uses into the lists; gives between which ranks it has to stand.
-    fn lay_in(&mut self, train: u32, dirty: &mut Vec<u32>) -> (i64, i64) {
+    fn lay_in(&mut self, train: u32, dirty: &mut [bool]) -> (i64, i64) {
         let member = self.cut.members[train as usize].clone();
         let (mut after, mut before) = (-1, i64::MAX);
-        dirty.push(train);
+        dirty[train as usize] = true;
         for each in &member.uses {
             let at = self.find(each, train);
             let list = &mut self.lists[each.place as usize];
@@ -311,8 +293,8 @@ impl Answer {
             }
             if let Some(next) = list.get(at) {
                 before = before.min(i64::from(self.ranks[next.train as usize]));
+                dirty[next.train as usize] = true;
             }
-            note(dirty, list.get(at));
             list.insert(at, Spot { start: each.start, end: each.end, train });
         }
         (after, before)
@@ -336,27 +318,13 @@ impl Answer {
     }
 
     /// Works the shifts of these trains out again, in order, and of those that they then reach.
-    fn settle(&mut self, dirty: &[u32]) {
-        let mut waits = vec![false; self.order.len()];
-        let mut least = self.order.len();
-        for &train in dirty {
-            let rank = self.ranks[train as usize] as usize;
-            waits[rank] = true;
-            least = least.min(rank);
-        }
-        for rank in least..waits.len() {
-            if !waits[rank] {
-                continue;
-            }
-            let train = self.order[rank];
-            let old = self.shifts[train as usize];
-            let ats = self.resolve(train);
-            if self.shifts[train as usize] != old {
-                for (each, at) in self.cut.members[train as usize].uses.iter().zip(ats) {
-                    if let Some(next) = self.lists[each.place as usize].get(at + 1) {
-                        waits[self.ranks[next.train as usize] as usize] = true;
-                    }
-                }
+    fn settle(&mut self, mut dirty: Vec<bool>) {
+        for train in self.order.clone().into_iter().map(|train| train as usize) {
+            let old = self.shifts[train];
+            let ats = if dirty[train] { self.resolve(train as u32) } else { continue };
+            for (each, at) in self.cut.members[train].uses.iter().zip(ats).filter(|_| self.shifts[train] != old) {
+                let next = self.lists[each.place as usize].get(at + 1);
+                next.iter().for_each(|next| dirty[next.train as usize] = true);
             }
         }
     }
@@ -388,15 +356,6 @@ impl Answer {
 
 fn floors_of(cut: &Cut) -> Vec<i64> {
     cut.members.iter().map(|member| i64::from(cut.from) - i64::from(member.entry)).collect()
-}
-
-fn note(dirty: &mut Vec<u32>, spot: Option<&Spot>) {
-    if let Some(spot) = spot {
-        // Neighbours are mostly the same at many places.
-        if dirty.last() != Some(&spot.train) {
-            dirty.push(spot.train);
-        }
-    }
 }
 
 impl Cut {

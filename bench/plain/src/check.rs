@@ -1,6 +1,7 @@
 //! The command `check`: the conflicts of the timetable on its blocks.
 
 use crate::cut::FIRST_BLOCK;
+use crate::input::Kind;
 use crate::stairs::Way;
 use crate::tables::Line;
 use crate::text::Text;
@@ -15,8 +16,8 @@ struct Blocking {
 }
 
 pub fn check(line: &Line) -> Text {
-    let runs = line.runs.by_name();
-    let mut by_block: Vec<Vec<Blocking>> = line.blocks.names().iter().map(|_| Vec::new()).collect();
+    let runs = line.table(Kind::Run).by_name();
+    let mut by_block: Vec<Vec<Blocking>> = line.table(Kind::Block).names().iter().map(|_| Vec::new()).collect();
     for (rank, way) in ways_by_start(line, &runs) {
         for each in way.uses {
             by_block[(each.place - FIRST_BLOCK) as usize].push(Blocking { start: each.start, end: each.end, rank });
@@ -24,7 +25,7 @@ pub fn check(line: &Line) -> Text {
     }
     let mut text = Text::default();
     let (mut listed, mut more) = (0, 0);
-    for block in line.blocks.by_name() {
+    for block in line.table(Kind::Block).by_name() {
         let blockings = &mut by_block[block as usize];
         if !blockings.is_sorted_by_key(|blocking| (blocking.start, blocking.rank)) {
             blockings.sort_unstable_by_key(|blocking| (blocking.start, blocking.rank));
@@ -36,9 +37,9 @@ pub fn check(line: &Line) -> Text {
                     continue;
                 }
                 listed += 1;
-                text.row("conflict").name(line.blocks.name(block));
+                text.row("conflict").name(line.table(Kind::Block).name(block));
                 for run in [one, other] {
-                    text.name(line.runs.name(runs[run.rank as usize]));
+                    text.name(line.table(Kind::Run).name(runs[run.rank as usize]));
                 }
                 text.number(other.start.into()).number(one.end.min(other.end).into()).end();
             }
@@ -52,6 +53,6 @@ pub fn check(line: &Line) -> Text {
 /// nearly in order already.
 fn ways_by_start<'a>(line: &'a Line, runs: &'a [u32]) -> impl Iterator<Item = (u32, Way)> + 'a {
     let mut ranks: Vec<u32> = (0..runs.len() as u32).collect();
-    ranks.sort_unstable_by_key(|&rank| (line.runs.item(runs[rank as usize]).start, rank));
+    ranks.sort_unstable_by_key(|&rank| (line.runs[runs[rank as usize] as usize].start, rank));
     ranks.into_iter().map(|rank| (rank, Way::of(line, runs[rank as usize])))
 }

@@ -2,19 +2,14 @@
 
 use crate::answer::{Answer, Disorder};
 use crate::cut::{Cut, Cutter, Traffic};
-use crate::input::Refusal;
+use crate::input::{Kind, Refusal};
 use crate::tables::Line;
 use crate::text::Text;
 use rayon::prelude::*;
 
 /// What the row `total` counts an answer as.
 #[derive(Clone, Copy, PartialEq, Eq)]
-pub enum Verdict {
-    Within,
-    Over,
-    Disordered,
-    Crowded,
-}
+pub enum Verdict { Within, Over, Disordered, Crowded }
 
 /// The rows of an answer that `report` writes, its verdict and its occupancy time.
 #[derive(Clone)]
@@ -26,7 +21,7 @@ pub struct Head {
 
 /// The text of a command that speaks of one section, and of these trains of it.
 pub fn on_section(line: &Line, name: &[u8], runs: &[&[u8]], write: impl FnOnce(&mut Text, Cut, &[usize])) -> Result<Text, Refusal> {
-    let section = line.sections.find(name).ok_or(Refusal { row: 0, cause: "no-section" })?;
+    let section = line.table(Kind::Section).find(name).ok_or(Refusal { row: 0, cause: "no-section" })?;
     let cut = Cutter::of(line, &Traffic::of(line), section).cut;
     let trains: Result<Vec<usize>, _> = runs.iter().map(|run| cut.find(run)).collect();
     let trains = trains.map_err(|_| Refusal { row: 0, cause: "no-member" })?;
@@ -51,9 +46,10 @@ pub fn compress(text: &mut Text, cut: Cut) {
     let answer = Answer::compressed(cut);
     text.append(&head(&answer).rows);
     write_trains(text, &answer);
-    let Some(busiest) = answer.busiest().filter(|_| answer.is_ordered()) else { return };
-    let chain = answer.chain(busiest.last);
-    text.row("critical").name(answer.cut.train(busiest.last)).number(chain.len() as i64).end();
+    let Some((block, _)) = answer.busiest().filter(|_| answer.is_ordered()) else { return };
+    let critical = answer.last_on(block);
+    let chain = answer.chain(critical);
+    text.row("critical").name(answer.cut.train(critical)).number(chain.len() as i64).end();
     for (tie, next) in chain.iter().rev() {
         write_link(text, &answer.cut, [tie.train, tie.place, *next]);
     }
@@ -77,7 +73,7 @@ pub fn heads(line: &Line) -> Vec<Head> {
         let cut = Cutter::of(line, &traffic, section).cut;
         if cut.is_crowded() { crowded(&cut) } else { head(&Answer::compressed(cut)) }
     };
-    line.sections.by_name().par_iter().map(head_of).collect()
+    line.table(Kind::Section).by_name().par_iter().map(head_of).collect()
 }
 
 pub fn crowded(cut: &Cut) -> Head {
@@ -97,9 +93,9 @@ pub fn head(answer: &Answer) -> Head {
 fn write_ordered(text: &mut Text, answer: &Answer) -> (Verdict, i64) {
     let cut = &answer.cut;
     let busiest = answer.busiest();
-    let occupancy = busiest.as_ref().map_or(0, |busiest| busiest.occupancy);
+    let occupancy = busiest.map_or(0, |(_, occupancy)| occupancy);
     text.row("ordered").name(&cut.name).number(cut.members.len() as i64).number(occupancy);
-    text.name(busiest.map_or(&[], |busiest| cut.place(busiest.place))).end();
+    text.name(busiest.map_or(&[], |(block, _)| cut.place(block))).end();
     text.row("rate").name(&cut.name).fraction(occupancy as u64, cut.window());
     (write_consumption(text, cut, occupancy), occupancy)
 }

@@ -1,5 +1,6 @@
 //! The cut of a section: its members, with their entries and their uses of its places.
 
+use crate::input::Kind;
 use crate::stairs::{Use, Way};
 use crate::tables::{Line, Name};
 use std::sync::Arc;
@@ -36,15 +37,15 @@ impl Traffic {
 
     /// Brings what speaks of names up to date.
     pub fn follow_names(&mut self, line: &Line) {
-        self.links = vec![Vec::new(); line.runs.room()];
-        for number in line.connects.numbers() {
-            let connect = line.connects.item(number);
+        self.links = vec![Vec::new(); line.table(Kind::Run).room()];
+        for number in line.table(Kind::Connect).numbers() {
+            let connect = &line.connects[number as usize];
             self.links[connect.first as usize].push(number);
             self.links[connect.second as usize].push(number);
         }
-        let mut places = line.connects.names();
+        let mut places = line.table(Kind::Connect).names();
         places.resize(FIRST_BLOCK as usize, Name::from(&b""[..]));
-        places.extend(line.blocks.names());
+        places.extend(line.table(Kind::Block).names());
         self.places = Arc::new(places);
     }
 }
@@ -101,18 +102,18 @@ pub struct Cutter {
 
 impl Cutter {
     pub fn of(line: &Line, traffic: &Traffic, section: u32) -> Cutter {
-        let item = line.sections.item(section);
-        let mut ours = vec![false; line.blocks.room()];
-        item.blocks.iter().for_each(|&block| ours[block as usize] = true);
-        let (name, places) = (line.sections.name(section).clone(), traffic.places.clone());
+        let item = &line.sections[section as usize];
+        let mut ours = vec![false; line.table(Kind::Block).room()];
+        line.table(Kind::Section).named(section).iter().for_each(|&block| ours[block as usize] = true);
+        let (name, places) = (line.table(Kind::Section).name(section).clone(), traffic.places.clone());
         let (from, to) = (item.from as i32, item.to as i32);
         let cut = Cut { name, from, to, rate: item.rate, members: Vec::new(), places };
         let mut cutter = Cutter { cut, ours, entries: Vec::new() };
         cutter.entries = traffic.ways.iter().map(|way| cutter.entry(way)).collect();
-        for run in line.runs.by_name() {
+        for run in line.table(Kind::Run).by_name() {
             if let Some(entry) = cutter.entries[run as usize] {
                 let uses = cutter.uses(line, traffic, run);
-                cutter.cut.members.push(Arc::new(Member { name: line.runs.name(run).clone(), entry, uses }));
+                cutter.cut.members.push(Arc::new(Member { name: line.table(Kind::Run).name(run).clone(), entry, uses }));
             }
         }
         cutter
@@ -146,11 +147,11 @@ impl Cutter {
     /// A run's use of a connection that names it, where that binds: the first run keeps it from its
     /// entry until the second may start, and the second for the second in which it starts.
     fn link_use(&self, line: &Line, traffic: &Traffic, run: u32, place: u32) -> Option<Use> {
-        let connect = line.connects.item(place);
+        let connect = &line.connects[place as usize];
         let entry = self.entries[connect.first as usize]?;
         self.entries[connect.second as usize]?;
         let start = traffic.ways[connect.second as usize].start;
-        if (start, line.runs.name(connect.second)) < (entry, line.runs.name(connect.first)) {
+        if (start, line.table(Kind::Run).name(connect.second)) < (entry, line.table(Kind::Run).name(connect.first)) {
             return None;
         }
         let until = traffic.ways[connect.first as usize].arrival + connect.minimum as i32;
@@ -168,7 +169,7 @@ impl Cutter {
     /// Makes the members anew where these runs, or connections that name them, were edited; tells
     /// whether the cut is another one now.
     pub fn refresh(&mut self, line: &Line, traffic: &Traffic, runs: &[u32]) -> bool {
-        self.entries.resize(line.runs.room(), None);
+        self.entries.resize(line.table(Kind::Run).room(), None);
         for &run in runs {
             self.entries[run as usize] = self.entry(&traffic.ways[run as usize]);
         }
@@ -176,7 +177,7 @@ impl Cutter {
         for &run in runs {
             differs |= self.renew(line, traffic, run);
             for &link in &traffic.links[run as usize] {
-                let connect = line.connects.item(link);
+                let connect = &line.connects[link as usize];
                 let partner = if run == connect.first { connect.second } else { connect.first };
                 differs |= self.renew(line, traffic, partner);
             }
@@ -185,7 +186,7 @@ impl Cutter {
     }
 
     fn renew(&mut self, line: &Line, traffic: &Traffic, run: u32) -> bool {
-        let name = line.runs.name(run);
+        let name = line.table(Kind::Run).name(run);
         let found = self.cut.find(name);
         let Some(entry) = self.entries[run as usize] else {
             return found.map(|at| self.cut.members.remove(at)).is_ok();

@@ -108,7 +108,7 @@ fn block_ring(answer: &Answer) -> Ring {
 
 /// The earliest shifts that repeat in a period, or a ring that refuses it.
 fn repeat(answer: &Answer, steps: &[Step], period: i64) -> Result<Vec<i64>, Ring> {
-    let mut shifts: Vec<i64> = (0..answer.cut.members.len()).map(|train| answer.floor(train)).collect();
+    let mut shifts = answer.floors.clone();
     // What raised each shift last.
     let mut raised: Vec<Option<Step>> = vec![None; shifts.len()];
     loop {

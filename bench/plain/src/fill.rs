@@ -53,9 +53,9 @@ fn write_filling(text: &mut Text, cut: &Cut, train: usize, filling: &Filling) {
 /// uses, by its headway to itself later, the longest time for which it keeps a block.
 fn filling(answer: &Answer, train: usize) -> Filling {
     let member = &answer.cut.members[train];
-    let mut filling = Filling { none: answer.busiest().map_or(0, |busiest| busiest.occupancy), one: 0, headway: 0 };
+    let mut filling = Filling { none: answer.busiest().map_or(0, |(_, occupancy)| occupancy), one: 0, headway: 0 };
     let blocks = || member.uses.iter().filter(|each| each.place >= FIRST_BLOCK);
-    let mut shift = answer.floor(train);
+    let mut shift = answer.floors[train];
     for each in blocks() {
         shift = shift.max(answer.kept(each.place).1 - i64::from(each.start));
         filling.headway = filling.headway.max(i64::from(each.end - each.start));

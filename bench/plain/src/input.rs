@@ -22,30 +22,15 @@ pub struct Refusal {
 }
 
 #[derive(Clone, Copy, PartialEq, Eq)]
-pub enum Kind {
-    Block,
-    Signal,
-    Route,
-    Run,
-    Section,
-    Connect,
-}
+pub enum Kind { Block, Signal, Route, Run, Section, Connect }
 
 /// How a number may be written.
 #[derive(Clone, Copy)]
-enum Sort {
-    Plain,
-    Time,
-    Rate,
-}
+enum Sort { Plain, Time, Rate }
 
 /// What stands at the end of a row.
 #[derive(Clone, Copy)]
-enum Tail {
-    Nothing,
-    Names,
-    Legs,
-}
+enum Tail { Nothing, Names, Legs }
 
 /// The fields of a row that puts or changes an item, behind its word and name: some names, some
 /// numbers with their limits, and a tail.
@@ -77,11 +62,7 @@ static SHAPES: [Shape; 6] = [
 ];
 
 #[derive(Clone, Copy, PartialEq, Eq)]
-pub enum Verb {
-    Put,
-    Change,
-    Drop,
-}
+pub enum Verb { Put, Change, Drop }
 
 /// What a row spells; names are still the bytes of the row.
 pub enum Row<'a> {
@@ -112,10 +93,6 @@ pub struct Names<'a> {
 impl<'a> Names<'a> {
     pub fn iter(self) -> impl ExactSizeIterator<Item = &'a [u8]> {
         (self.from..self.to).map(move |field| &self.record[field])
-    }
-
-    pub fn at(self, at: usize) -> &'a [u8] {
-        &self.record[self.from + at]
     }
 }
 
@@ -342,23 +319,13 @@ impl Edit<'_> {
         let shape = &SHAPES[self.kind as usize];
         let verb = ["", "change-", "drop-"][self.verb as usize];
         text.word(verb).row(shape.noun).name(self.name);
-        let names = |text: &mut Text| self.names.iter().for_each(|name| _ = text.name(name));
-        let number = |text: &mut Text, number: u32| _ = text.number(number.into());
-        if shape.names > 0 {
-            names(text);
-        }
-        if self.verb != Verb::Drop {
-            self.numbers[..shape.numbers.len()].iter().for_each(|&each| number(text, each));
-        }
-        if shape.names == 0 {
-            names(text);
-        }
-        for (at, leg) in self.legs.iter().enumerate() {
-            number(text, leg.running);
-            if at + 1 < self.legs.len() {
-                number(text, leg.dwell);
-            }
-        }
+        let count = if self.verb == Verb::Drop { 0 } else { shape.numbers.len() };
+        let legs = self.legs.iter().flat_map(|leg| [leg.running, leg.dwell]);
+        let numbers = self.numbers[..count].iter().copied().chain(legs.take((2 * self.legs.len()).saturating_sub(1)));
+        let names_last = matches!(shape.tail, Tail::Names);
+        self.names.iter().filter(|_| !names_last).for_each(|name| _ = text.name(name));
+        numbers.for_each(|number| _ = text.number(number.into()));
+        self.names.iter().filter(|_| names_last).for_each(|name| _ = text.name(name));
         text.end();
     }
 }

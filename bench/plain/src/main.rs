@@ -21,53 +21,41 @@ mod text;
 mod words;
 
 use compress::on_section;
-use input::Refusal;
+use input::{Kind, Refusal};
 use std::io::{Read, Write};
-use std::process::ExitCode;
 use tables::Line;
 use text::Text;
 use words::Command;
-
-const REFUSED: u8 = 1;
-const NO_COMMAND: u8 = 2;
-const READ_FAILED: u8 = 3;
-const WRITE_FAILED: u8 = 4;
 
 const USAGE: &str = "usage: plain COMMAND < LINE.csv, COMMAND being stairs, check, report, \
 compress NAME, headways NAME, cut NAME, cycle NAME, delays NAME RUN SECONDS .., fill NAME RUN or \
 session W, W from 0 to 16; or plain made N, N of one to nine digits, which reads no line";
 
-fn main() -> ExitCode {
+fn main() {
+    std::process::exit(run());
+}
+
+/// Does what the words say; gives the status.
+fn run() -> i32 {
     let words: Option<Vec<String>> = std::env::args_os().skip(1).map(|word| word.into_string().ok()).collect();
-    let Some(command) = words.as_deref().and_then(words::command) else {
-        return end(NO_COMMAND, USAGE);
-    };
-    let bytes = match read_input(&command) {
-        Ok(bytes) => bytes,
-        Err(_) => return end(READ_FAILED, "the input could not be read"),
-    };
+    let Some(command) = words.as_deref().and_then(words::command) else { return end(2, USAGE) };
+    let Ok(bytes) = read_input(&command) else { return end(3, "the input could not be read") };
     let (text, refusal) = match outcome(&command, &bytes) {
         Ok(text) => (text, None),
-        Err(refusal) => {
-            let mut text = Text::default();
-            text.row("refused").number(refusal.row as i64).word(refusal.cause).end();
-            (text, Some(refusal))
-        }
+        Err(refusal) => (refusal_row(refusal), Some(refusal)),
     };
     let mut output = std::io::stdout().lock();
     if output.write_all(&text.bytes).and_then(|()| output.flush()).is_err() {
-        return end(WRITE_FAILED, "the output could not be written");
+        return end(4, "the output could not be written");
     }
-    match refusal {
-        None => ExitCode::SUCCESS,
-        Some(refusal) => end(REFUSED, &why(refusal)),
-    }
+    refusal.map_or(0, |refusal| end(1, &why(refusal)))
 }
 
-fn end(status: u8, why: &str) -> ExitCode {
+/// Tells why the program ends with a status.
+pub fn end(status: i32, why: &str) -> i32 {
     // Where standard error can't be written to, the status says enough.
     let _ = writeln!(std::io::stderr(), "{why}");
-    ExitCode::from(status)
+    status
 }
 
 /// All of standard input, or one byte more than is taken.
@@ -81,9 +69,6 @@ fn read_input(command: &Command) -> std::io::Result<Vec<u8>> {
 }
 
 fn outcome(command: &Command, bytes: &[u8]) -> Result<Text, Refusal> {
-    if let Command::Made(number) = command {
-        return Ok(made::made(*number));
-    }
     if bytes.len() > input::MOST_BYTES {
         return Err(Refusal { row: 0, cause: "too-long" });
     }
@@ -103,14 +88,24 @@ fn outcome(command: &Command, bytes: &[u8]) -> Result<Text, Refusal> {
         Command::Fill(name, run) => {
             on_section(line, name, &[run], |text, cut, trains| fill::fill(text, cut, trains[0]))
         }
-        Command::Session(workers) => Ok(session::session(input, *workers).text()),
-        Command::Made(_) => unreachable!("it has its text already"),
+        Command::Session(workers) => {
+            let mut session = session::session(input, *workers);
+            compress::write_report(&mut session.journal, &session.heads);
+            Ok(session.journal)
+        }
+        Command::Made(number) => Ok(made::made(*number)),
     }
 }
 
 /// The blocks of a section that is there, in its order.
 fn blocks<'a>(line: &'a Line, name: &[u8]) -> &'a [u32] {
-    line.sections.find(name).map_or(&[], |section| &line.sections.item(section).blocks)
+    line.table(Kind::Section).find(name).map_or(&[], |section| line.table(Kind::Section).named(section))
+}
+
+fn refusal_row(refusal: Refusal) -> Text {
+    let mut text = Text::default();
+    text.row("refused").number(refusal.row as i64).word(refusal.cause).end();
+    text
 }
 
 fn why(refusal: Refusal) -> String {

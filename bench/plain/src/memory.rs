@@ -2,9 +2,6 @@
 //! made before any of it is.
 
 use std::alloc::{GlobalAlloc, Layout, System};
-use std::io::Write;
-
-const NO_MEMORY: i32 = 5;
 
 struct Memory;
 
@@ -16,25 +13,20 @@ unsafe impl GlobalAlloc for Memory {
     unsafe fn alloc(&self, layout: Layout) -> *mut u8 {
         given(System.alloc(layout))
     }
-
     unsafe fn alloc_zeroed(&self, layout: Layout) -> *mut u8 {
         given(System.alloc_zeroed(layout))
     }
-
     unsafe fn realloc(&self, old: *mut u8, layout: Layout, size: usize) -> *mut u8 {
         given(System.realloc(old, layout, size))
     }
-
     unsafe fn dealloc(&self, old: *mut u8, layout: Layout) {
         System.dealloc(old, layout);
     }
 }
 
-#[inline]
 fn given(memory: *mut u8) -> *mut u8 {
     if memory.is_null() {
-        let _ = std::io::stderr().write_all(b"memory ran out\n");
-        std::process::exit(NO_MEMORY);
+        std::process::exit(crate::end(5, "memory ran out"));
     }
     memory
 }

@@ -2,7 +2,7 @@
 //! tells it.
 
 use crate::answer::Answer;
-use crate::compress::{crowded, head, write_report, write_trains, Head};
+use crate::compress::{crowded, head, write_trains, Head};
 use crate::cut::{Cut, Cutter, Traffic, FIRST_BLOCK};
 use crate::input::{Edit, Input, Kind, Row, Task};
 use crate::stairs::Way;
@@ -11,21 +11,12 @@ use crate::text::Text;
 use indexmap::IndexMap;
 use std::sync::{Condvar, Mutex, MutexGuard};
 
-/// A session that is over.
+/// A session that is over: its journal, the heads of the answers in the end, in the order of the
+/// sections' names, and the number of the last edit.
 pub struct Session {
     pub journal: Text,
-    /// The heads of the answers in the end, in the order of the sections' names.
     pub heads: Vec<Head>,
-    /// The number of the last edit.
     pub at: u64,
-}
-
-impl Session {
-    /// The journal, and the report of the timetable as it is in the end.
-    pub fn text(mut self) -> Text {
-        write_report(&mut self.journal, &self.heads);
-        self.journal
-    }
 }
 
 pub fn session(input: Input, workers: usize) -> Session {
@@ -138,9 +129,9 @@ struct Book {
 impl Book {
     fn open(line: Line, at: u64, planners: usize) -> Book {
         let traffic = Traffic::of(&line);
-        let shelves = (0..line.sections.room() as u32).map(|section| shelf(&line, &traffic, section, at)).collect();
-        let sections = line.sections.by_name();
-        let standing = |&section: &u32| (line.sections.name(section).clone(), Standing::default());
+        let shelves = (0..line.sections.len() as u32).map(|section| shelf(&line, &traffic, section, at)).collect();
+        let sections = line.table(Kind::Section).by_name();
+        let standing = |&section: &u32| (line.table(Kind::Section).name(section).clone(), Standing::default());
         let standings = sections.iter().map(standing).collect();
         let mut journal = Text::default();
         journal.row("opened").number(at as i64).number(planners as i64).number(sections.len() as i64).end();
@@ -149,7 +140,7 @@ impl Book {
 
     fn close(self) -> Session {
         let head = |&section: &u32| self.shelf(section).head.clone().expect("each section is current in the end");
-        let heads = self.line.sections.by_name().iter().map(head).collect();
+        let heads = self.line.table(Kind::Section).by_name().iter().map(head).collect();
         Session { journal: self.journal, heads, at: self.at }
     }
 
@@ -161,13 +152,13 @@ impl Book {
         match task.row() {
             Row::Ask(name) => self.ask(planner, name),
             Row::Edit(edit) => self.edit(planner, edit),
-            Row::Planner(_) => unreachable!("a row of a planner is no task"),
+            Row::Planner(_) => (),
         }
     }
 
     fn ask(&mut self, planner: i64, name: &[u8]) {
         let reply = self.journal.row("asked").number(planner).name(name);
-        if self.line.sections.find(name).is_none() {
+        if self.line.table(Kind::Section).find(name).is_none() {
             return reply.word("unknown").end();
         }
         let standing = &self.standings[name];
@@ -199,11 +190,11 @@ impl Book {
             Kind::Section => self.follow_section(change.number),
             Kind::Connect => {
                 self.traffic.follow_names(&self.line);
-                self.refresh(&change.runs, |_| true);
+                self.refresh(&change.named, |_| true);
             }
             Kind::Run => {
                 let run = change.number;
-                if self.line.runs.room() > self.traffic.ways.len() {
+                if self.line.table(Kind::Run).room() > self.traffic.ways.len() {
                     self.traffic.ways.push(Way::of(&self.line, run));
                     self.traffic.links.push(Vec::new());
                 }
@@ -215,7 +206,7 @@ impl Book {
             Kind::Block | Kind::Signal | Kind::Route => {
                 self.traffic.follow_names(&self.line);
                 let line = &self.line;
-                let runs: Vec<u32> = line.runs.numbers().filter(|&run| line.depends(run, change)).collect();
+                let runs: Vec<u32> = line.table(Kind::Run).numbers().filter(|&run| line.depends(run, change)).collect();
                 let blocks = self.walk_again(&runs);
                 self.refresh(&runs, |cutter| cutter.has_any(&blocks));
             }
@@ -224,7 +215,7 @@ impl Book {
 
     /// Makes the ways of these runs anew; gives on which blocks they differ.
     fn walk_again(&mut self, runs: &[u32]) -> Vec<bool> {
-        let mut differ = vec![false; self.line.blocks.room()];
+        let mut differ = vec![false; self.line.table(Kind::Block).room()];
         for &run in runs {
             let new = Way::of(&self.line, run);
             let old = std::mem::replace(&mut self.traffic.ways[run as usize], new);
@@ -248,13 +239,13 @@ impl Book {
     }
 
     fn follow_section(&mut self, section: u32) {
-        self.shelves.resize_with(self.line.sections.room(), || None);
+        self.shelves.resize_with(self.line.table(Kind::Section).room(), || None);
         let old = self.shelves[section as usize].take();
         let mut new = shelf(&self.line, &self.traffic, section, self.at);
         match (old, &mut new) {
             (Some(old), Some(new)) if old.cutter.cut == new.cutter.cut => new.head = old.head,
             _ => {
-                let name = self.line.sections.name(section).clone();
+                let name = self.line.table(Kind::Section).name(section).clone();
                 self.standings.entry(name).or_default().touched = self.at;
             }
         }
@@ -267,7 +258,7 @@ impl Book {
             let shelf = self.shelf(*section);
             !shelf.in_hand && !self.standings[&shelf.cutter.cut.name].is_current()
         };
-        self.line.sections.by_name().into_iter().filter(open)
+        self.line.table(Kind::Section).by_name().into_iter().filter(open)
     }
 
     /// Reads a section, to work its answer out.
@@ -305,9 +296,9 @@ impl Book {
 
 /// The shelf of a section, where there is one of this number.
 fn shelf(line: &Line, traffic: &Traffic, section: u32, since: u64) -> Option<Shelf> {
-    line.sections.get(section)?;
-    let cutter = Cutter::of(line, traffic, section);
-    Some(Shelf { cutter, since, in_hand: false, answer: None, head: None })
+    let there = line.table(Kind::Section).has(section);
+    let cutter = there.then(|| Cutter::of(line, traffic, section));
+    cutter.map(|cutter| Shelf { cutter, since, in_hand: false, answer: None, head: None })
 }
 
 /// A section whose answer is to be worked out from the one of an earlier cut, or has been.

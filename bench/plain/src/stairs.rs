@@ -1,29 +1,21 @@
 //! Blocking times: the walk along each path, and the command `stairs`.
 
 use crate::cut::FIRST_BLOCK;
+use crate::input::Kind;
 use crate::tables::{Line, Run};
 use crate::text::Text;
 
-/// What a run blocks of one block, with the six parts of its blocking.
-pub struct Hop {
-    pub block: u32,
-    pub start: i32,
-    pub end: i32,
-    pub form: i32,
-    pub watch: i32,
-    pub approach: i32,
-    pub running: i32,
-    pub clearing: i32,
-    pub release: i32,
+/// A run's blocking of one block, with its six parts in the order of the output.
+struct Hop {
+    block: u32,
+    start: i32,
+    end: i32,
+    parts: [i32; 6],
 }
 
 /// A place, and when it is kept.
 #[derive(Clone, Copy, PartialEq, Eq)]
-pub struct Use {
-    pub place: u32,
-    pub start: i32,
-    pub end: i32,
-}
+pub struct Use { pub place: u32, pub start: i32, pub end: i32 }
 
 /// The blockings of a run along its path.
 pub struct Way {
@@ -49,9 +41,9 @@ impl<'a> Motion<'a> {
         let mut motion = Motion { run, places: [0; 257], departures: [0; 257] };
         let (mut place, mut moment) = (0, run.start);
         motion.departures[0] = moment as i32;
-        let signals = &line.routes.item(run.route).signals;
+        let signals = &line.table(Kind::Route).named(run.route);
         for (k, (&signal, leg)) in signals.iter().zip(&run.legs).enumerate() {
-            place += line.blocks.item(line.signals.item(signal).block).length;
+            place += line.blocks[line.signals[signal as usize].block as usize].length;
             moment += leg.running + leg.dwell;
             motion.places[k + 1] = place;
             motion.departures[k + 1] = moment as i32;
@@ -83,22 +75,17 @@ impl<'a> Motion<'a> {
             }
             at -= 1;
         }
-        if self.places[at] == point {
-            return self.departures[at];
-        }
-        self.departures[at] + self.share(at, point).0
+        self.departures[at] + if self.places[at] < point { self.share(at, point).0 } else { 0 }
     }
 
     /// When the rear has left block `k` and its overlap.
     fn clearing_moment(&self, k: usize, overlap: u32) -> i32 {
         let place = self.places[k + 1] + overlap + self.run.length;
-        let mut at = k + 1;
-        while at < self.run.legs.len() {
+        for at in k + 1..self.run.legs.len() {
             if place <= self.places[at + 1] {
                 let (whole, more) = self.share(at, place);
                 return self.departures[at] + whole + i32::from(more);
             }
-            at += 1;
         }
         self.arrival() + self.run.tail as i32
     }
@@ -108,22 +95,14 @@ impl<'a> Motion<'a> {
 #[inline(always)]
 fn walk(line: &Line, run: &Run, mut hand_on: impl FnMut(Hop)) -> i32 {
     let motion = Motion::of(line, run);
-    for (k, &signal) in line.routes.item(run.route).signals.iter().enumerate() {
-        let signal = line.signals.item(signal);
+    for (k, &signal) in line.table(Kind::Route).named(run.route).iter().enumerate() {
+        let signal = &line.signals[signal as usize];
         let seen = motion.approach_moment(k, signal.approach);
         let cleared = motion.clearing_moment(k, signal.overlap);
         let (form, watch, release) = (signal.form as i32, signal.watch as i32, signal.release as i32);
-        hand_on(Hop {
-            block: signal.block,
-            start: seen - watch - form,
-            end: cleared + release,
-            form,
-            watch,
-            approach: motion.departures[k] - seen,
-            running: motion.departures[k + 1] - motion.departures[k],
-            clearing: cleared - motion.departures[k + 1],
-            release,
-        });
+        let (entered, left) = (motion.departures[k], motion.departures[k + 1]);
+        let parts = [form, watch, entered - seen, left - entered, cleared - left, release];
+        hand_on(Hop { block: signal.block, start: seen - watch - form, end: cleared + release, parts });
     }
     motion.arrival()
 }
@@ -131,9 +110,10 @@ fn walk(line: &Line, run: &Run, mut hand_on: impl FnMut(Hop)) -> i32 {
 impl Way {
     /// The way of a run; where there is none of this number, one without blocks.
     pub fn of(line: &Line, run: u32) -> Way {
-        let Some(run) = line.runs.get(run) else {
+        if !line.table(Kind::Run).has(run) {
             return Way { uses: Vec::new(), first: i32::MAX, last: i32::MIN, start: 0, arrival: 0 };
-        };
+        }
+        let run = &line.runs[run as usize];
         let mut uses = Vec::with_capacity(run.legs.len());
         let (mut first, mut last) = (i32::MAX, i32::MIN);
         let arrival = walk(line, run, |hop| {
@@ -146,30 +126,28 @@ impl Way {
 
     /// The ways of all runs, by their numbers.
     pub fn all(line: &Line) -> Vec<Way> {
-        (0..line.runs.room() as u32).map(|run| Way::of(line, run)).collect()
+        (0..line.runs.len() as u32).map(|run| Way::of(line, run)).collect()
     }
 }
 
 pub fn stairs(line: &Line) -> Text {
     let mut text = Text::default();
-    let fields: Vec<Text> = line.blocks.names().iter().map(|name| field(name)).collect();
-    for number in line.runs.by_name() {
-        let name = field(line.runs.name(number));
-        walk(line, line.runs.item(number), |hop| {
+    let field = |name: &[u8]| {
+        let mut text = Text::default();
+        text.name(name);
+        text
+    };
+    let fields: Vec<Text> = line.table(Kind::Block).names().iter().map(|name| field(name)).collect();
+    for number in line.table(Kind::Run).by_name() {
+        let name = field(line.table(Kind::Run).name(number));
+        walk(line, &line.runs[number as usize], |hop| {
             text.row("use");
             text.append(&name);
             text.append(&fields[hop.block as usize]);
-            for part in [hop.start, hop.end, hop.form, hop.watch, hop.approach, hop.running, hop.clearing, hop.release] {
-                text.number(part.into());
-            }
+            text.number(hop.start.into()).number(hop.end.into());
+            hop.parts.iter().for_each(|&part| _ = text.number(part.into()));
             text.end();
         });
     }
-    text
-}
-
-fn field(name: &[u8]) -> Text {
-    let mut text = Text::default();
-    text.name(name);
     text
 }

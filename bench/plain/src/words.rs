@@ -29,7 +29,9 @@ pub fn command(words: &[String]) -> Option<Command<'_>> {
         [b"cycle", name] => Command::Cycle(name),
         [b"delays", name, ref pairs @ ..] if pairs.len() % 2 == 0 => delays(name, pairs)?,
         [b"fill", name, run] => Command::Fill(name, run),
-        [b"session", workers] => Command::Session(number(workers).ok().filter(|&workers| workers <= 16)? as usize),
+        [b"session", workers] if workers.len() <= 2 => {
+            Command::Session(number(workers).ok().filter(|&workers| workers <= 16)? as usize)
+        }
         [b"made", seed] => Command::Made(number(seed).ok()?),
         _ => return None,
     })
