@@ -1,8 +1,8 @@
-//! The answer of a section's cut: the least schedule of its trains in the order that they have, or
-//! where they have none.
+//! The answer of a section's cut: the least schedule of its trains in the order that they have, or where they
+//! have none.
 //!
-//! At each place the uses are kept in order. A use is never empty, so a train that comes after its
-//! neighbour comes after all before it too, and the neighbours alone are looked at.
+//! At each place the uses are kept in order. A use is never empty, so a train that comes after its neighbour
+//! comes after all before it too, and the neighbours alone are looked at.
 
 use crate::cut::{Cut, FIRST_BLOCK};
 use crate::stairs::Use;
@@ -129,8 +129,8 @@ impl Answer {
         (moved(first.start, first.train), moved(last.end, last.train))
     }
 
-    /// The block that is kept longest, where there is a train, and for how long; of several the first
-    /// by name.
+    /// The block that is kept longest, where there is a train, and for how long; of several the first by
+    /// name.
     pub fn busiest(&self) -> Option<(u32, i64)> {
         let used = (FIRST_BLOCK..self.lists.len() as u32).filter(|&place| !self.lists[place as usize].is_empty());
         let kept = used.map(|place| (place, self.kept(place).1 - self.kept(place).0));
@@ -232,9 +232,9 @@ impl Answer {
         least
     }
 
-    /// Mends the answer, so that it is that of another cut of the section: only the trains whose rows
-    /// are others are laid out again, and only those that they reach get new shifts. Where trains came
-    /// or went, all are numbered anew, and the answer is made from scratch.
+    /// Mends the answer, so that it is that of another cut of the section: only the trains whose rows are
+    /// others are laid out again, and only those that they reach get new shifts. Where trains came or went,
+    /// all are numbered anew, and the answer is made from scratch.
     pub fn mend(&mut self, cut: &Cut) {
         let pairs = || self.cut.members.iter().zip(&cut.members);
         let same_trains = self.cut.members.len() == cut.members.len()
@@ -366,8 +366,8 @@ impl Cut {
     }
 }
 
-/// Lays the uses out by place, in the order of the trains' entries, in which most lists are nearly
-/// sorted at once.
+/// Lays the uses out by place, in the order of the trains' entries, in which most lists are nearly sorted at
+/// once.
 fn lay_out(cut: &Cut) -> Vec<Vec<Spot>> {
     let mut counts = vec![0; cut.places.len()];
     for each in cut.members.iter().flat_map(|member| &member.uses) {

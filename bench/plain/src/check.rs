@@ -18,8 +18,11 @@ struct Blocking {
 pub fn check(line: &Line) -> Text {
     let runs = line.table(Kind::Run).by_name();
     let mut by_block: Vec<Vec<Blocking>> = line.table(Kind::Block).names().iter().map(|_| Vec::new()).collect();
-    for (rank, way) in ways_by_start(line, &runs) {
-        for each in way.uses {
+    // In the order in which the runs start, so that the blockings of a block are nearly in order.
+    let mut ranks: Vec<u32> = (0..runs.len() as u32).collect();
+    ranks.sort_unstable_by_key(|&rank| (line.runs[runs[rank as usize] as usize].start, rank));
+    for rank in ranks {
+        for each in Way::of(line, runs[rank as usize]).uses {
             by_block[(each.place - FIRST_BLOCK) as usize].push(Blocking { start: each.start, end: each.end, rank });
         }
     }
@@ -47,12 +50,4 @@ pub fn check(line: &Line) -> Text {
     }
     text.row("conflicts").number(listed as i64).number(more).end();
     text
-}
-
-/// The runs' ranks and ways in the order in which they start, so that the blockings of a block are
-/// nearly in order already.
-fn ways_by_start<'a>(line: &'a Line, runs: &'a [u32]) -> impl Iterator<Item = (u32, Way)> + 'a {
-    let mut ranks: Vec<u32> = (0..runs.len() as u32).collect();
-    ranks.sort_unstable_by_key(|&rank| (line.runs[runs[rank as usize] as usize].start, rank));
-    ranks.into_iter().map(|rank| (rank, Way::of(line, runs[rank as usize])))
 }

@@ -55,15 +55,11 @@ pub fn compress(text: &mut Text, cut: Cut) {
     }
 }
 
-pub fn report(line: &Line) -> Text {
-    let mut text = Text::default();
-    write_report(&mut text, &heads(line));
-    text
-}
-
-pub fn write_report(text: &mut Text, heads: &[Head]) {
+/// Writes the report behind what the text has.
+pub fn report(mut text: Text, heads: &[Head]) -> Text {
     heads.iter().for_each(|head| text.append(&head.rows));
-    write_total(text, heads);
+    write_total(&mut text, heads);
+    text
 }
 
 /// The heads of the answers of all sections, in the order of names.

@@ -30,7 +30,8 @@ pub struct Traffic {
 
 impl Traffic {
     pub fn of(line: &Line) -> Traffic {
-        let mut traffic = Traffic { ways: Way::all(line), links: Vec::new(), places: Arc::default() };
+        let ways = (0..line.runs.len() as u32).map(|run| Way::of(line, run)).collect();
+        let mut traffic = Traffic { ways, links: Vec::new(), places: Arc::default() };
         traffic.follow_names(line);
         traffic
     }
@@ -50,25 +51,26 @@ impl Traffic {
     }
 }
 
-/// Two cuts are equal where they have the same trains in the same window, at the same rate.
 #[derive(Clone)]
 pub struct Cut {
     pub name: Name,
     pub from: i32,
     pub to: i32,
     pub rate: u32,
+    /// The section's blocks, by their numbers, in its order.
+    pub blocks: Arc<[u32]>,
     /// In the order of names.
     pub members: Vec<Arc<Member>>,
     pub places: Arc<Vec<Name>>,
 }
 
-impl PartialEq for Cut {
-    fn eq(&self, other: &Cut) -> bool {
-        (self.from, self.to, self.rate) == (other.from, other.to, other.rate) && self.members == other.members
-    }
-}
-
 impl Cut {
+    /// Whether a section has this cut still, for which its name doesn't count.
+    pub fn is_same(&self, other: &Cut) -> bool {
+        let head = |cut: &Cut| (cut.from, cut.to, cut.rate, cut.blocks.clone());
+        head(self) == head(other) && self.members == other.members
+    }
+
     pub fn is_crowded(&self) -> bool {
         self.members.len() > MOST_MEMBERS
     }
@@ -104,10 +106,11 @@ impl Cutter {
     pub fn of(line: &Line, traffic: &Traffic, section: u32) -> Cutter {
         let item = &line.sections[section as usize];
         let mut ours = vec![false; line.table(Kind::Block).room()];
-        line.table(Kind::Section).named(section).iter().for_each(|&block| ours[block as usize] = true);
+        let blocks: Arc<[u32]> = line.table(Kind::Section).named(section).into();
+        blocks.iter().for_each(|&block| ours[block as usize] = true);
         let (name, places) = (line.table(Kind::Section).name(section).clone(), traffic.places.clone());
         let (from, to) = (item.from as i32, item.to as i32);
-        let cut = Cut { name, from, to, rate: item.rate, members: Vec::new(), places };
+        let cut = Cut { name, from, to, rate: item.rate, blocks, members: Vec::new(), places };
         let mut cutter = Cutter { cut, ours, entries: Vec::new() };
         cutter.entries = traffic.ways.iter().map(|way| cutter.entry(way)).collect();
         for run in line.table(Kind::Run).by_name() {
@@ -144,8 +147,8 @@ impl Cutter {
         uses
     }
 
-    /// A run's use of a connection that names it, where that binds: the first run keeps it from its
-    /// entry until the second may start, and the second for the second in which it starts.
+    /// A run's use of a connection that names it, where that binds: the first run keeps it from its entry
+    /// until the second may start, and the second for the second in which it starts.
     fn link_use(&self, line: &Line, traffic: &Traffic, run: u32, place: u32) -> Option<Use> {
         let connect = &line.connects[place as usize];
         let entry = self.entries[connect.first as usize]?;
@@ -166,8 +169,8 @@ impl Cutter {
         self.ours.iter().zip(blocks).any(|(&ours, &block)| ours && block)
     }
 
-    /// Makes the members anew where these runs, or connections that name them, were edited; tells
-    /// whether the cut is another one now.
+    /// Makes the members anew where these runs, or connections that name them, were edited; tells whether the
+    /// cut is another one now.
     pub fn refresh(&mut self, line: &Line, traffic: &Traffic, runs: &[u32]) -> bool {
         self.entries.resize(line.table(Kind::Run).room(), None);
         for &run in runs {

@@ -59,13 +59,13 @@ fn period_of(ring: &Ring) -> i64 {
     (time + patterns - 1).div_euclid(patterns)
 }
 
-/// The steps between neighbours: those in one pattern, in the order of the trains, and then those to
-/// the next pattern, from the last train on a block to the first.
+/// The steps between neighbours: those in one pattern, in the order of the trains, and then those to the next
+/// pattern, from the last train on a block to the first.
 fn steps(answer: &Answer) -> Vec<Step> {
     let mut same: Vec<Step> = Vec::new();
     let mut next = Vec::new();
-    // Between the same two trains the greatest time counts. Neighbours on one block are mostly
-    // neighbours on the one before.
+    // Between the same two trains the greatest time counts. Neighbours on one block are mostly neighbours on
+    // the one before.
     let mut latest = vec![usize::MAX; answer.cut.members.len()];
     for (list, place) in answer.lists.iter().zip(0..) {
         for pair in list.windows(2) {
@@ -93,8 +93,8 @@ fn step(from: &Spot, to: &Spot, place: u32, next: bool) -> Step {
     Step { from: from.train, to: to.train, place, time, next }
 }
 
-/// The trains of a block one after the other, and the first again: the ring of the block that is
-/// kept longest.
+/// The trains of a block one after the other, and the first again: the ring of the block that is kept
+/// longest.
 fn block_ring(answer: &Answer) -> Ring {
     let kept = |list: &[Spot]| list.iter().map(|spot| i64::from(spot.end - spot.start)).sum::<i64>();
     let blocks = answer.lists.iter().zip(0..).skip(FIRST_BLOCK as usize);

@@ -19,11 +19,6 @@ impl Filling {
         let copied = self.one + (copies - 1) * self.headway;
         if copies == 0 { self.none } else { self.none.max(copied) }
     }
-
-    /// The copies with which the occupancy time is at most this one, where it is so without any.
-    fn most(&self, occupancy: i64) -> i64 {
-        if self.one > occupancy { 0 } else { (occupancy - self.one) / self.headway + 1 }
-    }
 }
 
 pub fn fill(text: &mut Text, cut: Cut, train: usize) {
@@ -39,7 +34,7 @@ fn write_filling(text: &mut Text, cut: &Cut, train: usize, filling: &Filling) {
     if filling.none > full {
         text.word("none").end();
     } else {
-        let most = filling.most(full);
+        let most = if filling.one > full { 0 } else { (full - filling.one) / filling.headway + 1 };
         text.number(most).end();
         copies = vec![most, most + 1];
     }
@@ -49,8 +44,8 @@ fn write_filling(text: &mut Text, cut: &Cut, train: usize, filling: &Filling) {
     }
 }
 
-/// The first copy enters when its blocks are free of all trains; the next one, which has the same
-/// uses, by its headway to itself later, the longest time for which it keeps a block.
+/// The first copy enters when its blocks are free of all trains; the next one, which has the same uses, by
+/// its headway to itself later, the longest time for which it keeps a block.
 fn filling(answer: &Answer, train: usize) -> Filling {
     let member = &answer.cut.members[train];
     let mut filling = Filling { none: answer.busiest().map_or(0, |(_, occupancy)| occupancy), one: 0, headway: 0 };

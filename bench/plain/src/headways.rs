@@ -27,8 +27,7 @@ pub fn headways(text: &mut Text, cut: Cut) {
     }
 }
 
-/// For each place that is used the starts of all trains, side by side, so that many are compared at
-/// once.
+/// For each place that is used the starts of all trains, side by side, so that many are compared at once.
 fn starts_by_place(cut: &Cut) -> Vec<Vec<i32>> {
     let mut starts = vec![Vec::new(); cut.places.len()];
     for (train, member) in cut.members.iter().enumerate() {

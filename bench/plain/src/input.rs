@@ -32,8 +32,8 @@ enum Sort { Plain, Time, Rate }
 #[derive(Clone, Copy)]
 enum Tail { Nothing, Names, Legs }
 
-/// The fields of a row that puts or changes an item, behind its word and name: some names, some
-/// numbers with their limits, and a tail.
+/// The fields of a row that puts or changes an item, behind its word and name: some names, some numbers with
+/// their limits, and a tail.
 struct Shape {
     kind: Kind,
     noun: &'static str,
@@ -117,8 +117,8 @@ pub struct Input {
     pub scripts: Vec<Vec<Task>>,
 }
 
-/// Reads the whole input. A row that spells nothing, or may not stand where it does, is refused
-/// before any row whose edit a rule refuses, so the rows are looked at to the end in any case.
+/// Reads the whole input. A row that spells nothing, or may not stand where it does, is refused before any
+/// row whose edit a rule refuses, so the rows are looked at to the end in any case.
 pub fn read(bytes: &[u8], scripts_allowed: bool) -> Result<Input, Refusal> {
     let mut reader = csv::ReaderBuilder::new().has_headers(false).flexible(true).from_reader(bytes);
     let mut record = ByteRecord::new();
@@ -129,7 +129,8 @@ pub fn read(bytes: &[u8], scripts_allowed: bool) -> Result<Input, Refusal> {
         row += 1;
         let refuse = |cause| Refusal { row, cause };
         if row == 1 && &record[0] == b"version" {
-            version = version_of(&record).map_err(refuse)?;
+            let field = record.get(1).filter(|_| record.len() == 2).ok_or(refuse("fields"))?;
+            version = number(field).ok().filter(|version| matches!(version, 1 | 2)).ok_or(refuse("number"))?;
             continue;
         }
         match spell(&record, version).map_err(refuse)? {
@@ -156,13 +157,6 @@ pub fn read(bytes: &[u8], scripts_allowed: bool) -> Result<Input, Refusal> {
     refused.map_or(Ok(input), Err)
 }
 
-fn version_of(record: &ByteRecord) -> Result<u32, Cause> {
-    if record.len() != 2 {
-        return Err("fields");
-    }
-    number(&record[1]).and_then(|version| if matches!(version, 1 | 2) { Ok(version) } else { Err("number") })
-}
-
 /// What a row spells, or the first fault of its form.
 fn spell(record: &ByteRecord, version: u32) -> Result<Row<'_>, Cause> {
     let word = &record[0];
@@ -182,14 +176,8 @@ fn spell(record: &ByteRecord, version: u32) -> Result<Row<'_>, Cause> {
     if !(if verb == Verb::Drop { single } else { shape.may_have(record.len()) }) {
         return Err("fields");
     }
-    let mut edit = Edit {
-        verb,
-        kind: shape.kind,
-        name: name(&record[1])?,
-        names: Names { record, from: 2, to: 2 },
-        numbers: [0; 5],
-        legs: Vec::new(),
-    };
+    let (kind, own, names) = (shape.kind, name(&record[1])?, Names { record, from: 2, to: 2 });
+    let mut edit = Edit { verb, kind, name: own, names, numbers: [0; 5], legs: Vec::new() };
     if verb != Verb::Drop {
         shape.spell(&mut edit, record, version)?;
     }

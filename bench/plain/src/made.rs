@@ -1,5 +1,5 @@
-//! The command `made`: a line and scripts that are made from a number. They are written as the rows
-//! of an input and then read like one.
+//! The command `made`: a line and scripts that are made from a number. They are written as the rows of an
+//! input and then read like one.
 
 use crate::compress::{heads, write_total, Head};
 use crate::text::Text;

@@ -1,6 +1,6 @@
-//! A plain program that does what the capacity engine does: it reads a line as CSV from standard
-//! input and writes the answer to the command of its words. Written from docs/FORMATS.md and
-//! docs/METHOD.md alone, as a second reading of them, and to compare speeds with.
+//! A plain program that does what the capacity engine does: it reads a line as CSV from standard input and
+//! writes the answer to the command of its words. Written from docs/FORMATS.md and docs/METHOD.md alone, as a
+//! second reading of them, and to compare speeds with.
 
 mod answer;
 mod check;
@@ -21,9 +21,8 @@ mod text;
 mod words;
 
 use compress::on_section;
-use input::{Kind, Refusal};
+use input::Refusal;
 use std::io::{Read, Write};
-use tables::Line;
 use text::Text;
 use words::Command;
 
@@ -77,10 +76,10 @@ fn outcome(command: &Command, bytes: &[u8]) -> Result<Text, Refusal> {
     match command {
         Command::Stairs => Ok(stairs::stairs(line)),
         Command::Check => Ok(check::check(line)),
-        Command::Report => Ok(compress::report(line)),
+        Command::Report => Ok(compress::report(Text::default(), &compress::heads(line))),
         Command::Compress(name) => on_section(line, name, &[], |text, cut, _| compress::compress(text, cut)),
         Command::Headways(name) => on_section(line, name, &[], |text, cut, _| headways::headways(text, cut)),
-        Command::Cut(name) => on_section(line, name, &[], |text, cut, _| pieces::cut(text, cut, blocks(line, name))),
+        Command::Cut(name) => on_section(line, name, &[], |text, cut, _| pieces::cut(text, cut)),
         Command::Cycle(name) => on_section(line, name, &[], |text, cut, _| cycle::cycle(text, cut)),
         Command::Delays(name, runs, seconds) => {
             on_section(line, name, runs, |text, cut, trains| delays::delays(text, cut, trains, seconds))
@@ -89,17 +88,11 @@ fn outcome(command: &Command, bytes: &[u8]) -> Result<Text, Refusal> {
             on_section(line, name, &[run], |text, cut, trains| fill::fill(text, cut, trains[0]))
         }
         Command::Session(workers) => {
-            let mut session = session::session(input, *workers);
-            compress::write_report(&mut session.journal, &session.heads);
-            Ok(session.journal)
+            let session = session::session(input, *workers);
+            Ok(compress::report(session.journal, &session.heads))
         }
         Command::Made(number) => Ok(made::made(*number)),
     }
-}
-
-/// The blocks of a section that is there, in its order.
-fn blocks<'a>(line: &'a Line, name: &[u8]) -> &'a [u32] {
-    line.table(Kind::Section).find(name).map_or(&[], |section| line.table(Kind::Section).named(section))
 }
 
 fn refusal_row(refusal: Refusal) -> Text {

@@ -1,5 +1,5 @@
-//! Where memory runs out, the program ends with status 5, and nothing is written: the whole text is
-//! made before any of it is.
+//! Where memory runs out, the program ends with status 5, and nothing is written: the whole text is made
+//! before any of it is.
 
 use std::alloc::{GlobalAlloc, Layout, System};
 

@@ -9,11 +9,11 @@ use crate::text::Text;
 use std::ops::Range;
 use std::sync::Arc;
 
-pub fn cut(text: &mut Text, cut: Cut, blocks: &[u32]) {
-    let cut = by_position(cut, blocks);
+pub fn cut(text: &mut Text, cut: Cut) {
+    let cut = by_position(cut);
     let mut pieces: Vec<Range<usize>> = Vec::new();
     let mut from = 0;
-    while from < blocks.len() {
+    while from < cut.places.len() {
         pieces.push(from..longest(&cut, from));
         from = pieces[pieces.len() - 1].end;
     }
@@ -30,11 +30,11 @@ pub fn cut(text: &mut Text, cut: Cut, blocks: &[u32]) {
     text.row("cut").name(&cut.name).number(pieces.len() as i64).end();
 }
 
-/// The same without connections, with the section's blocks as the places, in their order, and with
-/// each train's uses in this order.
-fn by_position(mut cut: Cut, blocks: &[u32]) -> Cut {
+/// The same without connections, with the section's blocks as the places, in their order, and with each
+/// train's uses in this order.
+fn by_position(mut cut: Cut) -> Cut {
     let mut positions = vec![None; cut.places.len()];
-    for (&block, position) in blocks.iter().zip(0..) {
+    for (&block, position) in cut.blocks.iter().zip(0..) {
         positions[(FIRST_BLOCK + block) as usize] = Some(position);
     }
     for member in &mut cut.members {
@@ -43,7 +43,7 @@ fn by_position(mut cut: Cut, blocks: &[u32]) -> Cut {
         uses.sort_unstable_by_key(|each| each.place);
         *member = Arc::new(Member { name: member.name.clone(), entry: member.entry, uses });
     }
-    let places: Vec<Name> = blocks.iter().map(|&block| cut.place(FIRST_BLOCK + block).clone()).collect();
+    let places: Vec<Name> = cut.blocks.iter().map(|&block| cut.place(FIRST_BLOCK + block).clone()).collect();
     Cut { places: Arc::new(places), ..cut }
 }
 
@@ -60,8 +60,8 @@ fn part(cut: &Cut, piece: Range<usize>) -> Cut {
     Cut { members: members.collect(), places: Arc::new(cut.places[piece.clone()].to_vec()), ..cut.clone() }
 }
 
-/// Where the longest orderly piece from a block on ends. A part of an orderly piece is orderly, so
-/// steps are doubled until one is too long, and then halved.
+/// Where the longest orderly piece from a block on ends. A part of an orderly piece is orderly, so steps are
+/// doubled until one is too long, and then halved.
 fn longest(cut: &Cut, from: usize) -> usize {
     let is_orderly = |end: usize| end <= cut.places.len() && Answer::compressed(part(cut, from..end)).is_ordered();
     let (mut end, mut step) = (from + 1, 1);

@@ -1,5 +1,4 @@
-//! The command `session`: planners edit the timetable and ask, workers answer, and the journal
-//! tells it.
+//! The command `session`: planners edit the timetable and ask, workers answer, and the journal tells it.
 
 use crate::answer::Answer;
 use crate::compress::{crowded, head, write_trains, Head};
@@ -11,8 +10,8 @@ use crate::text::Text;
 use indexmap::IndexMap;
 use std::sync::{Condvar, Mutex, MutexGuard};
 
-/// A session that is over: its journal, the heads of the answers in the end, in the order of the
-/// sections' names, and the number of the last edit.
+/// A session that is over: its journal, the heads of the answers in the end, in the order of the sections'
+/// names, and the number of the last edit.
 pub struct Session {
     pub journal: Text,
     pub heads: Vec<Head>,
@@ -68,8 +67,8 @@ impl Desk {
         self.changed.notify_all();
     }
 
-    /// Answers the first section that isn't current and that no other worker has in hand, until
-    /// there is none and the planners are done. Answers are worked out while others have the book.
+    /// Answers the first section that isn't current and that no other worker has in hand, until there is none
+    /// and the planners are done. Answers are worked out while others have the book.
     fn work(&self) {
         let mut book = self.take();
         loop {
@@ -198,8 +197,8 @@ impl Book {
                     self.traffic.ways.push(Way::of(&self.line, run));
                     self.traffic.links.push(Vec::new());
                 }
-                // A connection of the run may bind otherwise where no blocking has changed; and a new
-                // run has changed all.
+                // A connection of the run may bind otherwise where no blocking has changed; and a new run has
+                // changed all.
                 self.walk_again(&[run]);
                 self.refresh(&[run], |_| true);
             }
@@ -240,16 +239,13 @@ impl Book {
 
     fn follow_section(&mut self, section: u32) {
         self.shelves.resize_with(self.line.table(Kind::Section).room(), || None);
-        let old = self.shelves[section as usize].take();
-        let mut new = shelf(&self.line, &self.traffic, section, self.at);
-        match (old, &mut new) {
-            (Some(old), Some(new)) if old.cutter.cut == new.cutter.cut => new.head = old.head,
-            _ => {
-                let name = self.line.table(Kind::Section).name(section).clone();
-                self.standings.entry(name).or_default().touched = self.at;
-            }
+        let old = &mut self.shelves[section as usize];
+        let new = shelf(&self.line, &self.traffic, section, self.at);
+        if !matches!((&old, &new), (Some(old), Some(new)) if old.cutter.cut.is_same(&new.cutter.cut)) {
+            let name = self.line.table(Kind::Section).name(section).clone();
+            self.standings.entry(name).or_default().touched = self.at;
+            *old = new;
         }
-        self.shelves[section as usize] = new;
     }
 
     /// The sections that aren't current, in the order of names.

@@ -28,8 +28,8 @@ pub struct Way {
     pub arrival: i32,
 }
 
-/// The head's motion: where each block ends, and when the head departs from there. The first place
-/// is the path's start.
+/// The head's motion: where each block ends, and when the head departs from there. The first place is the
+/// path's start.
 struct Motion<'a> {
     run: &'a Run,
     places: [u32; 257],
@@ -51,12 +51,8 @@ impl<'a> Motion<'a> {
         motion
     }
 
-    fn arrival(&self) -> i32 {
-        self.departures[self.run.legs.len()]
-    }
-
-    /// How long the head takes from the start of block `k` to a place in it, and the rest of the
-    /// division that is rounded down.
+    /// How long the head takes from the start of block `k` to a place in it, and the rest of the division
+    /// that is rounded down.
     fn share(&self, k: usize, place: u32) -> (i32, bool) {
         let way = u64::from(place - self.places[k]);
         let length = u64::from(self.places[k + 1] - self.places[k]);
@@ -64,8 +60,7 @@ impl<'a> Motion<'a> {
         ((product / length) as i32, product % length > 0)
     }
 
-    /// When the head comes to the approach point of block `k`, or departs from its last stop there
-    /// or beyond.
+    /// When the head comes to the approach point of block `k`, or departs from its last stop there or beyond.
     fn approach_moment(&self, k: usize, approach: u32) -> i32 {
         let point = self.places[k].saturating_sub(approach);
         let mut at = k;
@@ -87,7 +82,7 @@ impl<'a> Motion<'a> {
                 return self.departures[at] + whole + i32::from(more);
             }
         }
-        self.arrival() + self.run.tail as i32
+        self.departures[self.run.legs.len()] + self.run.tail as i32
     }
 }
 
@@ -104,7 +99,7 @@ fn walk(line: &Line, run: &Run, mut hand_on: impl FnMut(Hop)) -> i32 {
         let parts = [form, watch, entered - seen, left - entered, cleared - left, release];
         hand_on(Hop { block: signal.block, start: seen - watch - form, end: cleared + release, parts });
     }
-    motion.arrival()
+    motion.departures[run.legs.len()]
 }
 
 impl Way {
@@ -122,11 +117,6 @@ impl Way {
             uses.push(Use { place: FIRST_BLOCK + hop.block, start: hop.start, end: hop.end });
         });
         Way { uses, first, last, start: run.start as i32, arrival }
-    }
-
-    /// The ways of all runs, by their numbers.
-    pub fn all(line: &Line) -> Vec<Way> {
-        (0..line.runs.len() as u32).map(|run| Way::of(line, run)).collect()
     }
 }
 

@@ -10,7 +10,6 @@ pub type Name = Arc<[u8]>;
 pub struct Leg { pub running: u32, pub dwell: u32 }
 
 pub struct Block { pub length: u32 }
-
 pub struct Signal {
     pub block: u32,
     pub approach: u32,
@@ -19,11 +18,8 @@ pub struct Signal {
     pub overlap: u32,
     pub release: u32,
 }
-
 pub struct Run { pub route: u32, pub length: u32, pub tail: u32, pub start: u32, pub legs: Vec<Leg> }
-
 pub struct Section { pub from: u32, pub to: u32, pub rate: u32 }
-
 pub struct Connect { pub first: u32, pub second: u32, pub minimum: u32 }
 
 /// How many items of each kind there may be, in the order of `Kind`.
@@ -38,8 +34,8 @@ struct Entry {
     named: Vec<u32>,
 }
 
-/// The names of one kind. Each item has a number, by which others name it; the number of a dropped
-/// item is given to one that is put later, so numbers stay below the limit of the kind.
+/// The names of one kind. Each item has a number, by which others name it; the number of a dropped item is
+/// given to one that is put later, so numbers stay below the limit of the kind.
 #[derive(Default)]
 pub struct Table {
     numbers: HashMap<Name, u32>,
