@@ -13,7 +13,7 @@ use std::sync::Arc;
 pub struct Spot { pub start: i32, pub end: i32, pub train: u32 }
 
 impl Spot {
-    fn key(&self) -> (i32, u32) {
+    pub fn key(&self) -> (i32, u32) {
         (self.start, self.train)
     }
 }
@@ -136,21 +136,6 @@ impl Answer {
         let kept = used.map(|place| (place, self.kept(place).1 - self.kept(place).0));
         let names = |a: u32, b: u32| self.cut.place(a).cmp(self.cut.place(b));
         kept.max_by(|a, b| a.1.cmp(&b.1).then_with(|| names(b.0, a.0)))
-    }
-
-    /// The train that leaves a block last.
-    pub fn last_on(&self, block: u32) -> u32 {
-        self.lists[block as usize].last().map_or(0, |spot| spot.train)
-    }
-
-    /// The links that lead from a train back to one that is at its floor, the last one first.
-    pub fn chain(&self, mut train: u32) -> Vec<(Tie, u32)> {
-        let mut chain = Vec::new();
-        while let Some(tie) = self.ties[train as usize] {
-            chain.push((tie, train));
-            train = tie.train;
-        }
-        chain
     }
 
     /// Where the trains have no order.
@@ -303,18 +288,13 @@ impl Answer {
     /// Moves a train in the order to where it has to stand; tells whether it can.
     fn move_between(&mut self, train: u32, (after, before): (i64, i64)) -> bool {
         let rank = i64::from(self.ranks[train as usize]);
-        if after >= before {
-            return false;
-        }
-        if rank < after {
+        if after < before && rank < after {
             self.order[rank as usize..=after as usize].rotate_left(1);
-        } else if rank > before {
+        } else if after < before && rank > before {
             self.order[before as usize..=rank as usize].rotate_right(1);
-        } else {
-            return true;
         }
         self.rank();
-        true
+        after < before
     }
 
     /// Works the shifts of these trains out again, in order, and of those that they then reach.

@@ -1,5 +1,6 @@
 //! The command `check`: the conflicts of the timetable on its blocks.
 
+use crate::answer::Spot;
 use crate::cut::FIRST_BLOCK;
 use crate::input::Kind;
 use crate::stairs::Way;
@@ -8,30 +9,24 @@ use crate::text::Text;
 
 const MOST_LISTED: u64 = 10_000;
 
-struct Blocking {
-    start: i32,
-    end: i32,
-    /// The place of the run in the order of names.
-    rank: u32,
-}
-
 pub fn check(line: &Line) -> Text {
     let runs = line.table(Kind::Run).by_name();
-    let mut by_block: Vec<Vec<Blocking>> = line.table(Kind::Block).names().iter().map(|_| Vec::new()).collect();
+    // Trains are here the places of the runs in the order of names.
+    let mut by_block: Vec<Vec<Spot>> = line.table(Kind::Block).names().iter().map(|_| Vec::new()).collect();
     // In the order in which the runs start, so that the blockings of a block are nearly in order.
     let mut ranks: Vec<u32> = (0..runs.len() as u32).collect();
     ranks.sort_unstable_by_key(|&rank| (line.runs[runs[rank as usize] as usize].start, rank));
     for rank in ranks {
         for each in Way::of(line, runs[rank as usize]).uses {
-            by_block[(each.place - FIRST_BLOCK) as usize].push(Blocking { start: each.start, end: each.end, rank });
+            by_block[(each.place - FIRST_BLOCK) as usize].push(Spot { start: each.start, end: each.end, train: rank });
         }
     }
     let mut text = Text::default();
     let (mut listed, mut more) = (0, 0);
     for block in line.table(Kind::Block).by_name() {
         let blockings = &mut by_block[block as usize];
-        if !blockings.is_sorted_by_key(|blocking| (blocking.start, blocking.rank)) {
-            blockings.sort_unstable_by_key(|blocking| (blocking.start, blocking.rank));
+        if !blockings.is_sorted_by_key(Spot::key) {
+            blockings.sort_unstable_by_key(Spot::key);
         }
         for (at, one) in blockings.iter().enumerate() {
             for other in blockings[at + 1..].iter().take_while(|other| other.start < one.end) {
@@ -42,7 +37,7 @@ pub fn check(line: &Line) -> Text {
                 listed += 1;
                 text.row("conflict").name(line.table(Kind::Block).name(block));
                 for run in [one, other] {
-                    text.name(line.table(Kind::Run).name(runs[run.rank as usize]));
+                    text.name(line.table(Kind::Run).name(runs[run.train as usize]));
                 }
                 text.number(other.start.into()).number(one.end.min(other.end).into()).end();
             }

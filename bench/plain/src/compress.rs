@@ -47,12 +47,15 @@ pub fn compress(text: &mut Text, cut: Cut) {
     text.append(&head(&answer).rows);
     write_trains(text, &answer);
     let Some((block, _)) = answer.busiest().filter(|_| answer.is_ordered()) else { return };
-    let critical = answer.last_on(block);
-    let chain = answer.chain(critical);
-    text.row("critical").name(answer.cut.train(critical)).number(chain.len() as i64).end();
-    for (tie, next) in chain.iter().rev() {
-        write_link(text, &answer.cut, [tie.train, tie.place, *next]);
+    let critical = answer.lists[block as usize].last().map_or(0, |spot| spot.train);
+    let mut chain = Vec::new();
+    let mut train = critical;
+    while let Some(tie) = answer.ties[train as usize] {
+        chain.push([tie.train, tie.place, train]);
+        train = tie.train;
     }
+    text.row("critical").name(answer.cut.train(critical)).number(chain.len() as i64).end();
+    chain.iter().rev().for_each(|link| write_link(text, &answer.cut, *link));
 }
 
 /// Writes the report behind what the text has.

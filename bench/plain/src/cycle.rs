@@ -5,16 +5,10 @@ use crate::compress::on_ordered;
 use crate::cut::{Cut, FIRST_BLOCK};
 use crate::text::Text;
 
-/// One train has to enter so long after another, in shifts from their planned entries.
+/// One train has to enter so long after another, which is of the same pattern or the next; in shifts from
+/// their planned entries.
 #[derive(Clone, Copy)]
-struct Step {
-    from: u32,
-    to: u32,
-    place: u32,
-    time: i64,
-    /// Whether the second train is of the next pattern.
-    next: bool,
-}
+struct Step { from: u32, to: u32, place: u32, time: i64, next: bool }
 
 /// Steps that lead back to the train with which they begin.
 type Ring = Vec<Step>;
@@ -44,19 +38,15 @@ fn least_period(answer: &Answer) -> (i64, Vec<i64>, Ring) {
     let steps = steps(answer);
     let mut ring = block_ring(answer);
     loop {
-        let period = period_of(&ring);
+        // The least period that the ring allows.
+        let time: i64 = ring.iter().map(|step| step.time).sum();
+        let patterns = ring.iter().filter(|step| step.next).count().max(1) as i64;
+        let period = (time + patterns - 1).div_euclid(patterns);
         match repeat(answer, &steps, period) {
             Ok(shifts) => return (period, shifts, ring),
             Err(refusing) => ring = refusing,
         }
     }
-}
-
-/// The least period that a ring allows.
-fn period_of(ring: &Ring) -> i64 {
-    let time: i64 = ring.iter().map(|step| step.time).sum();
-    let patterns = ring.iter().filter(|step| step.next).count().max(1) as i64;
-    (time + patterns - 1).div_euclid(patterns)
 }
 
 /// The steps between neighbours: those in one pattern, in the order of the trains, and then those to the next

@@ -16,17 +16,13 @@ pub type Cause = &'static str;
 
 /// A refused input: the row, counted from 1, or 0 where it is refused as a whole.
 #[derive(Clone, Copy, Debug)]
-pub struct Refusal {
-    pub row: usize,
-    pub cause: Cause,
-}
+pub struct Refusal { pub row: usize, pub cause: Cause }
 
 #[derive(Clone, Copy, PartialEq, Eq)]
 pub enum Kind { Block, Signal, Route, Run, Section, Connect }
 
-/// How a number may be written.
-#[derive(Clone, Copy)]
-enum Sort { Plain, Time, Rate }
+/// How a number is read, in which version, and its limits.
+type Number = (fn(&[u8], u32) -> Result<u32, Cause>, u32, u32);
 
 /// What stands at the end of a row.
 #[derive(Clone, Copy)]
@@ -38,18 +34,18 @@ struct Shape {
     kind: Kind,
     noun: &'static str,
     names: usize,
-    numbers: &'static [(Sort, u32, u32)],
+    numbers: &'static [Number],
     tail: Tail,
 }
 
 const DAY: u32 = 86_400;
 const FAR: u32 = 1_000_000;
-const LENGTH: (Sort, u32, u32) = (Sort::Plain, 1, FAR);
-const AT_MOST_FAR: (Sort, u32, u32) = (Sort::Plain, 0, FAR);
-const AT_MOST_A_DAY: (Sort, u32, u32) = (Sort::Plain, 0, DAY);
-const IN_A_WEEK: (Sort, u32, u32) = (Sort::Time, 0, 604_800);
-const SIGNAL: [(Sort, u32, u32); 5] = [AT_MOST_FAR, AT_MOST_A_DAY, AT_MOST_A_DAY, AT_MOST_FAR, AT_MOST_A_DAY];
-const WINDOW: [(Sort, u32, u32); 3] = [IN_A_WEEK, (Sort::Time, 1, 1_209_600), (Sort::Rate, 0, 1000)];
+const LENGTH: Number = (plain, 1, FAR);
+const AT_MOST_FAR: Number = (plain, 0, FAR);
+const AT_MOST_A_DAY: Number = (plain, 0, DAY);
+const IN_A_WEEK: Number = (time, 0, 604_800);
+const SIGNAL: [Number; 5] = [AT_MOST_FAR, AT_MOST_A_DAY, AT_MOST_A_DAY, AT_MOST_FAR, AT_MOST_A_DAY];
+const WINDOW: [Number; 3] = [IN_A_WEEK, (time, 1, 1_209_600), (rate, 0, 1000)];
 
 #[rustfmt::skip]
 static SHAPES: [Shape; 6] = [
@@ -84,11 +80,7 @@ pub struct Edit<'a> {
 
 /// The names in some fields of a row.
 #[derive(Clone, Copy)]
-pub struct Names<'a> {
-    record: &'a ByteRecord,
-    from: usize,
-    to: usize,
-}
+pub struct Names<'a> { record: &'a ByteRecord, from: usize, to: usize }
 
 impl<'a> Names<'a> {
     pub fn iter(self) -> impl ExactSizeIterator<Item = &'a [u8]> {
@@ -96,15 +88,12 @@ impl<'a> Names<'a> {
     }
 }
 
-/// A task of a planner, kept as its row, and spelled again when it is done.
-pub struct Task {
-    record: ByteRecord,
-    version: u32,
-}
+/// A task of a planner, kept as its row with the version, and spelled again when it is done.
+pub struct Task(ByteRecord, u32);
 
 impl Task {
     pub fn row(&self) -> Row<'_> {
-        spell(&self.record, self.version).expect("the row was spelled when it was read")
+        spell(&self.0, self.1).expect("the row was spelled when it was read")
     }
 }
 
@@ -150,7 +139,7 @@ pub fn read(bytes: &[u8], scripts_allowed: bool) -> Result<Input, Refusal> {
             Row::Edit(_) | Row::Ask(_) => {
                 let script = input.scripts.last_mut().filter(|_| tasks < MOST_TASKS).ok_or(refuse("script"))?;
                 tasks += 1;
-                script.push(Task { record: record.clone(), version });
+                script.push(Task(record.clone(), version));
             }
         }
     }
@@ -202,13 +191,8 @@ impl Shape {
     /// Reads the fields behind the name, in their order, so that the first bad one decides.
     fn spell<'a>(&self, edit: &mut Edit<'a>, record: &'a ByteRecord, version: u32) -> Result<(), Cause> {
         edit.names = names(record, 2, 2 + self.names)?;
-        for (at, &(sort, ..)) in self.numbers.iter().enumerate() {
-            let field = &record[2 + self.names + at];
-            edit.numbers[at] = match sort {
-                Sort::Plain => number(field)?,
-                Sort::Time => time(field, version)?,
-                Sort::Rate => rate(field)?,
-            };
+        for (at, (read, ..)) in self.numbers.iter().enumerate() {
+            edit.numbers[at] = read(&record[2 + self.names + at], version)?;
         }
         match self.tail {
             Tail::Nothing => (),
@@ -265,6 +249,10 @@ pub fn number(field: &[u8]) -> Result<u32, Cause> {
     })
 }
 
+fn plain(field: &[u8], _: u32) -> Result<u32, Cause> {
+    number(field)
+}
+
 fn time(field: &[u8], version: u32) -> Result<u32, Cause> {
     if version == 2 && field.contains(&b':') {
         clock(field).ok_or("number")
@@ -282,7 +270,7 @@ fn clock(field: &[u8]) -> Option<u32> {
     Some(number(&field[..colon]).ok()? * 3600 + minutes * 60 + seconds)
 }
 
-fn rate(field: &[u8]) -> Result<u32, Cause> {
+fn rate(field: &[u8], _: u32) -> Result<u32, Cause> {
     match field {
         b"suburban-peak" => Ok(18),
         b"suburban-day" => Ok(43),

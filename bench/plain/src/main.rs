@@ -47,7 +47,7 @@ fn run() -> i32 {
     if output.write_all(&text.bytes).and_then(|()| output.flush()).is_err() {
         return end(4, "the output could not be written");
     }
-    refusal.map_or(0, |refusal| end(1, &why(refusal)))
+    refusal.map_or(0, |refusal| end(1, &format!("row {}: it is refused, {}", refusal.row, refusal.cause)))
 }
 
 /// Tells why the program ends with a status.
@@ -99,13 +99,4 @@ fn refusal_row(refusal: Refusal) -> Text {
     let mut text = Text::default();
     text.row("refused").number(refusal.row as i64).word(refusal.cause).end();
     text
-}
-
-fn why(refusal: Refusal) -> String {
-    match refusal.cause {
-        "too-long" => "the input is longer than 16,777,216 bytes".into(),
-        "no-section" => "no section has that name".into(),
-        "no-member" => "a run of the words is no train of the section".into(),
-        cause => format!("row {}: the row is refused, {cause}", refusal.row),
-    }
 }

@@ -12,11 +12,7 @@ use std::sync::{Condvar, Mutex, MutexGuard};
 
 /// A session that is over: its journal, the heads of the answers in the end, in the order of the sections'
 /// names, and the number of the last edit.
-pub struct Session {
-    pub journal: Text,
-    pub heads: Vec<Head>,
-    pub at: u64,
-}
+pub struct Session { pub journal: Text, pub heads: Vec<Head>, pub at: u64 }
 
 pub fn session(input: Input, workers: usize) -> Session {
     let scripts = input.scripts;
@@ -48,10 +44,7 @@ pub fn session(input: Input, workers: usize) -> Session {
 }
 
 /// The book, where one thread at a time looks into it.
-struct Desk {
-    book: Mutex<Book>,
-    changed: Condvar,
-}
+struct Desk { book: Mutex<Book>, changed: Condvar }
 
 impl Desk {
     fn take(&self) -> MutexGuard<'_, Book> {
@@ -91,10 +84,7 @@ impl Desk {
 
 /// What the journal says of the sections of one name. It outlives the section.
 #[derive(Default)]
-struct Standing {
-    published: Option<u64>,
-    touched: u64,
-}
+struct Standing { published: Option<u64>, touched: u64 }
 
 impl Standing {
     fn is_current(&self) -> bool {

@@ -6,12 +6,7 @@ use crate::tables::{Line, Run};
 use crate::text::Text;
 
 /// A run's blocking of one block, with its six parts in the order of the output.
-struct Hop {
-    block: u32,
-    start: i32,
-    end: i32,
-    parts: [i32; 6],
-}
+struct Hop { block: u32, start: i32, end: i32, parts: [i32; 6] }
 
 /// A place, and when it is kept.
 #[derive(Clone, Copy, PartialEq, Eq)]
@@ -30,11 +25,7 @@ pub struct Way {
 
 /// The head's motion: where each block ends, and when the head departs from there. The first place is the
 /// path's start.
-struct Motion<'a> {
-    run: &'a Run,
-    places: [u32; 257],
-    departures: [i32; 257],
-}
+struct Motion<'a> { run: &'a Run, places: [u32; 257], departures: [i32; 257] }
 
 impl<'a> Motion<'a> {
     fn of(line: &Line, run: &'a Run) -> Motion<'a> {

@@ -10,13 +10,9 @@ pub type Name = Arc<[u8]>;
 pub struct Leg { pub running: u32, pub dwell: u32 }
 
 pub struct Block { pub length: u32 }
+#[rustfmt::skip]
 pub struct Signal {
-    pub block: u32,
-    pub approach: u32,
-    pub watch: u32,
-    pub form: u32,
-    pub overlap: u32,
-    pub release: u32,
+    pub block: u32, pub approach: u32, pub watch: u32, pub form: u32, pub overlap: u32, pub release: u32,
 }
 pub struct Run { pub route: u32, pub length: u32, pub tail: u32, pub start: u32, pub legs: Vec<Leg> }
 pub struct Section { pub from: u32, pub to: u32, pub rate: u32 }
