@@ -27,6 +27,10 @@ def call(program, words, rows):
     return ended.returncode, list(csv.reader(io.StringIO(ended.stdout.decode())))
 
 
+def fields_of(row):
+    return next(csv.reader([row]))
+
+
 # ---- random sessions
 
 
@@ -80,11 +84,11 @@ class Timetable:
         self.program, self.rows = program, rows
         self.items = collections.defaultdict(dict)
         for row in rows:
-            verb, name = row.split(",")[:2]
+            verb, name, *_ = fields = fields_of(row)
             if verb.startswith("drop-"):
                 del self.items[verb[5:]][name]
             else:
-                self.items[verb.removeprefix("change-")][name] = row.split(",")[1:]
+                self.items[verb.removeprefix("change-")][name] = fields[1:]
         self.stairs = collections.defaultdict(list)
         for row in call(program, ["stairs"], rows)[1]:
             self.stairs[row[1]].append((row[2], int(row[3]), int(row[4])))
@@ -176,7 +180,7 @@ class Reader:
 
     def edit(self, row):
         task = self.task(row[1])
-        expect(row[2:], [str(self.last + 1)] + task.split(","))
+        expect(row[2:], [str(self.last + 1)] + fields_of(task))
         after = self.now().edited(task)
         if isinstance(after, str):
             raise Wrong("an edit that a rule refuses: " + task)
@@ -188,11 +192,11 @@ class Reader:
 
     def reject(self, row):
         task = self.task(row[1])
-        expect(row[2:], [self.now().edited(task)] + task.split(","))
+        expect(row[2:], [self.now().edited(task)] + fields_of(task))
 
     def ask(self, row):
         section = row[2]
-        expect(["ask", section], self.task(row[1]).split(","))
+        expect(["ask", section], fields_of(self.task(row[1])))
         at, by = self.published.get(section), self.touched.get(section, 0)
         if section not in self.now().cuts:
             reply = ["unknown"]
