@@ -179,12 +179,13 @@ def difference_of_journals(pair, call, texts, counts):
 # ---- how often each outcome came
 
 
-def amount(number, what):
-    for least, most in [(0, 0), (1, 1), (2, 2), (3, 9), (10, 99)]:
+def amount(number, one, many=None):
+    """Such as 3 to 9 trains, in words that sort."""
+    many = many or one + "s"
+    for least, most in [(0, 0), (1, 1), (2, 2), (3, 9), (10, 99), (100, 767)]:
         if number <= most:
-            span = str(least) if least == most else "%d to %d" % (least, most)
-            return "%s %s%s" % (span, what, "" if most == 1 else "s")
-    return "100 %ss and more" % what
+            return "%3s %s" % (least, one if most == 1 else many) if least == most else "%3d to %d %s" % (least, most, many)
+    return "768 %s or more" % many
 
 
 def tally(call, status, text, counts):
@@ -229,7 +230,7 @@ def labels(row, places):
     elif word == "knock-on":
         yield "late: " + amount(int(row[1]), "train")
     elif word == "fill":
-        yield "fill, none" if row[3] == "none" else "fill, " + amount(int(row[3]), "copy").replace("copys", "copies")
+        yield "fill, none" if row[3] == "none" else "fill, " + amount(int(row[3]), "copy", "copies")
     elif word == "period":
         yield "period"
     elif word == "step":
@@ -249,7 +250,7 @@ def labels(row, places):
 
 def inputs(dice):
     """The calls of one seed."""
-    kind = dice.choices(["line", "hostile", "words", "session", "workers", "made", "long"], [72, 12, 2, 10, 4, 0.3, 0.02])[0]
+    kind = dice.choices(["line", "hostile", "words", "session", "workers", "made", "great", "long"], [72, 12, 2, 10, 4, 0.3, 0.1, 0.02])[0]
     maker = random_lines.make_line(dice)
     base, spelling = maker.line.edits, Spelling(dice)
     if kind == "line":
@@ -272,6 +273,9 @@ def inputs(dice):
             yield Call(["report"], given, base)
     elif kind == "made":
         yield Call(random_lines.words_of(dice, maker, "made"), b"")
+    elif kind == "great":
+        given = random_lines.make_great(dice, maker)
+        yield from (Call([command], given) for command in ["stairs", "report"])
     elif kind == "long":
         given = spelling.text(spelling.rows(base))
         given += b"\n" * (TOO_LONG - dice.choice([0, 1, 2]) - len(given))

@@ -589,6 +589,7 @@ def script_rows(scripts):
 # ---- rows of no form
 
 BAD_KINDS = ["train", "Block", "", " block", "block ", "#", "blocks", "drop-", "change-version", "drop-ask", "version", "run;T1", "\udcff", "ask", "planner"]
+BAD_VERSIONS = ["0", "1", "2", "02", "3", "12", "", " 2", "x", "1.0", "000000001", "0000000002"]
 BAD_NUMBERS = ["-5", "+5", "5.0", "", "1e3", "0x1", " 5", "5 ", "1234567890", "٣", "33%", "highspeed-night", "mixed-day", "999999999", "000000000"]
 BAD_NUMBERS += ["0:00:10", "1:60:00", "1:00:60", "1:0:0", "123456:00:00", "99999:59:59", "24:00:00", ":00:00", "1:00", "1:00:00:00", "-1:00:00"]
 BAD_NAMES = ["", "x" * 64, "x" * 65, "é" * 32, "é" * 33, "a\tb", "\x7f", "a\nb", "\x00", "\udcff", "a\udcc3", "\udced\udca0\udc80", "\udcc0\udc80", "\udcf4\udc90\udc80\udc80"]
@@ -605,7 +606,9 @@ def spoil_row(dice, rows):
     numbers = [column for column in range(2, len(row)) if is_number(row[column])]
     names = [column for column in range(1, len(row)) if not is_number(row[column])]
     way = dice.randrange(10)
-    if way == 0:
+    if row[0] == "version" and len(row) == 2 and way < 6:
+        row[1] = dice.choice(BAD_VERSIONS)
+    elif way == 0:
         row[0] = dice.choice(BAD_KINDS)
     elif way == 1:
         rows[place] = dice.choice([row + [""], row + ["5"], row[:-1], row[:1], row + ["x"] * 256, row[:2] + row[3:]])
@@ -646,6 +649,18 @@ def make_hostile(dice, maker, scripts):
     return spoil_text(dice, text) if dice.random() < 0.3 else text
 
 
+def make_great(dice, maker):
+    """The input with changes of all items to what they are already, again and again, so that threads share its reading."""
+    spelling = Spelling(dice)
+    again = [("change-", kind, name, fields) for kind, items in maker.line.items.items() for name, fields in items.items()]
+    rows, more = spelling.rows(maker.line.edits), spelling.rows(again)[spelling.version > 0 :]
+    size = len(spelling.text(more))
+    rows += more * (dice.randrange(500_000, 2_000_000) // size if size else 0)
+    if dice.random() < 0.3:
+        spoil_row(dice, rows)
+    return spelling.text(rows)
+
+
 def too_many_tasks(dice, maker):
     """Scripts of 256 tasks or 257, of 16 planners or 17."""
     tasks = dice.choice([256, 257])
@@ -659,7 +674,7 @@ def too_many_tasks(dice, maker):
 BAD_WORDS = [[], [""], ["Stairs"], ["stairs", "x"], ["report", ""], ["compress"], ["compress", "S", "S"], ["headways"], ["cut"], ["cycle"], ["check", "check"]]
 BAD_WORDS += [["fill", "S"], ["fill", "S", "T", "T"], ["delays", "S"], ["delays", "S", "T"], ["delays", "S", "T", "86401"], ["delays", "S", "T", "000001"]]
 BAD_WORDS += [["delays", "S", "T", "1", "T", "1"], ["delays", "S", "T", "1", "U"], ["delays", "S", "T", "-1"], ["delays", "S", "T", ""], ["delays", "", "", "1", "", "1"]]
-BAD_WORDS += [["session"], ["session", "17"], ["session", "-1"], ["session", ""], ["session", "0", "0"], ["made"], ["made", ""], ["made", "1234567890"], ["made", "1x"]]
+BAD_WORDS += [["session"], ["session", "17"], ["session", "000"], ["session", "016"], ["session", "-1"], ["session", ""], ["session", "0", "0"], ["made"], ["made", ""], ["made", "1234567890"], ["made", "1x"]]
 BAD_WORDS += [["compress", "\udcff"], ["stairs", "\udcff"], ["\udcff"], ["delays", "S"] + [word for number in range(65) for word in ("T%d" % number, "1")]]
 BAD_NAME_WORDS = ["", "x" * 65, "a\nb", "none", "\x7f", "é" * 33]
 
