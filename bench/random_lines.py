@@ -445,7 +445,8 @@ FAMILIES = [
 def make_line(dice):
     maker = Maker(dice)
     dice.choices([make for _, make in FAMILIES], [weight for weight, _ in FAMILIES])[0](maker)
-    maker.sections()
+    if not maker.line.items["section"] or dice.random() < 0.3:
+        maker.sections()
     maker.connections()
     if dice.random() < 0.4:
         for _ in range(dice.choice([1, 2, 3, 10])):
@@ -683,12 +684,10 @@ def section_word(dice, maker):
     return dice.choice(BAD_NAME_WORDS) if dice.random() < 0.03 else maker.known("section")
 
 
-def train_words(dice, maker, section):
-    """Names of runs, most often of trains of a section: those that surely enter within its window."""
-    items = maker.line.items
+def trains_of(items, section):
+    """The runs that surely are trains of a section."""
     fields = items["section"].get(section)
-    names = [name for name, run in items["run"].items() if fields and enters(items, fields, run)]
-    return names if names and dice.random() < 0.96 else list(items["run"]) + [dice.choice(BAD_NAME_WORDS)]
+    return [name for name, run in items["run"].items() if fields and enters(items, fields, run)]
 
 
 def enters(items, section, run):
@@ -710,7 +709,13 @@ def words_of(dice, maker, command):
     section = section_word(dice, maker)
     if command not in ("delays", "fill"):
         return [command, section]
-    names = train_words(dice, maker, section)
+    for _ in range(4):
+        names = trains_of(maker.line.items, section)
+        if names:
+            break
+        section = section_word(dice, maker)
+    if not names or dice.random() < 0.04:
+        names = list(maker.line.items["run"]) + [dice.choice(BAD_NAME_WORDS)]
     if command == "fill":
         return [command, section, dice.choice(names)]
     some = dice.sample(names, min(len(names), dice.choice([1, 1, 2, 3, 64])))
