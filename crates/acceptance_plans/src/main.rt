@@ -1,6 +1,5 @@
 //! Lines and what their sections are answered: edits and blocking times; cuts and what edits make of
-//! them; orders, occupancy, the compressed timetable and its checker; cycles, and what shows one;
-//! books and what their calls answer.
+//! them; orders, occupancy, the compressed timetable and its checker; cycles, and what shows one.
 //!
 //! Standard input has the cases, in the form that `small_lines` reads; standard output repeats the
 //! line of each case, and what comes of it.
@@ -8,11 +7,9 @@
 
 mod answers;
 mod blockings;
-mod books;
 mod changes;
 mod cuts;
 mod cycles;
-mod desk;
 mod line_edits;
 mod orders;
 mod rates;
@@ -24,7 +21,6 @@ use rail_outside::{StdSink, StdSource, send_all, take_all};
 use small_lines::{line_at, put_line, rows_of_case, starts_line, word};
 use std::alloc::Global;
 use std::process::ExitCode;
-use std::sync::Wait;
 
 // The most bytes of the cases.
 const SCRIPT_BYTES: usize = 1_000_000;
@@ -34,7 +30,7 @@ fn main(rt: HostRuntime) -> ExitCode {
     let Ok(Ok(script)) = take_all(rt.alloc(), &mut source, SCRIPT_BYTES) else {
         return ExitCode::from(3);
     };
-    let Ok(text) = text_of(&rt, script.slice()) else {
+    let Ok(text) = text_of(rt.alloc(), script.slice()) else {
         return ExitCode::from(5);
     };
     match send_all(&mut StdSink::of(rt.stdout()), text.as_bytes()) {
@@ -44,13 +40,13 @@ fn main(rt: HostRuntime) -> ExitCode {
 }
 
 // What comes of all cases.
-fn text_of<R: AllocGlobal + Wait>(rt: &R, script: &[u8]) -> Result<String, OutOfMemory> {
-    let mut text = String::new(rt.alloc());
+fn text_of(alloc: Global, script: &[u8]) -> Result<String, OutOfMemory> {
+    let mut text = String::new(alloc);
     for at in 0..script.len() {
         if starts_line(script, at, b'#') {
             put_line(&mut text, line_at(script, at))?;
         } else if starts_line(script, at, b'?') {
-            write_case(rt, &mut text, script, at)?;
+            write_case(alloc, &mut text, script, at)?;
         }
     }
     Ok(text)
@@ -75,11 +71,9 @@ enum Case {
     IsAnswer,
     Cycle,
     Shows,
-    Book,
-    Desk,
 }
 
-const CASES: [(&[u8], Case); 18] = [
+const CASES: [(&[u8], Case); 16] = [
     (b"?edits", Case::Edits),
     (b"?look-ups", Case::LookUps),
     (b"?blockings", Case::Blockings),
@@ -96,8 +90,6 @@ const CASES: [(&[u8], Case); 18] = [
     (b"?is-answer", Case::IsAnswer),
     (b"?cycle", Case::Cycle),
     (b"?shows", Case::Shows),
-    (b"?book", Case::Book),
-    (b"?desk", Case::Desk),
 ];
 
 // The case of a line, if it has one.
@@ -112,18 +104,17 @@ fn case_of(line: &[u8]) -> Option<Case> {
 }
 
 // Repeats the line of a case, and writes what comes of it.
-fn write_case<R: AllocGlobal + Wait>(
-    rt: &R,
+fn write_case(
+    alloc: Global,
     text: &mut String,
     script: &[u8],
     at: usize,
 ) -> Result<(), OutOfMemory> {
     let line = line_at(script, at);
     put_line(text, line)?;
-    let rows = rows_of_case(rt.alloc(), script, at)?;
+    let rows = rows_of_case(alloc, script, at)?;
     match case_of(line) {
-        Some(Case::Desk) => desk::write_desk(rt, text, &rows),
-        Some(case) => write_of(rt.alloc(), text, case, line, &rows),
+        Some(case) => write_of(alloc, text, case, line, &rows),
         None => put_line(text, b"no such case"),
     }
 }
@@ -136,7 +127,6 @@ fn write_of(
     rows: &[u8],
 ) -> Result<(), OutOfMemory> {
     match case {
-        Case::Desk => Ok(()),
         Case::Edits => line_edits::write_edits(alloc, text, rows),
         Case::LookUps => line_edits::write_look_ups(alloc, text, line, rows),
         Case::Blockings => blockings::write_blockings(alloc, text, rows),
@@ -153,6 +143,5 @@ fn write_of(
         Case::IsAnswer => answers::write_is_answer(alloc, text, line, rows),
         Case::Cycle => cycles::write_cycle(alloc, text, rows),
         Case::Shows => shown::write_shown(alloc, text, line, rows),
-        Case::Book => books::write_calls(alloc, text, rows),
     }
 }

@@ -48,9 +48,15 @@ fn first_then_whole<R: Rows>(reading: &mut R, name: &Name) -> Option<[u64; 6]> {
 }
 
 fn write_counts(text: &mut String, counts: Option<[u64; 6]>) -> Result<(), OutOfMemory> {
-    let Some([at, stamp, uses, taken, rows, all]) = counts else {
-        return put_line(text, b"another row");
-    };
+    match counts {
+        Some(counts) => write_each(text, &counts),
+        None => put_line(text, b"another row"),
+    }
+}
+
+fn write_each(text: &mut String, counts: &[u64; 6]) -> Result<(), OutOfMemory> {
+    let (at, stamp, uses) = (counts[0], counts[1], counts[2]);
+    let (taken, rows, all) = (counts[3], counts[4], counts[5]);
     writeln!(
         text,
         "number {at}, stamp {stamp}, uses {uses}, taken {taken}, rows {rows}, taken {all}"

@@ -1,7 +1,7 @@
 use Rattle.std.proofs.Common.{sym}
 use Rattle.turn_desk.proofs.Growing.{adds_nothing}
 use Rattle.plan_model.specs.declared.journal.Entry.{Entry}
-use Rattle.acceptance_plans.proofs.desk.passed.Goals as goal
+use Rattle.acceptance_books.proofs.tests.desk.a_book_is_with_who_has_the_turn.Goals as goal
 
 pub give-requires-clause-own : goal.give-requires-clause-own
 give-requires-clause-own g c =

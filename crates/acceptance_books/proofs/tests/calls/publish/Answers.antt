@@ -1,9 +1,9 @@
 use Rattle.std.proofs.Common.{sym, subst}
 use Rattle.plan_model.specs.Board.{Gives}
 use Rattle.plan_model.specs.Outcome.{IsDone, PublishesTo}
-use Rattle.acceptance_plans.specs.Held.{AreHeld}
-use Rattle.acceptance_plans.proofs.Holding.{zero_issued, held_rest, held_published}
-use Rattle.acceptance_plans.proofs.books.publish.Goals as goal
+use Rattle.acceptance_books.specs.Held.{AreHeld}
+use Rattle.acceptance_books.proofs.Holding.{zero_issued, held_rest, held_published}
+use Rattle.acceptance_books.proofs.tests.calls.publish.Goals as goal
 
 pub publish-requires-clause-issued : goal.publish-requires-clause-issued
 publish-requires-clause-issued c = zero_issued c.args.book.now

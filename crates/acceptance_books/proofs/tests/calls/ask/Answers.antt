@@ -1,8 +1,8 @@
 use Rattle.std.proofs.Common.{subst}
 use Rattle.plan_model.specs.Board.{Gives}
 use Rattle.plan_model.specs.Outcome.{AsksTo}
-use Rattle.acceptance_plans.proofs.Holding.{zero_issued, held_asked}
-use Rattle.acceptance_plans.proofs.books.ask.Goals as goal
+use Rattle.acceptance_books.proofs.Holding.{zero_issued, held_asked}
+use Rattle.acceptance_books.proofs.tests.calls.ask.Goals as goal
 
 pub ask-requires : goal.ask-requires
 ask-requires c = zero_issued c.args.book.now

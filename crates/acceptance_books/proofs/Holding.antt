@@ -12,7 +12,7 @@ use Rattle.plan_model.specs.Journal.{issued}
 use Rattle.plan_model.specs.Legal.{IsJournal}
 use Rattle.plan_model.specs.Outcome.{EditsTo, AsksTo, PublishesTo}
 use Rattle.plan_model.proofs.Readings.{done_stays}
-use Rattle.acceptance_plans.specs.Held.{AreHeld, IsJustOpened}
+use Rattle.acceptance_books.specs.Held.{AreHeld, IsJustOpened}
 
 -- pass 0 is issued
 pub zero_issued : (journal : List Entry) → 0 < issued journal

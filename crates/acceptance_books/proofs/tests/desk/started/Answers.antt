@@ -1,8 +1,8 @@
 use Rattle.std.proofs.Common.{subst}
 use Rattle.std.specs.Prelude.{IfSome}
-use Rattle.acceptance_plans.specs.Held.{IsJustOpened}
-use Rattle.acceptance_plans.proofs.Holding.{one_issued, all_by_zero}
-use Rattle.acceptance_plans.proofs.desk.started.Goals as goal
+use Rattle.acceptance_books.specs.Held.{IsJustOpened}
+use Rattle.acceptance_books.proofs.Holding.{one_issued, all_by_zero}
+use Rattle.acceptance_books.proofs.tests.desk.started.Goals as goal
 
 pub start-requires-clause-alone : goal.start-requires-clause-alone
 start-requires-clause-alone g c =

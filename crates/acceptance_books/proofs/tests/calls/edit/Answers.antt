@@ -1,8 +1,8 @@
 use Rattle.std.proofs.Common.{subst}
 use Rattle.plan_model.specs.Board.{Gives}
 use Rattle.plan_model.specs.Outcome.{EditsTo}
-use Rattle.acceptance_plans.proofs.Holding.{zero_issued, held_edited}
-use Rattle.acceptance_plans.proofs.books.edit.Goals as goal
+use Rattle.acceptance_books.proofs.Holding.{zero_issued, held_edited}
+use Rattle.acceptance_books.proofs.tests.calls.edit.Goals as goal
 
 pub edit-requires : goal.edit-requires
 edit-requires c = zero_issued c.args.book.now

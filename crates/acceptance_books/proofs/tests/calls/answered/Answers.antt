@@ -3,7 +3,7 @@ use Rattle.rail_model.specs.declared.items.Section.{Section}
 use Rattle.plan_model.specs.declared.cut.Cut.{Cut}
 use Rattle.plan_model.proofs.Readings.{reading_done}
 use Rattle.compression.proofs.Taken.{kept_cut}
-use Rattle.acceptance_plans.proofs.books.answered.Goals as goal
+use Rattle.acceptance_books.proofs.tests.calls.answered.Goals as goal
 
 pub returns : goal.returns
 returns c =
