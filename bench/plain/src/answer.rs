@@ -158,17 +158,21 @@ impl Answer {
         const BEFORE: u8 = 1;
         const AFTER: u8 = 2;
         let mut sides = vec![0; self.cut.members.len()];
+        let mut least = None;
         for each in &self.cut.members[train as usize].uses {
             let mut side = BEFORE;
             for spot in &self.lists[each.place as usize] {
                 if spot.train == train {
                     side = AFTER;
-                } else {
-                    sides[spot.train as usize] |= side;
+                    continue;
+                }
+                sides[spot.train as usize] |= side;
+                if sides[spot.train as usize] == BEFORE | AFTER {
+                    least = Some(least.map_or(spot.train, |least: u32| least.min(spot.train)));
                 }
             }
         }
-        sides.iter().position(|&side| side == BEFORE | AFTER).map(|second| second as u32)
+        least
     }
 
     /// The first place by name at which one train precedes another.
@@ -220,14 +224,14 @@ impl Answer {
     /// Mends the answer, so that it is that of another cut of the section: only the trains whose rows are
     /// others are laid out again, and only those that they reach get new shifts. Where trains came or went,
     /// all are numbered anew, and the answer is made from scratch.
-    pub fn mend(&mut self, cut: &Cut) {
+    pub fn mend(&mut self, cut: Cut) {
         let pairs = || self.cut.members.iter().zip(&cut.members);
         let same_trains = self.cut.members.len() == cut.members.len()
             && pairs().all(|(old, new)| Arc::ptr_eq(old, new) || old.name == new.name);
         let differ = pairs().zip(0..).filter(|((old, new), _)| !Arc::ptr_eq(old, new));
         let trains: Vec<u32> = differ.map(|(_, train)| train).collect();
         if !same_trains || cut.from != self.cut.from || trains.len() * 4 > cut.members.len() {
-            *self = Answer::compressed(cut.clone());
+            *self = Answer::compressed(cut);
             return;
         }
         let mut orderly = self.is_ordered();
@@ -236,8 +240,8 @@ impl Answer {
         for &train in &trains {
             self.take_out(train, &mut dirty);
         }
-        self.cut = cut.clone();
-        self.floors = floors_of(cut);
+        self.floors = floors_of(&cut);
+        self.cut = cut;
         self.lists.resize_with(self.cut.places.len(), Vec::new);
         for &train in &trains {
             let between = self.lay_in(train, &mut dirty);

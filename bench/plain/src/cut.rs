@@ -20,7 +20,10 @@ pub struct Member {
 }
 
 /// What is made of the line for all its sections.
+#[derive(Default)]
 pub struct Traffic {
+    /// The runs in the order of names.
+    pub runs: Vec<u32>,
     /// By the runs' numbers their ways, and the connections that name them.
     pub ways: Vec<Way>,
     pub links: Vec<Vec<u32>>,
@@ -30,14 +33,15 @@ pub struct Traffic {
 
 impl Traffic {
     pub fn of(line: &Line) -> Traffic {
-        let ways = (0..line.runs.len() as u32).map(|run| Way::of(line, run)).collect();
-        let mut traffic = Traffic { ways, links: Vec::new(), places: Arc::default() };
+        let mut traffic = Traffic::default();
         traffic.follow_names(line);
         traffic
     }
 
-    /// Brings what speaks of names up to date.
+    /// Brings up to date what depends on which items there are; and on which runs connections name.
     pub fn follow_names(&mut self, line: &Line) {
+        self.runs = line.table(Kind::Run).by_name();
+        self.ways.extend((self.ways.len()..line.runs.len()).map(|run| Way::of(line, run as u32)));
         self.links = vec![Vec::new(); line.table(Kind::Run).room()];
         for number in line.table(Kind::Connect).numbers() {
             let connect = &line.connects[number as usize];
@@ -113,7 +117,7 @@ impl Cutter {
         let cut = Cut { name, from, to, rate: item.rate, blocks, members: Vec::new(), places };
         let mut cutter = Cutter { cut, ours, entries: Vec::new() };
         cutter.entries = traffic.ways.iter().map(|way| cutter.entry(way)).collect();
-        for run in line.table(Kind::Run).by_name() {
+        for &run in &traffic.runs {
             if let Some(entry) = cutter.entries[run as usize] {
                 let uses = cutter.uses(line, traffic, run);
                 cutter.cut.members.push(Arc::new(Member { name: line.table(Kind::Run).name(run).clone(), entry, uses }));

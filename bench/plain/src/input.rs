@@ -40,9 +40,10 @@ struct Shape {
 
 const DAY: u32 = 86_400;
 const FAR: u32 = 1_000_000;
-const LENGTH: Number = (plain, 1, FAR);
-const AT_MOST_FAR: Number = (plain, 0, FAR);
-const AT_MOST_A_DAY: Number = (plain, 0, DAY);
+const PLAIN: fn(&[u8], u32) -> Result<u32, Cause> = |field, _| number(field);
+const LENGTH: Number = (PLAIN, 1, FAR);
+const AT_MOST_FAR: Number = (PLAIN, 0, FAR);
+const AT_MOST_A_DAY: Number = (PLAIN, 0, DAY);
 const IN_A_WEEK: Number = (time, 0, 604_800);
 const SIGNAL: [Number; 5] = [AT_MOST_FAR, AT_MOST_A_DAY, AT_MOST_A_DAY, AT_MOST_FAR, AT_MOST_A_DAY];
 const WINDOW: [Number; 3] = [IN_A_WEEK, (time, 1, 1_209_600), (rate, 0, 1000)];
@@ -247,10 +248,6 @@ pub fn number(field: &[u8]) -> Result<u32, Cause> {
         digit @ 0..=9 => Ok(sum * 10 + u32::from(digit)),
         _ => Err("number"),
     })
-}
-
-fn plain(field: &[u8], _: u32) -> Result<u32, Cause> {
-    number(field)
 }
 
 fn time(field: &[u8], version: u32) -> Result<u32, Cause> {

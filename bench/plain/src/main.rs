@@ -41,7 +41,11 @@ fn run() -> i32 {
     let Ok(bytes) = read_input(&command) else { return end(3, "the input could not be read") };
     let (text, refusal) = match outcome(&command, &bytes) {
         Ok(text) => (text, None),
-        Err(refusal) => (refusal_row(refusal), Some(refusal)),
+        Err(refusal) => {
+            let mut text = Text::default();
+            text.row("refused").number(refusal.row as i64).word(refusal.cause).end();
+            (text, Some(refusal))
+        }
     };
     let mut output = std::io::stdout().lock();
     if output.write_all(&text.bytes).and_then(|()| output.flush()).is_err() {
@@ -93,10 +97,4 @@ fn outcome(command: &Command, bytes: &[u8]) -> Result<Text, Refusal> {
         }
         Command::Made(number) => Ok(made::made(*number)),
     }
-}
-
-fn refusal_row(refusal: Refusal) -> Text {
-    let mut text = Text::default();
-    text.row("refused").number(refusal.row as i64).word(refusal.cause).end();
-    text
 }

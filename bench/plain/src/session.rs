@@ -182,15 +182,12 @@ impl Book {
                 self.refresh(&change.named, |_| true);
             }
             Kind::Run => {
-                let run = change.number;
-                if self.line.table(Kind::Run).room() > self.traffic.ways.len() {
-                    self.traffic.ways.push(Way::of(&self.line, run));
-                    self.traffic.links.push(Vec::new());
+                if self.line.table(Kind::Run).numbers().count() != self.traffic.runs.len() {
+                    self.traffic.follow_names(&self.line);
                 }
-                // A connection of the run may bind otherwise where no blocking has changed; and a new run has
-                // changed all.
-                self.walk_again(&[run]);
-                self.refresh(&[run], |_| true);
+                // A connection of the run may bind otherwise where no blocking has changed.
+                self.walk_again(&[change.number]);
+                self.refresh(&[change.number], |_| true);
             }
             Kind::Block | Kind::Signal | Kind::Route => {
                 self.traffic.follow_names(&self.line);
@@ -251,8 +248,11 @@ impl Book {
     fn take_up(&mut self, section: u32) -> Work {
         let shelf = self.shelves[section as usize].as_mut().expect("the section is there");
         shelf.in_hand = true;
-        let (cut, answer) = (shelf.cutter.cut.clone(), shelf.answer.take());
-        Work { section, at: self.at, since: shelf.since, cut, answer, head: None, trains: Text::default() }
+        let cut = &shelf.cutter.cut;
+        let head = cut.is_crowded().then(|| crowded(cut));
+        let cut = if head.is_none() { Some(cut.clone()) } else { None };
+        let (answer, trains) = (shelf.answer.take(), Text::default());
+        Work { section, at: self.at, since: shelf.since, cut, answer, head, trains }
     }
 
     /// Publishes an answer, if no edit has touched its section since it was read.
@@ -287,12 +287,12 @@ fn shelf(line: &Line, traffic: &Traffic, section: u32, since: u64) -> Option<She
     cutter.map(|cutter| Shelf { cutter, since, in_hand: false, answer: None, head: None })
 }
 
-/// A section whose answer is to be worked out from the one of an earlier cut, or has been.
+/// A section whose answer is to be worked out from the one of an earlier cut, or has been; then there is no cut.
 struct Work {
     section: u32,
     at: u64,
     since: u64,
-    cut: Cut,
+    cut: Option<Cut>,
     answer: Option<Box<Answer>>,
     head: Option<Head>,
     trains: Text,
@@ -300,16 +300,13 @@ struct Work {
 
 impl Work {
     fn done(mut self) -> Work {
-        if self.cut.is_crowded() {
-            (self.head, self.answer) = (Some(crowded(&self.cut)), None);
-            return self;
-        }
+        let Some(cut) = self.cut.take() else { return self };
         let answer = match self.answer.take() {
             Some(mut answer) => {
-                answer.mend(&self.cut);
+                answer.mend(cut);
                 answer
             }
-            None => Box::new(Answer::compressed(self.cut.clone())),
+            None => Box::new(Answer::compressed(cut)),
         };
         write_trains(&mut self.trains, &answer);
         self.head = Some(head(&answer));
