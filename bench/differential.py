@@ -33,7 +33,7 @@ import sessions
 from random_lines import Spelling
 
 COMMANDS = {"stairs": 4, "check": 4, "report": 4, "compress": 8, "headways": 4, "cut": 5, "cycle": 6, "delays": 6, "fill": 6}
-SECONDS = 120  # for one call
+SECONDS = 600  # for one call, on a machine that may be busy
 CHUNK = 20  # inputs that a process takes at a time
 TOO_LONG = 16_777_217
 
