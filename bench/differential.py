@@ -99,7 +99,7 @@ def difference(pair, call, counts):
         return "status %s and %s" % (status, other), ends
     if status == 0 and call.is_raced():
         return difference_of_journals(pair, call, [text, other_text], counts), ends
-    if status == 0 and call.words[0] == "cycle" and call.base:
+    if status == 0 and call.words[0] == "cycle":
         return difference_of_cycles(pair, call, [text, other_text], counts), ends
     return first_difference(text, other_text), ends
 
@@ -116,7 +116,7 @@ def difference_of_cycles(pair, call, texts, counts):
     outer = [without_ring(text) for text in texts]
     if outer[0] != outer[1]:
         return first_difference(*outer)
-    if not texts[0].startswith(b"period,"):
+    if not call.base or not texts[0].startswith(b"period,"):
         return None
     section, members, bound = sessions.Timetable(pair.programs[0], csv_rows(call.base)).cuts[call.words[1]]
     for text in texts:
