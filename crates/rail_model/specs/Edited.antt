@@ -16,7 +16,7 @@ pub record Refused : Type 0 where
   pub place : ℕ
   pub rule : Rule
 
--- the same edit with one more before it
+-- a refused edit's place and rule, where the list has one edit more in front
 abbrev pub one_further : Refused → Refused
 one_further refused = record refused { place = refused.place + 1 }
 

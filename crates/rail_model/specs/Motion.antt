@@ -28,7 +28,7 @@ reach path x =
     let k = blocks_before path x in
     departure path k + div_ceil ((x - place path k) * (hop path (k + 1)).running_s) (hop path (k + 1)).block_m
 
--- the same, rounded down
+-- when the head reaches a place of the path, up to its end, rounded down to a second
 abbrev pub reach_down : Path → ℕ → ℕ
 reach_down path x =
     let k = blocks_before path x in

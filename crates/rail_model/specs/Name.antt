@@ -22,7 +22,7 @@ pub record IsName (bytes : List ℕ) : Type 0 where
 abbrev pub IsBefore : List ℕ → List ℕ → Type 0
 IsBefore a b = slice_cmp nat_cmp a b ≡ Less
 
--- the same as tests
+-- whether one name comes before another, and whether two names are the same
 abbrev pub is_before : List ℕ → List ℕ → Bool
 is_before a b = is_lt (slice_cmp nat_cmp a b)
 

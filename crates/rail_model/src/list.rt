@@ -28,7 +28,7 @@ impl<T> Model for List<T> {
     ghost invariant = { λ l. length l.items.items < 2 ^ 63 };
 }
 
-/// The greatest number of items of a list.
+// The greatest number of items of a list.
 const MOST: usize = 9_223_372_036_854_775_807;
 
 impl<T> List<T> {
