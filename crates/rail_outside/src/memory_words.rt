@@ -7,7 +7,8 @@ use crate::{NotText, Words};
 use rail_model::{List, OutOfMemory};
 use std::alloc::Global;
 
-/// Words in memory, of any bytes.
+/// Words in memory, of any bytes: for whoever makes a call of the program without a process, as a
+/// test does. The words of the process are `StdWords`, of which contracts can tell nothing.
 #[derive(Drop)]
 pub struct MemoryWords {
     words: List<List<u8>>,
@@ -16,7 +17,7 @@ pub struct MemoryWords {
 impl MemoryWords {
     ghost use Rattle.rail_outside.specs.MemoryWords.{memory_words};
 
-    /// These words.
+    /// Words with these bytes, one for each list.
     pub fn new(words: List<List<u8>>) -> Self
         ensures { memory_words result ≡ words }
     {

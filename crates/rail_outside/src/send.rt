@@ -9,6 +9,8 @@ use crate::{Failed, Sink};
 
 /// Writes a text and flushes it. Takes no memory. Where a call fails, a prefix of the text is
 /// written.
+///
+/// For a text in one piece. The program's texts are in pieces, which `send_each` writes.
 pub fn send_all<K: Sink>(sink: &mut K, text: &[u8]) -> Result<(), Failed>
     ensures sent { OnOk result (Appends (K.written sink.old) (K.written sink.new) text.now) }
     ensures flushed { OnOk result (IsFlushed (K.written sink.new) (K.flushed sink.new)) }

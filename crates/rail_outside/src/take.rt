@@ -16,7 +16,7 @@ pub enum Taken {
     TooLong,
 }
 
-/// The greatest number of bytes that one read is asked for.
+// The greatest number of bytes that one read is asked for.
 const PIECE_BYTES: usize = 65_536;
 
 /// Takes all bytes that a source has left, at most `limit`. It stops at the end of the source, at a
