@@ -9,7 +9,7 @@ ghost use Rattle.blocking_time.specs.Mark.{stop_mark, no_stop, IsMarkWithin};
 use crate::motion::{self, GREATEST_REACH_S, Mark};
 use rail_model::{Hop, Path};
 
-/// Stands where the train has not stopped yet.
+// Stands where the train has not stopped yet.
 pub fn no_stop_yet() -> Mark
     ensures { result ≡ no_stop }
 {
@@ -19,8 +19,8 @@ pub fn no_stop_yet() -> Mark
     }
 }
 
-/// The last stop once a block is passed: its end, which has this mark, where the train stops there,
-/// and else the stop before.
+// The last stop once a block is passed: its end, which has this mark, where the train stops there,
+// and else the stop before.
 #[inline]
 pub fn stop_after(stop: Mark, mark: Mark, hop: &Hop) -> Mark
     ensures { result ≡ (if nat_lt 0 hop.now.dwell_s then mark else stop) }
@@ -28,7 +28,7 @@ pub fn stop_after(stop: Mark, mark: Mark, hop: &Hop) -> Mark
     if hop.dwell_s > 0 { mark } else { stop }
 }
 
-/// The mark of the last stop among the ends of the first k blocks.
+// The mark of the last stop among the ends of the first k blocks.
 pub fn last_stop(path: &Path, k: usize) -> Mark
     requires fits { Fits path.now }
     requires on_path { k ≤ hop_count path.now }
@@ -44,8 +44,8 @@ pub fn last_stop(path: &Path, k: usize) -> Mark
     stop
 }
 
-/// The later of the moment at which the head comes to a point and, where the last stop isn't before
-/// the point, the departure from that stop: seconds from the timetable's origin.
+// The later of the moment at which the head comes to a point and, where the last stop isn't before
+// the point, the departure from that stop: seconds from the timetable's origin.
 #[inline]
 pub fn after_stop(reached_s: u64, point_m: u64, stop: Mark) -> u64
     ensures { result
@@ -61,6 +61,9 @@ pub fn after_stop(reached_s: u64, point_m: u64, stop: Mark) -> u64
 /// The approach moment of the k-th block, from 1, at which Pachl's approach time begins: when the
 /// head comes to the approach point or, later, leaves its last stop beyond it. Seconds from the
 /// timetable's origin, rounded down.
+///
+/// For a caller who asks for one block, as a test or a reader who checks a single number does:
+/// `blockings` has the same for all blocks in one walk.
 pub fn approach_moment(path: &Path, k: u32) -> i64
     requires fits { Fits path.now }
     requires some { 1 ≤ k }
@@ -71,7 +74,7 @@ pub fn approach_moment(path: &Path, k: u32) -> i64
     approach_seconds(path, k as usize) as i64
 }
 
-/// The same as a number without a sign.
+// `approach_moment` as a number without a sign.
 pub fn approach_seconds(path: &Path, k: usize) -> u64
     requires fits { Fits path.now }
     requires some { 1 ≤ k }

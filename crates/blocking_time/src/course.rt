@@ -13,7 +13,7 @@ use crate::motion::{self, GREATEST_REACH_S, Mark};
 use rail_model::{Hop, OutOfMemory, Path};
 use std::alloc::Global;
 
-/// The marks of a path's start and of the ends of all its blocks, in order.
+// The marks of a path's start and of the ends of all its blocks, in order.
 pub fn marks(alloc: Global, path: &Path) -> Result<Vec<Mark>, OutOfMemory>
     requires { Fits path.now }
     ensures { IfOk result (λ marks. marks.items ≡ marks_of path.now) }
@@ -28,7 +28,7 @@ pub fn marks(alloc: Global, path: &Path) -> Result<Vec<Mark>, OutOfMemory>
     Ok(marks)
 }
 
-/// The mark of the end of the k-th block; for k = 0 that of the path's start.
+// The mark of the end of the k-th block; for k = 0 that of the path's start.
 #[inline]
 pub fn mark_in(path: &Path, marks: &[Mark], k: usize) -> Mark
     requires fits { Fits path.now }
@@ -40,7 +40,7 @@ pub fn mark_in(path: &Path, marks: &[Mark], k: usize) -> Mark
     marks[k]
 }
 
-/// How many blocks end before a place, by binary search between two counts.
+// How many blocks end before a place, by binary search between two counts.
 pub fn blocks_before(path: &Path, marks: &[Mark], first: usize, last: usize, metres: u64) -> usize
     requires fits { Fits path.now }
     requires table { marks.now ≡ marks_of path.now }
@@ -65,7 +65,7 @@ pub fn blocks_before(path: &Path, marks: &[Mark], first: usize, last: usize, met
     low
 }
 
-// In how many blocks a place is looked for one after another before it is searched for.
+// How many blocks are tried one after another for a place, before it is searched for by halving.
 const NEAR: usize = 4;
 
 // How many blocks end before a place beyond the k-th block: mostly it lies in one of the next.
@@ -132,7 +132,8 @@ fn seconds_at(path: &Path, marks: &[Mark], k: usize, metres: u64) -> u64
     motion::moment_in(mark_in(path, marks, behind), hop, metres)
 }
 
-// The same, rounded down, for a place up to the end of the block beyond the k-th one.
+// When the head reaches a place up to the end of the block beyond the k-th one: seconds from the
+// timetable's origin, rounded down.
 #[inline]
 fn seconds_down_at(path: &Path, marks: &[Mark], k: usize, metres: u64) -> u64
     requires fits { Fits path.now }
@@ -147,7 +148,7 @@ fn seconds_down_at(path: &Path, marks: &[Mark], k: usize, metres: u64) -> u64
     motion::moment_down_in(mark_in(path, marks, behind), hop, metres)
 }
 
-/// The approach moment of the k-th block, from 1, by the last stop before it.
+// The approach moment of the k-th block, from 1, by the last stop before it.
 #[inline]
 pub fn approach_seconds(path: &Path, marks: &[Mark], k: usize, hop: &Hop, stop: Mark) -> u64
     requires fits { Fits path.now }
@@ -165,7 +166,7 @@ pub fn approach_seconds(path: &Path, marks: &[Mark], k: usize, hop: &Hop, stop: 
     approach::after_stop(reached_s, point_m, stop)
 }
 
-/// The clearing moment of the k-th block, from 1.
+// The clearing moment of the k-th block, from 1.
 #[inline]
 pub fn clearing_seconds(path: &Path, marks: &[Mark], k: usize, hop: &Hop) -> u64
     requires fits { Fits path.now }
@@ -186,7 +187,7 @@ pub fn clearing_seconds(path: &Path, marks: &[Mark], k: usize, hop: &Hop) -> u64
     }
 }
 
-/// The moments of the run at the k-th block, from 1, by the last stop before it.
+// The moments of the run at the k-th block, from 1, by the last stop before it.
 #[inline]
 pub fn moments_in(path: &Path, marks: &[Mark], k: usize, hop: &Hop, stop: Mark) -> Moments
     requires fits { Fits path.now }
@@ -206,7 +207,7 @@ pub fn moments_in(path: &Path, marks: &[Mark], k: usize, hop: &Hop, stop: Mark) 
     }
 }
 
-/// The last stop among the ends of the first k blocks, by that of one block less.
+// The last stop among the ends of the first k blocks, by that of one block less.
 #[inline]
 pub fn next_stop(path: &Path, marks: &[Mark], k: usize, hop: &Hop, stop: Mark) -> Mark
     requires fits { Fits path.now }

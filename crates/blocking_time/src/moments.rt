@@ -10,20 +10,20 @@ use crate::approach;
 use crate::motion::{self, GREATEST_REACH_S, Mark};
 use rail_model::{Hop, Path, Use};
 
-/// The moments of a run at one block: seconds from the timetable's origin.
+// The moments of a run at one block: seconds from the timetable's origin.
 #[derive(Clone, Copy)]
 pub struct Moments {
-    /// When the head comes to the approach point or, later, leaves its last stop beyond it.
+    // When the head comes to the approach point or, later, leaves its last stop beyond it.
     pub approach_s: u64,
-    /// When the head passes the block's signal.
+    // When the head passes the block's signal.
     pub entry_s: u64,
-    /// When the head leaves the block's end, after the dwell.
+    // When the head leaves the block's end, after the dwell.
     pub exit_s: u64,
-    /// When the rear has cleared the block and its overlap.
+    // When the rear has cleared the block and its overlap.
     pub clearing_s: u64,
 }
 
-/// The use of a block, from the forming of its route to its release.
+// The use of a block, from the forming of its route to its release.
 #[inline]
 pub fn use_at(moments: Moments, hop: &Hop) -> Use
     requires bounded { AreBounded moments }
@@ -37,7 +37,8 @@ pub fn use_at(moments: Moments, hop: &Hop) -> Use
     }
 }
 
-/// The six parts of that use, in seconds: form, watch, approach, running, clearing, release.
+// The six parts of the use of a block, in seconds: form, watch, approach, running, clearing,
+// release.
 pub fn parts_at(moments: Moments, hop: &Hop) -> [i64; 6]
     requires bounded { AreBounded moments }
     requires within { IsHopWithin hop.now }
@@ -57,8 +58,8 @@ pub fn parts_at(moments: Moments, hop: &Hop) -> [i64; 6]
     ]
 }
 
-/// Where the head stands when the rear has cleared a block and its overlap: metres from the path's
-/// start.
+// Where the head stands when the rear has cleared a block and its overlap: metres from the path's
+// start.
 #[inline]
 pub fn clearing_place(mark: Mark, hop: &Hop, length_m: u32) -> u64
     requires { IsMarkWithin mark }
@@ -67,8 +68,8 @@ pub fn clearing_place(mark: Mark, hop: &Hop, length_m: u32) -> u64
     mark.place_m + u64::from(hop.overlap_m) + u64::from(length_m)
 }
 
-/// When the end of the path is clear: the tail after the last arrival, since the run ends without a
-/// dwell.
+// When the end of the path is clear: the tail after the last arrival, since the run ends without a
+// dwell.
 #[inline]
 pub fn tail_end(path: &Path, last: Mark) -> u64
     requires bounded { IsMarkWithin last }
@@ -79,8 +80,8 @@ pub fn tail_end(path: &Path, last: Mark) -> u64
     last.departure_s + u64::from(path.tail_s)
 }
 
-/// The clearing moment of the k-th block, from 1: when the head comes to the clearing place,
-/// rounded up or, where the path ends before it, the tail after the last arrival.
+// The clearing moment of the k-th block, from 1: when the head comes to the clearing place,
+// rounded up or, where the path ends before it, the tail after the last arrival.
 pub fn clearing_seconds(path: &Path, k: usize) -> u64
     requires fits { Fits path.now }
     requires some { 1 ≤ k }
@@ -99,7 +100,7 @@ pub fn clearing_seconds(path: &Path, k: usize) -> u64
     }
 }
 
-/// The moments of the run at the k-th block, from 1.
+// The moments of the run at the k-th block, from 1.
 pub fn moments_at(path: &Path, k: usize) -> Moments
     requires fits { Fits path.now }
     requires some { 1 ≤ k }
@@ -117,6 +118,8 @@ pub fn moments_at(path: &Path, k: usize) -> Moments
 
 /// The six parts of the run's blocking of the k-th block, from 1, in seconds: Pachl's route
 /// formation, signal watching, approach, running (here with the dwell), clearing and release.
+///
+/// For a caller who asks for one block: `blockings` has the same for all blocks in one walk.
 pub fn parts(path: &Path, k: u32) -> [i64; 6]
     requires fits { Fits path.now }
     requires some { 1 ≤ k }

@@ -10,25 +10,26 @@ ghost use Rattle.blocking_time.specs.Law.{HasConstantSpeed};
 
 use rail_model::{Hop, Path};
 
-/// Metres: no place of a path is further, since a path has at most 256 blocks.
+// Metres: no place of a path is further, since a path has at most 256 blocks.
 pub const GREATEST_PLACE_M: u64 = 256_000_000;
 
-/// Seconds: no departure is later, since a path has at most 256 running times and dwells.
+// Seconds: no departure is later, since a path has at most 256 running times and dwells.
 pub const GREATEST_DEPARTURE_S: u64 = 44_841_600;
 
-/// Seconds: no moment at a place of a path is later, the clearing of its end included.
+// Seconds: no moment at a place of a path is later, the clearing of its end included.
 pub const GREATEST_REACH_S: u64 = 44_928_000;
 
-/// The end of a block, or the start of the path.
+// A mark of a path: the end of a block, or the start of the path, and when the head leaves from
+// there.
 #[derive(Clone, Copy)]
 pub struct Mark {
-    /// Metres from the path's start.
+    // Metres from the path's start.
     pub place_m: u64,
-    /// When the head leaves from there, after the dwell: seconds from the timetable's origin.
+    // When the head leaves from there, after the dwell: seconds from the timetable's origin.
     pub departure_s: u64,
 }
 
-/// The k-th hop of a path, from 1.
+// The k-th hop of a path, from 1.
 #[inline]
 pub fn hop_at(path: &Path, k: usize) -> &Hop
     requires fits { Fits path.now }
@@ -40,7 +41,7 @@ pub fn hop_at(path: &Path, k: usize) -> &Hop
     &path.hops.slice()[k - 1]
 }
 
-/// The mark of the path's start.
+// The mark of the path's start.
 pub fn first_mark(path: &Path) -> Mark
     ensures { result ≡ mark_of path.now 0 }
 {
@@ -50,7 +51,7 @@ pub fn first_mark(path: &Path) -> Mark
     }
 }
 
-/// The mark of the end of the block beyond this mark.
+// The mark of the end of the block beyond this mark.
 #[inline]
 pub fn next_mark(mark: Mark, hop: &Hop) -> Mark
     requires { IsMarkWithin mark }
@@ -63,7 +64,7 @@ pub fn next_mark(mark: Mark, hop: &Hop) -> Mark
     }
 }
 
-/// The mark of the end of the k-th block.
+// The mark of the end of the k-th block.
 pub fn mark_at(path: &Path, k: usize) -> Mark
     requires fits { Fits path.now }
     requires on_path { k ≤ hop_count path.now }
@@ -77,7 +78,7 @@ pub fn mark_at(path: &Path, k: usize) -> Mark
     mark
 }
 
-/// How many blocks end before a place.
+// How many blocks end before a place.
 pub fn blocks_before(path: &Path, metres: u64) -> usize
     requires fits { Fits path.now }
     requires on_path { metres ≤ place path.now (hop_count path.now) }
@@ -96,7 +97,8 @@ pub fn blocks_before(path: &Path, metres: u64) -> usize
     unreachable!()
 }
 
-/// When the head reaches a place of the block beyond a mark, rounded up to a second.
+// When the head reaches a place of the block beyond a mark: seconds from the timetable's origin,
+// rounded up.
 #[inline]
 pub fn moment_in(mark: Mark, hop: &Hop, metres: u64) -> u64
     requires within { IsHopWithin hop.now }
@@ -111,7 +113,8 @@ pub fn moment_in(mark: Mark, hop: &Hop, metres: u64) -> u64
     mark.departure_s + covered.div_ceil(u64::from(hop.block_m))
 }
 
-/// The same, rounded down.
+// When the head reaches a place of the block beyond a mark: seconds from the timetable's origin,
+// rounded down.
 #[inline]
 pub fn moment_down_in(mark: Mark, hop: &Hop, metres: u64) -> u64
     requires within { IsHopWithin hop.now }
@@ -129,6 +132,9 @@ pub fn moment_down_in(mark: Mark, hop: &Hop, metres: u64) -> u64
 /// When the head reaches a place: seconds from the timetable's origin, rounded up. The place is in
 /// metres from the path's start. At place 0 that is the start, and at the end of a block the
 /// arrival.
+///
+/// For a caller who asks for one place, as a test or a reader who checks a single number does:
+/// `blockings` walks along the whole path.
 pub fn reach(path: &Path, metres: u64) -> i64
     requires fits { Fits path.now }
     requires on_path { metres ≤ place path.now (hop_count path.now) }
@@ -138,7 +144,10 @@ pub fn reach(path: &Path, metres: u64) -> i64
     seconds_at(path, metres) as i64
 }
 
-/// The same, rounded down.
+/// When the head reaches a place: seconds from the timetable's origin, rounded down. The place is
+/// in metres from the path's start. At place 0 and at the end of a block it is what `reach` says.
+///
+/// For a caller who asks for one place, as `reach` is.
 pub fn reach_down(path: &Path, metres: u64) -> i64
     requires fits { Fits path.now }
     requires on_path { metres ≤ place path.now (hop_count path.now) }
@@ -148,7 +157,7 @@ pub fn reach_down(path: &Path, metres: u64) -> i64
     seconds_down_at(path, metres) as i64
 }
 
-/// `reach` as a number without a sign.
+// `reach` as a number without a sign.
 pub fn seconds_at(path: &Path, metres: u64) -> u64
     requires fits { Fits path.now }
     requires on_path { metres ≤ place path.now (hop_count path.now) }
@@ -160,7 +169,7 @@ pub fn seconds_at(path: &Path, metres: u64) -> u64
     moment_in(mark_at(path, k), hop, metres)
 }
 
-/// `reach_down` as a number without a sign.
+// `reach_down` as a number without a sign.
 pub fn seconds_down_at(path: &Path, metres: u64) -> u64
     requires fits { Fits path.now }
     requires on_path { metres ≤ place path.now (hop_count path.now) }
