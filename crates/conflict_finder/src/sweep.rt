@@ -121,7 +121,7 @@ fn meets(one: &Visit, other: &Visit) -> bool
     one.block == other.block && other.start < one.end
 }
 
-// Lists the conflicts of one with those that it meets, as long as there is room.
+// Lists the conflicts of one visit with those that it meets, as long as there is room.
 fn list_met(
     list: &mut List<Conflict>,
     runs: &[Ranked],

@@ -11,7 +11,7 @@ use rail_model::{OutOfMemory, Stair};
 use std::alloc::Global;
 use std::thread::Threads;
 
-// A run's visit to a block: from when until when it blocks it.
+// A run's visit to a block: its blocking of the block, from when until when.
 #[derive(Clone, Copy)]
 pub(crate) struct Visit {
     pub(crate) start: i64,
