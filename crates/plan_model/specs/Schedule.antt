@@ -20,7 +20,7 @@ start_at row entry place = (use_at row place).start -ℤ row.entry +ℤ entry
 abbrev pub end_at : CutRow → ℤ → ℕ → ℤ
 end_at row entry place = (use_at row place).«end» -ℤ row.entry +ℤ entry
 
--- the same of member i by a list of entries
+-- when member i starts and ends its use of a place, by a list of entries
 abbrev pub start_by : Cut → List ℤ → ℕ → ℕ → ℤ
 start_by cut entries i place = start_at (member cut i) (entry_at entries i) place
 

@@ -9,10 +9,11 @@ use crate::{Asked, Done, Next, NotTaken, Rows, Stepped};
 use rail_model::{Edit, Name, OutOfMemory, Rule};
 use std::sync::Wait;
 
-/// The access of a pass to a journal that others may add to between two calls. Each call finds the
-/// journal as it is then: what the pass has seen of it, and then entries of others. It answers by
-/// what it found, and what it leaves is seen. An entry that a call adds carries the number of the
-/// pass, and is a legal next one. Without memory a call adds no entry.
+/// A board is one caller's access to a journal that others may add to between two calls. The caller
+/// is known there by the number of its pass. Each call finds the journal as it is then: what the
+/// pass has seen of it, and then entries of others. It answers by what it found, and what it leaves
+/// is seen. An entry that a call adds carries the number of the pass, and is a legal next one.
+/// Without memory a call adds no entry.
 pub trait Board {
     /// A reading of a section's cut.
     type Read: Rows + Drop;

@@ -12,7 +12,9 @@ use rail_model::{List, Name, OutOfMemory, Use};
 use std::alloc::Global;
 use std::marker::Model;
 
-/// A sound cut.
+/// A cut that is known to be sound: its names differ, its rows stand in the order of their names,
+/// each use is of a place of the cut, and all moments are within the limit. What is known goes with
+/// the type, so a call that takes one asks for no more.
 #[derive(Drop)]
 pub struct SoundCut<'a> {
     cut: &'a Cut,
@@ -198,7 +200,7 @@ impl<'a> SoundCut<'a> {
     }
 }
 
-/// A sound cut with no more members than are compressed.
+/// A sound cut with no more members than are compressed: at most `MEMBERS`.
 #[derive(Drop)]
 pub struct FitCut<'a> {
     sound: SoundCut<'a>,
@@ -231,7 +233,7 @@ impl<'a> FitCut<'a> {
         }
     }
 
-    /// The same as a sound cut.
+    /// The cut without the bound on its members, for calls that take any sound cut.
     pub fn sound(&self) -> &SoundCut<'a>
         ensures cut { result.now ≡ self.now }
         ensures few { members.member_count self.now ≤ MEMBERS }
@@ -249,7 +251,8 @@ impl<'a> FitCut<'a> {
     }
 }
 
-/// A moment of a train that is planned to enter at one moment and enters at another.
+/// A moment of a train, moved with its entry: the train was planned to enter at `planned`, and
+/// enters at `entry`. Seconds from the timetable's origin.
 pub fn shift(time: i64, planned: i64, entry: i64) -> i64
     requires time { IsMoment time }
     requires planned { IsMoment planned }
@@ -259,7 +262,7 @@ pub fn shift(time: i64, planned: i64, entry: i64) -> i64
     time - planned + entry
 }
 
-// Some names and then others.
+// The first names and then the others, in one list.
 fn joined(alloc: Global, first: &List<Name>, then: &[Name]) -> Result<List<Name>, OutOfMemory>
     ensures { IfOk result (λ names. names ≡ first.now ++ then.now) }
 {
@@ -281,7 +284,8 @@ pub fn use_of(row: &CutRow, place: u32) -> Option<Use>
         .find(|one| one.block == place)
 }
 
-// The same where the uses of blocks stand first.
+// A row's use of a place, if it uses it, where its uses of the first so many places, which are
+// blocks, stand before the others.
 fn use_in(row: &CutRow, blocks: u32, place: u32) -> Option<Use>
     requires differ { AreOfOtherPlaces row.now.uses }
     requires first { AreBlocksFirst blocks row.now.uses }
@@ -294,7 +298,8 @@ fn use_in(row: &CutRow, blocks: u32, place: u32) -> Option<Use>
     }
 }
 
-// Looks from the back, where the uses of connections stand.
+// A row's use of a connection, if it uses it: looked for from the back, where uses of connections
+// stand.
 fn use_of_connection(uses: &[Use], blocks: u32, place: u32) -> Option<Use>
     requires differ { AreOfOtherPlaces uses.now }
     requires first { AreBlocksFirst blocks uses.now }

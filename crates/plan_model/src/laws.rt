@@ -43,14 +43,15 @@ pub fn none_is_later()
     ensures { NoneIsLater }
 {}
 
-/// Where a train uses each block that is used and precedes every other there, the occupancy time
-/// is what lies between its entry and that of a closing copy of it, which comes after all others.
+/// Where a train uses each block that is used and precedes every other there, the occupancy time is
+/// the time from its entry to that of its closing copy: a copy of it that comes after all other
+/// trains.
 pub fn occupancy_is_to_closing()
     ensures { OccupancyIsToClosing }
 {}
 
-/// Whichever train is copied, the occupancy time is no less than what lies between its entry and
-/// that of its closing copy, which comes after all others on the blocks that the train uses.
+/// Whichever train is copied, the occupancy time is no less than the time from its entry to that of
+/// its closing copy, which comes after all others on the blocks that the train uses.
 pub fn occupancy_reaches_closing()
     ensures { OccupancyReachesClosing }
 {}
@@ -61,7 +62,7 @@ pub fn fraction_is_reduced()
     ensures { FractionIsReduced }
 {}
 
-/// It is the only one.
+/// Two numbers have one reduced fraction alone.
 pub fn reduced_is_unique()
     ensures { ReducedIsUnique }
 {}
