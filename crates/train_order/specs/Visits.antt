@@ -61,7 +61,7 @@ comes_first (v ∷ visits) i j = ((v.member == i) && list_any (λ w. w.member ==
 abbrev pub visits_by : ℕ → List Use → ℕ → List Visit
 visits_by i uses place = map (visit_of i) (filter (λ u. u.block == place) uses)
 
--- those of a place among lists of all places
+-- the visits of a place, in lists for all places
 abbrev pub listed_at : List (List Visit) → ℕ → List Visit
 listed_at lists place = slice_index_or lists place []
 

@@ -32,7 +32,7 @@ pub fn disorder_of(cut: &Cut) -> Option<Disordered>
     disorder_by(&cut, &mut room[..count])
 }
 
-// The same, with an empty set for each member.
+// Why a cut's trains have no order, if they have none. There is an empty set for each member.
 fn disorder_by(cut: &FitCut, sets: &mut [MemberSet]) -> Option<Disordered>
     requires count { length sets.old ≡ member_count cut.now }
     requires none { (i j : ℕ) → i < length sets.old → relates sets.old i j ≡ false }
@@ -47,7 +47,7 @@ fn disorder_by(cut: &FitCut, sets: &mut [MemberSet]) -> Option<Disordered>
     Some(find_disorder(sets, taken.slice()))
 }
 
-/// Which members have no order, where not all are taken up.
+// Which members have no order, where not all are taken up.
 pub(crate) fn find_disorder(sets: &[MemberSet], taken: &[u32]) -> Disordered
     requires few { length sets.now ≤ MEMBERS }
     requires taken { AreTakenUp sets.now taken.now }

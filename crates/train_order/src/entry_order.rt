@@ -14,16 +14,16 @@ use plan_model::SoundCut;
 use rail_model::{List, OutOfMemory, Use};
 use std::alloc::Global;
 
-/// A member's entry, or its start at a place.
+// A member's entry, or its start at a place.
 #[derive(Clone, Copy)]
 pub(crate) struct Moment {
-    /// Seconds from the timetable's origin.
+    // Seconds from the timetable's origin.
     time: i64,
-    /// The member's position.
+    // The member's position.
     member: u32,
 }
 
-/// The order of a cut's trains by their entries, if they keep it at each place.
+// The order of a cut's trains by their entries, if they keep it at each place.
 pub(crate) fn order_by_entry(alloc: Global, cut: &SoundCut) -> Result<Option<Order>, OutOfMemory>
     ensures order { IfOk result (λ found.
         IfSome found (λ order. IsOrdering cut.now (Ok order))) }

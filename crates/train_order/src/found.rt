@@ -41,7 +41,7 @@ impl Model for RingMembers {
 }
 
 impl RingMembers {
-    /// The members of a list.
+    // A ring of these members.
     pub(crate) fn new(members: Members) -> Self
         ensures { result ≡ members }
     {

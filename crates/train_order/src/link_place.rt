@@ -21,7 +21,7 @@ pub fn place_of_link(cut: &Cut, i: u32, j: u32) -> Name
     place_between(&SoundCut::of(cut), i, j)
 }
 
-/// The same of a cut that carries its facts.
+// The name of the first place by name at which member i precedes member j.
 pub(crate) fn place_between(cut: &SoundCut, i: u32, j: u32) -> Name
     requires one { i < member_count cut.now }
     requires other { j < member_count cut.now }

@@ -5,29 +5,30 @@ ghost use Rattle.train_order.specs.Sets.{IsFirstBit, IsFirstMember, holds};
 
 use plan_model::MEMBERS;
 
-/// How many members a word has bits for.
+// How many members a word has bits for.
 const WORD: usize = 64;
 
-/// How many words have bits for all members of a cut that is compressed.
+// How many words have bits for all members of a cut that is compressed: `WORDS` times `WORD` is
+// `MEMBERS`.
 const WORDS: usize = 12;
 
 const _: () = prove!(WORD * WORDS == MEMBERS);
 
-/// A set of members by their positions, which are below `MEMBERS`.
+// A set of members by their positions, which are below `MEMBERS`.
 #[derive(Clone, Copy)]
 pub(crate) struct MemberSet {
     words: [u64; WORDS],
 }
 
 impl MemberSet {
-    /// A set without members.
+    // A set without members.
     pub(crate) fn new() -> Self
         ensures { (k : ℕ) → holds result.words k ≡ false }
     {
         MemberSet { words: [0; WORDS] }
     }
 
-    /// Whether a member is in the set.
+    // Whether a member is in the set.
     pub(crate) fn has(&self, member: usize) -> bool
         requires { member < MEMBERS }
         ensures { result ≡ holds self.now.words member }
@@ -35,7 +36,7 @@ impl MemberSet {
         has_bit(self.words[member / WORD], member % WORD)
     }
 
-    /// Puts a member in.
+    // Puts a member in.
     pub(crate) fn insert(&mut self, member: usize)
         requires { member < MEMBERS }
         ensures { (k : ℕ) → holds self.new.words k ≡ ((member == k) || holds self.old.words k) }
@@ -44,7 +45,7 @@ impl MemberSet {
         self.words[place] = with_bit(self.words[place], member % WORD);
     }
 
-    /// Puts all members of another set in.
+    // Puts all members of another set in.
     pub(crate) fn take_in(&mut self, other: &MemberSet)
         ensures { (k : ℕ) → holds self.new.words k
             ≡ (holds self.old.words k || holds other.now.words k) }
@@ -54,7 +55,7 @@ impl MemberSet {
         }
     }
 
-    /// The first member from a position on, or a number that no member has where there is none.
+    // The first member from a position on, or a number that no member has where there is none.
     pub(crate) fn next(&self, from: usize) -> usize
         ensures { IsFirstMember self.now.words from result }
     {

@@ -4,7 +4,7 @@ ghost use Rattle.std.specs.Prelude.{◌≡◌, ◌<◌, ◌≤◌, ◌++◌, [],
 use plan_model::MEMBERS;
 use std::marker::Model;
 
-/// At most `MEMBERS` positions of members, in order. Contracts see the list of them.
+// At most `MEMBERS` positions of members, in order. Contracts see the list of them.
 #[derive(Drop)]
 pub(crate) struct Members {
     members: [u32; MEMBERS],
@@ -26,7 +26,7 @@ impl Model for Members {
 }
 
 impl Members {
-    /// An empty list.
+    // An empty list.
     pub(crate) fn new() -> Self
         ensures { result ≡ [] }
     {
@@ -36,7 +36,7 @@ impl Members {
         }
     }
 
-    /// The members of a slice.
+    // A list with the members of a slice, of which there are at most `MEMBERS`.
     pub(crate) fn of(slice: &[u32]) -> Self
         requires { length slice.now ≤ MEMBERS }
         ensures { result ≡ slice.now }
@@ -49,14 +49,14 @@ impl Members {
         }
     }
 
-    /// How many members there are.
+    // How many members there are.
     pub(crate) fn len(&self) -> usize
         ensures { result ≡ length self.now }
     {
         self.count
     }
 
-    /// Puts a member at the end.
+    // Puts a member at the end.
     pub(crate) fn push(&mut self, member: u32)
         requires { length self.old < MEMBERS }
         ensures { self.new ≡ self.old ++ member ∷ [] }
@@ -65,14 +65,14 @@ impl Members {
         self.count += 1;
     }
 
-    /// Turns the list round.
+    // Turns the list round.
     pub(crate) fn reverse(&mut self)
         ensures { self.new ≡ reverse self.old }
     {
         self.members[..self.count].reverse();
     }
 
-    /// Moves the members before a place behind all others.
+    // Moves the members that stand before a position behind all others.
     pub(crate) fn rotate_left(&mut self, place: usize)
         requires { place ≤ length self.old }
         ensures { self.new ≡ drop place self.old ++ take place self.old }
@@ -80,7 +80,7 @@ impl Members {
         self.members[..self.count].rotate_left(place);
     }
 
-    /// The members as a slice.
+    // The members as a slice.
     pub(crate) fn slice(&self) -> &[u32]
         ensures { result.now ≡ self.now }
     {

@@ -5,7 +5,7 @@ ghost use Rattle.train_order.specs.Opposite as pairs;
 use crate::member_set::MemberSet;
 use plan_model::MEMBERS;
 
-/// The first pair of opposite members, the lesser of them first.
+// The first pair of opposite members, the lesser of them first.
 pub(crate) fn opposite_members(sets: &[MemberSet]) -> Option<(usize, usize)>
     requires { length sets.now ≤ MEMBERS }
     ensures { result ≡ pairs.first_opposed sets.now }

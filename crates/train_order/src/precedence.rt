@@ -14,7 +14,7 @@ use plan_model::{Cut, FitCut, MEMBERS};
 use rail_model::{List, OutOfMemory};
 use std::alloc::Global;
 
-/// For each member the set of those that it precedes somewhere.
+// For each member the set of those that it precedes somewhere.
 pub(crate) fn precedence_sets(alloc: Global, cut: &FitCut) -> Result<Vec<MemberSet>, OutOfMemory>
     ensures { IfOk result (λ sets. ArePreceded cut.now sets.items) }
 {
@@ -57,7 +57,7 @@ fn empty_sets(alloc: Global, count: u32) -> Result<Vec<MemberSet>, OutOfMemory>
     Ok(sets)
 }
 
-/// Puts into the empty set of each member those that it precedes somewhere. It takes no memory.
+// Puts into the empty set of each member those that it precedes somewhere. It takes no memory.
 pub(crate) fn put_preceded(cut: &FitCut, sets: &mut [MemberSet])
     requires count { length sets.old ≡ member_count cut.now }
     requires none { (i j : ℕ) → i < length sets.old → relates sets.old i j ≡ false }

@@ -10,8 +10,8 @@ use crate::member_set::MemberSet;
 use crate::members::Members;
 use plan_model::MEMBERS;
 
-/// The members of the ring in the direction of precedence and from the least on, where not all
-/// members are taken up.
+// The members of the ring in the direction of precedence and from the least on, where not all
+// members are taken up.
 pub(crate) fn ring_members(sets: &[MemberSet], taken: &[u32]) -> Members
     requires few { length sets.now ≤ MEMBERS }
     requires taken { AreTakenUp sets.now taken.now }
@@ -50,7 +50,8 @@ fn set_of(members: &[u32]) -> MemberSet
     set
 }
 
-// The walk over the members that are left, and where the one came first that comes a second time.
+// The walk over the members that are left, each time to one that precedes, until one comes a second
+// time; and the position in the walk at which that one came first.
 fn walk_back(sets: &[MemberSet], left: &[u32]) -> (Members, usize)
     requires few { length sets.now ≤ MEMBERS }
     requires some { 0 < length left.now }
@@ -67,7 +68,7 @@ fn walk_back(sets: &[MemberSet], left: &[u32]) -> (Members, usize)
     (walk, from)
 }
 
-// Where a member comes first, or the number of all.
+// The position in a walk at which a member comes first, or the length of the walk.
 fn place_in(walk: &[u32], member: usize) -> usize
     ensures { result ≡ position_or_len (λ m. m == member) walk.now }
 {
@@ -79,7 +80,7 @@ fn place_in(walk: &[u32], member: usize) -> usize
     walk.len()
 }
 
-// The first of some members that precedes member j.
+// The first of the members that are left that precedes member j.
 fn step(sets: &[MemberSet], left: &[u32], j: usize) -> usize
     requires few { length sets.now ≤ MEMBERS }
     requires there { All (λ i. i < length sets.now) left.now }
@@ -94,7 +95,7 @@ fn step(sets: &[MemberSet], left: &[u32], j: usize) -> usize
     j
 }
 
-// The members of a walk from a place on, in the direction of precedence and from the least on.
+// The members of a walk from a position on, in the direction of precedence and from the least on.
 fn turn_round(walk: &[u32], from: usize) -> Members
     requires few { length walk.now ≤ MEMBERS }
     requires there { from < length walk.now }
@@ -107,7 +108,7 @@ fn turn_round(walk: &[u32], from: usize) -> Members
     members
 }
 
-// Where the least comes first.
+// The position at which the least member comes first.
 fn least_place(members: &[u32]) -> usize
     requires { 0 < length members.now }
     ensures within { result < length members.now }
@@ -122,7 +123,7 @@ fn least_place(members: &[u32]) -> usize
     least
 }
 
-/// The place after k in a ring of so many members.
+/// The position after k in a ring of so many members.
 pub fn next_place(k: usize, count: usize) -> usize
     requires { k < count }
     ensures within { result < count }

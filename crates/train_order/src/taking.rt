@@ -8,7 +8,8 @@ use crate::member_set::MemberSet;
 use crate::members::Members;
 use plan_model::MEMBERS;
 
-/// The members that can be taken up, in such an order.
+// The members that can be taken up, in an order in which each comes as soon as all that precede it
+// are taken up.
 pub(crate) fn take_up_all(sets: &[MemberSet]) -> Members
     requires { length sets.now ≤ MEMBERS }
     ensures { AreTakenUp sets.now result }
@@ -17,7 +18,8 @@ pub(crate) fn take_up_all(sets: &[MemberSet]) -> Members
     take_up_by_counts(sets, &mut room[..sets.len()])
 }
 
-// The same, with a place for the count of each member.
+// The members that can be taken up, in such an order. There is a count for each member, 0 at first,
+// of those that precede it and are not taken up yet.
 fn take_up_by_counts(sets: &[MemberSet], waits: &mut [u32]) -> Members
     requires few { length sets.now ≤ MEMBERS }
     requires places { length waits.old ≡ length sets.now }
@@ -64,7 +66,7 @@ fn count_in(waits: &mut [u32], set: &MemberSet)
     }
 }
 
-// The members that wait for none.
+// The members that no other precedes.
 fn free_at_first(waits: &[u32]) -> Members
     requires { length waits.now ≤ MEMBERS }
     ensures { result

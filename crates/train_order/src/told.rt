@@ -16,7 +16,7 @@ use plan_model::{Disorder, Link, SoundCut};
 use rail_model::{List, OutOfMemory};
 use std::alloc::Global;
 
-/// What is told of members that have no order.
+// The disorder of members that have no order, in names of trains and places.
 pub(crate) fn tell(
     alloc: Global,
     cut: &SoundCut,
@@ -31,7 +31,8 @@ pub(crate) fn tell(
     }
 }
 
-// Members i and j are opposite.
+// The disorder of members i and j, each of which precedes the other somewhere: with the first place
+// by name for either direction.
 fn opposite(cut: &SoundCut, i: u32, j: u32) -> Disorder
     requires one { i < member_count cut.now }
     requires other { j < member_count cut.now }
@@ -63,7 +64,8 @@ fn links(alloc: Global, cut: &SoundCut, members: &[u32]) -> Result<List<Link>, O
     Ok(links)
 }
 
-// Member i precedes member j.
+// The link from member i to member j, which it precedes: with the first place by name at which it
+// does.
 fn link(cut: &SoundCut, i: u32, j: u32) -> Link
     requires one { i < member_count cut.now }
     requires other { j < member_count cut.now }

@@ -35,7 +35,7 @@ pub fn visits_at(cut: &SoundCut, place: u32, room: &mut [Visit]) -> usize
     count
 }
 
-/// Puts visits in the order of precedence.
+// Puts visits in the order of precedence.
 pub(crate) fn put_in_order(visits: &mut [Visit])
     ensures same { IsPermutation visits.old visits.new }
     ensures order { IsSortedByKey key_of key_cmp visits.new }
@@ -73,7 +73,7 @@ fn visit_of(member: u32, one: Use) -> Visit
     }
 }
 
-/// The visits of each place.
+// The visits of each place.
 pub(crate) fn visits_by_place(
     alloc: Global,
     cut: &SoundCut,
