@@ -57,11 +57,11 @@ with_use planned entry block span u =
     then Some (widened span (u.start -ℤ planned +ℤ entry) (u.«end» -ℤ planned +ℤ entry))
     else span
 
--- with the uses of a row
+-- the span of a block with the uses of a row
 abbrev pub with_row : CutRow → ℤ → ℕ → Option Span → Option Span
 with_row row entry block span = fold (with_use row.entry entry block) span row.uses
 
--- with the uses of the first n members
+-- the span of a block with the uses of the first n members
 abbrev pub span_upto : Cut → List ℤ → ℕ → ℕ → Option Span
 span_upto cut entries n block =
     fold (λ span i. with_row (member cut i) (entry_at entries i) block span) None (range_with_len 0 n)

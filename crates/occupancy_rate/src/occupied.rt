@@ -29,7 +29,8 @@ pub fn occupancy(cut: &Cut, entries: &[i64]) -> (u64, Option<u32>)
     occupancy_of(cut, spans)
 }
 
-/// The same from the spans of the cut's blocks, where a caller knows them.
+/// The occupancy time, in seconds, and the position of the busiest block, from the spans of the
+/// cut's blocks, where a caller has these already.
 pub fn occupancy_of(cut: &Cut, spans: &[Option<Span>]) -> (u64, Option<u32>)
     requires sound { IsSoundCut cut.now }
     requires count { length spans.now ≡ block_count cut.now }

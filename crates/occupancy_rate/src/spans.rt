@@ -8,7 +8,8 @@ ghost use Rattle.occupancy_rate.specs.Spans as given;
 use plan_model::{CutRow, SoundCut, shift};
 use rail_model::Use;
 
-/// From the first start to the last end of a block's uses: seconds from the timetable's origin.
+/// A block's span: from the first start to the last end of its uses, in seconds from the
+/// timetable's origin.
 #[derive(Clone, Copy)]
 pub struct Span {
     pub start: i64,
@@ -29,7 +30,7 @@ pub fn span_all(spans: &mut [Option<Span>], cut: &SoundCut, entries: &[i64])
     }
 }
 
-// With the uses of a member that enters at a moment.
+// Widens the spans by the uses of a member that enters at a moment.
 fn widen_by_row(spans: &mut [Option<Span>], row: &CutRow, entry: i64)
     requires bounded { IsBounded entry }
     requires planned { IsMoment row.now.entry }
@@ -44,7 +45,7 @@ fn widen_by_row(spans: &mut [Option<Span>], row: &CutRow, entry: i64)
     }
 }
 
-// With one use, moved with the member's entry.
+// Widens the span of a block by one use, moved with the member's entry.
 fn widen_by_use(spans: &mut [Option<Span>], one: &Use, planned: i64, entry: i64)
     requires bounded { IsBounded entry }
     requires planned { IsMoment planned }
