@@ -20,11 +20,12 @@ abbrev pub after : ℤ → Option Last → ℤ → Use → ℤ
 after planned None entry u = entry
 after planned (Some last) entry u = int_max entry (last.until -ℤ (u.start -ℤ planned))
 
--- the same, of the last uses of all places
+-- the later of a moment and of the one at which a train can enter after the last use of the place of one of its uses,
+-- by the last uses of all places
 abbrev pub after_use : ℤ → List (Option Last) → ℤ → Use → ℤ
 after_use planned last entry u = after planned (slice_index_or last u.block None) entry u
 
--- the same after the last uses of all its places
+-- when a train can enter after the last uses of all its places, not before a moment
 abbrev pub earliest : ℤ → CutRow → List (Option Last) → ℤ
 earliest from row last = fold (after_use row.entry last) from row.uses
 

@@ -32,7 +32,7 @@ better cut (Some one) (Some two) = if comes_first cut two one then Some two else
 abbrev pub better_with : Cut → ℤ → ℤ → Option Last → Option Touch → Use → Option Touch
 better_with cut planned entry last best u = better cut best (touch_of planned entry last u)
 
--- the same, of the last uses of all places
+-- the first of one and of the touch at a use, by the last uses of all places
 abbrev pub touch_with : Cut → ℤ → ℤ → List (Option Last) → Option Touch → Use → Option Touch
 touch_with cut planned entry last best u = better_with cut planned entry (slice_index_or last u.block None) best u
 

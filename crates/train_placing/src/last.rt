@@ -45,8 +45,8 @@ fn after(entry: i64, planned: i64, one: &Use, last: Option<Last>) -> i64
     }
 }
 
-// When a train, planned to enter at a moment, can enter after the last use of the place of one of
-// its uses.
+// When a train can enter that is to start one of its uses as the place's last use ends: the entry
+// moves with the use.
 fn asked(last: Last, planned: i64, one: &Use) -> i64
     requires last { lasts.IsNear last.until }
     requires planned { IsMoment planned }
@@ -56,14 +56,13 @@ fn asked(last: Last, planned: i64, one: &Use) -> i64
     last.until - (one.start - planned)
 }
 
-// The later of two moments.
 fn later(a: i64, b: i64) -> i64
     ensures { result ≡ int_max a b }
 {
     a.max(b)
 }
 
-// The places after a train that enters at a moment has used them.
+// Sets the last use of each place that a train uses, where the train enters at a moment.
 pub(crate) fn occupy(last: &mut [Option<Last>], row: &CutRow, train: u32, entry: i64)
     requires entry { IsBounded entry }
     requires row { IsUsable (length last.old) row.now }
@@ -76,7 +75,7 @@ pub(crate) fn occupy(last: &mut [Option<Last>], row: &CutRow, train: u32, entry:
     }
 }
 
-// The same after one of its uses.
+// Sets the last use of the place of one of a train's uses, where the train enters at a moment.
 fn occupy_one(last: &mut [Option<Last>], one: &Use, planned: i64, train: u32, entry: i64)
     requires entry { IsBounded entry }
     requires planned { IsMoment planned }

@@ -32,7 +32,10 @@ pub fn plan_of_placed(
     plan_of_occupied(alloc, cut, entries, ties, last, time, busiest)
 }
 
-/// The same where the occupancy time, in seconds, and the position of the busiest block are known.
+/// The plan of trains that are placed, none before the window, where the occupancy time, in
+/// seconds, and the position of the busiest block are known.
+///
+/// Entries and ties are by the trains' positions, last uses by the places' positions.
 pub fn plan_of_occupied(
     alloc: Global,
     cut: &FitCut,
