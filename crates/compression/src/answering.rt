@@ -44,7 +44,8 @@ pub fn answer<R: Rows>(alloc: Global, reading: &mut R) -> Result<Answer, OutOfMe
     answer_of_cut(alloc, reading.whole())
 }
 
-/// The same of a cut that isn't crowded.
+/// The answer of a cut with at most `MEMBERS` members, from scratch: as `answer` says of a cut that
+/// isn't crowded.
 pub fn answer_of_cut(alloc: Global, cut: &Cut) -> Result<Answer, OutOfMemory>
     requires sound { IsSoundCut cut.now }
     requires few { member_count cut.now ≤ MEMBERS }
