@@ -14,7 +14,8 @@ use plan_model::SoundCut;
 use rail_model::{List, OutOfMemory, Use};
 use std::alloc::Global;
 
-/// The edges to a train. The table has who stands nearest before it at each of its places.
+// The edges to a train. `near` has, by the places' positions, who stands nearest before it at each
+// of its places.
 pub(crate) fn edges_from(
     alloc: Global,
     cut: &SoundCut,
@@ -59,8 +60,8 @@ fn edge_at(cut: &SoundCut, train: u32, one: &Use, near: Option<Near>) -> Option<
     }
 }
 
-// How long after one that is planned to enter at a moment and to end at another the other may
-// enter, which is planned to enter and to start.
+// The headway, in seconds, from a train that is planned to enter at `entry` and to end its use of a
+// place at `end`, to one that is planned to enter at `other` and to start there at `start`.
 fn headway(entry: i64, end: i64, other: i64, start: i64) -> i64
     requires entry { IsMoment entry }
     requires ends { IsMoment «end» }
@@ -73,7 +74,6 @@ fn headway(entry: i64, end: i64, other: i64, start: i64) -> i64
     difference(left, until)
 }
 
-// How long after one moment another comes.
 fn difference(later: i64, earlier: i64) -> i64
     requires later { IsBounded later }
     requires earlier { IsBounded earlier }
@@ -82,8 +82,8 @@ fn difference(later: i64, earlier: i64) -> i64
     later - earlier
 }
 
-// With one edge more, if there is one. The last edge isn't put into the list yet: edges from one
-// train, one after the other, are one.
+// The edges with one more, if there is one. The last edge is held back, since the next may be from
+// the same train: then the tighter of the two stands for both.
 fn gather(
     edges: &mut List<Edge>,
     cut: &SoundCut,
@@ -111,8 +111,8 @@ fn gather(
     }
 }
 
-// Of two edges from one train the one that asks for more or, where both ask for as much, the first
-// by the names of places.
+// The tighter of two edges from one train: the one that asks for more time or, where both ask for
+// as much, the one whose place comes first by name.
 fn tighter(cut: &SoundCut, one: Edge, other: Edge) -> Edge
     requires one { one.place < place_count cut.now }
     requires other { other.place < place_count cut.now }
@@ -126,7 +126,7 @@ fn tighter(cut: &SoundCut, one: Edge, other: Edge) -> Edge
     one
 }
 
-// Whether the other is the one that is chosen.
+// Whether the other of two edges from one train is the tighter.
 fn takes_over(cut: &SoundCut, one: Edge, other: Edge) -> bool
     requires one { one.place < place_count cut.now }
     requires other { other.place < place_count cut.now }
@@ -136,7 +136,7 @@ fn takes_over(cut: &SoundCut, one: Edge, other: Edge) -> bool
         || one.weight == other.weight && cut.leads(Some(one.place), other.place)
 }
 
-// The list with the last edge, if there is one.
+// The edges with the one that was held back, if there is one.
 fn closed(edges: List<Edge>, last: Option<Edge>) -> Result<List<Edge>, OutOfMemory>
     ensures { IfOk result (λ all. all ≡ with_last edges last) }
 {

@@ -17,7 +17,7 @@ use rail_model::OutOfMemory;
 use std::alloc::Global;
 use train_placing::Last;
 
-/// Who uses each place last along an order.
+// By the places' positions, who uses each place last along an order.
 pub(crate) fn last_users(
     alloc: Global,
     cut: &SoundCut,
@@ -42,7 +42,7 @@ fn all_places(alloc: Global, count: u32) -> Result<Vec<u32>, OutOfMemory>
     Ok(places)
 }
 
-/// An order from its end to its beginning.
+// An order from its end to its beginning.
 pub(crate) fn reversed(alloc: Global, order: &[u32]) -> Result<Vec<u32>, OutOfMemory>
     ensures { IfOk result (λ back. back.items ≡ reverse order.now) }
 {
@@ -50,7 +50,7 @@ pub(crate) fn reversed(alloc: Global, order: &[u32]) -> Result<Vec<u32>, OutOfMe
     Ok(back)
 }
 
-/// The last use of each place, by who uses it last and when the trains enter.
+// The last use of each place, by who uses it last and when the trains enter.
 pub(crate) fn lasts(
     alloc: Global,
     cut: &SoundCut,
@@ -96,7 +96,7 @@ fn moved(cut: &SoundCut, entries: &[i64], train: u32, time: i64) -> i64
     shift(time, cut.row(train).entry, entries[train as usize])
 }
 
-/// From when until when each block is kept, by who uses it first and last.
+// From when until when each block is kept, by who uses it first and last.
 pub(crate) fn spans(
     alloc: Global,
     cut: &SoundCut,

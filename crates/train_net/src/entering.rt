@@ -13,7 +13,7 @@ use plan_model::FitCut;
 use rail_model::{List, OutOfMemory};
 use std::alloc::Global;
 
-/// The entries of the compressed timetable by a net: its order, and the edges to each train.
+// The entries of the compressed timetable by a net: its order, and the edges to each train.
 pub(crate) fn entries(
     alloc: Global,
     cut: &FitCut,
@@ -33,7 +33,8 @@ pub(crate) fn entries(
     Ok(entries)
 }
 
-// One train after the other enters, in the order. The others stand at the window's start so far.
+// Lets one train after the other enter, in the order. Those that haven't entered yet stand at the
+// window's start.
 fn enter_each(cut: &FitCut, order: &[u32], edges: &[List<Edge>], entries: &mut [i64])
     requires net { IsNet cut.now order.now edges.now }
     requires lists { length edges.now ≡ member_count cut.now }
@@ -74,7 +75,7 @@ fn with_edge(entry: i64, edge: Edge, entries: &[i64]) -> i64
     entry.max(by_edge(edge, entries))
 }
 
-/// When an edge allows a train to enter.
+// When an edge allows a train to enter.
 pub(crate) fn by_edge(edge: Edge, entries: &[i64]) -> i64
     requires near { All IsNear entries.now }
     requires there { edge.from < length entries.now }

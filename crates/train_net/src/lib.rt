@@ -20,7 +20,9 @@
 //! ```text
 //! let net = net_of(alloc, &sound, order.positions)?;
 //! let plan = plan_by(alloc, &fit, &net)?;
-//! let later = mend(alloc, &later_cut, &net, &origin)?;
+//! if let Some(later) = mend(alloc, &later_sound, &net, &origin)? {
+//!     let plan = plan_by(alloc, &later_fit, &later)?;
+//! }
 //! ```
 #![tactic(auto)]
 

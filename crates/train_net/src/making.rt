@@ -41,7 +41,8 @@ fn all_edges(alloc: Global, cut: &SoundCut, order: &[u32]) -> Result<Vec<List<Ed
     Ok(edges)
 }
 
-// Puts the edges to each train. The table, of nobody at first, has who stands nearest.
+// Puts the edges to each train, along the order. `near` has, by the places' positions, who stands
+// nearest before the train; at first nobody does.
 fn put_edges(
     alloc: Global,
     cut: &SoundCut,
@@ -65,7 +66,7 @@ fn put_edges(
     Ok(())
 }
 
-/// Empty lists of edges.
+// Empty lists of edges.
 pub(crate) fn no_edges(alloc: Global, count: u32) -> Result<Vec<List<Edge>>, OutOfMemory>
     ensures { IfOk result (λ edges. length edges.items ≡ count) }
 {

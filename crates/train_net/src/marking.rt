@@ -11,7 +11,7 @@ use plan_model::SoundCut;
 use rail_model::{OutOfMemory, Use};
 use std::alloc::Global;
 
-/// Marks, by positions: who stands nearest after a fresh member, at one of its places, has one.
+// By positions, a mark for each member that stands nearest after a fresh one at one of its places.
 pub(crate) fn marks_after_fresh(
     alloc: Global,
     cut: &SoundCut,
@@ -28,7 +28,8 @@ pub(crate) fn marks_after_fresh(
     Ok(marks)
 }
 
-// Marks who stands nearest before each fresh member of an order.
+// Marks who stands nearest before each fresh member of an order, which is the later cut's from its
+// end.
 fn mark_before_fresh(
     alloc: Global,
     cut: &SoundCut,
@@ -73,7 +74,7 @@ fn mark_before(
     Ok(())
 }
 
-// Marks those who are found at the places of some uses.
+// Marks the members that are found at the places of some uses.
 fn mark_all(near: &[Option<Near>], uses: &[Use], marks: &mut [bool])
     requires there { All (λ u. u.block < length near.now) uses.now }
     requires trains { All (λ u. IfSome (slice_index_or near.now u.block None)
@@ -88,7 +89,7 @@ fn mark_all(near: &[Option<Near>], uses: &[Use], marks: &mut [bool])
     }
 }
 
-// Marks who is found, if anybody is.
+// Marks the member that is found, if there is one.
 fn mark(near: Option<Near>, marks: &mut [bool])
     requires { IfSome near (λ x. x.train < length marks.old) }
     ensures count { length marks.new ≡ length marks.old }

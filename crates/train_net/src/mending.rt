@@ -23,13 +23,14 @@ use rail_model::{List, OutOfMemory, Use};
 use std::alloc::Global;
 
 /// The net of a later cut, made of the net of an earlier one, if it can be: the members have an
-/// order then. `origin` has, for each member of the later cut, where it stood in the earlier one
-/// if it is kept.
+/// order then. `origin` has, for each member of the later cut, where it stood in the earlier one if
+/// it is kept.
 ///
 /// Only the places of fresh members, and of those that stand next to them or next to where one is
-/// gone, are looked at. There is none where a member whose edges are made anew doesn't stand, in
-/// the order, behind the nearest before it at such a place, or a fresh one doesn't fit in where its
-/// entry is.
+/// gone, are looked at. There is no net where a member whose edges are made anew doesn't follow its
+/// nearest: at one of its places, who stands nearest before it in the order starts later than it,
+/// or at the same moment and has the greater name. So it is where a fresh member doesn't fit in
+/// among the kept ones by its entry. The caller then makes the net from all uses.
 pub fn mend(
     alloc: Global,
     cut: &SoundCut,
@@ -58,7 +59,7 @@ pub fn mend(
     }
 }
 
-// The present position of each member of before that is kept, by their positions then.
+// By the positions that members had in the earlier cut, where each that is kept stands now.
 fn positions_now(
     alloc: Global,
     origin: &[Option<u32>],
@@ -116,7 +117,8 @@ fn edges_in(
     remade(alloc, cut, order, old, origin, now, &marks)
 }
 
-// The same where members are marked.
+// The edges to each member, in its order now, where those that stand nearest after a fresh one are
+// marked.
 fn remade(
     alloc: Global,
     cut: &SoundCut,
@@ -146,7 +148,7 @@ fn remade(
     Ok(Some(edges))
 }
 
-// The edges to who stands at a position: those that it had and may keep, or edges made anew.
+// The edges to who stands at a position: the ones kept, or else edges made anew.
 fn edges_at(
     alloc: Global,
     cut: &SoundCut,
@@ -166,7 +168,7 @@ fn edges_at(
 }
 
 // The edges that a member had, if it may keep them: it isn't marked, and is kept, and so are all
-// from whom it had an edge.
+// members from which it had an edge.
 fn edges_kept(
     alloc: Global,
     old: &[List<Edge>],
@@ -195,7 +197,8 @@ fn edges_kept(
     }
 }
 
-// Edges with the present positions of those from whom they are, if all of these are kept.
+// Edges of the earlier cut with the positions that their first members have now, if all of these
+// are kept.
 fn moved_edges(
     alloc: Global,
     edges: &[Edge],
@@ -213,7 +216,7 @@ fn moved_edges(
     Ok(Some(moved))
 }
 
-// An edge with the present position of the one from whom it is, if that one is kept.
+// An edge of the earlier cut with the position that its first member has now, if that one is kept.
 fn moved_edge(edge: Edge, now: &[Option<u32>]) -> Option<Edge>
     ensures { IfSome result (IsMoved now.now edge) }
 {
@@ -227,8 +230,8 @@ fn moved_edge(edge: Edge, now: &[Option<u32>]) -> Option<Edge>
     }
 }
 
-// The edges to who stands at a position, made anew, if it follows its nearest at each of its
-// places.
+// The edges to who stands at a position, made anew, if it follows, at each of its places, the
+// nearest before it.
 fn edges_anew(
     alloc: Global,
     cut: &SoundCut,
@@ -247,7 +250,7 @@ fn edges_anew(
     Ok(Some(edges_from(alloc, cut, train, &near)?))
 }
 
-// Whether those who are found start before a member at each of its uses.
+// Whether at each use of a member the one that stands nearest before it there precedes it.
 fn are_ahead(near: &[Option<Near>], uses: &[Use], train: u32) -> bool
     requires { All (λ u. u.block < length near.now) uses.now }
     ensures { IsTrue result ↔ All (λ u. IsTrue
@@ -257,8 +260,8 @@ fn are_ahead(near: &[Option<Near>], uses: &[Use], train: u32) -> bool
         .all(|one| comes_ahead(near[one.block as usize], train, one))
 }
 
-// Whether who is found, if anybody is, starts before a member's use or, at one moment, has the
-// lesser name.
+// Whether the one that stands nearest before a member at a use, if there is one, starts earlier
+// there or, at one moment, has the lesser name.
 fn comes_ahead(near: Option<Near>, train: u32, one: &Use) -> bool
     ensures { result ≡ comes_ahead near train one.now }
 {

@@ -9,16 +9,16 @@ use plan_model::SoundCut;
 use rail_model::{OutOfMemory, Use};
 use std::alloc::Global;
 
-/// Who stands nearest at a place, with its use of the place.
+// The member that stands nearest at a place, with its use of the place.
 #[derive(Clone, Copy)]
 pub(crate) struct Near {
-    /// Its position among the cut's members.
+    // Its position among the cut's members.
     pub(crate) train: u32,
     pub(crate) one: Use,
 }
 
-/// Who stands nearest before a position of an order at each of the wanted places: the table has
-/// them by the places' positions. It is looked for from the position back, until all are found.
+// By the places' positions, who stands nearest before a position of an order, at each wanted place.
+// It is looked for from the position back, until all are found.
 pub(crate) fn nearest_before(
     alloc: Global,
     cut: &SoundCut,
@@ -37,7 +37,7 @@ pub(crate) fn nearest_before(
     Ok(near)
 }
 
-/// Who stands nearest before a position of an order, at the places of who stands there.
+// Who stands nearest before a position of an order, at each place of the member that stands there.
 pub(crate) fn near_at(
     alloc: Global,
     cut: &SoundCut,
@@ -85,7 +85,7 @@ fn are_found(near: &[Option<Near>], wanted: &[u32]) -> bool
     wanted.iter().all(|place| near[*place as usize].is_some())
 }
 
-/// The table with a train's uses: it stands nearest at its places from then on.
+// Puts a train's uses into the table, so that it stands nearest at its places from then on.
 pub(crate) fn pass(near: &mut [Option<Near>], train: u32, uses: &[Use])
     requires there { All (λ u. u.block < length near.old) uses.now }
     requires differ { AreOfOtherPlaces uses.now }
@@ -98,7 +98,7 @@ pub(crate) fn pass(near: &mut [Option<Near>], train: u32, uses: &[Use])
     }
 }
 
-// The table with a train's uses of those places at which nobody is found yet.
+// Puts a train's uses into the table at those places where nobody is found yet.
 fn fill(near: &mut [Option<Near>], train: u32, uses: &[Use])
     requires { All (λ u. u.block < length near.old) uses.now }
     ensures count { length near.new ≡ length near.old }
@@ -112,7 +112,7 @@ fn fill(near: &mut [Option<Near>], train: u32, uses: &[Use])
     }
 }
 
-// Who was found first.
+// The one that was found first at a place.
 fn first_found(near: Option<Near>, next: Near) -> Option<Near>
     ensures { result ≡ filled near (Some next) }
 {

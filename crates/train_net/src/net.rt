@@ -2,8 +2,9 @@
 use crate::edge::Edge;
 use rail_model::List;
 
-/// A net of a cut: an order of its trains, and for each train edges from those that stand nearest
-/// before it at its places.
+/// A net tells when each train of a cut may enter. It is an order of the trains, and for each train
+/// edges from those that stand nearest before it at its places, each with the time that it asks
+/// for.
 #[derive(Drop)]
 pub struct Net {
     /// The positions of the cut's members, each once: each comes after all that precede it.

@@ -9,20 +9,20 @@ use plan_model::{CutRow, SoundCut};
 use rail_model::OutOfMemory;
 use std::alloc::Global;
 
-/// Where a member is to stand.
+// Where a member is to stand.
 #[derive(Clone, Copy)]
 pub(crate) struct Stand {
-    /// Twice the place in the order of before, and one more for who stood there: a fresh member is
-    /// put before the one of this place.
+    // Twice the place in the order of before, and one more for who stood there: a fresh member is
+    // put before the one of this place.
     slot: u64,
-    /// For members of one slot: the planned entry, in seconds from the timetable's origin.
+    // For members of one slot: the planned entry, in seconds from the timetable's origin.
     entry: i64,
-    /// The member's position.
+    // The member's position.
     member: u32,
 }
 
-/// An order of a later cut's members, if kept members stand in it as they stood before. `now` has
-/// the present position of each member of before that is kept.
+// An order of a later cut's members, if kept members stand in it as they stood before. `now` has
+// the present position of each member of before that is kept.
 pub(crate) fn reorder(
     alloc: Global,
     cut: &SoundCut,
@@ -73,7 +73,8 @@ fn stands(
     Ok(stands)
 }
 
-// By the positions of members their places in the order, and 0 where there is none.
+// By the members' positions, the place at which each stands in the order, and 0 for one that
+// doesn't.
 fn places_in(alloc: Global, before: &[u32], count: usize) -> Result<Vec<u64>, OutOfMemory> {
     let mut places = vec![in alloc; 0u64; count]?;
     for (place, member) in before.iter().enumerate() {
@@ -138,8 +139,9 @@ fn agrees(order: &[u32], before: &[u32], origin: &[Option<u32>]) -> bool
     true
 }
 
-// The place in the order of before that is to be looked at next, after a member: that of no kept
-// one stays.
+// Where to look on in the earlier order, after a member of the later one: behind the place at which
+// the member stood, or at the same place if it is fresh. None, if the member stood before that
+// place.
 fn next_from(before: &[u32], from: usize, origin: &[Option<u32>], member: u32) -> Option<usize>
     requires { from ≤ length before.now }
     ensures within { IfSome result (λ next. (from ≤ next) × (next ≤ length before.now)) }
@@ -155,7 +157,7 @@ fn next_from(before: &[u32], from: usize, origin: &[Option<u32>], member: u32) -
     }
 }
 
-/// The position that a list has for a member, if it has one.
+// The position that a list has for a member, if it has one.
 pub(crate) fn position_of(positions: &[Option<u32>], member: u32) -> Option<u32>
     ensures { result ≡ slice_index_or positions.now member None }
 {

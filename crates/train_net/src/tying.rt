@@ -15,7 +15,7 @@ use plan_model::{FitCut, SoundCut, Tie};
 use rail_model::{List, OutOfMemory};
 use std::alloc::Global;
 
-/// The ties of all trains by a net, with the entries that it gives them.
+// The ties of all trains by a net, with the entries that it gives them.
 pub(crate) fn ties(
     alloc: Global,
     cut: &FitCut,
@@ -64,7 +64,8 @@ fn tie(cut: &SoundCut, floor: i64, edges: &[Edge], entry: i64, entries: &[i64]) 
     }
 }
 
-// The first, by names, of the edges as which a train enters.
+// The first edge, by the names of trains and places, of those that a train enters as early as they
+// allow.
 fn first_tight(cut: &SoundCut, edges: &[Edge], entry: i64, entries: &[i64]) -> Option<Edge>
     requires near { All IsNear entries.now }
     requires there { All (λ e. e.from < length entries.now) edges.now }
@@ -79,7 +80,7 @@ fn first_tight(cut: &SoundCut, edges: &[Edge], entry: i64, entries: &[i64]) -> O
     best
 }
 
-// The edge, if the train enters as it allows.
+// The edge, if the train enters as early as it allows.
 fn tight_of(edge: Edge, entry: i64, entries: &[i64]) -> Option<Edge>
     requires near { All IsNear entries.now }
     requires there { edge.from < length entries.now }
