@@ -15,14 +15,14 @@ pub record IsHeldOf (cut : Cut) (held : Held) : Type 0 where
   pub net : IsNetOf cut held.net
   pub places : held.places ≡ place_names cut
 
--- it is held of some sound cut with these rows
+-- what is held is of some sound cut with these rows
 pub record IsHeld (rows : List CutRow) (held : Held) : Type 0 where
   pub cut : Cut
   pub sound : IsSoundCut cut
   pub same : cut.rows ≡ rows
   pub of : IsHeldOf cut held
 
--- it is held of some earlier sound cut, where the rows of a later one stood if the places are the same
+-- what is held is of some earlier sound cut, in which the rows of a later one stood if the places are the same
 pub record IsHeldBefore (later : Cut) (stood_at : List (Option ℕ)) (held : Held) : Type 0 where
   pub cut : Cut
   pub sound : IsSoundCut cut

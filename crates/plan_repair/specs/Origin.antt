@@ -11,7 +11,7 @@ pub record StoodAmong (kept rows : List CutRow) (origin : List (Option ℕ)) : T
   pub same : (i a : ℕ) → stood origin i ≡ Some a → slice_index_or rows i no_member ≡ slice_index_or kept a no_member
   pub apart : (i j a : ℕ) → stood origin i ≡ Some a → stood origin j ≡ Some a → i ≡ j
 
--- the same of rows so far, all of which stood before those that are left
+-- for each row so far where it stood among kept rows, if it is kept: always before those that are left
 pub record StoodBefore (kept left rows : List CutRow) (origin : List (Option ℕ)) : Type 0 where
   pub so_far : StoodAmong kept rows origin
   pub passed : (i a : ℕ) → stood origin i ≡ Some a → a + length left < length kept

@@ -14,18 +14,18 @@ use std::alloc::Global;
 use train_net::{Net, mend, net_of, plan_by};
 use train_order::order;
 
-/// A net, and the names of its cut's places.
+// A net, and the names of its cut's places.
 #[derive(Drop)]
 pub(crate) struct Held {
     net: Net,
     places: List<Name>,
 }
 
-/// The answer of a cut, and the net that is held of it. `origin` has, for each row of the cut,
-/// where it stood in the cut of the net that was held before, if it is kept.
-///
-/// Where at most a quarter of the rows is fresh, the net that was held is mended, if it can be;
-/// else one is made anew, if the trains have an order.
+// The answer of a cut, and the net that is held of it. `origin` has, for each row of the cut,
+// where it stood in the cut of the net that was held before, if it is kept.
+//
+// Where at most a quarter of the rows is fresh, the net that was held is mended, if it can be;
+// else one is made anew, if the trains have an order.
 pub(crate) fn answer_held(
     alloc: Global,
     cut: &Cut,
@@ -76,7 +76,8 @@ fn by_net(alloc: Global, cut: &Cut, net: Net) -> Result<(Answer, Option<Held>), 
     Ok((Answer::Ordered(plan), Some(Held { net, places })))
 }
 
-// The net that was held before, mended to one of a cut, if few rows are fresh and it can be.
+// The net that was held before, mended to one of a cut: if at most a quarter of the rows is fresh,
+// the places are the same, and it can be.
 fn mended(
     alloc: Global,
     cut: &SoundCut,

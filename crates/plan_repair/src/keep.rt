@@ -12,7 +12,8 @@ use rail_model::{List, Name, OutOfMemory};
 use std::alloc::Global;
 use std::marker::Model;
 
-/// What is kept of a section's cut: the section's name, and the rows with their stamps.
+/// A keep is what is remembered of a section from one reading of its cut to the next: the section's
+/// name, and the rows with their stamps.
 #[derive(Drop)]
 pub struct Keep {
     section: Name,
@@ -37,7 +38,8 @@ impl Keep {
     ghost use Rattle.plan_model.specs.Reading.{use_count};
     ghost use Rattle.plan_repair.specs.Kept.{kept_of, AgreesWith, uses_not_kept, TakesAtMost};
 
-    /// The name of the section.
+    /// The name of the section: for a caller that has the keeps of several sections. A worker finds
+    /// its keeps by name, and doesn't ask.
     pub fn section(&self) -> &Name
         ensures { result.now ≡ self.now.section }
     {

@@ -9,7 +9,8 @@ use plan_model::CutRow;
 use rail_model::Name;
 use std::collections::VecDeque;
 
-/// Takes out the row of a name and a stamp, if it is there, and lets go of all up to that name.
+// Takes out the row of a name and a stamp, if it is there. Rows whose names come before that name
+// are dropped.
 pub(crate) fn next_kept(left: &mut VecDeque<CutRow>, name: &Name, stamp: u64) -> Option<CutRow>
     requires { NamesRise (λ r. r.name) left.old.items }
     ensures found { result ≡ find (has name.now stamp) left.old.items }
@@ -23,7 +24,7 @@ pub(crate) fn next_kept(left: &mut VecDeque<CutRow>, name: &Name, stamp: u64) ->
     left.pop_front()
 }
 
-// Lets go of the rows before a name.
+// Drops the rows whose names come before a name.
 fn pass_over(left: &mut VecDeque<CutRow>, name: &Name)
     requires { NamesRise (λ r. r.name) left.old.items }
     ensures left { IsLeft name.now left.old.items left.new.items }
@@ -46,7 +47,7 @@ fn comes_before(left: &VecDeque<CutRow>, name: &Name) -> bool
     }
 }
 
-// Whether the first row has a name and a stamp.
+// Whether the first row is that of a name and a stamp.
 fn stands_first(left: &VecDeque<CutRow>, name: &Name, stamp: u64) -> bool
     ensures { result ≡ first_is (has name.now stamp) left.now.items }
 {

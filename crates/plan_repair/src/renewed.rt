@@ -15,14 +15,14 @@ use rail_model::{List, OutOfMemory};
 use std::alloc::Global;
 use std::collections::VecDeque;
 
-/// A cut, and for each of its rows where it stood among the kept rows, if it is kept.
+// A cut, and for each of its rows where it stood among the kept rows, if it is kept.
 #[derive(Drop)]
 pub(crate) struct RenewedCut {
     pub cut: Cut,
     pub origin: Vec<Option<u32>>,
 }
 
-/// The cut of a reading. A kept row is moved, and its uses are neither taken nor copied.
+// The cut of a reading. A kept row is moved, and its uses are neither taken nor copied.
 pub(crate) fn renewed<R: Rows>(
     alloc: Global,
     kept: List<CutRow>,
@@ -49,7 +49,8 @@ pub(crate) fn renewed<R: Rows>(
     Ok(RenewedCut { cut, origin })
 }
 
-// Its rows, and where each stood. Both lists are gone through side by side, in the order of names.
+// The cut's rows, and where each stood among the kept ones. Kept rows and the reading's are gone
+// through side by side, in the order of names.
 fn renewed_rows<R: Rows>(
     alloc: Global,
     kept: List<CutRow>,

@@ -8,7 +8,7 @@ use plan_model::{CutRow, Rows, least_start};
 use rail_model::{List, OutOfMemory, Use};
 use std::alloc::Global;
 
-/// Takes the row at a position, and copies it.
+// Takes the row at a position, and copies it.
 pub(crate) fn take_row<R: Rows>(
     alloc: Global,
     reading: &mut R,
