@@ -19,7 +19,7 @@ pub record IsEnding (trains : ℕ) (place : Ending) : Type 0 where
   pub count : length place.starts.now ≡ trains
   pub starts : All IsStart place.starts.now
 
--- it is that of a use of a train, by a table of starts
+-- an end and the starts beside it are those of a use of a train, by a table of starts
 pub record IsEndingOf (table : List (List ℤ)) (row : CutRow) (u : Use) (place : Ending) : Type 0 where
   pub «end» : place.«end» ≡ (u.«end» -ℤ row.entry)
   pub near : IsLength place.«end»
@@ -40,15 +40,15 @@ abbrev pub raised_by_four : Ending → Ending → Ending → Ending → ℕ → 
 raised_by_four first second third fourth j greatest =
     raised_at fourth j (raised_at third j (raised_at second j (raised_at first j greatest)))
 
--- the same with a use of the one train
+-- the greatest so far of the pair a, b with one use of a
 abbrev pub raised_by : CutRow → CutRow → ℤ → Use → ℤ
 raised_by a b greatest u = raised greatest (u.«end» -ℤ a.entry) (start_in b u.block)
 
--- the same by a table of starts, to train j
+-- the greatest so far to train j, with one use of a train that enters at this moment, by a table of starts
 abbrev pub raised_from : List (List ℤ) → ℤ → ℕ → ℤ → Use → ℤ
 raised_from table entry j greatest u = raised greatest (u.«end» -ℤ entry) (start_in_table table u.block j)
 
--- the greatest of all its uses
+-- the greatest of all uses of a
 abbrev pub greatest_by : CutRow → CutRow → ℤ
 greatest_by a b = fold (raised_by a b) NEVER a.uses
 
@@ -56,7 +56,7 @@ greatest_by a b = fold (raised_by a b) NEVER a.uses
 abbrev pub headway_of : ℤ → Option ℤ
 headway_of greatest = if int_lt greatest LEAST_HEADWAY then None else Some greatest
 
--- the same, and none from a train to itself
+-- the headway that such a number tells, and none from a train to itself
 abbrev pub headway_to : ℤ → Bool → Option ℤ
 headway_to greatest own = if own then None else headway_of greatest
 

@@ -27,10 +27,10 @@ with_start greatest (Some «end») start = Some (greater greatest («end» -ℤ 
 abbrev pub by_end : Option ℤ → ℤ → Option ℤ → Use → Option ℤ
 by_end «end» entry greatest u = with_start greatest «end» (u.start -ℤ entry)
 
--- the same by the ends of all places
+-- the greatest so far with a use of a train that enters at a moment, by the ends of the first train at all places
 abbrev pub with_use : (ℕ → Option ℤ) → ℤ → Option ℤ → Use → Option ℤ
 with_use ends entry greatest u = by_end (ends u.block) entry greatest u
 
--- the greatest of all its uses
+-- the greatest over all uses of the train that follows
 abbrev pub walked : (ℕ → Option ℤ) → CutRow → Option ℤ
 walked ends row = fold (with_use ends row.entry) None row.uses

@@ -9,15 +9,15 @@ use crate::starts::short;
 use plan_model::CutRow;
 use rail_model::{List, Use};
 
-// How long after its entry a train ends its use of a place, and how long after theirs the trains
-// start there.
+// What one use of a train asks of all others at its place: how long after its entry the train ends
+// it, and by the trains' positions how long after their entries they start there.
 #[derive(Clone, Copy)]
 pub(crate) struct Ending<'a> {
     pub(crate) end: i32,
     pub(crate) starts: &'a [i32],
 }
 
-// That of a train's use at a position.
+// The ending of a train's use, by the use's position among the train's.
 pub(crate) fn ending_at<'a>(starts: &'a [List<i32>], row: &CutRow, k: usize) -> Ending<'a>
     requires usable { IsUsable (length starts.now) row.now }
     requires there { k < length row.now.uses }

@@ -12,6 +12,9 @@ use rail_model::Use;
 /// How long after train `a` train `b` must enter the section, at the least, in seconds: the
 /// greatest over the places that both use, which may be negative. None where they share no place.
 /// It takes no memory.
+///
+/// For a caller who asks about two trains alone, or checks one number of a table: `matrix` has all
+/// pairs.
 pub fn headway(a: &CutRow, b: &CutRow) -> Option<i64>
     requires rows { AreRows a.now b.now }
     ensures { result ≡ given.headway a.now b.now }
@@ -23,7 +26,8 @@ pub fn headway(a: &CutRow, b: &CutRow) -> Option<i64>
     greatest
 }
 
-// The greatest so far with a use of the train that follows.
+// The greatest so far, with one use of the second train and the first train's use of the same
+// place, if it has one.
 fn with_use(greatest: Option<i64>, first: &CutRow, next: &CutRow, one: &Use) -> Option<i64>
     requires first { IsRow first.now }
     requires next { IsMoment next.now.entry }
@@ -59,8 +63,8 @@ pub(crate) fn after_entry(time: i64, entry: i64) -> i64
     time - entry
 }
 
-// The greatest so far with a place that the first train ends, and the other starts, so long after
-// its entry.
+// The greatest so far, with a place that the first train ends so long after its entry, if it uses
+// it, and that the second starts so long after its own.
 fn with_start(greatest: Option<i64>, end: Option<i64>, start: i64) -> Option<i64>
     requires end { IfSome «end» walks.IsLength }
     requires start { walks.IsLength start }
@@ -72,7 +76,8 @@ fn with_start(greatest: Option<i64>, end: Option<i64>, start: i64) -> Option<i64
     }
 }
 
-// How long the one is more than the other.
+// How long after the first train the second must enter, by one place: the first ends its use so
+// long after its entry, and the second starts so long after its own.
 fn between(end: i64, start: i64) -> i64
     requires end { walks.IsLength «end» }
     requires start { walks.IsLength start }
@@ -81,7 +86,7 @@ fn between(end: i64, start: i64) -> i64
     end - start
 }
 
-// The greater of the greatest so far, if there is one, and of one more.
+// The greater of two numbers, where there may be none so far.
 fn greater(greatest: Option<i64>, one: i64) -> i64
     ensures { result ≡ walks.greater greatest one }
 {

@@ -13,10 +13,11 @@ use plan_model::{CutRow, SoundCut};
 use rail_model::{List, OutOfMemory};
 use std::alloc::Global;
 
-// Stands where no shared place is found yet: it is less than any headway.
+// Stands where no shared place is found yet: it is below `LEAST_HEADWAY`.
 const NEVER: i32 = -1_000_000_000;
 
-// No headway is less.
+// No headway is less: it is reckoned from four moments, each of which is at most 50,000,000 seconds
+// from the timetable's origin.
 const LEAST_HEADWAY: i32 = -200_000_000;
 
 // The headways from the train of a row to each train, in the order of the rows; none to itself.
@@ -62,7 +63,7 @@ fn raise_by_all(greatest: &mut [i32], row: &CutRow, starts: &[List<i32>])
     }
 }
 
-// Raises each by a place.
+// Raises each train's greatest headway so far by one place.
 fn raise(greatest: &mut [i32], place: &Ending)
     requires place { numbers.IsEnding (length greatest.old) place.now }
     ensures count { length greatest.new ≡ length greatest.old }
@@ -76,7 +77,7 @@ fn raise(greatest: &mut [i32], place: &Ending)
     }
 }
 
-// Raises each by four places at once, so that its number is read and written only once.
+// Raises each by four places at once, so that each number is read and written only once.
 fn raise_four(
     greatest: &mut [i32],
     first: &Ending,
@@ -103,7 +104,7 @@ fn raise_four(
     }
 }
 
-// The greatest so far of train j with a place.
+// The greatest headway so far to train j, raised by a place.
 fn raised(number: i32, place: &Ending, j: usize) -> i32
     requires place { numbers.IsEnding (length place.now.starts.now) place.now }
     requires there { j < length place.now.starts.now }
@@ -112,7 +113,7 @@ fn raised(number: i32, place: &Ending, j: usize) -> i32
     number.max(place.end - place.starts[j])
 }
 
-// The headways that these numbers tell.
+// The headways of a row of numbers: none to the train itself, and none where no place is shared.
 fn headways_of(alloc: Global, greatest: &[i32], i: usize) -> Result<List<Option<i64>>, OutOfMemory>
     ensures { IfOk result (λ row. row ≡ numbers.headways_of greatest.now i (length greatest.now)) }
 {

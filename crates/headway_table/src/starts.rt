@@ -10,7 +10,8 @@ use plan_model::{CutRow, SoundCut};
 use rail_model::{List, OutOfMemory, Use};
 use std::alloc::Global;
 
-// Stands where a train doesn't use a place: it is later than any start.
+// Stands where a train doesn't use a place. No start is above 100,000,000, so it is later than any,
+// and what is reckoned with it stays below every headway.
 pub(crate) const FREE: i32 = 1_000_000_000;
 
 // The starts of all trains: for each place a list with one for each train, after its entry.
@@ -23,7 +24,7 @@ pub(crate) fn starts(alloc: Global, cut: &SoundCut) -> Result<Vec<List<i32>>, Ou
     Ok(table)
 }
 
-// Places that no train uses.
+// A table in which no train uses any place.
 fn free(alloc: Global, places: usize, trains: usize) -> Result<Vec<List<i32>>, OutOfMemory>
     requires { trains < 2 ^ 63 }
     ensures { IfOk result (λ table. table.items ≡ replicate places (replicate trains FREE)) }
@@ -35,7 +36,7 @@ fn free(alloc: Global, places: usize, trains: usize) -> Result<Vec<List<i32>>, O
     Ok(table)
 }
 
-// Puts in the starts of all trains.
+// Puts in the starts of all trains, at the places that they use.
 fn put_all(table: &mut [List<i32>], rows: &[CutRow])
     requires free { by_place.AreStartsOf (length table.old) rows.now 0 table.old }
     requires usable { All (IsUsable (length table.old)) rows.now }
@@ -47,7 +48,7 @@ fn put_all(table: &mut [List<i32>], rows: &[CutRow])
     }
 }
 
-// Puts in those of one train.
+// Puts in the starts of one train.
 fn put_train(table: &mut [List<i32>], j: usize, row: &CutRow)
     requires wide { (p : ℕ) → p < length table.old → j < length (slice_index_or table.old p []) }
     requires usable { IsUsable (length table.old) row.now }
@@ -59,7 +60,7 @@ fn put_train(table: &mut [List<i32>], j: usize, row: &CutRow)
     }
 }
 
-// Puts in that of one use.
+// Puts in the start of one use of a train.
 fn put(table: &mut [List<i32>], j: usize, one: &Use, row: &CutRow)
     requires wide { (p : ℕ) → p < length table.old → j < length (slice_index_or table.old p []) }
     requires entry { IsMoment row.now.entry }
@@ -82,7 +83,8 @@ fn put_at(starts: &mut List<i32>, j: usize, start: i32)
     *starts.get_mut(j) = start;
 }
 
-// The same time in fewer bits.
+// A length of time as a 32-bit number, of which the processor takes more at once. None that is laid
+// out here is above 100,000,000 or below its negative.
 pub(crate) fn short(time: i64) -> i32
     requires { walks.IsLength time }
     ensures { result ≡ time }
