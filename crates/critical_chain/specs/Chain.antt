@@ -61,6 +61,6 @@ chain_back plan (suc n) j = through_tie plan (chain_back plan n) j (tie_at plan 
 abbrev pub chain_of : Plan → ℕ → List Link
 chain_of plan train = chain_back plan (length plan.placed) train
 
--- it is the train's chain
+-- these links are the train's chain
 abbrev pub ChainIsOf : Type 0
 ChainIsOf = (plan : Plan) (train : ℕ) → IsPlan plan → train < length plan.placed → IsChain plan train (chain_of plan train)

@@ -72,8 +72,8 @@ abbrev pub comes_first : Cut → ℕ → ℕ → Tie → Bool
 comes_first cut i place Start = false
 comes_first cut i place (After k other) = first_by_names cut (i, place) (k, other)
 
--- a use may start at one moment after member i's of the place, which ends at the other: it doesn't start before, and
--- where it starts then, they do not come before its train's tie
+-- a use may start at `from` after member i's use of the place, which ends at `until`: it doesn't start before that, and
+-- where it starts just then, member i and the place do not come before its train's tie, by name
 pub record Follows (cut : Cut) (until from : ℤ) (i place : ℕ) (tie : Tie) : Type 0 where
   pub clear : until ≤ℤ from
   pub first : until ≡ from → comes_first cut i place tie ≡ false
@@ -85,7 +85,7 @@ KeepsPlace cut entries placed place =
     → precedes (member cut i) (member cut j) place ≡ true
     → Follows cut (end_by cut entries i place) (start_by cut entries j place) i place (tie_in placed j)
 
--- at all places
+-- the trains of a plan keep all places one after the other
 abbrev pub KeepPlaces : Cut → List ℤ → List Placed → Type 0
 KeepPlaces cut entries placed = (place : ℕ) → place < place_count cut → KeepsPlace cut entries placed place
 
@@ -117,13 +117,13 @@ FollowInTurn cut entries placed place visits =
 
 -- ---- the last member at a block
 
--- the first that ends last, with one more
+-- of the latest member so far and of one more the one that ends later; of two that end at one moment, the first
 abbrev pub later : Option Latest → ℕ → ℤ → Option Latest
 later None i until = Some (record { member = i; until = until })
 later (Some latest) i until =
     if int_lt latest.until until then Some (record { member = i; until = until }) else Some latest
 
--- its member
+-- the member that ends last, if there is one
 abbrev pub member_of : Option Latest → Option ℕ
 member_of None = None
 member_of (Some latest) = Some latest.member

@@ -16,8 +16,8 @@ use crate::trains::{has_frame, has_trains};
 use occupancy_rate::occupancy;
 use plan_model::{Cut, FitCut, MEMBERS, Placed, Plan};
 
-/// Whether a plan is what its entries make of a cut, these are a schedule, and each train whose tie
-/// is `Start` enters at the window's start.
+// Whether a plan is what its entries make of a cut, these are a schedule, and each train whose tie
+// is `Start` enters at the window's start.
 pub(crate) fn is_checked(cut: &Cut, plan: &Plan) -> bool
     requires sound { IsSoundCut cut.now }
     requires few { member_count cut.now ≤ MEMBERS }
@@ -45,7 +45,7 @@ fn keeps_all(cut: &FitCut, plan: &Plan) -> bool
         && is_occupied(cut, entries, plan)
 }
 
-// The entries of trains, one after the other.
+// Puts the entries of a plan's trains into a list, in the order of the trains.
 fn lay_out(entries: &mut [i64], placed: &[Placed])
     requires { length entries.old ≡ length placed.now }
     ensures { entries.new ≡ map (λ p. p.entry) placed.now }

@@ -61,8 +61,10 @@ fn follow_in_turn(
     true
 }
 
-// Whether a use may start at one moment after a member's use of a place that ends at another: the
-// train of it has this tie.
+// Whether a train may start its use of a place at `from`, where the train before it ends its use at
+// `until`. It may at a later moment. At the same moment the two touch: then the pair `before`,
+// which is the train before and the place, must not come ahead of the later train's `tie` by name,
+// since the tie is the first of all that the train touches.
 fn may_follow(cut: &FitCut, until: i64, from: i64, before: (u32, u32), tie: Tie) -> bool
     requires place { before.1 < place_count cut.now }
     requires tie { parts.IsWithin cut.now tie }
@@ -71,7 +73,7 @@ fn may_follow(cut: &FitCut, until: i64, from: i64, before: (u32, u32), tie: Tie)
     until < from || until == from && !comes_first(cut, before, tie)
 }
 
-// Whether a member and a place come before those of a tie, by name.
+// Whether a member and a place come, by name, before those that a tie names.
 fn comes_first(cut: &FitCut, before: (u32, u32), tie: Tie) -> bool
     requires place { before.1 < place_count cut.now }
     requires tie { parts.IsWithin cut.now tie }

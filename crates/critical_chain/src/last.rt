@@ -8,7 +8,7 @@ ghost use Rattle.critical_chain.specs.Parts as parts;
 use crate::moved::moved;
 use plan_model::FitCut;
 
-// The first member by name that ends its use of a block last.
+// A member that ends its use of a block, and when it does.
 #[derive(Clone, Copy)]
 pub(crate) struct Latest {
     member: u32,
@@ -51,7 +51,8 @@ fn member_of(latest: Option<Latest>) -> Option<u32>
     }
 }
 
-// The one that ends later; of two that end at one moment, the first.
+// Of the latest so far and of one member more the one that ends later; of two that end at one
+// moment, the first.
 fn later(latest: Option<Latest>, member: u32, until: i64) -> Option<Latest>
     ensures { result ≡ parts.later latest member until }
 {

@@ -40,7 +40,8 @@ fn turn_round(mut links: Vec<Link>) -> List<Link>
     List::from_vec(links)
 }
 
-// The train at one position touches the one at another at a place.
+// The link from a train to the one that touches it: `train` precedes `next` at the place `block`,
+// all by their positions in the plan.
 fn link(plan: &Plan, train: u32, block: u32, next: u32) -> Link
     requires train { train < length plan.now.placed }
     requires block { block < length plan.now.blocks }

@@ -7,7 +7,7 @@ ghost use Rattle.plan_model.specs.Schedule.{entry_at};
 use plan_model::{FitCut, shift};
 use train_order::Visit;
 
-/// A moment of a member, moved with its entry.
+// A moment of a member, moved with its entry.
 pub(crate) fn moved(cut: &FitCut, entries: &[i64], i: u32, time: i64) -> i64
     requires there { i < member_count cut.now }
     requires entries { length entries.now ≡ member_count cut.now }
@@ -19,7 +19,7 @@ pub(crate) fn moved(cut: &FitCut, entries: &[i64], i: u32, time: i64) -> i64
     shift(time, cut.sound().row(i).entry, entries[i as usize])
 }
 
-/// When a visit starts.
+// When a visit starts, moved with its member's entry.
 pub(crate) fn start_of(cut: &FitCut, entries: &[i64], visit: Visit) -> i64
     requires there { visit.member < member_count cut.now }
     requires entries { length entries.now ≡ member_count cut.now }
@@ -31,7 +31,7 @@ pub(crate) fn start_of(cut: &FitCut, entries: &[i64], visit: Visit) -> i64
     moved(cut, entries, visit.member, visit.start)
 }
 
-/// When a visit ends.
+// When a visit ends, moved with its member's entry.
 pub(crate) fn end_of(cut: &FitCut, entries: &[i64], visit: Visit) -> i64
     requires there { visit.member < member_count cut.now }
     requires entries { length entries.now ≡ member_count cut.now }

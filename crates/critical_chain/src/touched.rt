@@ -27,7 +27,8 @@ pub(crate) fn has_tie(cut: &FitCut, entries: &[i64], j: u32, tie: Tie) -> bool
     }
 }
 
-// Whether there are such a member and such a place.
+// Whether the cut has a member and a place at these positions, which come from a plan that may say
+// anything.
 fn is_pair(cut: &FitCut, train: u32, block: u32) -> bool
     ensures { IsTrue result ↔ parts.IsPair cut.now train block }
 {
