@@ -25,8 +25,8 @@ pub struct Busy;
 #[derive(Clone, Copy, Debug)]
 pub struct Full;
 
-/// Hands one value from thread to thread: who has the turn has the value. Contracts see which desk
-/// it is.
+/// A desk is a lock that hands one value from thread to thread: the thread that has the turn has
+/// the value. Contracts see which desk it is.
 #[derive(Drop)]
 pub struct Desk<V: Kept> {
     pub(crate) table: Table<Option<V>, View<V::Entry>, Snapshot<V>, Law<V>, Global>,
@@ -69,6 +69,9 @@ impl<V: Kept> Desk<V> {
     /// seen part are entries of others, and the list is legal. `Busy` comes exactly where the turn
     /// was taken at the pass's one step: the word was 1 then. What the pass has seen stays; the try
     /// and the step are counted, with the word that they found and left.
+    ///
+    /// For a thread that has other work to do where the turn is taken, and for one that can't wait.
+    /// Seats wait, by `take`.
     pub fn try_take(&self, pass: &mut Pass<V>) -> Result<Turn<V>, Busy>
         requires { IsReady self.now pass.old }
         ensures goes_on { IfOk result

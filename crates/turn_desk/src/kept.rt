@@ -15,7 +15,7 @@ pub(crate) fn learn_legal<V: Kept>(value: &V)
 }
 
 /// A value that a desk hands from thread to thread. It keeps a list of entries, to which every
-/// change is added at the end.
+/// change is added at the end: its journal.
 pub trait Kept {
     /// What stands in the list.
     type Entry;

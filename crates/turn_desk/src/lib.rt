@@ -19,8 +19,8 @@
 //! ```text
 //! let (desk, mut pass) = Desk::start(alloc, value)?;
 //! let mut turn = desk.take(rt, &mut pass);
-//! change(turn.value_mut())?;
-//! desk.give(&mut pass, turn);
+//! let changed = change(turn.value_mut());
+//! desk.give(&mut pass, turn); // also where the change failed
 //! let value = desk.close(rt, pass);
 //! ```
 #![tactic(auto)]

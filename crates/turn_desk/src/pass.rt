@@ -6,10 +6,10 @@ use crate::Kept;
 use crate::steps::Seat;
 use std::marker::Model;
 
-/// A thread's access to a desk. Contracts see what it knows: its desk, its number, its numbers,
-/// which are its own and those of the passes that have left into it, the prefix of the desk's
-/// journal that it has seen, whether it holds the turn, and counts of its tries and its steps, with
-/// the words that the last of them found and left.
+/// A pass is a thread's access to a desk. Contracts see what it knows: its desk, its number, its
+/// numbers, which are its own and those of the passes that have left into it, the prefix of the
+/// desk's journal that it has seen, whether it holds the turn, and counts of its tries and its
+/// steps, with the words that the last of them found and left.
 pub struct Pass<V: Kept> {
     pub(crate) seat: Seat<V>,
     pub(crate) number: u32,

@@ -8,36 +8,36 @@ use std::collections::LinkedList;
 use std::marker::PhantomData;
 use std::snapshot::Snapshot;
 
-/// What one of two joined passes had seen, and its numbers. No value of it is made.
+// What one of two joined passes had seen, and its numbers. No value of it is made.
 pub(crate) struct Sight<E> {
     pub seen: LinkedList<E>,
     pub numbers: LinkedList<u64>,
 }
 
-/// What a pass knows. No value of it is made.
+// What a pass knows. No value of it is made.
 pub(crate) struct View<E> {
     pub number: u64,
     pub numbers: LinkedList<u64>,
     pub seen: LinkedList<E>,
     pub holds: bool,
-    /// The desk is closed by this pass.
+    // The desk is closed by this pass.
     pub closes: bool,
     pub tries: u64,
     pub found: u64,
-    /// Its steps on the word, with those of the passes that have left into it.
+    // Its steps on the word, with those of the passes that have left into it.
     pub steps: u64,
-    /// The number of all steps on the word after the last of these, and the word after it.
+    // The number of all steps on the word after the last of these, and the word after it.
     pub moment: u64,
     pub word: u64,
-    /// The first number that it has drawn and given to no pass, and how many there are.
+    // The first number that it has drawn and given to no pass, and how many there are.
     pub drawn: u64,
     pub left: u64,
-    /// The two passes of the last join.
+    // The two passes of the last join.
     pub one: Sight<E>,
     pub two: Sight<E>,
 }
 
-/// The rule of a table that hands over a `V`.
+// The rule of a table that hands over a `V`.
 pub(crate) struct Law<V> {
     kept: PhantomData<V>,
 }

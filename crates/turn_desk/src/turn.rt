@@ -3,8 +3,8 @@ ghost use Rattle.std.specs.Prelude.{◌≡◌};
 
 use std::marker::Model;
 
-/// The turn at a desk, with the value. Contracts see the value. A turn that is dropped is never
-/// given back.
+/// A turn is the time in which one thread has the desk's value. Contracts see the value. A turn
+/// that is dropped is never given back, and no other thread gets the value.
 #[derive(Drop)]
 pub struct Turn<V> {
     value: V,
