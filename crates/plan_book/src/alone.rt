@@ -11,6 +11,10 @@ use std::sync::Wait;
 /// The access of a pass to a book that nobody else adds to: what it has seen is the whole journal.
 /// It counts the readings that it was given, and notes how many uses were taken of the last that it
 /// handed back by a call that found memory.
+///
+/// For a worker or a planner's calls in one thread, without a desk: by it
+/// `section_worker::Worker::turn` runs over a book. `session_run::session_alone` makes calls of the
+/// book itself.
 #[derive(Drop)]
 pub struct Alone<'a> {
     book: &'a mut Book,

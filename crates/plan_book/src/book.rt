@@ -1,4 +1,4 @@
-//! Books.
+//! The book: what calls on it do to its tables, its journal and what it knows of sections.
 ghost use Rattle.std.specs.Prelude.{◌≡◌, ◌+◌, ◌≤◌, ◌<◌, ◌++◌, ◌∷◌, [], length, sum_by, None, Some};
 ghost use Rattle.std.specs.Prelude.{IfOk, OnOk, OnErr, MatchResult};
 ghost use Rattle.plan_model.specs.Journal.{opening, last_number, tables_of, issued, tasks_left};
@@ -34,8 +34,9 @@ pub const TASKS: usize = 256;
 /// The greatest number of the last edit before a book is started.
 pub const FIRST_NUMBER: u64 = 16_777_216;
 
-/// A timetable that planners edit and ask, and whose sections' answers are published. Contracts see
-/// its journal. The journal is legal, and each planner keeps to its script.
+/// A book is a timetable that planners edit and ask, and whose sections' answers are published,
+/// with the journal of all that. Contracts see its journal. The journal is legal, and each planner
+/// keeps to its script.
 pub struct Book {
     pub(crate) alloc: Global,
     pub(crate) journal: List<Entry>,
@@ -51,7 +52,7 @@ pub struct Book {
     pub(crate) done: Vec<usize>,
 }
 
-// Dropping a book is one call for whoever holds it.
+// A drop by hand, so that dropping a book is one call in the proof of whoever holds it.
 impl Drop for Book {
     fn drop(self) {
         let Book {

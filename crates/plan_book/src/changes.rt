@@ -20,20 +20,20 @@ use section_cut::{CutChange, CutChanges};
 use std::alloc::Global;
 use std::mem;
 
-/// What an edit makes of a shelf's cut.
+// What an edit makes of a shelf's cut.
 #[derive(Drop)]
 pub(crate) enum ShelfChange {
-    /// The edit doesn't touch the section.
+    // The edit doesn't touch the section.
     Untouched,
-    /// The edit touches the section, whose cut is this one after it, if the section is there.
+    // The edit touches the section, whose cut is this one after it, if the section is there.
     Touched(Option<Stored>),
-    /// The edit touches the section, whose cut has this row at a place after it, and else the rows
-    /// that it has.
+    // The edit touches the section, whose cut has this row at a place after it, and else the rows
+    // that it has.
     Row { place: usize, row: CutRow },
 }
 
-/// What the edit of a number makes of the cut of each section. A shelf is put in for each section
-/// of the later tables that has none; what is known of sections stays, also without memory.
+// What the edit of a number makes of the cut of each section. A shelf is put in for each section
+// of the later tables that has none; what is known of sections stays, also without memory.
 pub(crate) fn changes_for(
     alloc: Global,
     shelves: &mut List<Shelf>,
@@ -144,7 +144,7 @@ fn shelf_change(alloc: Global, change: CutChange) -> Result<ShelfChange, OutOfMe
     }
 }
 
-/// Changes each shelf by what the edit of a number made of its section's cut.
+// Sets what each shelf knows after an edit, by what the edit made of its section's cut.
 pub(crate) fn change_shelves(shelves: &mut List<Shelf>, changes: List<ShelfChange>, number: u64)
     requires count { length changes ≡ length shelves.old }
     requires ready { HoldsOfEach IsReady shelves.old changes }
@@ -157,7 +157,8 @@ pub(crate) fn change_shelves(shelves: &mut List<Shelf>, changes: List<ShelfChang
     }
 }
 
-// Changes a shelf.
+// Sets what a shelf knows after an edit: where the edit touches the section, its number and the cut
+// after it. Untouched shelves stay as they are.
 fn change_shelf(shelf: &mut Shelf, change: ShelfChange, number: u64)
     requires { IsReady shelf.old change }
     ensures { shelf.new ≡ changed number shelf.old change }
@@ -175,8 +176,8 @@ fn change_shelf(shelf: &mut Shelf, change: ShelfChange, number: u64)
     }
 }
 
-/// Makes those cuts the book's own into which rows are to be put. Each cut stays the same, also
-/// without memory.
+// Makes the book the only holder of those cuts into which rows are to be put. Each cut stays the
+// same, also without memory.
 pub(crate) fn make_ready(
     alloc: Global,
     shelves: &mut List<Shelf>,
@@ -208,8 +209,8 @@ fn make_shelf_ready(
     }
 }
 
-/// Makes each cut one that readings can share, where there is memory for it. Each cut stays the
-/// same.
+// Makes each cut one that readings can share, where there is memory for it. Each cut stays the
+// same.
 pub(crate) fn share_cuts(alloc: Global, shelves: &mut List<Shelf>)
     requires { All (λ s. IfSome (kept_cut s) IsSoundCut) shelves.old }
     ensures { AreAlike shelves.old shelves.new }

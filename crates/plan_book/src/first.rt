@@ -14,8 +14,8 @@ use rail_model::{List, OutOfMemory};
 use section_cut::{AllStairways, cut_among, stairways};
 use std::alloc::Global;
 
-/// A shelf for each section, where the last edit has this number: no edit touched it since, and
-/// nothing was published of it.
+// A shelf for each section, where the last edit has this number: no edit touched it since, and
+// nothing was published of it.
 pub(crate) fn first_shelves(
     alloc: Global,
     tables: &LineTables,

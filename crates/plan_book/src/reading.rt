@@ -106,7 +106,7 @@ fn left_in(journal: &[Entry], done: &[usize]) -> u64
     left
 }
 
-/// The planners' scripts.
+// The planners' scripts.
 pub(crate) fn scripts_of(journal: &[Entry]) -> &Scripts
     requires { IsLegal journal.now }
     ensures { result.now ≡ (opening journal.now).scripts }

@@ -11,16 +11,17 @@ use plan_model::{Act, Answer, Asked, Entry, NotTaken};
 use rail_model::{Name, OutOfMemory};
 use std::alloc::Global;
 
-/// Where a section's last publication stands: the number of the edit that it speaks of, and the
-/// place of its entry in the journal.
+// Where a section's last publication stands: the number of the edit that it speaks of, and the
+// place of its entry in the journal.
 #[derive(Clone, Copy)]
 pub(crate) struct Published {
     pub(crate) at: u64,
     pub(crate) entry: usize,
 }
 
-/// What is known of the section of a name: the last edit that touched it, its last publication, and
-/// its cut, with a stamp on each row. There is no cut where the section isn't there.
+// A shelf is what a book knows of the section of a name: the last edit that touched it, its last
+// publication, and its cut, with a stamp on each row. There is no cut where the section isn't
+// there.
 #[derive(Drop)]
 pub(crate) struct Shelf {
     pub(crate) name: Name,
@@ -29,7 +30,7 @@ pub(crate) struct Shelf {
     pub(crate) cut: Option<Stored>,
 }
 
-/// The place of the shelf of a name, or the place at which one is to be put in.
+// The place of the shelf of a name, or the place at which one is to be put in.
 pub(crate) fn place_of(shelves: &[Shelf], name: &Name) -> Result<usize, usize>
     requires { NamesRise (λ s. s.name) shelves.now }
     ensures { MatchResult result
@@ -38,7 +39,7 @@ pub(crate) fn place_of(shelves: &[Shelf], name: &Name) -> Result<usize, usize>
     shelves.binary_search_by(|s| s.name.bytes().cmp(name.bytes()))
 }
 
-/// The shelf of a name, if there is one.
+// The shelf of a name, if there is one.
 pub(crate) fn shelf_of<'a>(shelves: &'a [Shelf], name: &Name) -> Option<&'a Shelf>
     requires { NamesRise (λ s. s.name) shelves.now }
     ensures { option_copied result ≡ find (λ s. is_same s.name name.now) shelves.now }
@@ -49,7 +50,7 @@ pub(crate) fn shelf_of<'a>(shelves: &'a [Shelf], name: &Name) -> Option<&'a Shel
     }
 }
 
-/// What one gets who asks for the section of a shelf.
+// What one gets who asks for the section of a shelf.
 pub(crate) fn asked_of(
     alloc: Global,
     shelf: &Shelf,
@@ -85,8 +86,8 @@ fn answer_at(journal: &[Entry], place: usize) -> &Answer
     }
 }
 
-/// Whether an answer of the section of a shelf may be published, which is that of the edit of a
-/// number.
+// Whether an answer may be published of the section of a shelf: the answer is that of the edit of
+// the number `at`.
 pub(crate) fn verdict_of(shelf: &Shelf, at: u64) -> Result<(), NotTaken>
     ensures { IsVerdict shelf.now at result }
 {

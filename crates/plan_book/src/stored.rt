@@ -7,7 +7,7 @@ use plan_model::{Cut, CutRow, SharedCut};
 use rail_model::OutOfMemory;
 use std::alloc::Global;
 
-/// A sound cut that readings may share, or one that nobody else holds, so that it can be changed.
+// A sound cut that readings may share, or one that nobody else holds, so that it can be changed.
 #[derive(Drop)]
 pub(crate) enum Stored {
     Shared(SharedCut),
@@ -15,7 +15,7 @@ pub(crate) enum Stored {
 }
 
 impl Stored {
-    /// The cut.
+    // The cut.
     pub(crate) fn cut(&self) -> &Cut
         ensures { result.now ≡ cut_in self.now }
     {
@@ -25,7 +25,7 @@ impl Stored {
         }
     }
 
-    /// The cut, shared with one holder more. One that isn't shared yet is copied.
+    // The cut, shared with one holder more. One that isn't shared yet is copied.
     pub(crate) fn share(&self, alloc: Global) -> Result<SharedCut, OutOfMemory>
         requires { IsSoundCut (cut_in self.now) }
         ensures { IfOk result (λ shared. shared ≡ cut_in self.now) }
@@ -37,8 +37,8 @@ impl Stored {
     }
 }
 
-/// Makes a cut one's own, so that it can be changed. It is copied only where others hold it. The
-/// cut stays the same, also without memory.
+// Makes the book the only holder of a cut, so that it can be changed. It is copied only where
+// others hold it. The cut stays the same, also without memory.
 pub(crate) fn make_own(alloc: Global, stored: &mut Option<Stored>) -> Result<(), OutOfMemory>
     ensures same { option_map cut_in stored.new ≡ option_map cut_in stored.old }
     ensures own { OnOk result (IfSome stored.new IsOwn) }
@@ -52,7 +52,7 @@ pub(crate) fn make_own(alloc: Global, stored: &mut Option<Stored>) -> Result<(),
     }
 }
 
-// Puts a shared cut in as one's own; without memory, as the shared one.
+// Puts in a shared cut as one that nobody else holds; without memory, as the shared one.
 fn own_of(alloc: Global, stored: &mut Option<Stored>, shared: SharedCut) -> Result<(), OutOfMemory>
     ensures same { option_map cut_in stored.new ≡ Some shared }
     ensures own { OnOk result (IfSome stored.new IsOwn) }
@@ -75,7 +75,7 @@ fn own_of(alloc: Global, stored: &mut Option<Stored>, shared: SharedCut) -> Resu
     }
 }
 
-/// Makes a cut one that readings can share, where there is memory for it. The cut stays the same.
+// Makes a cut one that readings can share, where there is memory for it. The cut stays the same.
 pub(crate) fn make_shared(alloc: Global, stored: &mut Option<Stored>)
     requires { IfSome (option_map cut_in stored.old) IsSoundCut }
     ensures { option_map cut_in stored.new ≡ option_map cut_in stored.old }
@@ -86,7 +86,7 @@ pub(crate) fn make_shared(alloc: Global, stored: &mut Option<Stored>)
     };
 }
 
-// A cut that readings can share, or one's own where there is no memory for it.
+// A cut that readings can share or, without memory for that, one that nobody else holds.
 fn shared_of(alloc: Global, own: Cut) -> Stored
     requires { IsSoundCut own }
     ensures { cut_in result ≡ own }
@@ -97,7 +97,7 @@ fn shared_of(alloc: Global, own: Cut) -> Stored
     }
 }
 
-/// Puts a row at a place of a cut that is one's own.
+// Puts a row at a place of a cut that nobody else holds.
 pub(crate) fn put_row(stored: &mut Option<Stored>, place: usize, row: CutRow)
     requires { IfSome stored.old (IsOwnAt place) }
     ensures { stored.new ≡ option_map (own_with place row) stored.old }

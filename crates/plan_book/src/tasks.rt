@@ -67,7 +67,8 @@ impl Book {
     }
 }
 
-/// Counts one task more of a planner; none of planner 0.
+// Counts one task more as done by a planner. Planner 0, which stands for calls outside the scripts,
+// has no tasks.
 pub(crate) fn count_task(done: &mut Vec<usize>, planner: u32)
     requires there { planner ≤ length done.old.items }
     requires room { (k : ℕ) → k < length done.old.items

@@ -7,8 +7,9 @@ use rail_model::{Edit, OutOfMemory};
 use std::marker::Model;
 use std::mem;
 
-/// The tables of a line, with the same tables once more where they can be had: an edit is tried on
-/// these, so that nothing is copied for it, and nothing lost if it fails. Contracts see the tables.
+// Twin tables are a line's tables and, where memory allows, the same tables once more. An edit is
+// tried on the second ones, so that nothing is copied for it, and nothing lost if it fails.
+// Contracts see the tables.
 #[derive(Drop)]
 pub(crate) struct TwinTables {
     tables: LineTables,
@@ -27,7 +28,7 @@ impl Model for TwinTables {
 }
 
 impl TwinTables {
-    /// These tables, which no spare ones stand beside yet.
+    // Twin tables of these, without second ones yet.
     pub(crate) fn of(tables: LineTables) -> TwinTables
         ensures { result ≡ tables }
     {
@@ -37,14 +38,14 @@ impl TwinTables {
         }
     }
 
-    /// The tables.
+    // The tables.
     pub(crate) fn tables(&self) -> &LineTables
         ensures { result.now ≡ self.now }
     {
         &self.tables
     }
 
-    /// The spare tables, or a copy of the tables where there are none.
+    // The spare tables, or a copy of the tables where there are none.
     pub(crate) fn take_spare(&mut self) -> Result<LineTables, OutOfMemory>
         ensures same { self.new ≡ self.old }
         ensures spare { IfOk result (λ spare. spare ≡ self.old) }
@@ -55,7 +56,7 @@ impl TwinTables {
         }
     }
 
-    /// Gives the spare tables back, unchanged.
+    // Gives the spare tables back, unchanged.
     pub(crate) fn give_back(&mut self, spare: LineTables)
         requires { spare ≡ self.old }
         ensures { self.new ≡ self.old }
@@ -63,7 +64,7 @@ impl TwinTables {
         self.spare = Some(spare);
     }
 
-    /// Puts the tables after an edit in the place of these, which become the spare ones after it.
+    // Puts the tables after an edit in the place of these, which the edit makes the second ones.
     pub(crate) fn replace(&mut self, next: LineTables, edit: Edit)
         requires { next ≡ edits.after self.old edit }
         ensures { self.new ≡ next }
