@@ -10,9 +10,10 @@ use std::marker::Model;
 use std::sync::Wait;
 use turn_desk::{Desk, Pass};
 
-/// The access of a pass to the book at a desk. Each call takes the turn, makes one call of the
-/// book, and gives the turn back, also where memory ran out. No answer is worked out in a turn.
-/// Contracts see the pass and the counts.
+/// A seat is the board of a thread that shares a book with others: by its pass, it makes calls of
+/// the book at a desk. Each call takes the turn, makes one call of the book, and gives the turn
+/// back, also where memory ran out. No answer is worked out in a turn. Contracts see the pass and
+/// the counts.
 #[derive(Drop)]
 pub struct Seat<'a> {
     desk: &'a Desk<Book>,
