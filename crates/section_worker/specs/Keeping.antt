@@ -24,7 +24,7 @@ pub record Working : Type 0 where
 abbrev pub new_worker : ℕ → ℕ → ℕ → Working
 new_worker share of actor = record { share = share; of = of; actor = actor; kept = [] }
 
--- the same worker, whatever it keeps
+-- two workers have one share and one actor, whatever they keep
 pub record IsSameWorker (old new : Working) : Type 0 where
   pub share : new.share ≡ old.share
   pub of : new.of ≡ old.of

@@ -19,7 +19,7 @@ use Rattle.section_worker.specs.declared.worker.Turned.{Turned}
 use Rattle.section_worker.specs.declared.worker.Turned.TheVariants as turned
 use Rattle.section_worker.specs.Keeping.{Working, kept_for, uses_missing, KeepsRows, Forgets}
 
--- the same board, whatever it has seen
+-- two boards are access of one pass to one journal, whatever they have seen of it
 pub record IsSameBoard (old new : Access) : Type 0 where
   pub access : IsAccess new
   pub journal : new.journal ≡ old.journal

@@ -1,4 +1,4 @@
-//! Workers.
+//! A worker, its turns, and what it keeps of sections.
 ghost use Rattle.std.specs.Prelude.{◌≡◌, ◌+◌, ◌<◌, ◌≤◌, IfOk, OnOk, OnErr, IfSome};
 ghost use Rattle.plan_model.specs.Answer.{IsAnswer};
 ghost use Rattle.plan_model.specs.Board.{IsAccess, IsCall, Gives, CountsHanded};
@@ -32,14 +32,14 @@ pub enum Turned {
     Idle { left: u64 },
 }
 
-/// What is kept of a section: the number of its last reading, and that reading's rows.
+// What a worker keeps of a section: the number of its last reading, and that reading's rows.
 #[derive(Drop)]
 pub(crate) struct Held {
     at: u64,
     keep: Keep,
 }
 
-/// A worker: it answers those sections whose number leaves the rest `share` on division by `of`.
+/// A worker answers those sections whose number leaves the rest `share` on division by `of`.
 /// Contracts see the two numbers, the worker's actor at the gate, and what it keeps of sections.
 #[derive(Drop)]
 pub struct Worker {
@@ -141,10 +141,13 @@ impl Worker {
         }
     }
 
-    /// The answer of a reading. What is kept of its section is used up for it, and has to agree
-    /// with the reading: a row of one name and one stamp is one row. The reading's rows are kept.
-    /// At most the uses of those rows are taken that aren't kept with their name and stamp. Without
-    /// memory nothing is kept of the section.
+    /// The answer of a reading, by what is kept of its section, which is used up for it. The
+    /// reading's rows are kept in its place. At most the uses of those rows are taken that aren't
+    /// kept with their name and stamp. Without memory nothing is kept of the section.
+    ///
+    /// The condition: where something is kept of the section, a kept row and a row of the reading
+    /// that have one name and one stamp are equal. Readings of one journal, an earlier and a later,
+    /// are so (`plan_model::stamp_tells_row`).
     pub fn answer<R: Rows>(&mut self, reading: &mut R) -> Result<Answer, OutOfMemory>
         requires { IfSome (kept_for self.old (R.shown reading.old).cut.section.name)
             (λ h. AgreesWith h.keep (R.shown reading.old).cut) }
