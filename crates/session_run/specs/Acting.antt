@@ -30,7 +30,7 @@ rests (turned.Stale section at by) = false
 rests (turned.Current section at) = false
 rests (turned.Idle left) = left == 0
 
--- the same access, whatever was seen
+-- two accesses are of one pass to one journal, whatever they have seen of it
 pub record IsSameAccess (old new : Access) : Type 0 where
   pub journal : new.journal ≡ old.journal
   pub pass : new.pass ≡ old.pass

@@ -13,7 +13,7 @@ use section_worker::{Turned, Worker};
 use std::sync::Wait;
 use timetable_desk::Seat;
 
-// What an actor is: the planner of this number, or a worker.
+// An actor's part in the session: the planner of this number, or a worker.
 #[derive(Drop)]
 pub(crate) enum Part {
     Planner(u32),
@@ -71,7 +71,7 @@ impl<'a> Actor<'a> {
     }
 }
 
-// A planner's next step: whether it has ended.
+// Makes a planner's next step, and says whether the planner has ended.
 fn step<R: Wait, B: Board, G: Gate>(
     rt: &R,
     gate: &G,
@@ -98,8 +98,8 @@ fn has_ended(stepped: &Stepped) -> bool
     matches!(stepped, Stepped::Ended)
 }
 
-// A worker's next turn: whether it has ended. Where its share is current and tasks are left, it
-// waits for a step of a planner.
+// Makes a worker's next turn, and says whether the worker has ended. Where its share is current and
+// tasks are left, it waits for a step of a planner.
 fn turn<R: Wait, B: Board, G: Gate>(
     rt: &R,
     gate: &G,

@@ -17,7 +17,7 @@ use rail_model::OutOfMemory;
 use section_worker::Worker;
 use std::alloc::Global;
 
-// By whom everything is done: by the pass that opens the journal.
+// The pass by which everything is done: the one that opens the journal.
 const PASS: u32 = 0;
 
 /// Runs the scripts of planners over these tables, whose last edit had the number `at`, in one

@@ -25,7 +25,8 @@ use turn_desk::{Desk, Pass};
 /// The most workers of a session.
 pub const WORKERS: u32 = 16;
 
-// At the gate worker w, from 1, is the actor of this number and w.
+// At the gate worker w, from 1, is the actor of this number and w, as `rail_outside::Gate::pass`
+// says. Planners, of whom there are at most 16, have the numbers below it.
 const GATE_WORKERS: u32 = 100;
 
 /// Runs the scripts of planners over these tables, whose last edit had the number `at`, with
@@ -109,7 +110,7 @@ fn actor_of<'a>(
     }
 }
 
-// What the actor of a number is: the planner of this number, or the worker that comes after all
+// The part of the actor of a number: the planner of this number, or the worker that comes after all
 // planners.
 fn part_of(alloc: Global, number: u32, planners: u32, workers: u32) -> Part
     requires from_one { 1 ≤ number }
