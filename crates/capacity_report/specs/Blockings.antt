@@ -15,7 +15,7 @@ abbrev pub blocking_row : Row → Row → Blocking → Row
 blocking_row head block b =
     head ++ block ++ map signed_decimal (b.used.start ∷ b.used.«end» ∷ []) ++ map signed_decimal b.parts
 
--- the same with the block's name among the names, which stand by the blocks' numbers
+-- the row of a blocking whose block's name stands in a list of names, by the blocks' numbers
 abbrev pub named_row : List Row → Row → Blocking → Row
 named_row names head b = blocking_row head (slice_index_or names b.used.block ([] ∷ [])) b
 

@@ -14,11 +14,11 @@ use std::alloc::Global;
 /// How much of a compressed timetable is written. Other answers have the same rows in each detail.
 #[derive(Clone, Copy)]
 pub enum Detail {
-    /// The head: how long the section is occupied, and the rates.
+    /// The rows `ordered` and `rate`: how long the section is occupied, and the rates.
     Head,
     /// The head, and each train with its entries and its tie.
     Trains,
-    /// The same, and the chain of the critical train.
+    /// The head, each train, and the chain of the critical train.
     Full,
 }
 
@@ -41,7 +41,7 @@ pub fn answer_rows(
     rows_of(alloc, sheet, section, answer, detail)
 }
 
-// The same.
+// Adds the rows of a section's answer, by its kind.
 fn rows_of(
     alloc: Global,
     sheet: &mut Sheet,

@@ -35,7 +35,7 @@ pub(crate) fn plan_rows(
     }
 }
 
-// Adds the head.
+// Adds the rows `ordered` and `rate`.
 fn head_rows(
     alloc: Global,
     sheet: &mut Sheet,
@@ -49,7 +49,7 @@ fn head_rows(
     rate_row(alloc, sheet, section, plan)
 }
 
-// Adds the head and the trains.
+// Adds the head, and a row for each train.
 fn rows_with_trains(
     alloc: Global,
     sheet: &mut Sheet,

@@ -37,7 +37,7 @@ pub fn headways_text(
     text_by_names(rt, alloc, cut, table, &names)
 }
 
-// The same with the names of the members.
+// The text of the rows of the headways of a cut, by the names of its members as fields of a row.
 fn text_by_names(
     rt: &(impl Threads + Sync),
     alloc: Global,
@@ -60,7 +60,8 @@ fn text_by_names(
     text_in_parts(rt, alloc, cut.rows.len(), LEAST_MEMBERS, &text_of)
 }
 
-// The text of the rows of the headways from some members: those from one number to another.
+// The text of the rows of the headways from the members of a part: those from `first` to before
+// `end`.
 fn text_of_part(
     alloc: Global,
     cut: &Cut,
@@ -119,7 +120,7 @@ fn rows_from(
     Ok(())
 }
 
-// What stands at the head of each row of a train's headways.
+// The fields with which each row of a train's headways begins.
 fn head_of(alloc: Global, first: &Name) -> Result<Written, OutOfMemory>
     ensures { IfOk result (λ head. head ≡ codes "headway" ∷ first.now ∷ []) }
 {

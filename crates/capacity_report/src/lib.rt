@@ -1,4 +1,20 @@
 //! The texts of the commands, or their rows, written to a sheet.
+//!
+//! Each call that takes a sheet adds its rows to it, or a prefix of them where memory runs out.
+//! Which rows these are stands in `specs/`.
+//!
+//! `stairs_text` makes the hop beyond each signal once. The runs are then parted among threads, and
+//! each writes the rows of its runs to a sheet of its own. The texts of these sheets are the pieces
+//! of the whole. `headways_text` writes its table in parts in the same way.
+//!
+//! ```text
+//! let mut sheet = Sheet::new(alloc);
+//! let mut tally = Tally::new();
+//! answer_rows(alloc, &mut sheet, &section, &answer, Detail::Head)?;
+//! tally.add(&answer);
+//! total_row(&mut sheet, &tally)?;
+//! let text = sheet.into_text();
+//! ```
 #![tactic(auto)]
 
 mod answers;

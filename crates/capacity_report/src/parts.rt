@@ -54,7 +54,7 @@ fn start_of(count: usize, parts: usize, i: usize) -> usize
     i * count / parts
 }
 
-// The text of these pieces, where each could be made.
+// The text of these pieces in their order, if each could be made.
 fn one_after_another(
     alloc: Global,
     pieces: Vec<Result<Vec<u8>, OutOfMemory>>,

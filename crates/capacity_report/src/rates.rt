@@ -53,7 +53,8 @@ pub(crate) fn is_within(plan: &Plan) -> bool
     is_at_most_one(plan.occupancy, plan.add_percent, plan.to_s - plan.from_s)
 }
 
-// The same by its parts: they are compared as they are, since it need not be reduced.
+// Whether the consumption by these numbers is at most 1. Its parts are compared as they are, since
+// a fraction need not be reduced for that.
 fn is_at_most_one(occupancy: u64, add_percent: u32, period_s: u32) -> bool
     requires { 0 < period_s }
     ensures { result ≡ rates.is_within (rates.consumption occupancy add_percent period_s) }

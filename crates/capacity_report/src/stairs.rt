@@ -35,7 +35,7 @@ pub fn stairs_text(
     text_of_paths(rt, alloc, &names, &paths, tables.runs() as usize)
 }
 
-// The text of the rows of these paths.
+// The text of the rows of the paths of so many runs.
 fn text_of_paths(
     rt: &(impl Threads + Sync),
     alloc: Global,
@@ -58,7 +58,7 @@ fn text_of_paths(
     text_in_parts(rt, alloc, count, LEAST_RUNS, &text_of)
 }
 
-// The text of the rows of the paths from one number to another.
+// The text of the rows of the paths from `first` to before `end`.
 fn text_of_part(
     alloc: Global,
     names: &[Written],
@@ -109,7 +109,7 @@ fn run_rows(
     blocking_rows(sheet, names, &head, all.slice())
 }
 
-// What stands at the head of each row of a run.
+// The fields with which each row of a run begins.
 fn head(alloc: Global, path: &Path) -> Result<Written, OutOfMemory>
     ensures { IfOk result (λ head. head ≡ codes "use" ∷ path.now.run ∷ []) }
 {

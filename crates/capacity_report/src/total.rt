@@ -98,7 +98,7 @@ fn is_within_capacity(answer: &Answer) -> bool
     }
 }
 
-// The same of one that is over it.
+// Whether an answer is a compressed timetable whose capacity consumption is above 1.
 fn is_over_capacity(answer: &Answer, is_within: bool) -> bool
     requires { is_within ≡ totals.is_within_capacity answer.now }
     ensures { result ≡ totals.is_over_capacity answer.now }
