@@ -40,8 +40,8 @@ pub fn cut_line(alloc: Global, cut: &Cut) -> Result<Cutting, OutOfMemory>
     cut_from(alloc, &line, 0, true, none)
 }
 
-// The same, where the line is cut up to a block. Whether the guess at the next piece's end is
-// trusted makes no difference to what is found.
+// The cutting of a line that is cut up to the block `first` already. Whether the guess at the next
+// piece's end is trusted makes no difference to what is found.
 fn cut_from(
     alloc: Global,
     line: &Line,

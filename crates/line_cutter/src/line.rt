@@ -10,7 +10,8 @@ use rail_model::{OutOfMemory, Use};
 use std::alloc::Global;
 use std::marker::Model;
 
-/// A cut, with what is known of its trains' ways and guessed of its pieces. Contracts see the cut.
+// A line is a cut that is to be cut into pieces, with what is known of its trains' ways and guessed
+// of its pieces. Contracts see the cut.
 #[derive(Drop)]
 pub(crate) struct Line<'a> {
     cut: FitCut<'a>,
@@ -33,7 +34,7 @@ impl<'a> Model for Line<'a> {
 }
 
 impl<'a> Line<'a> {
-    /// The line of this cut.
+    // The line of this cut.
     pub(crate) fn of(alloc: Global, cut: FitCut<'a>) -> Result<Line<'a>, OutOfMemory>
         ensures { IfOk result (λ line. line ≡ cut.entry) }
     {
@@ -47,14 +48,14 @@ impl<'a> Line<'a> {
         })
     }
 
-    /// The cut itself.
+    // The cut itself.
     pub(crate) fn cut(&self) -> &FitCut<'a>
         ensures { result.now ≡ self.now }
     {
         &self.cut
     }
 
-    /// How many blocks the line has.
+    // How many blocks the line has.
     pub(crate) fn block_count(&self) -> u32
         ensures count { result ≡ block_count self.now }
         ensures few { result ≤ 256 }
@@ -63,14 +64,14 @@ impl<'a> Line<'a> {
         self.cut.sound().block_count()
     }
 
-    /// For each train whether it goes one way.
+    // For each train whether it goes one way.
     pub(crate) fn one_way(&self) -> &[bool]
         ensures { AreOneWay self.now.rows result.now }
     {
         &self.one_way
     }
 
-    /// Where the longest orderly piece from a block on is likely to end.
+    // Where the longest orderly piece from a block on is likely to end.
     pub(crate) fn likely_end(&self, a: u32) -> u32
         requires { a < block_count self.now }
         ensures some { a < result }

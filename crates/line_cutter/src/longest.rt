@@ -13,22 +13,22 @@ use rail_model::OutOfMemory;
 use std::alloc::Global;
 use train_order::order;
 
-// How many blocks a piece has at most whose opposite trains are looked for pair by pair.
+// The most blocks of a piece whose opposite trains are looked for pair by pair, before an order is.
 const FEW: u32 = 8;
 
-/// The longest orderly piece from a block on.
+// The longest orderly piece from a block on.
 #[derive(Drop)]
 pub(crate) struct Longest {
-    /// The position of the block before which it ends, or the number of blocks.
+    // The position of the block before which it ends, or the number of blocks.
     pub(crate) end: u32,
-    /// Why the piece and the next block have no order, where there is a next block.
+    // Why the piece and the next block have no order, where there is a next block.
     pub(crate) disorder: Option<Disorder>,
 }
 
-/// The longest orderly piece from block a on, where it is likely to end before another block. One
-/// of 1 block is orderly. The likely piece is tried, then that with one block more, and then pieces
-/// twice as long each, up to the first that isn't orderly; and then those between it and the one
-/// before.
+// The longest orderly piece from block a on, where it is likely to end before another block. One
+// of 1 block is orderly. The likely piece is tried, then that with one block more, and then pieces
+// twice as long each, up to the first that isn't orderly; and then those between it and the one
+// before.
 pub(crate) fn longest_from(
     alloc: Global,
     line: &Line,

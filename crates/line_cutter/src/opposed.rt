@@ -18,14 +18,15 @@ use train_order::place_of_link;
 // How many trains whose spans meet that of one train are tried before the search is given up.
 const TRIES: u32 = 16;
 
-/// A train's first and last start: seconds from the timetable's origin.
+// A train's first and last start: seconds from the timetable's origin.
 #[derive(Clone, Copy)]
 pub(crate) struct Span {
     first: i64,
     last: i64,
 }
 
-/// The two opposite trains that a cut is answered, where it has some and they are found soon.
+// The least two opposite trains of a cut, as its disorder, if there are any and they are found
+// soon.
 pub(crate) fn soon_opposite(alloc: Global, cut: &SoundCut) -> Result<Option<Disorder>, OutOfMemory>
     ensures { IfOk result (λ found. IfSome found (λ disorder. IsOrdering cut.now (Err disorder))) }
 {
@@ -36,7 +37,7 @@ pub(crate) fn soon_opposite(alloc: Global, cut: &SoundCut) -> Result<Option<Diso
     }
 }
 
-// Members i and j are opposite.
+// The disorder of members i and j, each of which precedes the other somewhere.
 fn told(cut: &SoundCut, i: u32, j: u32) -> Disorder
     requires least { opposite_pair cut.now ≡ Some (i, j) }
     requires opposed { AreOpposed cut.now i j }
@@ -164,7 +165,7 @@ fn span_of(uses: &[Use]) -> Span
     span
 }
 
-// The span with one use more.
+// A train's span, widened by one use.
 fn widened(span: Span, one: &Use) -> Span
     ensures first { result.first ≡ int_min span.first one.now.start }
     ensures last { result.last ≡ int_max span.last one.now.start }

@@ -12,10 +12,11 @@ use plan_model::{Cut, CutRow, least_start};
 use rail_model::{List, OutOfMemory, Section, Use};
 use std::alloc::Global;
 
-// Seconds: the end of a piece's window, after all moments.
+// Seconds: the end of a piece's window. It is one more than `GREATEST_MOMENT_S`, so every moment of
+// a train lies before it, and a piece has all trains that use its blocks.
 const WINDOW_END_S: u32 = 50_000_001;
 
-/// The piece from block a to before block b.
+// The cut of the piece from block a to before block b.
 pub(crate) fn piece(alloc: Global, line: &Line, a: u32, b: u32) -> Result<Cut, OutOfMemory>
     requires from { a ≤ b }
     requires to { b ≤ block_count line.now }
@@ -129,7 +130,8 @@ fn piece_uses(
     }
 }
 
-// The same where the uses go one way: those of the piece stand side by side.
+// The uses of a row that are of the piece, where the row's uses go one way: then they stand side by
+// side.
 fn one_way_uses(alloc: Global, uses: &[Use], a: u32, b: u32) -> Result<List<Use>, OutOfMemory>
     requires { IsOneWay uses.now }
     ensures { IfOk result (λ some. some
@@ -177,7 +179,7 @@ fn likely_first(uses: &[Use], a: u32, b: u32) -> usize {
     before as usize
 }
 
-// Whether the use at a place is of the piece, and the one before it isn't.
+// Whether the use at a position is of the piece, and the one before it isn't.
 fn begins(uses: &[Use], first: usize, a: u32, b: u32) -> bool
     ensures { IsTrue result → IsBeginning uses.now a b first }
 {
@@ -186,7 +188,7 @@ fn begins(uses: &[Use], first: usize, a: u32, b: u32) -> bool
         && (first == 0 || !is_within(&uses[first - 1], a, b))
 }
 
-// The uses from a place on, as long as they are of the piece.
+// The uses from a position on, as long as they are of the piece.
 fn moved_run(
     alloc: Global,
     uses: &[Use],
@@ -223,7 +225,7 @@ fn moved_uses(alloc: Global, uses: &[Use], a: u32, b: u32) -> Result<List<Use>, 
     Ok(some)
 }
 
-// A use with its block's position in a piece that begins no later.
+// A use, with its block's position among the blocks of a piece that begins with block a.
 fn moved(one: Use, a: u32) -> Use
     requires { a ≤ one.block }
     ensures { result ≡ pieces.moved_use a one }
