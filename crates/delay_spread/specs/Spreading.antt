@@ -47,6 +47,6 @@ abbrev pub IsSpreading : Cut → List ℕ → Result Spread Disorder → Type 0
 IsSpreading cut delays (Ok spread) = (opposite cut ≡ None) × (remaining cut ≡ []) × IsSpread cut delays spread
 IsSpreading cut delays (Err disorder) = IsOrdering cut (Err disorder)
 
--- the same for some delays
+-- some delays, spread over the cut's trains, come to this
 abbrev pub IsSpreadOf : Cut → Spread → Type 0
 IsSpreadOf cut spread = (delays : List ℕ) × IsSpread cut delays spread

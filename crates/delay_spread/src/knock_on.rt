@@ -8,7 +8,7 @@ ghost use Rattle.delay_spread.specs.Spreading as spreading;
 
 use plan_model::{FitCut, SoundCut};
 
-/// How much later a train enters than its planned entry and its own delay say: seconds.
+// How much later a train enters than its planned entry and its own delay say: seconds.
 pub(crate) fn later_by(planned: i64, delay: u32, entry: i64) -> u64
     requires { IsMoment planned }
     ensures { result ≡ delayed.later_by planned delay entry }
@@ -26,7 +26,7 @@ fn knock_on(cut: &SoundCut, delays: &[u32], entries: &[i64], i: u32) -> u64
     later_by(cut.row(i).entry, delays[i as usize], entries[i as usize])
 }
 
-/// How many trains have a knock-on delay.
+// How many trains have a knock-on delay.
 pub(crate) fn late(cut: &SoundCut, delays: &[u32], entries: &[i64]) -> u32
     requires delays { length delays.now ≡ member_count cut.now }
     requires entries { length entries.now ≡ member_count cut.now }
@@ -41,7 +41,7 @@ pub(crate) fn late(cut: &SoundCut, delays: &[u32], entries: &[i64]) -> u32
     count
 }
 
-/// All knock-on delays together: seconds.
+// All knock-on delays together: seconds.
 pub(crate) fn sum(cut: &FitCut, delays: &[u32], entries: &[i64]) -> u64
     requires delays { length delays.now ≡ member_count cut.now }
     requires entries { length entries.now ≡ member_count cut.now }

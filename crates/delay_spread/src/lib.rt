@@ -1,7 +1,11 @@
 //! Knock-on delays: given delays spread over the planned timetable of a section, with running
 //! times, dwell times and the order kept, so that no train enters later than it must.
 //!
+//! The trains are placed as in compression, but each has a floor of its own, before which it can't
+//! enter: its planned entry and its own delay.
+//!
 //! ```text
+//! let delays = [300, 0]; // seconds, in the order of the trains' names
 //! match spread(alloc, &cut, &delays)? {
 //!     Ok(spread) => spread_rows(&mut sheet, &cut, &spread)?,
 //!     Err(disorder) => ..,

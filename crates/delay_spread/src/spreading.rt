@@ -46,7 +46,7 @@ pub fn spread(
     }
 }
 
-// The same where the trains have this order.
+// Delays spread over the planned timetable of a cut whose trains have this order.
 fn spread_in(
     alloc: Global,
     cut: &FitCut,
@@ -64,7 +64,7 @@ fn spread_in(
     spread_of_placed(alloc, cut, delays, &placing.entries, &placing.ties)
 }
 
-// The same where the trains are placed.
+// Delays that are spread, where the trains are placed from their floors.
 fn spread_of_placed(
     alloc: Global,
     cut: &FitCut,
@@ -88,7 +88,7 @@ fn spread_of_placed(
     })
 }
 
-// The floor of each train: its planned entry and its own delay.
+// The floor of each train, before which it can't enter: its planned entry and its own delay.
 fn floors(alloc: Global, cut: &SoundCut, delays: &[u32]) -> Result<Vec<i64>, OutOfMemory>
     requires count { length delays.now ≡ member_count cut.now }
     requires limit { All (λ d. d ≤ GREATEST_DELAY_S) delays.now }
