@@ -64,7 +64,7 @@ start_of (Some span) = span.start
 abbrev pub StartsNear : Option Span → Type 0
 StartsNear span = IfSome span (λ s. IsNearEnd s.start)
 
--- the same time from the spans of the blocks
+-- how long a block is kept up to the end of a copy of member r, from the spans of the blocks
 abbrev pub kept_by : Cut → ℕ → List (Option Span) → ℤ → ℕ → ℤ
 kept_by cut r spans entry block = end_at (member cut r) entry block -ℤ start_of (slice_index_or spans block None)
 

@@ -16,8 +16,8 @@ use plan_model::{SoundCut, shift};
 use rail_model::{PATH_HOPS, Use};
 use train_placing::Last;
 
-/// The headway of a train to itself on the blocks: how long it keeps the block that it keeps
-/// longest, in seconds.
+// The headway of a train to itself on the blocks: how long it keeps the block that it keeps
+// longest, in seconds.
 pub(crate) fn own_headway(cut: &SoundCut, row: u32) -> i64
     requires { row < member_count cut.now }
     ensures greatest { IsGreatest (uses_place (member cut.now row)) (given.time_at cut.now row)
@@ -55,7 +55,7 @@ fn time_of(one: Use) -> i64
     one.end - one.start
 }
 
-/// When the first copy of a train enters, by the last uses of the blocks.
+// When the first copy of a train enters, by the last uses of the blocks.
 pub(crate) fn first_copy(cut: &SoundCut, row: u32, last: &[Option<Last>]) -> i64
     requires there { row < member_count cut.now }
     requires count { length last.now ≡ place_count cut.now }
@@ -87,7 +87,7 @@ fn asked_at(cut: &SoundCut, row: u32, last: &[Option<Last>], block: u32) -> Opti
     }
 }
 
-// When a copy, planned to enter at a moment, can enter after a place is free for one of its uses.
+// When a copy can enter that is to start a use as the place is free: the entry moves with the use.
 fn asked(until: i64, one: Use, planned: i64) -> i64
     requires until { IsNear until }
     requires start { IsMoment one.start }
@@ -98,7 +98,7 @@ fn asked(until: i64, one: Use, planned: i64) -> i64
     until - (one.start - planned)
 }
 
-// Until when a place is used.
+// Until when the last use keeps a place, and 0 where there is none.
 fn until(last: Option<Last>) -> i64
     requires { IsNearLast last }
     ensures is { result ≡ given.until last }
@@ -110,8 +110,9 @@ fn until(last: Option<Last>) -> i64
     }
 }
 
-/// By trains that enter at these moments, in seconds: how long the busiest block is kept, and how
-/// long a block that a train uses is kept at most up to the end of a copy that enters at another.
+// Two times in seconds, by trains that enter at `entries`: how long the busiest block is kept; and
+// how long, at most, a block that the train uses is kept up to the end of a copy that enters at
+// `entry`.
 pub(crate) fn times_kept(cut: &SoundCut, row: u32, entries: &[i64], entry: i64) -> (u64, i64)
     requires there { row < member_count cut.now }
     requires count { length entries.now ≡ member_count cut.now }
@@ -129,8 +130,8 @@ pub(crate) fn times_kept(cut: &SoundCut, row: u32, entries: &[i64], entry: i64) 
     (alone, kept_to(cut, row, spans, entry))
 }
 
-// How long a block that a train uses is kept at most, from the start of its span up to the end of
-// a copy that enters at a moment.
+// How long, at most, a block that a train uses is kept from the start of its span up to the end of
+// a copy that enters at `entry`.
 fn kept_to(cut: &SoundCut, row: u32, spans: &[Option<Span>], entry: i64) -> i64
     requires there { row < member_count cut.now }
     requires count { length spans.now ≡ block_count cut.now }
@@ -147,7 +148,8 @@ fn kept_to(cut: &SoundCut, row: u32, spans: &[Option<Span>], entry: i64) -> i64
     greatest
 }
 
-// How long a block is kept up to the end of a copy of a train, if the train uses it.
+// How long a block is kept from the start of its span up to the end of a copy that enters at
+// `entry`, if the train uses it.
 fn kept_at(cut: &SoundCut, row: u32, spans: &[Option<Span>], entry: i64, block: u32) -> Option<i64>
     requires there { row < member_count cut.now }
     requires block { block < length spans.now }
@@ -166,7 +168,7 @@ fn kept_at(cut: &SoundCut, row: u32, spans: &[Option<Span>], entry: i64, block: 
     }
 }
 
-// When a span starts.
+// When a span starts, and 0 where there is none.
 fn start_of(span: Option<Span>) -> i64
     requires { given.StartsNear span }
     ensures is { result ≡ given.start_of span }
@@ -178,7 +180,7 @@ fn start_of(span: Option<Span>) -> i64
     }
 }
 
-// How long it is from one moment to another.
+// The time between two moments: seconds.
 fn from_to(start: i64, end: i64) -> i64
     requires start { given.IsNearEnd start }
     requires end { given.IsNearEnd end }
@@ -188,7 +190,7 @@ fn from_to(start: i64, end: i64) -> i64
     end - start
 }
 
-// The greater of the best so far and of one more, if there is one more.
+// The greater of two numbers, of which the second may be missing.
 fn greater(best: i64, one: Option<i64>) -> i64
     ensures { result ≡ given.greater best one }
 {

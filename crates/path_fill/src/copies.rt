@@ -6,8 +6,8 @@ ghost use Rattle.path_fill.specs.Search.{IsFillBy};
 use crate::found::Fill;
 use rail_model::Section;
 
-/// How many copies a section can take, by the occupancy time of its trains alone, by how long a
-/// block is kept up to the end of the first copy, and by the headway of the copies, all in seconds.
+// How many copies a section can take, by the occupancy time of its trains alone, by how long a
+// block is kept up to the end of the first copy, and by the headway of the copies, all in seconds.
 pub(crate) fn fill_up(section: &Section, alone: u64, first: u64, headway: u64) -> Fill
     requires window { section.now.from_s < section.now.to_s }
     requires some { 0 < headway }
@@ -36,8 +36,8 @@ fn most_time(window: u32, add_percent: u32) -> u64
     100 * u64::from(window) / (100 + u64::from(add_percent))
 }
 
-// How many copies end within a time, of which the first ends after another, and each further one
-// so much later.
+// How many copies end within a time: the first ends after `first` seconds, and each further one
+// `headway` seconds later.
 fn copies_within(most: u64, first: u64, headway: u64) -> u64
     requires some { 0 < headway }
     requires most { most ≤ 2 ^ 53 }

@@ -24,6 +24,9 @@ use train_placing::place_in_window;
 /// use, and each after the one before; all enter as early as that allows, and none before the
 /// window. A connection binds no copy. The error is the answer of the cut, exactly where the cut
 /// isn't compressed. Nothing is taken of a crowded cut, and of another the whole cut, once.
+///
+/// For a caller that has a reading, as a worker of a session has. The command `fill` has the cut,
+/// and calls `fill_of_cut`.
 pub fn fill<R: Rows>(
     alloc: Global,
     reading: &mut R,
@@ -40,7 +43,8 @@ pub fn fill<R: Rows>(
     fill_of_cut(alloc, reading.whole(), row)
 }
 
-/// The same of a cut that isn't crowded.
+/// The greatest number of copies of a train that can follow all trains of a cut, which has at most
+/// `MEMBERS` members: as `fill` says of a reading's cut. `row` is the train's position.
 pub fn fill_of_cut(alloc: Global, cut: &Cut, row: u32) -> Result<Result<Fill, Answer>, OutOfMemory>
     requires sound { IsSoundCut cut.now }
     requires few { member_count cut.now ≤ MEMBERS }
@@ -56,7 +60,7 @@ pub fn fill_of_cut(alloc: Global, cut: &Cut, row: u32) -> Result<Result<Fill, An
     }
 }
 
-// The same where the trains have this order.
+// How many copies of a train a cut can take whose trains have this order.
 fn fill_in(alloc: Global, cut: &FitCut, order: &[u32], row: u32) -> Result<Fill, OutOfMemory>
     requires none { remaining cut.now ≡ [] }
     requires order { IsOrder cut.now order.now }

@@ -1,10 +1,13 @@
 //! How many more trains fit into a section: copies of one of its trains that follow all planned
 //! trains, as many as leave the capacity consumption at most 1.
 //!
+//! The trains are compressed first. The first copy enters as early as the last uses of its blocks
+//! allow, and each further one a constant headway later. So the occupancy time with any number of
+//! copies is known, and the greatest number of them is found by one division.
+//!
 //! ```text
-//! let mut reading = Reading::new(cut, at);
-//! match fill(alloc, &mut reading, row)? {
-//!     Ok(fill) => fill_rows(alloc, &mut sheet, &section, &run, &fill)?,
+//! match fill_of_cut(alloc, &cut, row)? {
+//!     Ok(fill) => fill_rows(alloc, &mut sheet, &cut.section, &run, &fill)?,
 //!     Err(answer) => ..,
 //! }
 //! ```
