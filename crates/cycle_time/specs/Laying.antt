@@ -40,7 +40,7 @@ abbrev pub KeepsTurn : Cut → ℕ → List Visit → ℕ → List ℤ → ℕ �
 KeepsTurn cut place visits period entries k =
     Keeps period entries (edge_on cut (train_at visits k) (train_at visits (k + 1)) place false)
 
--- they do so for the first n visits
+-- entries keep these edges for the first n visits
 abbrev pub KeepTurns : Cut → ℕ → List Visit → ℕ → ℕ → List ℤ → Type 0
 KeepTurns cut place visits n period entries =
     (k : ℕ) → k + 1 < n → KeepsTurn cut place visits period entries k
@@ -79,12 +79,12 @@ pub record IsAdded (before after : List Edge) (e : Edge) : Type 0 where
   pub kept : (period : ℕ) (entries : List ℤ) → All (Keeps period entries) after → All (Keeps period entries) before
   pub more : (period : ℕ) (entries : List ℤ) → All (Keeps period entries) after → Keeps period entries e
 
--- the same of the edge from the last use of a place so far, if there is one
+-- the edge from the last use of a place so far, if there is one, is added to some edges
 abbrev pub IsLedTo : Option Ends → Stay → ℕ → List Edge → List Edge → Type 0
 IsLedTo None stay place before after = after ≡ before
 IsLedTo (Some ends) stay place before after = IsAdded before after (edge_to ends.last stay place false)
 
--- and of that to the first use by the next pattern
+-- the edge from the last use of a place to the first use by the next pattern, if there is one, is added to some edges
 abbrev pub IsLedOn : Option Ends → ℕ → List Edge → List Edge → Type 0
 IsLedOn None place before after = after ≡ before
 IsLedOn (Some ends) place before after = IsAdded before after (edge_to ends.last ends.first place true)
@@ -135,7 +135,7 @@ pub record AreLaid (cut : Cut) (some : List ℕ) (edges : List Edge) (ends : Lis
 abbrev pub gone : List ℕ → List ℕ → List Use → ℕ → List ℕ
 gone some more uses place = if list_any (λ u. u.block == place) uses then more else some
 
--- the same where of one train more some uses are laid
+-- the edges of some trains are laid, and those of one train more at some of its uses; the ends of each place are known
 pub record AreLaidSoFar (cut : Cut) (some more : List ℕ) (uses : List Use) (edges : List Edge) (ends : List (Option Ends))
     : Type 0 where
   pub each : All (IsEdge cut) edges

@@ -47,7 +47,7 @@ pub record IsRaisedBy (period : ℕ) (e : Edge) (before : List ℤ) (causes_befo
   pub entries : after ≡ slice_set before e.step.to (entry_at before e.step.from +ℤ asks period e)
   pub causes : causes_after ≡ slice_set causes_before e.step.to (Some e)
 
--- an entry that isn't before the least moment, nor later than the latest train enters that isn't behind a ring
+-- an entry from -2^40 to 2^40: no train enters later unless the causes behind it come to a ring
 pub record IsEarly (x : ℤ) : Type 0 where
   pub after : (pos 0 -ℤ pos (2 ^ 40)) ≤ℤ x
   pub before : x ≤ℤ pos (2 ^ 40)

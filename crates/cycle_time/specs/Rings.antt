@@ -79,7 +79,7 @@ pub record IsLoop (cut : Cut) (ring : List Edge) : Type 0 where
   pub some : 0 < laps ring
   pub few : length ring ≤ 768
 
--- it refuses a period: it asks for more than its patterns take
+-- a ring of edges refuses a period: it asks for more than its patterns take
 pub record IsRefusal (cut : Cut) (period : ℕ) (ring : List Edge) : Type 0 where
   pub is_loop : IsLoop cut ring
   pub more : (pos (laps ring) *ℤ pos period) <ℤ weights ring

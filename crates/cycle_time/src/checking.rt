@@ -15,6 +15,9 @@ use plan_model::{Cut, FitCut};
 /// cut without members, whether the period is 0 and both lists are empty. Any entries that repeat
 /// will do, not only the earliest. Nothing of the cycle is taken on trust: its numbers may be any,
 /// and its lists of any length. It takes no memory.
+///
+/// For whoever gets a cycle from elsewhere, as from a planner who drew up a regular timetable by
+/// hand, and wants to know whether it is right. The command `cycle` works out its own.
 pub fn shows(cut: &Cut, cycle: &Cycle) -> bool
     requires sound { IsSoundCut cut.now }
     requires few { member_count cut.now ≤ MEMBERS }
@@ -27,14 +30,14 @@ pub fn shows(cut: &Cut, cycle: &Cycle) -> bool
     }
 }
 
-// Whether it is the cycle of a cut without trains.
+// Whether a cycle is that of a cut without trains.
 fn is_still(cycle: &Cycle) -> bool
     ensures { IsTrue result ↔ IsStill cycle.now }
 {
     cycle.period == 0 && cycle.entries.is_empty() && cycle.ring.is_empty()
 }
 
-// The same as `shows` of a cut with trains.
+// Whether a cycle is one of a cut with trains, as `shows` says.
 fn shows_trains(cut: &FitCut, cycle: &Cycle) -> bool
     requires { IsSoundCut cut.now }
     ensures { IsTrue result ↔ Shows cut.now cycle.now }

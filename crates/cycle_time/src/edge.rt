@@ -8,14 +8,15 @@ use crate::found::Step;
 use plan_model::SoundCut;
 use train_order::Visit;
 
-/// A step, with how long after the first train the second must enter, patterns apart: seconds.
+// A step from one train to another, with its weight: how many seconds after the first train the
+// second must enter. Where the second is one of the next pattern, the period is taken off that.
 #[derive(Clone, Copy)]
 pub(crate) struct Edge {
     pub(crate) step: Step,
     pub(crate) weight: i64,
 }
 
-/// The edge from the train of one visit of a place to that of another.
+// The edge from the train of one visit of a place to that of another.
 pub(crate) fn edge_between(cut: &SoundCut, place: u32, one: Visit, other: Visit, next: bool) -> Edge
     requires one { IsVisitOf cut.now place one }
     requires other { IsVisitOf cut.now place other }
@@ -42,7 +43,7 @@ fn end_of(visit: Visit) -> i64
     visit.start + i64::from(visit.lasts_s)
 }
 
-/// How long after a train's entry it is at a moment.
+// How long after a train's entry a moment is: seconds.
 pub(crate) fn since(entry: i64, time: i64) -> i64
     requires entry { IsMoment entry }
     requires time { IsMoment time }
@@ -52,8 +53,8 @@ pub(crate) fn since(entry: i64, time: i64) -> i64
     time - entry
 }
 
-/// How long after a train another must enter, which starts so long after its entry as the first
-/// ends after its own.
+// How long after one train another must enter: the first ends its use of a place `until` seconds
+// after its entry, and the other starts there `from` seconds after its own.
 pub(crate) fn headway(until: i64, from: i64) -> i64
     requires until { IsSpan until }
     requires from { IsSpan from }

@@ -15,7 +15,7 @@ use crate::edge::{Edge, edge_between};
 use plan_model::{FitCut, MEMBERS, SoundCut};
 use train_order::{Visit, visits_at};
 
-/// Whether entries repeat in a period.
+// Whether entries repeat in a period.
 pub(crate) fn repeats(cut: &FitCut, period: u64, entries: &[i64]) -> bool
     requires { IsSoundCut cut.now }
     ensures { IsTrue result ↔ IsRepeating cut.now period entries.now }
@@ -82,7 +82,7 @@ fn keeps_place(cut: &FitCut, period: u64, entries: &[i64], place: u32) -> bool
     keeps_visits(sound, period, entries, place, &room[..count])
 }
 
-// The same where the visits of the place are known.
+// Whether entries keep a place that has these visits.
 fn keeps_visits(cut: &SoundCut, period: u64, entries: &[i64], place: u32, visits: &[Visit]) -> bool
     requires sound { IsSoundCut cut.now }
     requires count { length entries.now ≡ member_count cut.now }
@@ -144,7 +144,8 @@ fn keeps(entries: &[i64], edge: Edge, period: u64) -> bool
     is_asked(entries[edge.step.to as usize], asked)
 }
 
-// When the edge's second train can enter at the earliest, where its first enters at a moment.
+// When the second train of an edge can enter at the earliest, where the first enters at `entry`. It
+// is reckoned in 128 bits, since an entry from elsewhere may be any number.
 fn least_entry(entry: i64, edge: Edge, period: u64) -> i128
     ensures is { result ≡ entry +ℤ asks period edge }
 {
@@ -154,7 +155,7 @@ fn least_entry(entry: i64, edge: Edge, period: u64) -> i128
     i128::from(entry) + i128::from(edge.weight)
 }
 
-// Whether a moment is the one that is asked for, or a later one.
+// Whether an entry is no earlier than an edge asks for.
 fn is_asked(entry: i64, asked: i128) -> bool
     ensures { IsTrue result ↔ (asked ≤ℤ entry) }
 {

@@ -16,9 +16,9 @@ use plan_model::{FitCut, SoundCut};
 use rail_model::OutOfMemory;
 use std::alloc::Global;
 
-/// Edges that are enough: entries that keep them keep all places, whatever the period. They stand
-/// in the order of the trains to which they lead, an order of the cut, and those to the next
-/// pattern last.
+// Edges that are enough: entries that keep them keep all places, whatever the period. They stand
+// in the order of the trains to which they lead, an order of the cut, and those to the next
+// pattern last.
 pub(crate) fn edges(alloc: Global, cut: &FitCut, order: &[u32]) -> Result<Vec<Edge>, OutOfMemory>
     requires { IsOrder cut.now order.now }
     ensures { IfOk result (λ edges. AreEnough cut.now edges.items) }
@@ -30,7 +30,8 @@ pub(crate) fn edges(alloc: Global, cut: &FitCut, order: &[u32]) -> Result<Vec<Ed
     Ok(edges)
 }
 
-// Adds all edges, with a place for the first and the last use of each of the cut's places.
+// Adds all edges. `ends` has, by the places' positions, the first and the last use of each place so
+// far.
 fn lay_all(
     edges: &mut Vec<Edge>,
     cut: &SoundCut,
@@ -67,7 +68,8 @@ fn lay_in_turn(
     Ok(())
 }
 
-// Adds the edges to the next train of an order, on each of its places from the last train so far.
+// Adds the edges to the train at a position of the order: on each of its places from the last train
+// so far.
 fn lay_train(
     edges: &mut Vec<Edge>,
     cut: &SoundCut,
@@ -90,7 +92,8 @@ fn lay_train(
     Ok(())
 }
 
-// Adds the edge to a train on a place, which it is the last to use from then on.
+// Adds the edge to a train on a place, from the last train so far. The train is the last from then
+// on.
 fn lay_stay(
     edges: &mut Vec<Edge>,
     ends: &mut [Option<Ends>],

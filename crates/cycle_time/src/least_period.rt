@@ -13,7 +13,7 @@ use plan_model::FitCut;
 use rail_model::{List, OutOfMemory};
 use std::alloc::Global;
 
-/// The least period, the least entries that repeat in it, and a ring that refuses each lesser one.
+// The least period, the least entries that repeat in it, and a ring that refuses each lesser one.
 #[derive(Drop)]
 pub(crate) struct Found {
     pub(crate) period: u64,
@@ -21,8 +21,8 @@ pub(crate) struct Found {
     pub(crate) ring: List<Edge>,
 }
 
-/// The least period of a cut with members. Each period that is tried is the least that a ring
-/// allows; a ring that refuses it allows only more.
+// The least period of a cut with members. The search begins with 0. Where a ring refuses a period,
+// the next one that is tried is the least that the ring allows, which is greater.
 pub(crate) fn least_period(
     alloc: Global,
     cut: &FitCut,

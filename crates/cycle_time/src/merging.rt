@@ -5,8 +5,8 @@ ghost use Rattle.cycle_time.specs.Laying.{AreBetweenSame, IsAdded};
 use crate::edge::Edge;
 use rail_model::OutOfMemory;
 
-/// Adds an edge. Where the last one is between the same trains, the heavier of the two stands in
-/// its place.
+// Adds an edge. Where the last one is between the same trains, the heavier of the two stands in
+// its place.
 pub(crate) fn add(edges: &mut Vec<Edge>, edge: Edge) -> Result<(), OutOfMemory>
     ensures { OnOk result (IsAdded edges.old.items edges.new.items edge) }
 {

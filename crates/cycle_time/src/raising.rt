@@ -6,8 +6,8 @@ ghost use Rattle.cycle_time.specs.Raising.{AreEarly, IsEarly, IsRaisedBy};
 
 use crate::edge::Edge;
 
-/// Whether the edge's second train entered too early. If so, it enters as early as the edge allows
-/// from then on, and the edge is its cause.
+// Raises the second train of an edge, if it enters earlier than the edge allows: it then enters as
+// early as the edge allows, with the edge as its cause. Tells whether it was raised.
 pub(crate) fn raise(
     entries: &mut [i64],
     causes: &mut [Option<Edge>],
@@ -36,7 +36,7 @@ pub(crate) fn raise(
     true
 }
 
-// When the edge's second train can enter at the earliest, where its first enters at a moment.
+// When the second train of an edge can enter at the earliest, where the first enters at `entry`.
 fn asked(edge: Edge, entry: i64, period: u64) -> i64
     requires entry { IsEarly entry }
     requires light { IsLight edge.weight }

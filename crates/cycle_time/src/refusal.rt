@@ -5,8 +5,8 @@ ghost use Rattle.cycle_time.specs.Rings as rings;
 
 use crate::edge::Edge;
 
-/// The least period that a ring allows: the sum of its weights over the number of its edges that
-/// lead to the next pattern, rounded up.
+// The least period that a ring allows: the sum of its weights over the number of its edges that
+// lead to the next pattern, rounded up.
 pub(crate) fn allowed(ring: &[Edge]) -> u64
     requires light { All (λ e. IsLight e.weight) ring.now }
     requires few { length ring.now ≤ 768 }
@@ -35,7 +35,7 @@ fn weights(edges: &[Edge]) -> i64
     sum
 }
 
-// A sum with the weight of one edge more.
+// A sum of weights with that of the edge at position k.
 fn with_weight(sum: i64, edges: &[Edge], k: usize) -> i64
     requires above { (pos 0 -ℤ pos 1000000000000) ≤ℤ sum }
     requires below { sum ≤ℤ pos 1000000000000 }

@@ -8,7 +8,7 @@ use crate::found::Step;
 use crate::steps::{leads_on, weight};
 use plan_model::SoundCut;
 
-/// Whether a ring refuses each period below this one.
+// Whether a ring refuses each period below this one.
 pub(crate) fn refuses(cut: &SoundCut, period: u64, ring: &[Step]) -> bool
     ensures { IsTrue result ↔ Refuses cut.now period ring.now }
 {
@@ -85,7 +85,7 @@ fn begins_with_least(first: u32, ring: &[Step]) -> bool
     true
 }
 
-// Whether the train that a step leads to isn't less than the first.
+// Whether the train to which the step at position k leads isn't less than the first.
 fn is_from(ring: &[Step], k: usize, first: u32) -> bool
     requires { k < length ring.now }
     ensures { IsTrue result ↔ (first ≤ (slice_index_or ring.now k rings.no_step).to) }
@@ -105,7 +105,7 @@ fn patterns(ring: &[Step]) -> u64
     count
 }
 
-// What steps ask for in all.
+// The sum of the weights of all steps: how long the ring asks for in all.
 fn total(cut: &SoundCut, ring: &[Step]) -> i128
     requires { All (IsStep cut.now) ring.now }
     ensures { result ≡ rings.total cut.now ring.now }
@@ -117,7 +117,7 @@ fn total(cut: &SoundCut, ring: &[Step]) -> i128
     sum
 }
 
-// A sum with one weight more.
+// A sum of weights with one more.
 fn with_weight(sum: i128, weight: i64) -> i128
     requires above { (pos 0 -ℤ pos (2 ^ 120)) ≤ℤ sum }
     requires below { sum ≤ℤ pos (2 ^ 120) }

@@ -16,17 +16,17 @@ use plan_model::FitCut;
 use rail_model::{List, OutOfMemory};
 use std::alloc::Global;
 
-/// What becomes of a period.
+// What comes of trying a period.
 #[derive(Drop)]
 pub(crate) enum Settled {
-    /// The least entries that repeat in it.
+    // The least entries that repeat in it.
     Repeats(List<i64>),
-    /// Edges that refuse it, each from the train to which the next leads: they ask for more than
-    /// their patterns take.
+    // Edges that refuse it, each from the train to which the next leads: they ask for more than
+    // their patterns take.
     Refused(List<Edge>),
 }
 
-/// The least entries that repeat in a period, or a ring that refuses it.
+// The least entries that repeat in a period, or a ring that refuses it.
 pub(crate) fn settle(
     alloc: Global,
     cut: &FitCut,
@@ -44,7 +44,8 @@ pub(crate) fn settle(
     settle_from(alloc, cut, edges, period, &mut entries, &mut causes)
 }
 
-// The same from entries that were raised so far.
+// The least entries that repeat in a period, or a ring that refuses it, by raising entries that
+// were raised so far.
 fn settle_from(
     alloc: Global,
     cut: &FitCut,
@@ -70,7 +71,7 @@ fn settle_from(
     Ok(Settled::Repeats(list_of(alloc, entries)?))
 }
 
-// A list of some entries.
+// The entries as a list.
 fn list_of(alloc: Global, entries: &[i64]) -> Result<List<i64>, OutOfMemory>
     ensures { IfOk result (λ list. list ≡ entries.now) }
 {
@@ -89,8 +90,8 @@ fn no_causes(alloc: Global, count: usize) -> Result<Vec<Option<Edge>>, OutOfMemo
     Ok(vec![in alloc; None; count]?)
 }
 
-// Raises along each edge once, and says which of the raised trains enters last. It stops at a train
-// that is raised past all that aren't behind a ring.
+// Raises along each edge once, and tells which of the raised trains enters last. It stops at a
+// train that is raised past `LATEST`: then the causes behind it come to a ring.
 fn round(
     cut: &FitCut,
     edges: &[Edge],
@@ -118,7 +119,7 @@ fn round(
     top
 }
 
-// Whether a train enters later than any that isn't behind a ring.
+// Whether a train enters later than `LATEST`.
 fn is_late(entries: &[i64], train: u32) -> bool
     requires there { train < length entries.now }
     ensures late { result ≡ true → pos (2 ^ 40) <ℤ entry_at entries.now train }
@@ -127,7 +128,7 @@ fn is_late(entries: &[i64], train: u32) -> bool
     entries[train as usize] > LATEST
 }
 
-// The one of two trains that enters later.
+// Of the latest train so far, if there is one, and of one train more the one that enters later.
 fn later(entries: &[i64], top: Option<u32>, train: u32) -> u32
     requires there { train < length entries.now }
     requires top { IfSome top (λ t. t < length entries.now) }
@@ -145,5 +146,7 @@ fn later(entries: &[i64], top: Option<u32>, train: u32) -> u32
     }
 }
 
-// No train enters later that isn't behind a ring.
+// Seconds: 2^40. No train enters later unless the causes behind it come to a ring. Without a ring
+// it is raised along a path of at most 767 edges from a train at the window's start, and no edge
+// asks for more than 200,000,000 s: that is less than 2^38. Sums with 2^40 stay far within 64 bits.
 const LATEST: i64 = 1_099_511_627_776;

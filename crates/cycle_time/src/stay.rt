@@ -8,25 +8,26 @@ use crate::edge::{Edge, headway, since};
 use crate::found::Step;
 use rail_model::Use;
 
-/// A train's use of a place: seconds after its entry.
+// A stay is a train's use of a place, told by the train's entry: from when until when it keeps the
+// place, in seconds after it enters.
 #[derive(Clone, Copy)]
 pub(crate) struct Stay {
-    /// The train's position.
+    // The train's position.
     pub(crate) train: u32,
-    /// When the use starts.
+    // When the use starts.
     pub(crate) from: i64,
-    /// When it ends.
+    // When it ends.
     pub(crate) until: i64,
 }
 
-/// The first and the last use of a place so far.
+// The first and the last stay on a place, of those that are known so far.
 #[derive(Clone, Copy)]
 pub(crate) struct Ends {
     pub(crate) first: Stay,
     pub(crate) last: Stay,
 }
 
-/// A train's use of a place, of a train that was planned to enter at a moment.
+// The stay of a train that is planned to enter at `entry`, by one of its uses.
 pub(crate) fn stay_of(train: u32, entry: i64, one: &Use) -> Stay
     requires entry { IsMoment entry }
     requires starts { IsMoment one.now.start }
@@ -42,7 +43,7 @@ pub(crate) fn stay_of(train: u32, entry: i64, one: &Use) -> Stay
     }
 }
 
-/// The ends with one use more.
+// The first and the last stay on a place, with one that comes after them.
 pub(crate) fn with_stay(seen: Option<Ends>, stay: Stay) -> Ends
     ensures { result ≡ given.with_stay seen stay }
 {
@@ -58,7 +59,7 @@ pub(crate) fn with_stay(seen: Option<Ends>, stay: Stay) -> Ends
     }
 }
 
-/// The edge from the train of one use of a place to that of another.
+// The edge from the train of one stay on a place to that of another.
 pub(crate) fn edge_to(one: Stay, other: Stay, place: u32, next: bool) -> Edge
     requires until { IsSpan one.until }
     requires from { IsSpan other.from }

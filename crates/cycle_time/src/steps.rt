@@ -13,7 +13,7 @@ use crate::found::Step;
 use plan_model::{CutRow, SoundCut};
 use rail_model::Use;
 
-/// Whether this is a step of the cut, from a train.
+// Whether a step is one of the cut, and begins with a train.
 pub(crate) fn leads_on(cut: &SoundCut, train: u32, step: Step) -> bool
     ensures { IsTrue result ↔ IsStepFrom cut.now train step }
 {
@@ -81,7 +81,8 @@ fn use_of(cut: &SoundCut, i: u32, place: u32) -> Use
     cut.use_at(i, place).unwrap()
 }
 
-/// How long after the first train of a step the second must enter, patterns apart: seconds.
+// How many seconds after the first train of a step the second must enter; where it is one of the
+// next pattern, the period is taken off that.
 pub(crate) fn weight(cut: &SoundCut, step: Step) -> i64
     requires { IsStep cut.now step }
     ensures is { result ≡ rings.weight cut.now step }

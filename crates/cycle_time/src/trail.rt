@@ -7,8 +7,8 @@ use crate::edge::Edge;
 use rail_model::{List, OutOfMemory};
 use std::alloc::Global;
 
-/// The ring to which the trail back from a train leads, if it comes to one: each edge begins where
-/// the next ends, and the last where the first ends.
+// The ring to which the trail back from a train leads, if it comes to one: each edge begins where
+// the next ends, and the last where the first ends.
 pub(crate) fn ring_behind(
     alloc: Global,
     causes: &[Option<Edge>],
@@ -32,7 +32,7 @@ pub(crate) fn ring_behind(
     Ok(None)
 }
 
-// Where an edge leads to a train, or the number of all.
+// The position of the edge of the trail that leads to a train, or the length of the trail.
 fn place_of(trail: &[Edge], train: u32) -> usize
     ensures { result ≡ position_or_len (λ t. t == train) (map to_of trail.now) }
 {

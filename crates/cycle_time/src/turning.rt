@@ -8,8 +8,8 @@ use crate::found::Step;
 use rail_model::{List, OutOfMemory};
 use std::alloc::Global;
 
-/// The steps of a ring of edges, each of which begins where the next ends: in the direction of
-/// precedence, from the least train on.
+// The steps of a ring of edges, each of which begins where the next ends: in the direction of
+// precedence, from the least train on.
 pub(crate) fn told(alloc: Global, ring: List<Edge>) -> Result<List<Step>, OutOfMemory>
     requires { 0 < length ring }
     ensures { IfOk result (IsTurned ring) }
@@ -18,7 +18,7 @@ pub(crate) fn told(alloc: Global, ring: List<Edge>) -> Result<List<Step>, OutOfM
     turned(alloc, &mut edges)
 }
 
-// The same of edges that are turned.
+// The steps of a ring of edges that are turned into the direction of precedence.
 fn turned(alloc: Global, edges: &mut [Edge]) -> Result<List<Step>, OutOfMemory>
     requires { 0 < length edges.old }
     ensures { IfOk result (IsTurned edges.old) }
@@ -29,7 +29,7 @@ fn turned(alloc: Global, edges: &mut [Edge]) -> Result<List<Step>, OutOfMemory>
     Ok(steps(alloc, edges)?)
 }
 
-// The place of the edge that leads to the least train.
+// The position of the edge that leads to the least train.
 fn least_place(edges: &[Edge]) -> usize
     requires { 0 < length edges.now }
     ensures within { result < length edges.now }
@@ -43,7 +43,7 @@ fn least_place(edges: &[Edge]) -> usize
     least
 }
 
-// The one of two places whose edge leads to the lesser train.
+// Of two positions the one whose edge leads to the lesser train.
 fn lesser(edges: &[Edge], one: usize, other: usize) -> usize
     requires one { one < length edges.now }
     requires other { other < length edges.now }
