@@ -3,7 +3,8 @@ ghost use Rattle.std.specs.Prelude.{◌≡◌, length, sum_by};
 ghost use Rattle.made_line.specs.Base.{base_edits};
 ghost use Rattle.made_line.specs.MadeScripts.{scripts_of_made};
 
-/// How many edits put the base together: the number of the last edit before the scripts.
+/// How many edits put the base together: 64 blocks, 64 signals, a route, 300 runs and 8 sections.
+/// It is the number of the last edit before the scripts.
 pub const BASE_EDITS: u64 = 437;
 
 /// How many planners have scripts.
@@ -12,7 +13,7 @@ pub const PLANNERS: u32 = 4;
 /// How many workers answer meanwhile.
 pub const WORKERS: u32 = 4;
 
-/// How many of the scripts' tasks are edits.
+/// How many of the scripts' tasks are edits: 16 of each planner.
 pub const SCRIPT_EDITS: u64 = 64;
 
 /// How many edits the base has, how many scripts there are, and how many tasks in all. This
