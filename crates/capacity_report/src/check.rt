@@ -31,7 +31,7 @@ pub fn conflict_rows(
     found_rows(sheet, tables, found)
 }
 
-// Adds the rows of what was found.
+// Adds the rows of the conflicts that are listed, and then that of the counts.
 fn found_rows(sheet: &mut Sheet, tables: &LineTables, found: &Conflicts) -> Result<(), OutOfMemory>
     requires { All (λ c. c.block < length tables.now.blocks) found.now.list }
     ensures { Adds result sheet.old sheet.new (rows.found_rows tables.now found.now) }
@@ -56,7 +56,7 @@ fn listed_rows(
     Ok(())
 }
 
-// Adds the row of a conflict.
+// Adds the row of a conflict, `conflict,BLOCK,FIRST,SECOND,FROM,TO`.
 fn conflict_row<'a>(
     sheet: &mut Sheet,
     tables: &'a LineTables,
@@ -77,7 +77,7 @@ fn conflict_row<'a>(
     ])
 }
 
-// Adds the row of the two counts.
+// Adds the row of the two counts, `conflicts,LISTED,MORE`.
 fn count_row(sheet: &mut Sheet, listed: u64, more: u64) -> Result<(), OutOfMemory>
     ensures ok { OnOk result (sheet.new ≡ with_row sheet.old (rows.count_row listed more)) }
     ensures err { OnErr result (sheet.new.rows ≡ sheet.old.rows) }

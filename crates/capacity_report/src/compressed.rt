@@ -80,7 +80,7 @@ fn rows_with_chain(
     critical_rows(alloc, sheet, plan)
 }
 
-// Adds the row of the members and the occupancy time.
+// Adds the row `ordered,SECTION,MEMBERS,OCCUPANCY,BUSIEST`.
 fn ordered_row<'a>(sheet: &mut Sheet, section: &'a Name, plan: &'a Plan) -> Result<(), OutOfMemory>
     requires { IsShown plan.now }
     ensures ok { OnOk result (sheet.new
@@ -119,8 +119,8 @@ fn train_rows(sheet: &mut Sheet, plan: &Plan) -> Result<(), OutOfMemory>
     Ok(())
 }
 
-// Adds the row of a train. A row that is open is dropped first. Where memory runs out, no row is
-// added.
+// Adds the row `train,NAME,PLANNED,ENTRY,SHIFT` with its tie. A row that is open is dropped first.
+// Where memory runs out, no row is added.
 fn train_row(sheet: &mut Sheet, plan: &Plan, placed: &Placed) -> Result<(), OutOfMemory>
     requires { IsTrainOf plan.now placed.now }
     ensures ok { OnOk result (sheet.new
@@ -136,7 +136,7 @@ fn train_row(sheet: &mut Sheet, plan: &Plan, placed: &Placed) -> Result<(), OutO
     sheet.end_row()
 }
 
-// Adds the fields of a tie to a row.
+// Adds the fields of a tie to a row: `start`, or `after,TRAIN,PLACE`.
 fn push_tie(sheet: &mut Sheet, plan: &Plan, tie: Tie) -> Result<(), OutOfMemory>
     requires { IsTieOf plan.now tie }
     ensures ok { OnOk result (sheet.new
@@ -177,7 +177,7 @@ fn chain_rows(alloc: Global, sheet: &mut Sheet, plan: &Plan, train: u32) -> Resu
     link_rows(sheet, links.slice())
 }
 
-// Adds the row of a critical train with so many links.
+// Adds the row `critical,TRAIN,LINKS`.
 fn critical_row(sheet: &mut Sheet, train: &Name, links: u64) -> Result<(), OutOfMemory>
     ensures ok { OnOk result (sheet.new ≡ with_row sheet.old (rows.critical_row train.now links)) }
     ensures err { OnErr result (sheet.new.rows ≡ sheet.old.rows) }

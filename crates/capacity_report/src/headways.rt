@@ -146,7 +146,7 @@ fn add_headway(
     }
 }
 
-// Adds the row of a headway.
+// Adds the row `headway,FIRST,SECOND,SECONDS`.
 fn headway_row(
     sheet: &mut Sheet,
     head: &Written,

@@ -82,7 +82,7 @@ fn act_rows(alloc: Global, sheet: &mut Sheet, act: &Act) -> Result<(), OutOfMemo
     }
 }
 
-// Adds the row of the opening.
+// Adds the row `opened,AT,PLANNERS,SECTIONS`.
 fn opened_row(sheet: &mut Sheet, at: u64, planners: u64, sections: u64) -> Result<(), OutOfMemory>
     ensures { Adds result sheet.old sheet.new (rows.opened_row at planners sections ∷ []) }
 {
@@ -94,14 +94,14 @@ fn opened_row(sheet: &mut Sheet, at: u64, planners: u64, sections: u64) -> Resul
     ])
 }
 
-// Adds the row of a pass that was issued.
+// Adds the row `entered,NUMBER` of a pass that was issued.
 fn entered_row(sheet: &mut Sheet, number: u32) -> Result<(), OutOfMemory>
     ensures { Adds result sheet.old sheet.new (rows.entered_row number ∷ []) }
 {
     sheet.write(&[Field::Text(b"entered"), Field::Count(u64::from(number))])
 }
 
-// Adds the row of an edit that was made.
+// Adds the row `edited,PLANNER,AT` with the fields that spell the edit.
 fn edited_row(
     alloc: Global,
     sheet: &mut Sheet,
@@ -121,7 +121,7 @@ fn edited_row(
     sheet.end_row()
 }
 
-// Adds the row of an edit that a rule refused.
+// Adds the row `rejected,PLANNER,RULE` with the fields that spell the edit that was refused.
 fn rejected_row(
     alloc: Global,
     sheet: &mut Sheet,
@@ -161,7 +161,7 @@ fn push_fields(sheet: &mut Sheet, fields: &Fields) -> Result<(), OutOfMemory>
     Ok(())
 }
 
-// Adds the row of a question, with what was replied.
+// Adds the row `asked,PLANNER,SECTION` with the fields of the reply.
 fn asked_row(
     sheet: &mut Sheet,
     planner: u32,
@@ -180,7 +180,7 @@ fn asked_row(
     sheet.end_row()
 }
 
-// Adds the fields of a reply.
+// Adds the fields of a reply to a row: `ready,AT`, `stale,AT,BY`, `not-yet` or `unknown`.
 fn push_reply(sheet: &mut Sheet, reply: Reply) -> Result<(), OutOfMemory>
     ensures ok { OnOk result (sheet.new ≡ with_fields sheet.old (rows.reply_fields reply)) }
     ensures err { OnErr result (sheet.new.rows ≡ sheet.old.rows) }
@@ -200,7 +200,7 @@ fn push_reply(sheet: &mut Sheet, reply: Reply) -> Result<(), OutOfMemory>
     }
 }
 
-// Adds the rows of a publication.
+// Adds the row `published`, and then the rows of the answer with its trains.
 fn published_rows(
     alloc: Global,
     sheet: &mut Sheet,
@@ -215,7 +215,7 @@ fn published_rows(
     answer_rows(alloc, sheet, section, answer, Detail::Trains)
 }
 
-// Adds the row that says what is published.
+// Adds the row `published,SECTION,AT`.
 fn published_row(sheet: &mut Sheet, section: &Name, at: u64) -> Result<(), OutOfMemory>
     ensures ok { OnOk result (sheet.new ≡ with_row sheet.old (rows.published_row section.now at)) }
     ensures err { OnErr result (sheet.new.rows ≡ sheet.old.rows) }

@@ -133,7 +133,7 @@ fn blocking_rows(
     Ok(())
 }
 
-// Adds the row of a run's use of a block with its six parts. A row that is open is dropped first.
+// Adds the row `use` of a run on a block, with its six parts. A row that is open is dropped first.
 // Where memory runs out, no row is added.
 fn blocking_row(
     sheet: &mut Sheet,
