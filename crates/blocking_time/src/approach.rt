@@ -62,8 +62,8 @@ pub fn after_stop(reached_s: u64, point_m: u64, stop: Mark) -> u64
 /// head comes to the approach point or, later, leaves its last stop beyond it. Seconds from the
 /// timetable's origin, rounded down.
 ///
-/// For a caller who asks for one block, as a test or a reader who checks a single number does:
-/// `blockings` has the same for all blocks in one walk.
+/// For one block alone, as where a single number is checked: `blockings` has all blocks in one
+/// walk.
 pub fn approach_moment(path: &Path, k: u32) -> i64
     requires fits { Fits path.now }
     requires some { 1 ≤ k }

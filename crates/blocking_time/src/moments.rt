@@ -119,7 +119,8 @@ pub fn moments_at(path: &Path, k: usize) -> Moments
 /// The six parts of the run's blocking of the k-th block, from 1, in seconds: Pachl's route
 /// formation, signal watching, approach, running (here with the dwell), clearing and release.
 ///
-/// For a caller who asks for one block: `blockings` has the same for all blocks in one walk.
+/// For one block alone, as where a single number is checked: `blockings` has all blocks in one
+/// walk.
 pub fn parts(path: &Path, k: u32) -> [i64; 6]
     requires fits { Fits path.now }
     requires some { 1 ≤ k }

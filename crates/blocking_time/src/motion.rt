@@ -133,8 +133,8 @@ pub fn moment_down_in(mark: Mark, hop: &Hop, metres: u64) -> u64
 /// metres from the path's start. At place 0 that is the start, and at the end of a block the
 /// arrival.
 ///
-/// For a caller who asks for one place, as a test or a reader who checks a single number does:
-/// `blockings` walks along the whole path.
+/// For one place alone, as where a single number is checked: `blockings` walks along the whole
+/// path.
 pub fn reach(path: &Path, metres: u64) -> i64
     requires fits { Fits path.now }
     requires on_path { metres ≤ place path.now (hop_count path.now) }
@@ -147,7 +147,7 @@ pub fn reach(path: &Path, metres: u64) -> i64
 /// When the head reaches a place: seconds from the timetable's origin, rounded down. The place is
 /// in metres from the path's start. At place 0 and at the end of a block it is what `reach` says.
 ///
-/// For a caller who asks for one place, as `reach` is.
+/// For one place alone, as `reach` is.
 pub fn reach_down(path: &Path, metres: u64) -> i64
     requires fits { Fits path.now }
     requires on_path { metres ≤ place path.now (hop_count path.now) }
