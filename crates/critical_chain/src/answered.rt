@@ -18,8 +18,8 @@ use train_order::{Disordered, disorder_of, next_place, place_of_link};
 /// dwell times and the order, and whether each train enters at the window's start or touches one
 /// that precedes it.
 ///
-/// For whoever gets an answer from elsewhere, as from a file or another program, and wants to know
-/// whether it is right before he relies on it. The commands make their answers themselves.
+/// For an answer that comes from elsewhere, as from a file or another program, and is to be checked
+/// before anything rests on it. The commands make their answers themselves.
 pub fn is_answer(cut: &Cut, answer: &Answer) -> bool
     requires sound { IsSoundCut cut.now }
     ensures { IsTrue result ↔ IsAnswer cut.now answer.now }
