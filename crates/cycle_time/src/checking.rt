@@ -16,8 +16,8 @@ use plan_model::{Cut, FitCut};
 /// will do, not only the earliest. Nothing of the cycle is taken on trust: its numbers may be any,
 /// and its lists of any length. It takes no memory.
 ///
-/// For whoever gets a cycle from elsewhere, as from a planner who drew up a regular timetable by
-/// hand, and wants to know whether it is right. The command `cycle` works out its own.
+/// For a cycle that comes from elsewhere, as from a regular timetable that was drawn up by hand.
+/// The command `cycle` works out its own.
 pub fn shows(cut: &Cut, cycle: &Cycle) -> bool
     requires sound { IsSoundCut cut.now }
     requires few { member_count cut.now ≤ MEMBERS }
