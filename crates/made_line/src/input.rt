@@ -13,8 +13,8 @@ use std::alloc::Global;
 
 /// The text of the line made from `n`: the rows of its base, and then its four scripts.
 ///
-/// For whoever wants the made line as a file, to look at it or to give it to another program. The
-/// command `made N` makes tables and scripts without a text.
+/// For the made line as a file, to look at it or to give it to another program. The command `made
+/// N` makes tables and scripts without a text.
 pub fn made_input(alloc: Global, n: u32) -> Result<List<u8>, OutOfMemory>
     ensures { IfOk result (λ text. text ≡ made.made_text n) }
 {
