@@ -7,9 +7,9 @@ use rail_model::{Edit, OutOfMemory};
 use std::marker::Model;
 use std::mem;
 
-// Twin tables are a line's tables and, where memory allows, the same tables once more. An edit is
-// tried on the second ones, so that nothing is copied for it, and nothing lost if it fails.
-// Contracts see the tables.
+// Twin tables are a line's tables and, where memory allows, the same tables once more: the spare
+// ones. An edit is tried on the spare ones, so that nothing is copied for it, and nothing lost if
+// it fails. Contracts see the tables.
 #[derive(Drop)]
 pub(crate) struct TwinTables {
     tables: LineTables,
@@ -28,7 +28,7 @@ impl Model for TwinTables {
 }
 
 impl TwinTables {
-    // Twin tables of these, without second ones yet.
+    // Twin tables of these, without spare ones yet.
     pub(crate) fn of(tables: LineTables) -> TwinTables
         ensures { result ≡ tables }
     {
@@ -64,7 +64,8 @@ impl TwinTables {
         self.spare = Some(spare);
     }
 
-    // Puts the tables after an edit in the place of these, which the edit makes the second ones.
+    // Puts the tables after an edit in the place of these, which get the same edit and become the
+    // spare ones.
     pub(crate) fn replace(&mut self, next: LineTables, edit: Edit)
         requires { next ≡ edits.after self.old edit }
         ensures { self.new ≡ next }
