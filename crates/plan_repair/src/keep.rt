@@ -38,8 +38,8 @@ impl Keep {
     ghost use Rattle.plan_model.specs.Reading.{use_count};
     ghost use Rattle.plan_repair.specs.Kept.{kept_of, AgreesWith, uses_not_kept, TakesAtMost};
 
-    /// The name of the section: for a caller that has the keeps of several sections. A worker finds
-    /// its keeps by name, and doesn't ask.
+    /// The name of the section: for a caller that has the keeps of several sections in a list. A
+    /// worker has them by name, and needs no call.
     pub fn section(&self) -> &Name
         ensures { result.now ≡ self.now.section }
     {
