@@ -7,8 +7,8 @@ use crate::{NotText, Words};
 use rail_model::{List, OutOfMemory};
 use std::alloc::Global;
 
-/// Words in memory, of any bytes: for whoever makes a call of the program without a process, as a
-/// test does. The words of the process are `StdWords`, of which contracts can tell nothing.
+/// Words in memory, of any bytes: for a call of the program without a process, as in a test. The
+/// words of the process are `StdWords`, of which a contract knows nothing.
 #[derive(Drop)]
 pub struct MemoryWords {
     words: List<List<u8>>,
