@@ -28,8 +28,8 @@ pub(crate) fn marks_after_fresh(
     Ok(marks)
 }
 
-// Marks who stands nearest before each fresh member of an order, which is the later cut's from its
-// end.
+// Marks who stands nearest before each fresh member of an order: that of the later cut, from its
+// end to its beginning.
 fn mark_before_fresh(
     alloc: Global,
     cut: &SoundCut,
