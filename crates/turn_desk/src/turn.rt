@@ -3,8 +3,9 @@ ghost use Rattle.std.specs.Prelude.{◌≡◌};
 
 use std::marker::Model;
 
-/// A turn is the time in which one thread has the desk's value. Contracts see the value. A turn
-/// that is dropped is never given back, and no other thread gets the value.
+/// A turn at a desk: the thread that has it has the desk's value, and no other thread does.
+/// Contracts see the value. A turn that is dropped is never given back, and the value is gone with
+/// it.
 #[derive(Drop)]
 pub struct Turn<V> {
     value: V,
