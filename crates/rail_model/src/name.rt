@@ -53,7 +53,7 @@ impl Name {
     pub fn read(bytes: &[u8]) -> Result<Name, BadName>
         ensures named { IsOk result ↔ IsName bytes.now }
         ensures same { IfOk result (λ name. name ≡ bytes.now) }
-        // The same as a function of the bytes.
+        // What comes is a function of the bytes.
         ensures exact { result_ok result ≡ name_of bytes.now }
     {
         if !is_name(bytes) {
