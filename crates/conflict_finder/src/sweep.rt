@@ -77,7 +77,7 @@ fn sweep_block(
     Ok(count)
 }
 
-// Those of the later ones that one meets: they come first among them.
+// The later visits that one visit meets: they come first among them.
 #[inline]
 fn met_by<'a>(one: &Visit, later: &'a [Visit]) -> &'a [Visit]
     requires { IsPartitionedBy (swept.meets one.now) later.now }
@@ -89,10 +89,12 @@ fn met_by<'a>(one: &Visit, later: &'a [Visit]) -> &'a [Visit]
     &later[..count_met(one, later)]
 }
 
-// Among how many others those that one meets are counted one by one, before they are searched.
+// How many of the later visits are tried one by one, before the end of those that are met is
+// searched for by halving.
 const FEW: usize = 7;
 
-// How many of the later ones it meets: they come first among them, and mostly they are few.
+// How many of the later visits one visit meets: they come first among them, and mostly they are
+// few.
 #[inline(never)]
 fn count_met(one: &Visit, later: &[Visit]) -> usize
     requires { IsPartitionedBy (swept.meets one.now) later.now }
@@ -106,7 +108,7 @@ fn count_met(one: &Visit, later: &[Visit]) -> usize
     later.partition_point(|other| meets(one, other))
 }
 
-// Whether one meets the first of the later ones.
+// Whether a visit meets the first of the later ones.
 #[inline]
 fn meets_next(one: &Visit, later: &[Visit]) -> bool
     ensures { result ≡ false → take_while (swept.meets one.now) later.now ≡ [] }
