@@ -25,8 +25,8 @@ pub struct CutRow {
 #[derive(Drop)]
 pub struct Cut {
     pub section: Section,
-    /// Those of which both runs are members and the first's entry here is before the second's own
-    /// start or, at one moment, its name is the lesser; in the order of names.
+    /// The connections that bind: both runs are members, and the first's entry here is before the
+    /// second's own start or, at one moment, its name is the lesser. In the order of names.
     pub connections: List<Name>,
     /// In the order of their names.
     pub rows: List<CutRow>,

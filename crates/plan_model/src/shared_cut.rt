@@ -62,7 +62,7 @@ impl SharedCut {
         }
     }
 
-    /// The same cut for one holder more. None of it is copied.
+    /// This cut for one holder more. None of it is copied.
     pub fn share(&self) -> Result<SharedCut, OutOfMemory>
         ensures { IfOk result (λ shared. shared ≡ self.now) }
     {
