@@ -6,7 +6,7 @@ use rail_model::List;
 pub struct Step {
     /// The position of the first train.
     pub from: u32,
-    /// That of the train that follows it.
+    /// The position of the train that follows it.
     pub to: u32,
     /// The position of the place: a block, or a connection of one pattern.
     pub block: u32,
