@@ -4,6 +4,10 @@
 //! No answer rests on these lines, so no contract speaks of them: what is proved is that they are
 //! made without a fault, and end. Their texts are tested. Without memory for a line nothing is told.
 //!
+//! What a sentence may need is read first: the fields of the refused row, and the tables that the
+//! rows above it make. Deciding on the sentence then takes no memory, and ends in one call of `tell`,
+//! which alone writes.
+//!
 //! A refused row is looked at again, with the rows above it, until the field or the item is found
 //! that makes the fault. That costs as much as reading the rows once more, and happens once a call.
 //!
@@ -13,18 +17,18 @@
 //! ```
 #![tactic(auto)]
 
-mod clashes;
+mod column;
 mod form_sentence;
+mod found;
 mod line_number;
 mod member_sentence;
 mod notes;
-mod probe;
+mod piece;
 mod row_at;
 mod row_sentence;
-mod row_shape;
 mod rule_sentence;
+mod said;
 mod script_sentence;
-mod shown;
 mod standing;
 mod told;
 mod twice_sentence;

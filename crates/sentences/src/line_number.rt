@@ -9,37 +9,18 @@ pub(crate) fn line_of(input: &[u8], row: u64) -> Option<u64> {
     let text = input
         .strip_prefix(b"\xef\xbb\xbf".as_slice())
         .unwrap_or(input);
-    let mut place = Place {
-        line: 1,
-        rows: 0,
-        before: b'\n',
-    };
+    let (mut line, mut rows_begun, mut before): (u64, u64, u8) = (1, 0, b'\n');
     for byte in text {
-        place.pass(*byte);
-        if place.rows == row {
-            return Some(place.line);
+        let starts = before == b'\n' || before == b'\r';
+        if *byte == b'\r' || (*byte == b'\n' && before != b'\r') {
+            line = line.saturating_add(1);
+        } else if *byte != b'\n' && starts {
+            rows_begun = rows_begun.saturating_add(1);
         }
+        if rows_begun == row {
+            return Some(line);
+        }
+        before = *byte;
     }
     None
-}
-
-// How far a text is read.
-#[derive(Drop)]
-struct Place {
-    line: u64,
-    // How many rows begin up to here.
-    rows: u64,
-    before: u8,
-}
-
-impl Place {
-    fn pass(&mut self, byte: u8) {
-        let starts = self.before == b'\n' || self.before == b'\r';
-        if byte == b'\r' || (byte == b'\n' && self.before != b'\r') {
-            self.line = self.line.saturating_add(1);
-        } else if byte != b'\n' && starts {
-            self.rows = self.rows.saturating_add(1);
-        }
-        self.before = byte;
-    }
 }

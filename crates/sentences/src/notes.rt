@@ -1,136 +1,83 @@
 //! What an answer leaves out, and what it finds in the given timetable: lines for people.
+ghost use Rattle.std.specs.Prelude.{◌<◌, length};
+
 use crate::Told;
-use crate::clashes::clashing_places;
-use crate::shown::shown;
+use crate::found::{Found, NAMED, tell_found};
+use crate::piece::Written;
 use blocking_time::stairs;
-use line_tables::LineTables;
+use line_tables::{LineTables, Paths};
 use plan_model::Cut;
-use rail_model::{Hop, Name, OutOfMemory, Section, Stair};
+use rail_model::{Hop, Name, OutOfMemory, Section, Use};
 use std::alloc::Global;
 
 /// What is told of a section's cut beside its answer.
 pub fn told_of_cut(alloc: Global, tables: &LineTables, cut: &Cut) -> Told {
-    match notes(alloc, tables, cut) {
-        Ok(text) if !text.is_empty() => Told::of(text),
-        Ok(_) | Err(OutOfMemory) => Told::nothing(),
-    }
-}
-
-fn notes(alloc: Global, tables: &LineTables, cut: &Cut) -> Result<String, OutOfMemory> {
-    let members = member_numbers(alloc, tables, cut)?;
     let mut text = String::new(alloc);
-    let (from, to) = (cut.section.from_s, cut.section.to_s);
-    let window = format!(in alloc;
-        "trains left out, since they enter outside the window from {from} to {to}"
-    )?;
-    push_line(
-        alloc,
-        &mut text,
-        &window,
-        &outsiders(alloc, tables, &cut.section, &members)?,
-    )?;
-    push_line(
-        alloc,
-        &mut text,
-        "connections of its trains that bind nothing, since the second doesn't start after the first \
-            enters",
-        &idle_connections(alloc, tables, cut, &members)?,
-    )?;
+    let written = tell_notes(alloc, &mut text, tables, cut);
+    Told::of(text, written)
+}
+
+fn tell_notes(alloc: Global, text: &mut String, tables: &LineTables, cut: &Cut) -> Written {
+    let outsiders = outsiders(alloc, tables, cut)?;
+    let idle = idle_connections(tables, cut);
     let (blocks, connections) = clashes(alloc, cut)?;
-    push_line(
-        alloc,
-        &mut text,
-        "blocks on which its trains have conflicts in the given timetable",
-        &blocks,
-    )?;
-    push_line(
-        alloc,
-        &mut text,
-        "connections of its trains that the given timetable doesn't keep",
-        &connections,
-    )?;
-    Ok(text)
+    let (from, to) = (cut.section.from_s, cut.section.to_s);
+    tell_found(text, OUTSIDERS, (from, to), &outsiders)?;
+    tell_found(text, IDLE, (from, to), &idle)?;
+    tell_found(text, CONFLICTS, (from, to), &blocks)?;
+    tell_found(text, NOT_KEPT, (from, to), &connections)
 }
 
-// How many things are found, and the text of the first few.
-#[derive(Drop)]
-struct Found {
-    count: usize,
-    first: String,
-}
+const OUTSIDERS: &str = "trains left out, since they enter outside the window from @ to @";
 
-// The most things of one kind that are named.
-const NAMED: usize = 3;
+const IDLE: &str =
+    "connections of its trains that bind nothing, since the second doesn't start after the first \
+    enters";
 
-impl Found {
-    fn nothing(alloc: Global) -> Found {
-        Found {
-            count: 0,
-            first: String::new(alloc),
-        }
-    }
+const CONFLICTS: &str = "blocks on which its trains have conflicts in the given timetable";
 
-    fn add(&mut self, thing: &str) -> Result<(), OutOfMemory> {
-        if self.count > 0 && self.count <= NAMED {
-            self.first.push_str(", ")?;
-        }
-        if self.count < NAMED {
-            self.first.push_str(thing)?;
-        }
-        if self.count == NAMED {
-            self.first.push_str("..")?;
-        }
-        self.count = self.count.saturating_add(1);
-        Ok(())
-    }
-}
-
-// Puts a line for what is found, if something is.
-fn push_line(
-    alloc: Global,
-    text: &mut String,
-    what: &str,
-    found: &Found,
-) -> Result<(), OutOfMemory> {
-    if found.count == 0 {
-        return Ok(());
-    }
-    if !text.is_empty() {
-        text.push('\n')?;
-    }
-    let (count, first) = (found.count, found.first.as_str());
-    text.push_str(&format!(in alloc; "{what}: {count} ({first})")?)?;
-    Ok(())
-}
+const NOT_KEPT: &str = "connections of its trains that the given timetable doesn't keep";
 
 // The trains that use a section's blocks and are no members of its cut: they enter outside its
-// window. The first few have their entries.
-fn outsiders(
+// window.
+fn outsiders<'a>(
     alloc: Global,
-    tables: &LineTables,
-    section: &Section,
-    members: &[bool],
-) -> Result<Found, OutOfMemory> {
-    let blocks = block_numbers(alloc, tables, section)?;
+    tables: &'a LineTables,
+    cut: &Cut,
+) -> Result<Found<'a>, OutOfMemory> {
+    let blocks = block_numbers(alloc, tables, &cut.section)?;
     let paths = tables.paths()?;
-    let mut found = Found::nothing(alloc);
+    let mut found = Found::nothing();
     for run in 0..tables.runs() {
-        if is_flagged(members, run) {
-            continue;
+        let name = &tables.run(run).name;
+        if !is_member(cut, name) {
+            add_outsider(alloc, &mut found, name, &paths, run, &blocks)?;
         }
-        let path = paths.path(run)?;
-        if !uses_one(path.hops.slice(), &blocks) {
-            continue;
-        }
-        let train = if found.count < NAMED {
-            let stair = stairs(alloc, &path)?;
-            train_at(alloc, &stair, &blocks)?
-        } else {
-            String::new(alloc)
-        };
-        found.add(&train)?;
     }
     Ok(found)
+}
+
+// Adds a run to those found if it uses one of these blocks. The first few have their entries.
+fn add_outsider<'a>(
+    alloc: Global,
+    found: &mut Found<'a>,
+    name: &'a Name,
+    paths: &Paths<'_>,
+    run: u32,
+    blocks: &[bool],
+) -> Written
+    requires { run < length paths.now }
+{
+    let path = paths.path(run)?;
+    if uses_one(path.hops.slice(), blocks) {
+        let entry = if found.count < NAMED {
+            entry(stairs(alloc, &path)?.uses.slice(), blocks)
+        } else {
+            None
+        };
+        found.add(name.bytes(), entry);
+    }
+    Ok(())
 }
 
 // Whether a number is one of those that are flagged.
@@ -150,11 +97,10 @@ fn uses_one(hops: &[Hop], blocks: &[bool]) -> bool {
     false
 }
 
-// A train's name with its entry: the least start of its uses of these blocks.
-fn train_at(alloc: Global, stair: &Stair, blocks: &[bool]) -> Result<String, OutOfMemory> {
-    let train = shown(alloc, stair.run.bytes())?;
+// The least start of the uses of these blocks.
+fn entry(uses: &[Use], blocks: &[bool]) -> Option<i64> {
     let mut entry: Option<i64> = None;
-    for one in stair.uses.slice() {
+    for one in uses {
         if is_flagged(blocks, one.block) {
             entry = match entry {
                 Some(least) if least <= one.start => Some(least),
@@ -162,10 +108,7 @@ fn train_at(alloc: Global, stair: &Stair, blocks: &[bool]) -> Result<String, Out
             };
         }
     }
-    match entry {
-        Some(entry) => Ok(format!(in alloc; "{train} at {entry}")?),
-        None => Ok(train),
-    }
+    entry
 }
 
 // Whether each block of the tables, by its number, is one of a section's.
@@ -186,56 +129,68 @@ fn block_numbers(
 }
 
 // The connections of two members that bind nothing.
-fn idle_connections(
-    alloc: Global,
-    tables: &LineTables,
-    cut: &Cut,
-    members: &[bool],
-) -> Result<Found, OutOfMemory> {
-    let mut found = Found::nothing(alloc);
+fn idle_connections<'a>(tables: &'a LineTables, cut: &Cut) -> Found<'a> {
+    let mut found = Found::nothing();
     for number in 0..tables.connections() {
         let connection = tables.connection(number);
-        let is_of_members = is_member(tables, members, &connection.first)
-            && is_member(tables, members, &connection.second);
-        if is_of_members && !cut.connections.slice().contains(&connection.name) {
-            found.add(&shown(alloc, connection.name.bytes())?)?;
+        if is_member(cut, &connection.first)
+            && is_member(cut, &connection.second)
+            && !cut.connections.slice().contains(&connection.name)
+        {
+            found.add(connection.name.bytes(), None);
         }
     }
-    Ok(found)
+    found
 }
 
-// Whether each run of the tables, by its number, is a member of a cut.
-fn member_numbers(alloc: Global, tables: &LineTables, cut: &Cut) -> Result<Vec<bool>, OutOfMemory> {
-    let mut members = vec![in alloc; false; tables.runs() as usize]?;
+fn is_member(cut: &Cut, run: &Name) -> bool {
+    let rows = cut.rows.slice();
+    rows.binary_search_by(|row| row.name.bytes().cmp(run.bytes()))
+        .is_ok()
+}
+
+// All uses of a cut by place, start and end.
+fn uses_in_order(alloc: Global, cut: &Cut) -> Result<Vec<(u32, i64, i64)>, OutOfMemory> {
+    let mut uses = Vec::new(alloc);
     for row in cut.rows.slice() {
-        if let Some(number) = tables.run_number(&row.name) {
-            if (number as usize) < members.len() {
-                members[number as usize] = true;
+        for one in row.uses.slice() {
+            uses.push((one.block, one.start, one.end))?;
+        }
+    }
+    uses.sort()?;
+    Ok(uses)
+}
+
+// The blocks and the connections of a cut of which a use starts before an earlier one ends.
+fn clashes(alloc: Global, cut: &Cut) -> Result<(Found<'_>, Found<'_>), OutOfMemory> {
+    let uses = uses_in_order(alloc, cut)?;
+    Ok(clashes_in(cut, &uses))
+}
+
+fn clashes_in<'a>(cut: &'a Cut, uses: &[(u32, i64, i64)]) -> (Found<'a>, Found<'a>) {
+    let (mut blocks, mut connections) = (Found::nothing(), Found::nothing());
+    // The place of the last use, and until when it is used; nothing once a clash is found there.
+    let (mut last, mut until) = (u32::MAX, None);
+    for (place, start, end) in uses {
+        until = match until {
+            _ if *place != last => Some(*end),
+            Some(until) if *start >= until => Some(until.max(*end)),
+            Some(_) => {
+                add_place(&mut blocks, &mut connections, cut, *place as usize);
+                None
             }
-        }
+            None => None,
+        };
+        last = *place;
     }
-    Ok(members)
+    (blocks, connections)
 }
 
-fn is_member(tables: &LineTables, members: &[bool], run: &Name) -> bool {
-    match tables.run_number(run) {
-        Some(number) => is_flagged(members, number),
-        None => false,
-    }
-}
-
-// The blocks and the connections of a cut whose uses in the given timetable overlap.
-fn clashes(alloc: Global, cut: &Cut) -> Result<(Found, Found), OutOfMemory> {
-    let mut blocks = Found::nothing(alloc);
-    let mut connections = Found::nothing(alloc);
+fn add_place<'a>(blocks: &mut Found<'a>, connections: &mut Found<'a>, cut: &'a Cut, place: usize) {
     let count = cut.section.blocks.len();
-    for place in &clashing_places(alloc, cut)? {
-        let place = *place;
-        if let Some(block) = cut.section.blocks.get(place) {
-            blocks.add(&shown(alloc, block.bytes())?)?;
-        } else if let Some(connection) = cut.connections.get(place.saturating_sub(count)) {
-            connections.add(&shown(alloc, connection.bytes())?)?;
-        }
+    if let Some(block) = cut.section.blocks.get(place) {
+        blocks.add(block.bytes(), None);
+    } else if let Some(connection) = cut.connections.get(place.saturating_sub(count)) {
+        connections.add(connection.bytes(), None);
     }
-    Ok((blocks, connections))
 }

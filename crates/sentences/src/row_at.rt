@@ -1,30 +1,56 @@
 //! A row among the rows of its input, and what its first field says.
-use rail_model::Kind;
-use row_text::RowList;
+use crate::column::Column;
+use crate::said::Said;
+use rail_model::{Kind, Name, Tables};
+use row_text::{RowList, number};
 
-// A refused row among the rows of its input.
-#[derive(Drop)]
+// A refused row among the rows of its input, with what was read of it for the sentence.
+#[derive(Clone, Copy)]
 pub(crate) struct RowAt<'a> {
     pub(crate) rows: &'a RowList<'a>,
     // In which the rows are read: 1 or 2.
     pub(crate) version: u32,
     // From 0.
     pub(crate) place: usize,
+    // What its first fields say.
+    pub(crate) said: &'a [Said],
+    // What the rows above it make, where a rule refuses it.
+    pub(crate) tables: &'a Tables,
 }
 
 impl<'a> RowAt<'a> {
     // How many fields the row has.
     pub(crate) fn len(&self) -> usize {
-        if self.place < self.rows.len() {
-            self.rows.get(self.place).len()
-        } else {
-            0
-        }
+        len_of(self.rows, self.place)
     }
 
     // A field of the row, from 0: empty where there is none.
     pub(crate) fn field(&self, at: usize) -> &'a [u8] {
         field_at(self.rows, self.place, at)
+    }
+
+    // The number or the seconds that a field says in a version of the rows, if it says any.
+    pub(crate) fn number_in(&self, version: u32, at: usize) -> Option<u32> {
+        if version != 2 {
+            return number(self.field(at));
+        }
+        match self.said.get(at) {
+            Some(said) => said.time,
+            None => None,
+        }
+    }
+
+    // Whether a field is what it is to be in a version of the rows.
+    pub(crate) fn fits_in(&self, version: u32, at: usize, column: Column) -> bool {
+        match column {
+            Column::Name | Column::NameOf(_) => Name::read(self.field(at)).is_ok(),
+            Column::Number(..) => number(self.field(at)).is_some(),
+            Column::Rate(..) => match self.said.get(at) {
+                Some(said) => said.is_rate,
+                None => false,
+            },
+            Column::Time(..) => self.number_in(version, at).is_some(),
+        }
     }
 
     // What the row's first field says.
@@ -39,10 +65,19 @@ impl<'a> RowAt<'a> {
         if word == b"planner".as_slice() {
             return First::Planner;
         }
-        match word_of(word) {
-            Some(word) => First::Word(word),
+        match item_of(word) {
+            Some((verb, kind)) => First::Item(verb, kind),
             None => First::Other,
         }
+    }
+}
+
+// How many fields the row at a place has.
+pub(crate) fn len_of(rows: &RowList<'_>, place: usize) -> usize {
+    if place < rows.len() {
+        rows.get(place).len()
+    } else {
+        0
     }
 }
 
@@ -66,14 +101,8 @@ pub(crate) enum First {
     Version,
     Ask,
     Planner,
-    Word(Word),
+    Item(Verb, Kind),
     Other,
-}
-
-#[derive(Clone, Copy)]
-pub(crate) struct Word {
-    pub(crate) verb: Verb,
-    pub(crate) kind: Kind,
 }
 
 #[derive(Clone, Copy, PartialEq, Eq)]
@@ -81,6 +110,33 @@ pub(crate) enum Verb {
     Put,
     Change,
     Drop,
+}
+
+// What a field says that its row does with which kind of item, if it is such a word.
+pub(crate) fn item_of(field: &[u8]) -> Option<(Verb, Kind)> {
+    for (verb, text) in &VERBS {
+        if let Some(word) = field.strip_prefix(text.as_bytes()) {
+            if let Some(kind) = kind_of(word) {
+                return Some((*verb, kind));
+            }
+        }
+    }
+    None
+}
+
+const VERBS: [(Verb, &str); 3] = [
+    (Verb::Put, ""),
+    (Verb::Change, "change-"),
+    (Verb::Drop, "drop-"),
+];
+
+fn kind_of(word: &[u8]) -> Option<Kind> {
+    for (kind, text) in &KINDS {
+        if word == text.as_bytes() {
+            return Some(*kind);
+        }
+    }
+    None
 }
 
 const KINDS: [(Kind, &str); 6] = [
@@ -92,74 +148,37 @@ const KINDS: [(Kind, &str); 6] = [
     (Kind::Connection, "connect"),
 ];
 
-// The word that a field is, if it is one that puts, changes or drops an item.
-pub(crate) fn word_of(field: &[u8]) -> Option<Word> {
-    if let Some(kind) = field.strip_prefix(b"change-".as_slice()) {
-        return verb_of(Verb::Change, kind);
-    }
-    if let Some(kind) = field.strip_prefix(b"drop-".as_slice()) {
-        return verb_of(Verb::Drop, kind);
-    }
-    verb_of(Verb::Put, field)
-}
-
-fn verb_of(verb: Verb, word: &[u8]) -> Option<Word> {
-    for (kind, text) in &KINDS {
-        if word == text.as_bytes() {
-            return Some(Word { verb, kind: *kind });
-        }
-    }
-    None
-}
-
-// The word of a kind in rows.
-pub(crate) fn kind_word(kind: Kind) -> &'static str {
+// The word of a kind in sentences.
+pub(crate) fn noun(kind: Kind) -> &'static str {
     match kind {
         Kind::Block => "block",
         Kind::Signal => "signal",
         Kind::Route => "route",
         Kind::Run => "run",
         Kind::Section => "section",
-        Kind::Connection => "connect",
-    }
-}
-
-// The word of a kind in sentences.
-pub(crate) fn noun(kind: Kind) -> &'static str {
-    match kind {
         Kind::Connection => "connection",
-        Kind::Block | Kind::Signal | Kind::Route | Kind::Run | Kind::Section => kind_word(kind),
-    }
-}
-
-// What stands before the word of a kind in rows.
-pub(crate) fn verb_text(verb: Verb) -> &'static str {
-    match verb {
-        Verb::Put => "",
-        Verb::Change => "change-",
-        Verb::Drop => "drop-",
     }
 }
 
 // The number of the last row above a place that puts or changes the item of a kind and a name.
-pub(crate) fn row_of(rows: &RowList<'_>, place: usize, kind: Kind, name: &[u8]) -> u64 {
+pub(crate) fn row_of(row: &RowAt<'_>, kind: Kind, name: &[u8]) -> u64 {
     let mut found = 0;
-    for i in 0..place {
-        if is_row_of(rows, i, kind, name) {
+    for i in 0..row.place {
+        if is_row_of(row.rows, i, kind, name) {
             found = i as u64 + 1;
         }
     }
     found
 }
 
-// The number of the first row below a place, and above the first script, that puts the item of a
+// The number of the first row below a row, and above the first script, that puts the item of a
 // kind and a name, or 0.
-pub(crate) fn row_below(rows: &RowList<'_>, place: usize, kind: Kind, name: &[u8]) -> u64 {
-    for i in place..rows.len() {
-        if is_planner_row(rows, i) {
+pub(crate) fn row_below(row: &RowAt<'_>, kind: Kind, name: &[u8]) -> u64 {
+    for i in row.place..row.rows.len() {
+        if is_planner_row(row.rows, i) {
             return 0;
         }
-        if i > place && is_row_of(rows, i, kind, name) {
+        if i > row.place && is_row_of(row.rows, i, kind, name) {
             return i as u64 + 1;
         }
     }
@@ -167,10 +186,8 @@ pub(crate) fn row_below(rows: &RowList<'_>, place: usize, kind: Kind, name: &[u8
 }
 
 fn is_row_of(rows: &RowList<'_>, i: usize, kind: Kind, name: &[u8]) -> bool {
-    match word_of(field_at(rows, i, 0)) {
-        Some(word) => {
-            word.kind == kind && word.verb != Verb::Drop && field_at(rows, i, 1) == name
-        }
-        None => false,
+    match item_of(field_at(rows, i, 0)) {
+        Some((Verb::Drop, _)) | None => false,
+        Some((_, of)) => of == kind && field_at(rows, i, 1) == name,
     }
 }

@@ -1,91 +1,91 @@
 //! Which rule a row breaks and by what, in a sentence.
-use crate::probe::number_of;
-use crate::row_at::{First, RowAt, Verb, Word, noun, row_below, row_of};
-use crate::row_shape::limits_at;
-use crate::shown::{number, shown, so_many};
-use crate::standing::{reference_at, run_off, stands, tables_above, user};
+use crate::column::{Column, START, column_at};
+use crate::piece::Piece::{Field, Limit, Many, Number, Text};
+use crate::piece::{Written, place, tell};
+use crate::row_at::{First, RowAt, Verb, noun, row_below, row_of};
+use crate::standing::{route_of, run_off, stands, user};
 use crate::twice_sentence::twice_sentence;
-use rail_model::{
-    BLOCKS, CONNECTIONS, Kind, OutOfMemory, ROUTES, RUNS, Rule, SECTIONS, SIGNALS, Tables,
-};
-use std::alloc::Global;
+use rail_model::{BLOCKS, CONNECTIONS, Kind, ROUTES, RUNS, Rule, SECTIONS, SIGNALS};
 
-pub(crate) fn rule_sentence(
-    alloc: Global,
-    row: &RowAt<'_>,
-    rule: Rule,
-) -> Result<String, OutOfMemory> {
-    let First::Word(word) = row.first() else {
-        return Ok(String::from_str(alloc, "a rule refuses this row")?);
+pub(crate) fn rule_sentence(text: &mut String, row: &RowAt<'_>, rule: Rule) -> Written {
+    let First::Item(verb, kind) = row.first() else {
+        return tell(text, "a rule refuses this row", &[]);
     };
     match rule {
-        Rule::Range => range_sentence(alloc, row, word.kind),
-        Rule::Limit => limit_sentence(alloc, word.kind),
-        Rule::Twice => twice_sentence(alloc, row, word, &tables_above(alloc, row)?),
-        Rule::Unknown => unknown_sentence(alloc, row, word, &tables_above(alloc, row)?),
-        Rule::Count => count_sentence(alloc, row, word, &tables_above(alloc, row)?),
-        Rule::InUse => in_use_sentence(alloc, row, word, &tables_above(alloc, row)?),
+        Rule::Range => range_sentence(text, row, kind),
+        Rule::Limit => limit_sentence(text, kind),
+        Rule::Twice => twice_sentence(text, row, verb, kind),
+        Rule::Unknown => unknown_sentence(text, row, verb, kind),
+        Rule::Count if kind == Kind::Route => changed_count(text, row),
+        Rule::Count => count_sentence(text, row),
+        Rule::InUse => in_use_sentence(text, row, kind),
     }
 }
 
 // Which number is outside its limits: the first.
-fn range_sentence(alloc: Global, row: &RowAt<'_>, kind: Kind) -> Result<String, OutOfMemory> {
+fn range_sentence(text: &mut String, row: &RowAt<'_>, kind: Kind) -> Written {
     for at in 2..row.len() {
-        if let Some(why) = outside(alloc, row, kind, at)? {
-            return Ok(why);
+        let is_step = kind == Kind::Run && at > START && row.version == 2;
+        let limits = limits_at(kind, at);
+        if let Some(value) = value_at(row, at, is_step) {
+            if value < limits.1 || value > limits.2 {
+                let step = if is_step { Some(value) } else { None };
+                return outside_sentence(text, row, at, step, limits);
+            }
         }
     }
-    let (from, to) = (shown(alloc, row.field(2))?, shown(alloc, row.field(3))?);
-    Ok(format!(in alloc;
-        "field 4, {to}, is TO and not greater than field 3, {from}, which is FROM"
-    )?)
+    let why = "field 4, @, is TO and not greater than field 3, @, which is FROM";
+    tell(text, why, &[Field(row.field(3)), Field(row.field(2))])
 }
 
-// Why the number in a field is outside its limits, if it is.
-fn outside(
-    alloc: Global,
-    row: &RowAt<'_>,
-    kind: Kind,
-    at: usize,
-) -> Result<Option<String>, OutOfMemory> {
-    let Some(limits) = limits_at(kind, at) else {
-        return Ok(None);
-    };
-    let Some(value) = number_of(alloc, row.version, row.field(at))? else {
-        return Ok(None);
-    };
-    let is_step = kind == Kind::Run && at >= 6 && row.version == 2;
-    let before = if is_step {
-        number_of(alloc, row.version, row.field(at.saturating_sub(1)))?.unwrap_or(0)
-    } else {
-        0
-    };
-    let value = value.saturating_sub(before);
-    if value >= limits.least && value <= limits.most {
-        return Ok(None);
+// What a number is called, and its limits: any number is within those of a name.
+fn limits_at(kind: Kind, at: usize) -> (&'static str, u32, u32) {
+    match column_at(kind, at) {
+        Column::Name | Column::NameOf(_) => ("", 0, u32::MAX),
+        Column::Number(what, least, most)
+        | Column::Rate(what, least, most)
+        | Column::Time(what, least, most) => (what, least, most),
     }
-    let place = if is_step {
-        let field = shown(alloc, row.field(at.saturating_sub(1)))?;
-        format!(in alloc; "from field {at}, {field}, to field ")?
-    } else {
-        String::from_str(alloc, "field ")?
+}
+
+// The number in a field, or how much greater it is than the one before it.
+fn value_at(row: &RowAt<'_>, at: usize, is_step: bool) -> Option<u32> {
+    let value = row.number_in(row.version, at)?;
+    if !is_step {
+        return Some(value);
+    }
+    let before = row
+        .number_in(row.version, at.saturating_sub(1))
+        .unwrap_or(0);
+    Some(value.saturating_sub(before))
+}
+
+// Says that a field is outside these limits, or the step to it from the field before.
+fn outside_sentence(
+    text: &mut String,
+    row: &RowAt<'_>,
+    at: usize,
+    step: Option<u32>,
+    limits: (&'static str, u32, u32),
+) -> Written {
+    let (what, least, most) = (Text(limits.0), Limit(limits.1), Limit(limits.2));
+    let (to, field) = (place(at), Field(row.field(at)));
+    let Some(step) = step else {
+        let why = "field @, @, is out of range: @ is @ to @";
+        return tell(text, why, &[to, field, what, least, most]);
     };
-    let field = shown(alloc, row.field(at))?;
-    let is = if is_step {
-        format!(in alloc; "it is {value} s")?
-    } else {
-        String::from_str(alloc, "is out of range")?
-    };
-    let (what, most) = (limits.what, number(alloc, limits.most)?);
-    Ok(Some(format!(in alloc;
-        "{place}{}, {field}, {is}: {what} is {} to {most}",
-        at.saturating_add(1),
-        limits.least
-    )?))
+    let first = at.saturating_sub(1);
+    let (from, before, step) = (place(first), Field(row.field(first)), Number(step as u64));
+    let why = "from field @, @, to field @, @, it is @ s: @ is @ to @";
+    tell(
+        text,
+        why,
+        &[from, before, to, field, step, what, least, most],
+    )
 }
 
 // How many items of a kind there may be.
-fn limit_sentence(alloc: Global, kind: Kind) -> Result<String, OutOfMemory> {
+fn limit_sentence(text: &mut String, kind: Kind) -> Written {
     let most = match kind {
         Kind::Block => BLOCKS,
         Kind::Signal => SIGNALS,
@@ -94,104 +94,110 @@ fn limit_sentence(alloc: Global, kind: Kind) -> Result<String, OutOfMemory> {
         Kind::Section => SECTIONS,
         Kind::Connection => CONNECTIONS,
     };
-    let (most, noun) = (number(alloc, most as u32)?, noun(kind));
-    Ok(format!(in alloc; "there are {most} {noun}s above, and there may be no more")?)
+    let why = "there are @ @s above, and there may be no more";
+    tell(text, why, &[Limit(most as u32), Text(noun(kind))])
 }
 
 // Which name isn't there: the first.
-fn unknown_sentence(
-    alloc: Global,
-    row: &RowAt<'_>,
-    word: Word,
-    tables: &Tables,
-) -> Result<String, OutOfMemory> {
-    if word.verb != Verb::Put && !stands(tables, word.kind, row.field(1)) {
-        return no_item(alloc, row, word.kind, 1);
+fn unknown_sentence(text: &mut String, row: &RowAt<'_>, verb: Verb, kind: Kind) -> Written {
+    if verb != Verb::Put && !stands(row.tables, kind, row.field(1)) {
+        return no_item(text, row, kind, 1);
     }
     for at in 2..row.len() {
-        if let Some(kind) = reference_at(word.kind, at) {
-            if !stands(tables, kind, row.field(at)) {
-                return no_item(alloc, row, kind, at);
+        if let Column::NameOf(kind) = column_at(kind, at) {
+            if !stands(row.tables, kind, row.field(at)) {
+                return no_item(text, row, kind, at);
             }
         }
     }
-    Ok(String::from_str(alloc, "this row names an item that no row above puts")?)
+    tell(text, "this row names an item that no row above puts", &[])
 }
 
 // Says that there is no item of the name in a field.
-fn no_item(alloc: Global, row: &RowAt<'_>, kind: Kind, at: usize) -> Result<String, OutOfMemory> {
+fn no_item(text: &mut String, row: &RowAt<'_>, kind: Kind, at: usize) -> Written {
     let name = row.field(at);
-    let (field, noun) = (shown(alloc, name)?, noun(kind));
-    let below = match row_below(row.rows, row.place, kind, name) {
-        0 => String::new(alloc),
-        below => format!(in alloc; "; it stands below, in row {below}")?,
+    let (why, below) = match row_below(row, kind, name) {
+        0 => (NO_ITEM, Text("")),
+        below => (ITEM_BELOW, Number(below)),
     };
-    let blank = if name.trim_ascii().len() < name.len() {
-        "; the blank beside it belongs to the name"
-    } else {
-        ""
-    };
-    let number = at.saturating_add(1);
-    Ok(format!(in alloc; "field {number}, {field}, is no {noun} of the rows above{below}{blank}")?)
+    let is_bare = name.trim_ascii().len() == name.len();
+    let blank = Text(if is_bare { "" } else { BLANK });
+    tell(
+        text,
+        why,
+        &[place(at), Field(name), Text(noun(kind)), below, blank],
+    )
 }
+
+const NO_ITEM: &str = "field @, @, is no @ of the rows above@@";
+
+const ITEM_BELOW: &str = "field @, @, is no @ of the rows above; it stands below, in row @@";
+
+const BLANK: &str = "; the blank beside it belongs to the name";
 
 // How many legs a run has, and how many signals its route.
-fn count_sentence(
-    alloc: Global,
-    row: &RowAt<'_>,
-    word: Word,
-    tables: &Tables,
-) -> Result<String, OutOfMemory> {
-    if word.kind == Kind::Route {
-        return changed_count(alloc, row, tables);
-    }
-    // The word, its name, route, length, tail and start, and two fields for each leg but the last.
-    let legs = so_many(alloc, row.len().saturating_sub(5).div_ceil(2), "leg")?;
-    for route in tables.routes.slice() {
-        if route.name.bytes() == row.field(2) {
-            let signals = so_many(alloc, route.signals.len(), "signal")?;
-            let name = shown(alloc, row.field(2))?;
-            return Ok(format!(in alloc; "this run has {legs}, and its route {name} {signals}")?);
+fn count_sentence(text: &mut String, row: &RowAt<'_>) -> Written {
+    // The start and the last leg have a field each, and each other leg has two.
+    let legs = Many(row.len().saturating_sub(START).div_ceil(2), "leg");
+    let route = row.field(2);
+    match route_of(row.tables, route) {
+        Some(found) => {
+            let pieces = [legs, Field(route), Many(found.signals.len(), "signal")];
+            tell(text, "this run has @, and its route @ @", &pieces)
         }
+        None => tell(
+            text,
+            "this run has @, and its route another number of signals",
+            &[legs],
+        ),
     }
-    Ok(format!(in alloc; "this run has {legs}, and its route another number of signals")?)
 }
 
-// The same of a changed route and a run over it.
-fn changed_count(alloc: Global, row: &RowAt<'_>, tables: &Tables) -> Result<String, OutOfMemory> {
+// How many signals a changed route gets, and how many legs a run over it has.
+fn changed_count(text: &mut String, row: &RowAt<'_>) -> Written {
     let count = row.len().saturating_sub(2);
-    let signals = so_many(alloc, count, "signal")?;
-    match run_off(tables, row.field(1), count) {
+    let signals = Many(count, "signal");
+    match run_off(row.tables, row.field(1), count) {
         Some(run) => {
             let name = run.name.bytes();
-            let above = row_of(row.rows, row.place, Kind::Run, name);
-            let (name, legs) = (shown(alloc, name)?, so_many(alloc, run.legs.len(), "leg")?);
-            Ok(format!(in alloc;
-                "the route gets {signals}, and run {name} over it, in row {above}, has {legs}"
-            )?)
+            let above = Number(row_of(row, Kind::Run, name));
+            let pieces = [signals, Field(name), above, Many(run.legs.len(), "leg")];
+            tell(
+                text,
+                "the route gets @, and run @ over it, in row @, has @",
+                &pieces,
+            )
         }
-        None => Ok(format!(in alloc; "the route gets {signals}, and a run over it other legs")?),
+        None => tell(
+            text,
+            "the route gets @, and a run over it other legs",
+            &[signals],
+        ),
     }
 }
 
 // Who uses the item that is dropped.
-fn in_use_sentence(
-    alloc: Global,
-    row: &RowAt<'_>,
-    word: Word,
-    tables: &Tables,
-) -> Result<String, OutOfMemory> {
+fn in_use_sentence(text: &mut String, row: &RowAt<'_>, kind: Kind) -> Written {
     let name = row.field(1);
-    let (field, noun_of_name) = (shown(alloc, name)?, noun(word.kind));
-    match user(tables, word.kind, name) {
-        Some((kind, user)) => {
-            let above = row_of(row.rows, row.place, kind, user.bytes());
-            let (who, user) = (noun(kind), shown(alloc, user.bytes())?);
-            Ok(format!(in alloc;
-                "{noun_of_name} {field} is used by {who} {user}, in row {above}, \
-                which is to be changed or dropped first"
-            )?)
+    let used = [Text(noun(kind)), Field(name)];
+    match user(row.tables, kind, name) {
+        Some((by, user)) => {
+            let above = Number(row_of(row, by, user.bytes()));
+            let [noun_of_name, field] = used;
+            tell(
+                text,
+                IN_USE,
+                &[
+                    noun_of_name,
+                    field,
+                    Text(noun(by)),
+                    Field(user.bytes()),
+                    above,
+                ],
+            )
         }
-        None => Ok(format!(in alloc; "{noun_of_name} {field} is used by another item")?),
+        None => tell(text, "@ @ is used by another item", &used),
     }
 }
+
+const IN_USE: &str = "@ @ is used by @ @, in row @, which is to be changed or dropped first";

@@ -1,52 +1,43 @@
 //! Why a row may not stand at its place, in a sentence.
+use crate::piece::Piece::{Field, Many, Number};
+use crate::piece::{Written, tell};
 use crate::row_at::{First, RowAt, is_planner_row};
-use crate::shown::{shown, so_many};
-use rail_model::OutOfMemory;
-use std::alloc::Global;
 
 // For a command that takes the scripts of so many planners, with so many tasks in all.
 pub(crate) fn script_sentence(
-    alloc: Global,
+    text: &mut String,
     row: &RowAt<'_>,
     planners: usize,
     tasks: usize,
-) -> Result<String, OutOfMemory> {
-    if planners == 0 {
-        return Ok(String::from_str(
-            alloc,
-            "rows planner and ask stand in scripts of planners, which the command session alone \
-                takes",
-        )?);
-    }
+) -> Written {
     let above = planner_rows_above(row);
     match row.first() {
-        First::Planner => planner_sentence(alloc, row, planners, above),
-        _ if above == 0 => Ok(String::from_str(
-            alloc,
-            "a question is a task of a planner, and no row planner stands above it",
-        )?),
-        _ => Ok(format!(in alloc;
-            "the scripts have {tasks} tasks above this row, and more are not taken"
-        )?),
+        _ if planners == 0 => tell(text, NO_SCRIPTS, &[]),
+        First::Planner if above >= planners => {
+            tell(
+                text,
+                "a session takes @ at most",
+                &[Many(planners, "planner")],
+            )
+        }
+        First::Planner => {
+            let next = Number((above as u64).saturating_add(1));
+            tell(text, NOT_NEXT, &[Field(row.field(1)), next])
+        }
+        _ if above == 0 => tell(text, NO_PLANNER, &[]),
+        _ => tell(text, MORE_TASKS, &[Number(tasks as u64)]),
     }
 }
 
-// Why a planner's script may not begin in a row with so many planners above it.
-fn planner_sentence(
-    alloc: Global,
-    row: &RowAt<'_>,
-    planners: usize,
-    above: usize,
-) -> Result<String, OutOfMemory> {
-    if above >= planners {
-        let most = so_many(alloc, planners, "planner")?;
-        return Ok(format!(in alloc; "a session takes {most} at most")?);
-    }
-    let (field, next) = (shown(alloc, row.field(1))?, above.saturating_add(1));
-    Ok(format!(in alloc;
-        "field 2, {field}: planners stand in the order of their numbers, and the next is {next}"
-    )?)
-}
+const NO_SCRIPTS: &str =
+    "rows planner and ask stand in scripts of planners, which the command session alone takes";
+
+const NOT_NEXT: &str =
+    "field 2, @: planners stand in the order of their numbers, and the next is @";
+
+const NO_PLANNER: &str = "a question is a task of a planner, and no row planner stands above it";
+
+const MORE_TASKS: &str = "the scripts have @ tasks above this row, and more are not taken";
 
 // How many planners' scripts begin above a row.
 fn planner_rows_above(row: &RowAt<'_>) -> usize {

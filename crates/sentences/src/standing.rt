@@ -1,29 +1,28 @@
 //! What stands in the tables above a row.
-use crate::row_at::RowAt;
 use line_tables::LineTables;
-use rail_model::{Edit, Kind, Name, Named, OutOfMemory, Run, Tables};
-use row_text::Line;
+use rail_model::{Form, Kind, Name, Named, OutOfMemory, Route, Run, Tables};
+use row_text::{Line, RowList};
 use std::alloc::Global;
 
-// The tables that the rows above a row make. No rule refuses one of them.
-pub(crate) fn tables_above(alloc: Global, row: &RowAt<'_>) -> Result<Tables, OutOfMemory> {
+// The tables that the rows above a place make. No rule refuses one of them.
+pub(crate) fn tables_above(
+    alloc: Global,
+    rows: &RowList<'_>,
+    version: u32,
+    place: usize,
+) -> Result<Tables, OutOfMemory> {
     let mut tables = LineTables::new(alloc);
-    for i in row.rows.first_line()..row.place {
-        if let Some(edit) = edit_at(alloc, row, i)? {
-            let _ = tables.take(edit)?;
-        }
+    for i in rows.first_line()..place.min(rows.len()) {
+        take_line(&mut tables, rows.line(alloc, version, i)?)?;
     }
     tables.plain()
 }
 
-fn edit_at(alloc: Global, row: &RowAt<'_>, i: usize) -> Result<Option<Edit>, OutOfMemory> {
-    if i >= row.rows.len() {
-        return Ok(None);
+fn take_line(tables: &mut LineTables, line: Result<Line, Form>) -> Result<(), OutOfMemory> {
+    if let Ok(Line::Edit(edit)) = line {
+        let _ = tables.take(edit)?;
     }
-    match row.rows.line(alloc, row.version, i)? {
-        Ok(Line::Edit(edit)) => Ok(Some(edit)),
-        _ => Ok(None),
-    }
+    Ok(())
 }
 
 // Whether an item of a kind and a name is there.
@@ -47,16 +46,22 @@ fn is_among<T: Named>(items: &[T], name: &[u8]) -> bool {
     false
 }
 
-// The kind of which the field at a place of a row names an item, if it names one besides the row's
-// own.
-pub(crate) fn reference_at(kind: Kind, at: usize) -> Option<Kind> {
-    match kind {
-        Kind::Signal if at == 2 => Some(Kind::Block),
-        Kind::Route if at >= 2 => Some(Kind::Signal),
-        Kind::Run if at == 2 => Some(Kind::Route),
-        Kind::Section if at >= 5 => Some(Kind::Block),
-        Kind::Connection if at == 2 || at == 3 => Some(Kind::Run),
-        _ => None,
+// The route of a name, if there is one.
+pub(crate) fn route_of<'a>(tables: &'a Tables, name: &[u8]) -> Option<&'a Route> {
+    for route in tables.routes.slice() {
+        if route.name.bytes() == name {
+            return Some(route);
+        }
+    }
+    None
+}
+
+// The block of the signal of a name: nothing where there is none.
+pub(crate) fn block_of<'a>(tables: &'a Tables, signal: &[u8]) -> &'a [u8] {
+    let signals = tables.signals.slice();
+    match signals.binary_search_by(|other| other.name.bytes().cmp(signal)) {
+        Ok(at) => signals[at].block.bytes(),
+        Err(_) => b"",
     }
 }
 

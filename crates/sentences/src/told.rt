@@ -1,4 +1,6 @@
 //! What is told of a call for people, beside its status.
+use crate::piece::Written;
+use rail_model::OutOfMemory;
 
 /// Lines for people about a call, or nothing.
 #[derive(Drop)]
@@ -12,9 +14,12 @@ impl Told {
         Told { text: None }
     }
 
-    // These lines.
-    pub(crate) fn of(text: String) -> Told {
-        Told { text: Some(text) }
+    // A text, if there was memory for all of it.
+    pub(crate) fn of(text: String, written: Written) -> Told {
+        match written {
+            Ok(()) => Told { text: Some(text) },
+            Err(OutOfMemory) => Told::nothing(),
+        }
     }
 
     /// The lines, without the end of the last: empty where nothing is told.
