@@ -3,7 +3,7 @@ use Rattle.std.proofs.Common.{◌≡◌, ℕ, ◌+◌, ◌/◌, ◌<◌, ◌==�
 use Rattle.std.specs.List.{list_any}
 use Rattle.std.proofs.lemmas.List.Elements.{All-more, All-weaker}
 use Rattle.std.proofs.lemmas.List.Folds.{list_any_more}
-use Rattle.line_tables.specs.RouteSets.{has, SameSets, words_of, NoneShorter, lead_to, HasRoomAt, IsPutAt, IsTakenAt}
+use Rattle.line_tables.specs.RouteSets.{has, SameSets, words_of, NoneShorter, lead_to, HasRoomAt, IsPutAt, IsTakenAt, IsChangedAt}
 use Rattle.line_tables.proofs.Found.{list_any-map}
 
 put_both : (p l s h : Bool) → ((p && s) || ((l && s) || h)) ≡ (((l || p) && s) || h)
@@ -36,14 +36,21 @@ module _ (f : ℕ → ℕ) (signals : List ℕ) (route i : ℕ) (l : i < length 
       step x r ∙ rw (so_far x r, list_any_more (λ q. f q == x) signals i 0 l)
       (take_both (here x) (lead_to f (take i signals) x) (r == route) (has old x r))
 
--- sets that first stayed what they were
-pub take_after : (f : ℕ → ℕ) (signals : List ℕ) (route : ℕ) (old now new : List (List ℕ)) → SameSets old now → IsTakenAt f signals route now new → IsTakenAt f signals route old new
-take_after f signals route old now new same taken x r = taken x r ∙ ap (λ h. not (lead_to f signals x && r == route) && h) (same x r)
-
 -- the route is put in at the blocks of its signals
+lead_to_images : (f : ℕ → ℕ) (signals images : List ℕ) (x : ℕ) → images ≡ map f signals → lead_to (λ q. q) images x ≡ lead_to f signals x
+lead_to_images f signals images x are = ap (list_any (λ q. q == x)) are ∙ list_any-map f (λ q. q == x) signals
+
 pub put_at_images : (f : ℕ → ℕ) (signals images : List ℕ) (route : ℕ) (old new : List (List ℕ)) → images ≡ map f signals → IsPutAt (λ q. q) images route old new → IsPutAt f signals route old new
 put_at_images f signals images route old new are put x r =
-    put x r ∙ ap (λ l. (l && r == route) || has old x r) (ap (list_any (λ q. q == x)) are ∙ list_any-map f (λ q. q == x) signals)
+    put x r ∙ ap (λ l. (l && r == route) || has old x r) (lead_to_images f signals images x are)
+
+pub change_at_images : (f : ℕ → ℕ) (before signals images : List ℕ) (route : ℕ) (old new : List (List ℕ)) → images ≡ map f signals → IsChangedAt f before (λ q. q) images route old new → IsChangedAt f before f signals route old new
+change_at_images f before signals images route old new are changed x r =
+    changed x r ∙ ap (λ l. (l && r == route) || (not (lead_to f before x && r == route) && has old x r)) (lead_to_images f signals images x are)
+
+-- the route is taken out and put in, in sets that first stayed what they were
+pub change_in_turn : (f g : ℕ → ℕ) (before after : List ℕ) (route : ℕ) (old made between new : List (List ℕ)) → SameSets old made → IsTakenAt f before route made between → IsPutAt g after route between new → IsChangedAt f before g after route old new
+change_in_turn f g before after route old made between new same taken put x r = put x r ∙ rw (taken x r, same x r) refl
 
 -- ---- room for the route
 

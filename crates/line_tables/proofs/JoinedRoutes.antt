@@ -15,7 +15,7 @@ use Rattle.line_tables.specs.declared.line_tables.LineTables.TheInside.{Inside}
 use Rattle.line_tables.specs.Table.{under, with_change, key_of, item_of, IsTable}
 use Rattle.line_tables.specs.KeyCounts.{count_of, times}
 use Rattle.line_tables.specs.Links.{IsLinked, block_of}
-use Rattle.line_tables.specs.RouteSets.{IsPutAt, IsTakenAt, AreSetsOf}
+use Rattle.line_tables.specs.RouteSets.{IsPutAt, IsTakenAt, IsChangedAt, AreSetsOf}
 use Rattle.line_tables.specs.declared.route_sets.RouteSets.{RouteSets}
 use Rattle.line_tables.specs.Inside.{items_of, tables_of, names_of_route, names_of_run, IsJoined}
 use Rattle.line_tables.proofs.References.{entry}
@@ -70,16 +70,16 @@ module _ (t : Inside) where
   pub route_stays : (x : Route) → rule_of_change (tables_of t) (item.Route x) ≡ None → is_named (λ e. e.1.item.name) t.routes x.name ≡ true
   route_stays x none = sym (named_route x.name) ∙ (changeable (tables_of t) (item.Route x) none).there
 
-  pub route_change : (key : ℕ) (x : Route) (refs uses : List ℕ) → IsJoined t → IsTable route_name t.routes → option_map route_name (under t.routes key) ≡ Some x.name → rule_of_change (tables_of t) (item.Route x) ≡ None → map (key_of signal_name t.signals) (names_of_route x) ≡ map Some refs → ((e : Linked Route) (k : ℕ) → under t.routes key ≡ Some e → count_of uses k + times k e.refs ≡ count_of t.signal_uses k + times k refs) → (before : Linked Route) (between sets : RouteSets) → under t.routes key ≡ Some before → IsTakenAt (λ q. q) before.refs key t.route_sets.of_signals between.of_signals → IsTakenAt (block_of t.signals) before.refs key t.route_sets.of_blocks between.of_blocks → IsPutAt (λ q. q) refs key between.of_signals sets.of_signals → IsPutAt (block_of t.signals) refs key between.of_blocks sets.of_blocks → IsJoined (record t { routes = with_change t.routes key (entry x refs); signal_uses = uses; route_sets = sets })
-  route_change key x refs uses j table same none found counted before between sets here unlisted unled listed led =
+  pub route_change : (key : ℕ) (x : Route) (refs uses : List ℕ) → IsJoined t → IsTable route_name t.routes → option_map route_name (under t.routes key) ≡ Some x.name → rule_of_change (tables_of t) (item.Route x) ≡ None → map (key_of signal_name t.signals) (names_of_route x) ≡ map Some refs → ((e : Linked Route) (k : ℕ) → under t.routes key ≡ Some e → count_of uses k + times k e.refs ≡ count_of t.signal_uses k + times k refs) → (before : Linked Route) (sets : RouteSets) → under t.routes key ≡ Some before → IsChangedAt (λ q. q) before.refs (λ q. q) refs key t.route_sets.of_signals sets.of_signals → IsChangedAt (block_of t.signals) before.refs (block_of t.signals) refs key t.route_sets.of_blocks sets.of_blocks → IsJoined (record t { routes = with_change t.routes key (entry x refs); signal_uses = uses; route_sets = sets })
+  route_change key x refs uses j table same none found counted before sets here listed led =
       let later = with_change t.routes key (entry x refs) in
       let swapped = swapped_by_change t.routes key before (entry x refs) here in
       routes_joined later uses sets j
       (rw (map-with_change (λ (e : Linked Route). e.item) (λ x. x.name) t.routes key (entry x refs) table same) (IsSound-after_change (tables_of t) (item.Route x) j.sound none))
       (by_change names_of_route (λ x. x.name) signal_name t.routes t.signals j.routes table t.signal_uses uses key x refs same found counted)
       (to_change names_of_run (λ x. x.name) route_name t.runs t.routes j.runs table key (entry x refs) same)
-      (sets_by_swap (λ q. q) t.routes later key before (entry x refs) t.route_sets.of_signals between.of_signals sets.of_signals j.signal_routes swapped here unlisted listed)
-      (sets_by_swap (block_of t.signals) t.routes later key before (entry x refs) t.route_sets.of_blocks between.of_blocks sets.of_blocks j.block_routes swapped here unled led)
+      (sets_by_swap (λ q. q) t.routes later key before (entry x refs) t.route_sets.of_signals sets.of_signals j.signal_routes swapped here listed)
+      (sets_by_swap (block_of t.signals) t.routes later key before (entry x refs) t.route_sets.of_blocks sets.of_blocks j.block_routes swapped here led)
 
   pub route_is_there : (n : List ℕ) → rule_of_drop (tables_of t) kind.Route n ≡ None → is_named (λ e. e.1.item.name) t.routes n ≡ true
   route_is_there n none = sym (named_route n) ∙ (free (tables_of t) kind.Route n none).there

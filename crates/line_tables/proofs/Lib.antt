@@ -10,6 +10,7 @@ pub mod Legs
 pub mod Bits
 pub mod Repeats
 pub mod Meets
+pub mod FoundSignals
 pub mod Along
 pub mod Under
 pub mod Reaches

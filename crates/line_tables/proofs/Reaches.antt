@@ -12,7 +12,7 @@ use Rattle.line_tables.specs.declared.linked.Linked.{Linked}
 use Rattle.line_tables.specs.Table.{under, IsTable}
 use Rattle.line_tables.specs.KeySet.{Meets, KeepsApart}
 use Rattle.line_tables.specs.Links.{lists_key, repeats_key, block_of, meets}
-use Rattle.line_tables.specs.RouteSets.{has, SameSets, lead_to, IsPutAt, IsTakenAt, reaches, AreSetsOf}
+use Rattle.line_tables.specs.RouteSets.{has, SameSets, lead_to, IsPutAt, IsTakenAt, IsChangedAt, reaches, AreSetsOf}
 use Rattle.line_tables.proofs.Filed.{some_from_map}
 use Rattle.line_tables.proofs.Found.{list_any-map}
 use Rattle.line_tables.proofs.References.{list_any_same}
@@ -47,34 +47,34 @@ module _ (f : ℕ → ℕ) where
   sets_same routes old new same sets x r = same x r ∙ sets x r
 
   -- the route under a key is taken out of the sets of its signals, and the new one put into those of its own
-  pub sets_swapped : (routes later : List (ℕ × Linked Route)) (k : ℕ) (now : Option (Linked Route)) (old between new : List (List ℕ)) → AreSetsOf f routes old → IsSwapped routes later k now → IsTakenAt f (refs_of (under routes k)) k old between → IsPutAt f (refs_of now) k between new → AreSetsOf f later new
-  sets_swapped routes later k now old between new sets swapped taken put x r =
+  sets_swapped : (routes later : List (ℕ × Linked Route)) (k : ℕ) (now : Option (Linked Route)) (old new : List (List ℕ)) → AreSetsOf f routes old → IsSwapped routes later k now → IsChangedAt f (refs_of (under routes k)) f (refs_of now) k old new → AreSetsOf f later new
+  sets_swapped routes later k now old new sets swapped changed x r =
+      let before = lead_to f (refs_of (under routes k)) x in
+      let after = lead_to f (refs_of now) x in
       elim (cases_Bool (r == k)) [
         | inl e ↦
             let key = eqb-true r k e in
-            let was : has old x r ≡ lead_to f (refs_of (under routes k)) x = sets x r ∙ ap (reaches f routes x) key ∙ led_by f (under routes k) x in
-            let gone : has between x r ≡ false = taken x r ∙ rw (e, was, and_true (lead_to f (refs_of (under routes k)) x)) (not_both (lead_to f (refs_of (under routes k)) x)) in
-            let left : has new x r ≡ lead_to f (refs_of now) x = put x r ∙ rw (e, gone, and_true (lead_to f (refs_of now) x)) (or_none (lead_to f (refs_of now) x)) in
+            let was : has old x r ≡ before = sets x r ∙ ap (reaches f routes x) key ∙ led_by f (under routes k) x in
+            let left : has new x r ≡ after = changed x r ∙ rw (e, was, and_true after, and_true before, not_both before) (or_none after) in
             let stands : under later r ≡ now = swapped r ∙ rw e refl in
             left ∙ sym (rw stands (led_by f now x))
         | inr e ↦
-            let stays : has new x r ≡ has old x r =
-            put x r ∙ rw (e, and-false (lead_to f (refs_of now) x)) (taken x r ∙ rw (e, and-false (lead_to f (refs_of (under routes k)) x)) refl) in
+            let stays : has new x r ≡ has old x r = changed x r ∙ rw (e, and-false after, and-false before) refl in
             let stands : under later r ≡ under routes r = swapped r ∙ rw e refl in
             stays ∙ sets x r ∙ rw stands refl
       ]
 
   pub sets_by_add : (routes later : List (ℕ × Linked Route)) (k : ℕ) (x : Linked Route) (old new : List (List ℕ)) → AreSetsOf f routes old → IsSwapped routes later k (Some x) → under routes k ≡ None → IsPutAt f x.refs k old new → AreSetsOf f later new
   sets_by_add routes later k x old new sets swapped vacant put =
-      sets_swapped routes later k (Some x) old old new sets swapped (λ y r. rw vacant refl) put
+      sets_swapped routes later k (Some x) old new sets swapped (λ y r. rw vacant (put y r))
 
-  pub sets_by_swap : (routes later : List (ℕ × Linked Route)) (k : ℕ) (before x : Linked Route) (old between new : List (List ℕ)) → AreSetsOf f routes old → IsSwapped routes later k (Some x) → under routes k ≡ Some before → IsTakenAt f before.refs k old between → IsPutAt f x.refs k between new → AreSetsOf f later new
-  sets_by_swap routes later k before x old between new sets swapped here taken put =
-      sets_swapped routes later k (Some x) old between new sets swapped (λ y r. rw here (taken y r)) put
+  pub sets_by_swap : (routes later : List (ℕ × Linked Route)) (k : ℕ) (before x : Linked Route) (old new : List (List ℕ)) → AreSetsOf f routes old → IsSwapped routes later k (Some x) → under routes k ≡ Some before → IsChangedAt f before.refs f x.refs k old new → AreSetsOf f later new
+  sets_by_swap routes later k before x old new sets swapped here changed =
+      sets_swapped routes later k (Some x) old new sets swapped (λ y r. rw here (changed y r))
 
   pub sets_by_remove : (routes later : List (ℕ × Linked Route)) (k : ℕ) (before : Linked Route) (old new : List (List ℕ)) → AreSetsOf f routes old → IsSwapped routes later k None → under routes k ≡ Some before → IsTakenAt f before.refs k old new → AreSetsOf f later new
   sets_by_remove routes later k before old new sets swapped here taken =
-      sets_swapped routes later k None old new new sets swapped (λ y r. rw here (taken y r)) (λ y r. refl)
+      sets_swapped routes later k None old new sets swapped (λ y r. rw here (taken y r))
 
   -- signals that stand for what they stood for
   pub sets_same_images : (g : ℕ → ℕ) (routes : List (ℕ × Linked Route)) (sets : List (List ℕ)) → All (λ u. All (λ q. g q ≡ f q) u.1.refs) routes → AreSetsOf f routes sets → AreSetsOf g routes sets

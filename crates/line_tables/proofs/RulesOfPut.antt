@@ -8,7 +8,7 @@ use Rattle.rail_model.specs.declared.edit.Rule.TheVariants.{Range, Limit, Unknow
 use Rattle.rail_model.specs.declared.tables.Tables.{Tables}
 use Rattle.rail_model.specs.Rules.{is_taken, is_full, refers_to_known, repeats, miscounts_legs, rule_of_put}
 use Rattle.rail_model.specs.Within.{is_within}
-use Rattle.line_tables.specs.References.{rule_of_item, rule_of_references}
+use Rattle.line_tables.specs.References.{rule_of_item, rule_of_references, rule_of_parts}
 
 -- what comes after the tests of the item itself
 told_then : (a b c : Bool) (rest : Option Rule) → (if not a then Some Range else if b then Some Twice else if c then Some Limit else None) ≡ None → (if not a then Some Range else if b then Some Twice else if c then Some Limit else rest) ≡ rest
@@ -17,16 +17,9 @@ told_then true true c rest h = absurd (cc)
 told_then true false true rest h = absurd (cc)
 told_then true false false rest h = refl
 
-told_of_references : (d e f : Bool) (rule : Rule) → (if not d then Some Unknown else if e then Some Twice else None) ≡ Some rule → (if not d then Some Unknown else if e then Some Twice else if f then Some Count else None) ≡ Some rule
-told_of_references false e f rule h = h
-told_of_references true true f rule h = h
-told_of_references true false f rule h = absurd (cc)
-
--- an item that is not refused for itself is refused for what it refers to where that is
-pub refused_next : (t : Tables) (x : Item) (rule : Rule) → rule_of_item t x ≡ None → rule_of_references t x ≡ Some rule → rule_of_put t x ≡ Some rule
-refused_next t x rule itself refused =
-    told_then (is_within x) (is_taken t x) (is_full t x) (if not (refers_to_known t x) then Some Unknown else if repeats t x then Some Twice else if miscounts_legs t x then Some Count else None) itself
-    ∙ told_of_references (refers_to_known t x) (repeats t x) (miscounts_legs t x) rule refused
+-- an item that is not refused for itself is refused for its parts, or not at all
+pub refused_next : (t : Tables) (x : Item) → rule_of_item t x ≡ None → rule_of_put t x ≡ rule_of_parts t x
+refused_next t x = told_then (is_within x) (is_taken t x) (is_full t x) (rule_of_parts t x)
 
 -- a route that is not refused for itself is refused for what it refers to, or not at all
 pub refused_then : (t : Tables) (x : Route) → rule_of_item t (item.Route x) ≡ None → rule_of_put t (item.Route x) ≡ rule_of_references t (item.Route x)

@@ -4,6 +4,7 @@ pub mod KeyCounts
 pub mod KeySet
 pub mod Links
 pub mod RouteSets
+pub mod RouteSignals
 pub mod References
 pub mod Inside
 pub mod Hops

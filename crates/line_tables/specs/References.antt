@@ -1,14 +1,15 @@
 -- What refuses an item for itself, and what for what it refers to.
-use Rattle.std.specs.Prelude.{if◌then◌else◌, not, Option, Some, None, ⊤}
+use Rattle.std.specs.Prelude.{ℕ, List, if◌then◌else◌, not, nat_lt, Option, Some, None, ⊤}
 use Rattle.rail_model.specs.declared.items.Item.{Item}
 use Rattle.rail_model.specs.declared.items.Item.TheVariants as item
 use Rattle.rail_model.specs.declared.edit.Edit.{Edit}
 use Rattle.rail_model.specs.declared.edit.Edit.TheVariants as edit
 use Rattle.rail_model.specs.declared.edit.Rule.{Rule}
-use Rattle.rail_model.specs.declared.edit.Rule.TheVariants.{Range, Limit, Unknown, Twice}
+use Rattle.rail_model.specs.declared.edit.Rule.TheVariants.{Range, Limit, Unknown, Twice, Count, InUse}
 use Rattle.rail_model.specs.declared.tables.Tables.{Tables}
-use Rattle.rail_model.specs.Rules.{is_taken, is_full, refers_to_known, repeats, rule_of_put, rule_of_change, rule_of_drop}
+use Rattle.rail_model.specs.Rules.{is_taken, is_full, refers_to_known, repeats, miscounts_legs, rule_of_put, rule_of_change, rule_of_drop}
 use Rattle.rail_model.specs.Within.{is_within}
+use Rattle.line_tables.specs.KeyCounts.{count_of}
 
 -- the item is no route
 abbrev pub IsNoRoute : Item → Type 0
@@ -33,6 +34,19 @@ rule_of_references tables x =
     if not (refers_to_known tables x) then Some Unknown
     else if repeats tables x then Some Twice
     else None
+
+-- the item may not be put or changed for what it refers to, or a run for how many legs it has
+abbrev pub rule_of_parts : Tables → Item → Option Rule
+rule_of_parts tables x =
+    if not (refers_to_known tables x) then Some Unknown
+    else if repeats tables x then Some Twice
+    else if miscounts_legs tables x then Some Count
+    else None
+
+-- an item may not be dropped because none stands under its name, or because others refer to its key
+abbrev pub rule_of_key : List ℕ → Option ℕ → Option Rule
+rule_of_key uses None = Some Unknown
+rule_of_key uses (Some k) = if nat_lt 0 (count_of uses k) then Some InUse else None
 
 -- the rule of an edit that is told before it is made: what a route refers to is looked up when it is put or changed, and a
 -- signal and its block when the signal is changed

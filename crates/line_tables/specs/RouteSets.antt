@@ -38,6 +38,11 @@ IsPutAt f signals route old new = (x r : ℕ) → has new x r ≡ ((lead_to f si
 abbrev pub IsTakenAt : (ℕ → ℕ) → List ℕ → ℕ → List (List ℕ) → List (List ℕ) → Type 0
 IsTakenAt f signals route old new = (x r : ℕ) → has new x r ≡ (not (lead_to f signals x && r == route) && has old x r)
 
+-- the route is taken out of the sets at what its signals stood for, and put into those at what its signals now stand for
+abbrev pub IsChangedAt : (ℕ → ℕ) → List ℕ → (ℕ → ℕ) → List ℕ → ℕ → List (List ℕ) → List (List ℕ) → Type 0
+IsChangedAt f before g after route old new =
+    (x r : ℕ) → has new x r ≡ ((lead_to g after x && r == route) || (not (lead_to f before x && r == route) && has old x r))
+
 -- the routes in a set are taken out of the set at the first key and put into that at the second
 abbrev pub IsMoved : List ℕ → ℕ → ℕ → List (List ℕ) → List (List ℕ) → Type 0
 IsMoved routes from to old new =

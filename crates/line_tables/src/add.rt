@@ -13,83 +13,83 @@ ghost use Rattle.line_tables.specs.RouteSets.{SameSets, IsPutAt};
 use crate::LineTables;
 use crate::kept_route::KeptRoute;
 use crate::key_counts::KeyCounts;
-use crate::key_set::repeats;
-use crate::linked::{Linked, blocks_of, keys_of, known_keys, put_linked, take_linked};
+use crate::linked::{Linked, keys_of, put_linked, take_linked};
 use crate::named_table::NamedTable;
 use crate::route_sets::RouteSets;
-use rail_model::{Block, Connection, List, Named, OutOfMemory, Route, Rule, Run, Section, Signal};
+use crate::route_signals::{RouteSignals, route_signals};
+use rail_model::{Block, Connection, Named, OutOfMemory, Route, Rule, Run, Section, Signal};
 
 impl LineTables {
-    pub(crate) fn add_block(&mut self, block: Block) -> Result<(), OutOfMemory>
+    pub(crate) fn add_block(&mut self, block: Block) -> Result<Result<(), Rule>, OutOfMemory>
         requires { rule_of_put self.old (item.Block block) ≡ None }
-        ensures after { OnOk result (self.new ≡ after_put self.old (item.Block block)) }
-        ensures kept { OnErr result (self.new ≡ self.old) }
+        ensures { AnswersEdit (rule_of_put self.old (item.Block block)) (after_put self.old (item.Block block))
+            result self.old self.new }
     {
         self.blocks.put(block)?;
-        Ok(())
+        Ok(Ok(()))
     }
 
-    pub(crate) fn add_signal(&mut self, signal: Signal) -> Result<(), OutOfMemory>
+    pub(crate) fn add_signal(&mut self, signal: Signal) -> Result<Result<(), Rule>, OutOfMemory>
         requires { rule_of_put self.old (item.Signal signal) ≡ None }
-        ensures after { OnOk result (self.new ≡ after_put self.old (item.Signal signal)) }
-        ensures kept { OnErr result (self.new ≡ self.old) }
+        ensures { AnswersEdit (rule_of_put self.old (item.Signal signal)) (after_put self.old (item.Signal signal))
+            result self.old self.new }
     {
         let refs = keys_of(self.alloc, &self.blocks, &[signal.block])?;
         put_linked(&mut self.signals, &mut self.block_uses, signal, refs)?;
-        Ok(())
+        Ok(Ok(()))
     }
 
     // Puts a route in, or tells the rule by which what it refers to refuses it. Its signals are
     // looked up once: for the rules, for its entry, for the counts and for the sets.
-    pub(crate) fn put_route(&mut self, route: Route) -> Result<Result<(), Rule>, OutOfMemory>
-        requires { rule_of_item self.old (item.Route route) ≡ None }
-        ensures { AnswersEdit (rule_of_put self.old (item.Route route)) (after_put self.old (item.Route route))
+    pub(crate) fn put_route(&mut self, route: &Route) -> Result<Result<(), Rule>, OutOfMemory>
+        requires { rule_of_item self.old (item.Route route.now) ≡ None }
+        ensures { AnswersEdit (rule_of_put self.old (item.Route route.now)) (after_put self.old (item.Route route.now))
             result self.old self.new }
     {
         self.blocks.learn_order();
-        let Some(signals) = known_keys(self.alloc, &self.signals, &route.signals)? else {
+        let Some(found) = route_signals(self.alloc, &self.signals, &route.signals)? else {
             return Ok(Err(Rule::Unknown));
         };
-        let blocks = blocks_of(self.alloc, &self.signals, &signals)?;
-        if repeats(self.alloc, blocks.slice())? {
+        if found.twice {
             return Ok(Err(Rule::Twice));
         }
-        let kept = KeptRoute::of(self.alloc, route)?;
         enter_route(
             &mut self.routes,
             &mut self.signal_uses,
             &mut self.route_sets,
-            kept,
-            signals,
-            blocks.slice(),
+            KeptRoute::of(self.alloc, route)?,
+            found,
         )?;
         Ok(Ok(()))
     }
 
-    pub(crate) fn add_run(&mut self, run: Run) -> Result<(), OutOfMemory>
+    pub(crate) fn add_run(&mut self, run: Run) -> Result<Result<(), Rule>, OutOfMemory>
         requires { rule_of_put self.old (item.Run run) ≡ None }
-        ensures after { OnOk result (self.new ≡ after_put self.old (item.Run run)) }
-        ensures kept { OnErr result (self.new ≡ self.old) }
+        ensures { AnswersEdit (rule_of_put self.old (item.Run run)) (after_put self.old (item.Run run))
+            result self.old self.new }
     {
         let refs = keys_of(self.alloc, &self.routes, &[run.route])?;
         put_linked(&mut self.runs, &mut self.route_uses, run, refs)?;
-        Ok(())
+        Ok(Ok(()))
     }
 
-    pub(crate) fn add_section(&mut self, section: Section) -> Result<(), OutOfMemory>
+    pub(crate) fn add_section(&mut self, section: Section) -> Result<Result<(), Rule>, OutOfMemory>
         requires { rule_of_put self.old (item.Section section) ≡ None }
-        ensures after { OnOk result (self.new ≡ after_put self.old (item.Section section)) }
-        ensures kept { OnErr result (self.new ≡ self.old) }
+        ensures { AnswersEdit (rule_of_put self.old (item.Section section)) (after_put self.old (item.Section section))
+            result self.old self.new }
     {
         let refs = keys_of(self.alloc, &self.blocks, section.blocks.slice())?;
         put_linked(&mut self.sections, &mut self.block_uses, section, refs)?;
-        Ok(())
+        Ok(Ok(()))
     }
 
-    pub(crate) fn add_connection(&mut self, connection: Connection) -> Result<(), OutOfMemory>
+    pub(crate) fn add_connection(
+        &mut self,
+        connection: Connection,
+    ) -> Result<Result<(), Rule>, OutOfMemory>
         requires { rule_of_put self.old (item.Connection connection) ≡ None }
-        ensures after { OnOk result (self.new ≡ after_put self.old (item.Connection connection)) }
-        ensures kept { OnErr result (self.new ≡ self.old) }
+        ensures { AnswersEdit (rule_of_put self.old (item.Connection connection)) (after_put self.old (item.Connection connection))
+            result self.old self.new }
     {
         let refs = keys_of(
             self.alloc,
@@ -97,7 +97,7 @@ impl LineTables {
             &[connection.first, connection.second],
         )?;
         put_linked(&mut self.connections, &mut self.run_uses, connection, refs)?;
-        Ok(())
+        Ok(Ok(()))
     }
 }
 
@@ -108,19 +108,18 @@ fn enter_route(
     uses: &mut KeyCounts,
     sets: &mut RouteSets,
     route: KeptRoute,
-    signals: List<usize>,
-    blocks: &[usize],
+    found: RouteSignals,
 ) -> Result<usize, OutOfMemory>
     requires { is_named (λ e. e.1.item.name) routes.old route.name ≡ false }
     ensures put { IfOk result (λ key. routes.new ≡ with_item (λ e. e.1.item.name) routes.old
-        (key, record { item = route; refs = signals })) }
+        (key, record { item = route; refs = found.keys })) }
     ensures fresh { IfOk result (λ key. under routes.old key ≡ None) }
     ensures counted { OnOk result
-        ((k : ℕ) → count_of uses.new k ≡ count_of uses.old k + times k signals) }
+        ((k : ℕ) → count_of uses.new k ≡ count_of uses.old k + times k found.keys) }
     ensures signals { IfOk result
-        (λ key. IsPutAt (λ q. q) signals key sets.old.of_signals sets.new.of_signals) }
+        (λ key. IsPutAt (λ q. q) found.keys key sets.old.of_signals sets.new.of_signals) }
     ensures blocks { IfOk result
-        (λ key. IsPutAt (λ q. q) blocks.now key sets.old.of_blocks sets.new.of_blocks) }
+        (λ key. IsPutAt (λ q. q) found.blocks key sets.old.of_blocks sets.new.of_blocks) }
     ensures kept { OnErr result (routes.new ≡ routes.old) }
     ensures kept_counts { OnErr result (SameCounts uses.old uses.new) }
     ensures kept_signals { OnErr result (SameSets sets.old.of_signals sets.new.of_signals) }
@@ -128,14 +127,12 @@ fn enter_route(
     ensures table { OnOk result (IsTable (λ e. e.item.name) routes.old) }
 {
     let name = *route.name();
-    let key = put_linked(routes, uses, route, signals)?;
-    if sets
-        .make_room(routes.get(key).refs.slice(), blocks, key)
-        .is_err()
-    {
+    let key = put_linked(routes, uses, route, found.keys)?;
+    let signals = routes.get(key).refs.slice();
+    if sets.make_room(signals, found.blocks.slice(), key).is_err() {
         take_linked(routes, uses, &name);
         return Err(OutOfMemory);
     }
-    sets.put(routes.get(key).refs.slice(), blocks, key);
+    sets.put(signals, found.blocks.slice(), key);
     Ok(key)
 }

@@ -23,7 +23,7 @@ impl LineTables {
         self.take(own)
     }
 
-    /// The same as `apply` for an edit that is given away: its item moves into the tables.
+    /// Makes an edit that is given away, as `apply` does: its item moves into the tables.
     pub fn take(&mut self, edit: Edit) -> Result<Result<(), Rule>, OutOfMemory>
         ensures refused { IfOk result
             (λ answer. IfErr answer (λ rule. rule_of self.old edit ≡ Some rule)) }
@@ -33,6 +33,8 @@ impl LineTables {
         ensures kept_without_memory { OnErr result (self.new ≡ self.old) }
     {
         if let Some(rule) = self.rule_before(&edit)? {
+            // One call lets the edit go, whatever it holds.
+            drop(edit);
             return Ok(Err(rule));
         }
         self.make(edit)
@@ -61,14 +63,13 @@ impl LineTables {
             result self.old self.new }
     {
         match item {
-            Item::Block(block) => self.add_block(block)?,
-            Item::Signal(signal) => self.add_signal(signal)?,
-            Item::Route(route) => return self.put_route(route),
-            Item::Run(run) => self.add_run(run)?,
-            Item::Section(section) => self.add_section(section)?,
-            Item::Connection(connection) => self.add_connection(connection)?,
+            Item::Block(block) => self.add_block(block),
+            Item::Signal(signal) => self.add_signal(signal),
+            Item::Route(route) => self.put_route(&route),
+            Item::Run(run) => self.add_run(run),
+            Item::Section(section) => self.add_section(section),
+            Item::Connection(connection) => self.add_connection(connection),
         }
-        Ok(Ok(()))
     }
 
     fn replace(&mut self, item: Item) -> Result<Result<(), Rule>, OutOfMemory>
@@ -77,14 +78,16 @@ impl LineTables {
             result self.old self.new }
     {
         match item {
-            Item::Block(block) => self.replace_block(block),
-            Item::Signal(signal) => return self.change_signal(signal),
-            Item::Route(route) => return self.change_route(route),
-            Item::Run(run) => self.replace_run(run)?,
-            Item::Section(section) => self.replace_section(section)?,
-            Item::Connection(connection) => self.replace_connection(connection)?,
+            Item::Block(block) => {
+                self.replace_block(block);
+                Ok(Ok(()))
+            }
+            Item::Signal(signal) => self.change_signal(signal),
+            Item::Route(route) => self.change_route(&route),
+            Item::Run(run) => self.replace_run(run),
+            Item::Section(section) => self.replace_section(section),
+            Item::Connection(connection) => self.replace_connection(connection),
         }
-        Ok(Ok(()))
     }
 
     fn remove(&mut self, kind: Kind, name: &Name)

@@ -23,9 +23,9 @@ impl Model for KeptRoute {
 }
 
 impl KeptRoute {
-    /// A route, given away.
-    pub(crate) fn of(alloc: Global, route: Route) -> Result<KeptRoute, OutOfMemory>
-        ensures { IfOk result (λ kept. kept ≡ route) }
+    /// A route, its names copied.
+    pub(crate) fn of(alloc: Global, route: &Route) -> Result<KeptRoute, OutOfMemory>
+        ensures { IfOk result (λ kept. kept ≡ route.now) }
     {
         Ok(KeptRoute {
             name: route.name,

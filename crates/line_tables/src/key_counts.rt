@@ -70,7 +70,7 @@ impl KeyCounts {
         }
     }
 
-    /// The same counts again.
+    /// A copy of the counts.
     pub(crate) fn copy(&self) -> Result<Self, OutOfMemory>
         ensures { IfOk result (λ other. other ≡ self.now) }
     {

@@ -105,7 +105,7 @@ impl KeySet {
         part(&mut self.words, others);
     }
 
-    /// The same set again.
+    /// A copy of the set.
     pub(crate) fn copy(&self) -> Result<Self, OutOfMemory>
         ensures { IfOk result (λ other. other ≡ self.now) }
     {

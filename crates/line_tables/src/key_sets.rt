@@ -58,7 +58,8 @@ impl KeySets {
         self.widen(at, words)
     }
 
-    // The same where the set has fewer words. It stands apart, so that the test alone is inlined.
+    // Makes the room where the set has fewer words. It stands apart, so that the test alone is
+    // inlined.
     #[inline(never)]
     fn widen(&mut self, at: usize, words: usize) -> Result<(), OutOfMemory>
         ensures same { SameSets self.old self.new }
@@ -137,7 +138,7 @@ impl KeySets {
         }
     }
 
-    /// The same sets again.
+    /// A copy of the sets.
     pub(crate) fn copy(&self) -> Result<Self, OutOfMemory>
         ensures { IfOk result (λ other. other ≡ self.now) }
     {

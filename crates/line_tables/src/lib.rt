@@ -1,4 +1,27 @@
 //! A line's tables, which take edits: items by name, with what each refers to found once.
+//!
+//! The table of a kind is one generic type, `NamedTable`. It has a `slab` of items under keys that
+//! stay an item's own, the keys in the order of the items' names, and an `indexmap` from names to
+//! keys. A put or a drop moves keys, not items. An item's number is its place in that order.
+//!
+//! When an item is put or changed, what it names is looked up, and its key is kept. A signal keeps
+//! the key of its block, a route those of its signals, a run that of its route, a section those of
+//! its blocks, and a connection those of its runs. So a path is made by indexing. For the paths of
+//! many runs the hop beyond each signal is made once.
+//!
+//! Beside the tables stand counts and sets, which save walks over the tables:
+//!
+//! - how often each block, signal, route and run is referred to, for drops and changed routes;
+//! - the routes that list a signal, and those that pass a block, for a signal that changes its
+//!   block: two sets are compared.
+//!
+//! ```text
+//! let mut tables = LineTables::new(alloc);
+//! if let Err(rule) = tables.take(edit)? {
+//!     // The tables are as before.
+//! }
+//! let path = tables.paths()?.path(run)?;
+//! ```
 #![tactic(auto)]
 
 mod add;
@@ -16,6 +39,7 @@ mod path;
 mod remove;
 mod replace;
 mod route_sets;
+mod route_signals;
 mod rules;
 mod run_paths;
 

@@ -83,20 +83,15 @@ pub(crate) fn keys_of<T: Stored>(
         (λ keys. map (tables.key_of T.label table.now) names.now ≡ map Some keys) }
     ensures table { tables.IsTable T.label table.now }
 {
-    table.learn_order();
-    let mut keys = List::from_vec(Vec::with_capacity(alloc, names.len())?);
-    let mut near = 0;
-    for name in names {
-        keys.push(table.key_near(name, &mut near).unwrap())?;
-    }
-    Ok(keys)
+    let keys = known_keys(alloc, table, names)?;
+    Ok(keys.unwrap())
 }
 
 /// The keys of the items of these names, in their order, if all are there.
 pub(crate) fn known_keys<T: Stored>(
     alloc: Global,
     table: &NamedTable<T>,
-    names: &List<Name>,
+    names: &[Name],
 ) -> Result<Option<List<usize>>, OutOfMemory>
     ensures known { IfOk result
         (λ found. is_some found ≡ list_all (is_named (tables.named T.label) table.now) names.now) }
@@ -107,7 +102,7 @@ pub(crate) fn known_keys<T: Stored>(
     table.learn_order();
     let mut keys = Vec::with_capacity(alloc, names.len())?;
     let mut near = 0;
-    for name in names.slice() {
+    for name in names {
         let Some(key) = table.key_near(name, &mut near) else {
             return Ok(None);
         };
@@ -136,14 +131,14 @@ pub(crate) fn block_of(signals: &NamedTable<Linked<Signal>>, key: usize) -> usiz
 pub(crate) fn blocks_of(
     alloc: Global,
     signals: &NamedTable<Linked<Signal>>,
-    keys: &List<usize>,
+    keys: &[usize],
 ) -> Result<List<usize>, OutOfMemory>
     requires there { All (IsKey signals.now) keys.now }
     requires one { All (λ e. length e.1.refs ≡ 1) signals.now }
     ensures { IfOk result (λ blocks. blocks ≡ map (block_of signals.now) keys.now) }
 {
     let mut blocks = Vec::with_capacity(alloc, keys.len())?;
-    for key in keys.slice() {
+    for key in keys {
         blocks.push_reserved(block_of(signals, *key));
     }
     Ok(List::from_vec(blocks))
@@ -200,7 +195,8 @@ pub(crate) fn change_linked<T: Stored>(
     Ok(())
 }
 
-/// The same where there is room for the counts.
+/// Puts an item in the place of the one under a key, as `change_linked` does, where there is room
+/// for the counts.
 pub(crate) fn swap_linked<T: Stored>(
     table: &mut NamedTable<Linked<T>>,
     uses: &mut KeyCounts,

@@ -96,7 +96,7 @@ impl<T: Stored> NamedTable<T> {
         self.by_name.get(name).copied()
     }
 
-    /// The same as `key_of` in a list of names. Each list starts with `near` at 0, and names that
+    /// What `key_of` gives, in a list of names. Each list starts with `near` at 0, and names that
     /// follow each other in it as they were put in are found without being hashed.
     pub(crate) fn key_near(&self, name: &Name, near: &mut usize) -> Option<usize>
         ensures key { result ≡ tables.key_of T.label self.now name.now }
@@ -192,9 +192,9 @@ impl<T: Stored> NamedTable<T> {
         ensures { IfOk result (λ other. other ≡ self.now) }
     {
         Ok(NamedTable {
-            by_name: self.by_name.clone()?,
-            slots: self.slots.clone()?,
             order: self.order.clone()?,
+            slots: self.slots.clone()?,
+            by_name: self.by_name.clone()?,
         })
     }
 }
@@ -213,7 +213,8 @@ fn entry_near(by_name: &IndexMap<Name, usize>, name: &Name, near: usize) -> Opti
     entry_sought(by_name, name)
 }
 
-// The same by the name's hash. It stands apart, so that the try at `near` alone is inlined.
+// The entry of a name by the name's hash. It stands apart, so that the try at `near` alone is
+// inlined.
 #[inline(never)]
 fn entry_sought(by_name: &IndexMap<Name, usize>, name: &Name) -> Option<(usize, usize)>
     ensures { option_map (λ e. e.1) result ≡ get (pointwise nat_eq) by_name.now name.now }

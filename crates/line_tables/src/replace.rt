@@ -1,18 +1,25 @@
 //! Putting an item in the place of the one of its name. No rule refuses it, save one of a signal
 //! and its block; without memory the tables stay as they were.
-ghost use Rattle.std.specs.Prelude.{◌≡◌, true, Some, None, IfOk, IfErr, OnOk, OnErr};
+ghost use Rattle.std.specs.Prelude.{◌≡◌, ◌≤◌, ◌+◌, ℕ, true, length, All, Some, None, IfOk, IfErr, OnOk, OnErr};
+ghost use Rattle.std.specs.Option.{option_map};
 ghost use Rattle.rail_model.specs.declared.items.Item.TheVariants as item;
 ghost use Rattle.rail_model.specs.Rules.{rule_of_change};
 ghost use Rattle.rail_model.specs.Within.{is_within};
 ghost use Rattle.rail_model.specs.Edits.{after_change};
 ghost use Rattle.line_tables.specs.AnswersEdit.{AnswersEdit};
+ghost use Rattle.line_tables.specs.declared.linked.Linked.{Linked};
+ghost use Rattle.line_tables.specs.Table.{under, with_change};
+ghost use Rattle.line_tables.specs.Links.{IsKey, block_of};
+ghost use Rattle.line_tables.specs.KeyCounts.{count_of, times, SameCounts};
+ghost use Rattle.line_tables.specs.RouteSets.{SameSets, IsChangedAt};
 
 use crate::LineTables;
 use crate::kept_route::KeptRoute;
-use crate::key_set::repeats;
-use crate::linked::{
-    block_of, blocks_of, change_linked, keys_of, known_keys, one_key, swap_linked,
-};
+use crate::key_counts::KeyCounts;
+use crate::linked::{Linked, block_of, change_linked, keys_of, one_key, swap_linked};
+use crate::named_table::NamedTable;
+use crate::route_sets::RouteSets;
+use crate::route_signals::{RouteSignals, route_signals};
 use rail_model::{Block, Connection, OutOfMemory, Route, Rule, Run, Section, Signal};
 
 impl LineTables {
@@ -53,63 +60,68 @@ impl LineTables {
     // Puts a route in the place of the one of its name, or tells the rule by which its name, what
     // it refers to or the runs on it refuse it. Its signals are looked up once: for the rules, for
     // its entry, for the counts and for the sets.
-    pub(crate) fn change_route(&mut self, route: Route) -> Result<Result<(), Rule>, OutOfMemory>
-        requires { is_within (item.Route route) ≡ true }
-        ensures { AnswersEdit (rule_of_change self.old (item.Route route))
-            (after_change self.old (item.Route route)) result self.old self.new }
+    pub(crate) fn change_route(&mut self, route: &Route) -> Result<Result<(), Rule>, OutOfMemory>
+        requires { is_within (item.Route route.now) ≡ true }
+        ensures { AnswersEdit (rule_of_change self.old (item.Route route.now))
+            (after_change self.old (item.Route route.now)) result self.old self.new }
     {
         self.blocks.learn_order();
-        if !self.has_route(&route.name) {
-            return Ok(Err(Rule::Unknown));
-        }
-        let Some(signals) = known_keys(self.alloc, &self.signals, &route.signals)? else {
+        let Some(key) = self.routes.key_of(&route.name) else {
             return Ok(Err(Rule::Unknown));
         };
-        let blocks = blocks_of(self.alloc, &self.signals, &signals)?;
-        if repeats(self.alloc, blocks.slice())? {
+        let Some(found) = route_signals(self.alloc, &self.signals, &route.signals)? else {
+            return Ok(Err(Rule::Unknown));
+        };
+        if found.twice {
             return Ok(Err(Rule::Twice));
         }
-        if self.makes_miscount(&route) {
+        if self.makes_miscount(route) {
             return Ok(Err(Rule::Count));
         }
-        let key = self.routes.key_of(&route.name).unwrap();
-        let kept = KeptRoute::of(self.alloc, route)?;
-        self.signal_uses.make_room(signals.slice())?;
-        self.route_sets
-            .make_room(signals.slice(), blocks.slice(), key)?;
-        let old = self.routes.get(key).refs.slice();
-        self.route_sets.take(&self.signals, old, key);
-        self.route_sets.put(signals.slice(), blocks.slice(), key);
-        swap_linked(&mut self.routes, &mut self.signal_uses, key, kept, signals);
+        swap_route(
+            &self.signals,
+            &mut self.routes,
+            &mut self.signal_uses,
+            &mut self.route_sets,
+            key,
+            KeptRoute::of(self.alloc, route)?,
+            found,
+        )?;
         Ok(Ok(()))
     }
 
-    pub(crate) fn replace_run(&mut self, run: Run) -> Result<(), OutOfMemory>
+    pub(crate) fn replace_run(&mut self, run: Run) -> Result<Result<(), Rule>, OutOfMemory>
         requires { rule_of_change self.old (item.Run run) ≡ None }
-        ensures after { OnOk result (self.new ≡ after_change self.old (item.Run run)) }
-        ensures kept { OnErr result (self.new ≡ self.old) }
+        ensures { AnswersEdit (rule_of_change self.old (item.Run run))
+            (after_change self.old (item.Run run)) result self.old self.new }
     {
         let refs = keys_of(self.alloc, &self.routes, &[run.route])?;
         let key = self.runs.key_of(&run.name).unwrap();
         change_linked(&mut self.runs, &mut self.route_uses, key, run, refs)?;
-        Ok(())
+        Ok(Ok(()))
     }
 
-    pub(crate) fn replace_section(&mut self, section: Section) -> Result<(), OutOfMemory>
+    pub(crate) fn replace_section(
+        &mut self,
+        section: Section,
+    ) -> Result<Result<(), Rule>, OutOfMemory>
         requires { rule_of_change self.old (item.Section section) ≡ None }
-        ensures after { OnOk result (self.new ≡ after_change self.old (item.Section section)) }
-        ensures kept { OnErr result (self.new ≡ self.old) }
+        ensures { AnswersEdit (rule_of_change self.old (item.Section section))
+            (after_change self.old (item.Section section)) result self.old self.new }
     {
         let refs = keys_of(self.alloc, &self.blocks, section.blocks.slice())?;
         let key = self.sections.key_of(&section.name).unwrap();
         change_linked(&mut self.sections, &mut self.block_uses, key, section, refs)?;
-        Ok(())
+        Ok(Ok(()))
     }
 
-    pub(crate) fn replace_connection(&mut self, connection: Connection) -> Result<(), OutOfMemory>
+    pub(crate) fn replace_connection(
+        &mut self,
+        connection: Connection,
+    ) -> Result<Result<(), Rule>, OutOfMemory>
         requires { rule_of_change self.old (item.Connection connection) ≡ None }
-        ensures after { OnOk result (self.new ≡ after_change self.old (item.Connection connection)) }
-        ensures kept { OnErr result (self.new ≡ self.old) }
+        ensures { AnswersEdit (rule_of_change self.old (item.Connection connection))
+            (after_change self.old (item.Connection connection)) result self.old self.new }
     {
         let refs = keys_of(
             self.alloc,
@@ -124,6 +136,48 @@ impl LineTables {
             connection,
             refs,
         )?;
-        Ok(())
+        Ok(Ok(()))
     }
+}
+
+// Puts a route in the place of the one under a key, and counts its signals in place of those of
+// that one. Its key goes out of the sets of those and of their blocks, and into those of its own.
+// Without memory all stays.
+fn swap_route(
+    signals: &NamedTable<Linked<Signal>>,
+    routes: &mut NamedTable<Linked<KeptRoute>>,
+    uses: &mut KeyCounts,
+    sets: &mut RouteSets,
+    key: usize,
+    route: KeptRoute,
+    found: RouteSignals,
+) -> Result<(), OutOfMemory>
+    requires same_name { option_map (λ e. e.item.name) (under routes.old key) ≡ Some route.name }
+    requires counted_before { (e : Linked Route) (k : ℕ) → under routes.old key ≡ Some e
+        → times k e.refs ≤ count_of uses.old k }
+    requires there { (e : Linked Route) → under routes.old key ≡ Some e → All (IsKey signals.now) e.refs }
+    requires one { All (λ e. length e.1.refs ≡ 1) signals.now }
+    ensures changed { OnOk result
+        (routes.new ≡ with_change routes.old key (record { item = route; refs = found.keys })) }
+    ensures counted { OnOk result ((e : Linked Route) (k : ℕ) → under routes.old key ≡ Some e
+        → count_of uses.new k + times k e.refs ≡ count_of uses.old k + times k found.keys) }
+    ensures signals { OnOk result ((e : Linked Route) → under routes.old key ≡ Some e
+        → IsChangedAt (λ q. q) e.refs (λ q. q) found.keys key sets.old.of_signals sets.new.of_signals) }
+    ensures blocks { OnOk result ((e : Linked Route) → under routes.old key ≡ Some e
+        → IsChangedAt (block_of signals.now) e.refs (λ q. q) found.blocks key sets.old.of_blocks sets.new.of_blocks) }
+    ensures kept { OnErr result (routes.new ≡ routes.old) }
+    ensures kept_counts { OnErr result (SameCounts uses.old uses.new) }
+    ensures kept_signals { OnErr result (SameSets sets.old.of_signals sets.new.of_signals) }
+    ensures kept_blocks { OnErr result (SameSets sets.old.of_blocks sets.new.of_blocks) }
+{
+    uses.make_room(found.keys.slice())?;
+    sets.change(
+        signals,
+        routes.get(key).refs.slice(),
+        found.keys.slice(),
+        found.blocks.slice(),
+        key,
+    )?;
+    swap_linked(routes, uses, key, route, found.keys);
+    Ok(())
 }

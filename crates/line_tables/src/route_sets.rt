@@ -1,9 +1,9 @@
 //! Which routes list each signal, and which have a signal of each block.
-ghost use Rattle.std.specs.Prelude.{◌≡◌, ◌≢◌, ◌≤◌, true, false, length, slice_index_or, All, [], OnOk, IfOk};
+ghost use Rattle.std.specs.Prelude.{◌≡◌, ◌≢◌, ◌≤◌, true, false, length, slice_index_or, All, [], OnOk, OnErr, IfOk};
 ghost use Rattle.line_tables.specs.KeySet.{Meets, KeepsApart};
 ghost use Rattle.line_tables.specs.Links.{block_of, IsKey};
 ghost use Rattle.std.specs.List.{list_any};
-ghost use Rattle.line_tables.specs.RouteSets.{has, words_of, SameSets, NoneShorter, HasRoomAt, IsPutAt, IsTakenAt, IsMoved};
+ghost use Rattle.line_tables.specs.RouteSets.{has, words_of, SameSets, NoneShorter, HasRoomAt, IsPutAt, IsTakenAt, IsChangedAt, IsMoved};
 
 use crate::key_set::{has_key, meet};
 use crate::key_sets::KeySets;
@@ -84,6 +84,31 @@ impl RouteSets {
         }
     }
 
+    /// Takes the route under a key out of the sets of the signals that it had and of their blocks,
+    /// and puts it into those of other signals and blocks. Without memory no set changes.
+    pub(crate) fn change(
+        &mut self,
+        signals: &NamedTable<Linked<Signal>>,
+        old: &[usize],
+        keys: &[usize],
+        blocks: &[usize],
+        route: usize,
+    ) -> Result<(), OutOfMemory>
+        requires there { All (IsKey signals.now) old.now }
+        requires one { All (λ e. length e.1.refs ≡ 1) signals.now }
+        ensures signals { OnOk result (IsChangedAt (λ q. q) old.now (λ q. q) keys.now route
+            self.old.of_signals self.new.of_signals) }
+        ensures blocks { OnOk result (IsChangedAt (block_of signals.now) old.now (λ q. q) blocks.now route
+            self.old.of_blocks self.new.of_blocks) }
+        ensures kept_signals { OnErr result (SameSets self.old.of_signals self.new.of_signals) }
+        ensures kept_blocks { OnErr result (SameSets self.old.of_blocks self.new.of_blocks) }
+    {
+        self.make_room(keys, blocks, route)?;
+        self.take(signals, old, route);
+        self.put(keys, blocks, route);
+        Ok(())
+    }
+
     /// Makes room to move the routes that list a signal to another block; no set changes.
     pub(crate) fn make_room_to_move(
         &mut self,
@@ -154,7 +179,7 @@ impl RouteSets {
         false
     }
 
-    /// The same sets again.
+    /// A copy of the sets.
     pub(crate) fn copy(&self) -> Result<Self, OutOfMemory>
         ensures { IfOk result (λ other. other ≡ self.now) }
     {

@@ -5,16 +5,17 @@ ghost use Rattle.rail_model.specs.declared.edit.Kind.TheVariants as kind;
 ghost use Rattle.rail_model.specs.Tables.{route_named};
 ghost use Rattle.rail_model.specs.declared.edit.Rule.TheVariants as rule;
 ghost use Rattle.rail_model.specs.Rules as rules;
-ghost use Rattle.line_tables.specs.References.{IsNoRoute, rule_of_item, rule_of_references};
+ghost use Rattle.line_tables.specs.References.{IsNoRoute, rule_of_item, rule_of_references, rule_of_parts, rule_of_key};
 ghost use Rattle.line_tables.specs.References.{rule_before_put, rule_before_change, rule_before};
 ghost use Rattle.rail_model.specs.Sound.{IsSound};
 
 use crate::LineTables;
+use crate::key_counts::KeyCounts;
 use crate::key_set::repeats;
 use crate::linked::known_keys;
 use rail_model::{
     BLOCKS, CONNECTIONS, Connection, Edit, Item, Kind, Name, OutOfMemory, ROUTES, RUNS, Route,
-    Rule, SECTIONS, SIGNALS, Section, is_within,
+    Rule, Run, SECTIONS, SIGNALS, Section, is_within,
 };
 
 impl LineTables {
@@ -61,13 +62,7 @@ impl LineTables {
         if let Some(rule) = self.rule_of_item(item) {
             return Ok(Some(rule));
         }
-        if let Some(rule) = self.rule_of_references(item)? {
-            return Ok(Some(rule));
-        }
-        if self.miscounts_legs(item) {
-            return Ok(Some(Rule::Count));
-        }
-        Ok(None)
+        self.rule_of_parts(item)
     }
 
     // The rule that refuses to put an item whatever it refers to.
@@ -99,25 +94,20 @@ impl LineTables {
         if !self.is_there(item) {
             return Ok(Some(Rule::Unknown));
         }
-        if let Some(rule) = self.rule_of_references(item)? {
-            return Ok(Some(rule));
-        }
-        if self.miscounts_legs(item) {
-            return Ok(Some(Rule::Count));
-        }
-        Ok(None)
+        self.rule_of_parts(item)
     }
 
     fn rule_of_drop(&self, kind: Kind, name: &Name) -> Option<Rule>
         ensures { result ≡ rules.rule_of_drop self.now kind name.now }
     {
-        if !self.has(kind, name) {
-            return Some(Rule::Unknown);
+        match kind {
+            Kind::Block => rule_of_key(self.blocks.key_of(name), &self.block_uses),
+            Kind::Signal => rule_of_key(self.signals.key_of(name), &self.signal_uses),
+            Kind::Route => rule_of_key(self.routes.key_of(name), &self.route_uses),
+            Kind::Run => rule_of_key(self.runs.key_of(name), &self.run_uses),
+            Kind::Section => unknown_unless(self.has_section(name)),
+            Kind::Connection => unknown_unless(self.has_connection(name)),
         }
-        if self.is_used(kind, name) {
-            return Some(Rule::InUse);
-        }
-        None
     }
 
     /// Whether a block of a name is there.
@@ -156,19 +146,6 @@ impl LineTables {
         ensures { result ≡ rules.has_connection self.now name.now }
     {
         self.connections.key_of(name).is_some()
-    }
-
-    fn has(&self, kind: Kind, name: &Name) -> bool
-        ensures { result ≡ rules.has self.now kind name.now }
-    {
-        match kind {
-            Kind::Block => self.has_block(name),
-            Kind::Signal => self.has_signal(name),
-            Kind::Route => self.has_route(name),
-            Kind::Run => self.has_run(name),
-            Kind::Section => self.has_section(name),
-            Kind::Connection => self.has_connection(name),
-        }
     }
 
     fn is_there(&self, item: &Item) -> bool
@@ -213,26 +190,40 @@ impl LineTables {
         }
     }
 
-    // The rule that refuses an item for what it refers to: it isn't there, or it is named twice.
-    // What a route refers to is looked up where the route is put or changed.
-    fn rule_of_references(&self, item: &Item) -> Result<Option<Rule>, OutOfMemory>
+    // The rule that refuses an item for what it refers to: it isn't there, or it is named twice; or
+    // a run for how many legs it has. What a route refers to is looked up where the route is put or
+    // changed.
+    fn rule_of_parts(&self, item: &Item) -> Result<Option<Rule>, OutOfMemory>
         requires { IsNoRoute item.now }
-        ensures { IfOk result (λ rule. rule ≡ rule_of_references self.now item.now) }
+        ensures { IfOk result (λ rule. rule ≡ rule_of_parts self.now item.now) }
     {
         match item {
             Item::Block(_) => Ok(None),
             Item::Signal(signal) => Ok(unknown_unless(self.has_block(&signal.block))),
             Item::Route(_) => unreachable!(),
-            Item::Run(run) => Ok(unknown_unless(self.has_route(&run.route))),
+            Item::Run(run) => Ok(self.rule_of_run(run)),
             Item::Section(section) => self.rule_of_blocks(section),
             Item::Connection(connection) => Ok(self.rule_of_runs(connection)),
         }
     }
 
+    // A run has a leg for each of its route's signals.
+    fn rule_of_run(&self, run: &Run) -> Option<Rule>
+        ensures { result ≡ rule_of_parts self.now (item.Run run.now) }
+    {
+        if !self.has_route(&run.route) {
+            return Some(Rule::Unknown);
+        }
+        if run.legs.len() != self.signal_count(&run.route) {
+            return Some(Rule::Count);
+        }
+        None
+    }
+
     fn rule_of_blocks(&self, section: &Section) -> Result<Option<Rule>, OutOfMemory>
         ensures { IfOk result (λ rule. rule ≡ rule_of_references self.now (item.Section section.now)) }
     {
-        let Some(blocks) = known_keys(self.alloc, &self.blocks, &section.blocks)? else {
+        let Some(blocks) = known_keys(self.alloc, &self.blocks, section.blocks.slice())? else {
             return Ok(Some(Rule::Unknown));
         };
         Ok(twice_if(repeats(self.alloc, blocks.slice())?))
@@ -258,19 +249,6 @@ impl LineTables {
         }
     }
 
-    fn miscounts_legs(&self, item: &Item) -> bool
-        ensures { result ≡ rules.miscounts_legs self.now item.now }
-    {
-        match item {
-            Item::Run(run) => run.legs.len() != self.signal_count(&run.route),
-            Item::Block(_)
-            | Item::Signal(_)
-            | Item::Route(_)
-            | Item::Section(_)
-            | Item::Connection(_) => false,
-        }
-    }
-
     // Each run on the route has a leg for each of the signals that it has now.
     pub(crate) fn makes_miscount(&self, route: &Route) -> bool
         requires { rules.has_route self.now route.now.name ≡ true }
@@ -279,46 +257,25 @@ impl LineTables {
         self.signal_count(&route.name) != route.signals.len() && self.is_route_used(&route.name)
     }
 
-    fn is_block_used(&self, name: &Name) -> bool
-        requires { rules.has_block self.now name.now ≡ true }
-        ensures { result ≡ rules.is_used self.now kind.Block name.now }
-    {
-        self.block_uses.of(self.blocks.key_of(name).unwrap()) > 0
-    }
-
-    fn is_signal_used(&self, name: &Name) -> bool
-        requires { rules.has_signal self.now name.now ≡ true }
-        ensures { result ≡ rules.is_used self.now kind.Signal name.now }
-    {
-        self.signal_uses.of(self.signals.key_of(name).unwrap()) > 0
-    }
-
     fn is_route_used(&self, name: &Name) -> bool
         requires { rules.has_route self.now name.now ≡ true }
         ensures { result ≡ rules.is_used self.now kind.Route name.now }
     {
         self.route_uses.of(self.routes.key_of(name).unwrap()) > 0
     }
+}
 
-    fn is_run_used(&self, name: &Name) -> bool
-        requires { rules.has_run self.now name.now ≡ true }
-        ensures { result ≡ rules.is_used self.now kind.Run name.now }
-    {
-        self.run_uses.of(self.runs.key_of(name).unwrap()) > 0
+// The rule that refuses to drop an item, by its key and by how often it is referred to.
+fn rule_of_key(key: Option<usize>, uses: &KeyCounts) -> Option<Rule>
+    ensures { result ≡ rule_of_key uses.now key }
+{
+    let Some(key) = key else {
+        return Some(Rule::Unknown);
+    };
+    if uses.of(key) > 0 {
+        return Some(Rule::InUse);
     }
-
-    fn is_used(&self, kind: Kind, name: &Name) -> bool
-        requires { rules.has self.now kind name.now ≡ true }
-        ensures { result ≡ rules.is_used self.now kind name.now }
-    {
-        match kind {
-            Kind::Block => self.is_block_used(name),
-            Kind::Signal => self.is_signal_used(name),
-            Kind::Route => self.is_route_used(name),
-            Kind::Run => self.is_run_used(name),
-            Kind::Section | Kind::Connection => false,
-        }
-    }
+    None
 }
 
 fn range_unless(within: bool) -> Option<Rule>

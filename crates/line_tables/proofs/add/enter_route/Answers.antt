@@ -39,21 +39,21 @@ take_linked-requires-clause-there c =
     let done = c.in_ok-key.ensures in
     rw c.name.ensures
     (sym (is_some-key_of route_name c.put_linked.new.table c.args.route.name)
-    ∙ ap is_some (there_now c.args.routes.now c.put_linked.new.table c.args.route c.requires c.in_ok-key.key c.args.signals done.put done.table))
+    ∙ ap is_some (there_now c.args.routes.now c.put_linked.new.table c.args.route c.requires c.in_ok-key.key c.args.found.keys done.put done.table))
 
 pub take_linked-requires-clause-counted_before : goal.take_linked-requires-clause-counted_before
 take_linked-requires-clause-counted_before c e k h =
     let done = c.in_ok-key.ensures in
-    let item = item_now c.args.routes.now c.put_linked.new.table c.args.route c.requires c.in_ok-key.key c.args.signals done.put done.table c.get.ensures.table done.there in
-    counted_now c.args.route c.args.signals c.args.uses.now c.put_linked.new.uses e k done.counted (sym item ∙ rw c.name.ensures at h)
+    let item = item_now c.args.routes.now c.put_linked.new.table c.args.route c.requires c.in_ok-key.key c.args.found.keys done.put done.table c.get.ensures.table done.there in
+    counted_now c.args.route c.args.found.keys c.args.uses.now c.put_linked.new.uses e k done.counted (sym item ∙ rw c.name.ensures at h)
 
 pub returns-then-is_err-clause-kept : goal.returns-then-is_err-clause-kept
 returns-then-is_err-clause-kept c =
     let done = c.in_ok-key.ensures in
-    taken_back c.args.routes.now c.put_linked.new.table c.args.route c.requires c.in_ok-key.key c.args.signals done.put done.table c.take_linked.new.table (rw c.name.ensures at c.take_linked.ensures.rest)
+    taken_back c.args.routes.now c.put_linked.new.table c.args.route c.requires c.in_ok-key.key c.args.found.keys done.put done.table c.take_linked.new.table (rw c.name.ensures at c.take_linked.ensures.rest)
 
 pub returns-then-is_err-clause-kept_counts : goal.returns-then-is_err-clause-kept_counts
 returns-then-is_err-clause-kept_counts c k =
     let done = c.in_ok-key.ensures in
-    let item = item_now c.args.routes.now c.put_linked.new.table c.args.route c.requires c.in_ok-key.key c.args.signals done.put done.table c.get.ensures.table done.there in
-    omega (arith, c.take_linked.ensures.counted (entry c.args.route c.args.signals) k (rw c.name.ensures item), done.counted k)
+    let item = item_now c.args.routes.now c.put_linked.new.table c.args.route c.requires c.in_ok-key.key c.args.found.keys done.put done.table c.get.ensures.table done.there in
+    omega (arith, c.take_linked.ensures.counted (entry c.args.route c.args.found.keys) k (rw c.name.ensures item), done.counted k)

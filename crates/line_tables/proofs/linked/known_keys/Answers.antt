@@ -12,8 +12,8 @@ returns-in_default-clause-known g c =
     let names = c.args.names.now in
     let i = c.loop-name.name-index in
     let n = c.name-item.result in
-    let within = rw c.slice-name-items.ensures at c.loop-name-test.true in
-    let is : n ≡ get_or names i n = c.name-item.is ∙ ap (λ l. get_or l i n) c.slice-name-items.ensures in
+    let within = c.loop-name-test.true in
+    let is : n ≡ get_or names i n = c.name-item.is in
     sym (list_all_at p names i n within (ap p (sym is) ∙ sym c.in_default.ensures.there))
 
 pub loop-name-preserved : goal.loop-name-preserved
@@ -24,8 +24,8 @@ loop-name-preserved g c =
     let i = c.loop-name.name-index in
     let n = c.name-item.result in
     let so_far = c.loop-name.invariant in
-    let within = rw c.slice-name-items.ensures at c.loop-name-test.true in
-    let is : n ≡ get_or names i n = c.name-item.is ∙ ap (λ l. get_or l i n) c.slice-name-items.ensures in
+    let within = c.loop-name-test.true in
+    let is : n ≡ get_or names i n = c.name-item.is in
     record {
       known = list_all_more p names i n within ∙ and_from _ _ so_far.known (ap p (sym is) ∙ sym c.in-Some.ensures.there);
       keys = map_more f names i n within ∙ rw (so_far.keys, ← is, ← c.in-Some.ensures.key, c.push_reserved.ensures.items, map-append) refl;

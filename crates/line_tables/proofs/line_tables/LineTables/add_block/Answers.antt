@@ -2,6 +2,7 @@ use Rattle.std.proofs.Common.{ℕ, ap}
 use Rattle.rail_model.specs.declared.items.Block.{Block}
 use Rattle.line_tables.specs.Inside.{tables_of}
 use Rattle.line_tables.proofs.Views.{map-with_item}
+use Rattle.line_tables.proofs.Answered.{makes}
 use Rattle.line_tables.proofs.JoinedBlocks.{block_is_new, block_put}
 use Rattle.line_tables.proofs.line_tables.LineTables.add_block.Goals as goal
 
@@ -13,8 +14,9 @@ invariant_of-self-2 c =
     let done = c.in_ok-put.ensures in
     rw done.put (block_put c.self.inside c.in_ok-put.field-0 c.args.block c.self.invariant done.table (rw (← c.self.view_is) at c.requires))
 
-pub returns-clause-after : goal.returns-clause-after
-returns-clause-after c =
+pub returns : goal.returns
+returns c =
     let t = c.self.inside in
     rw (← c.self.view_is, c.in_ok-put.ensures.put)
-    (ap (λ l. record (tables_of t) { blocks = l }) (map-with_item (λ (e : ℕ × Block). e.1) (λ x. x.name) t.blocks (c.in_ok-put.field-0, c.args.block)))
+    (makes _ _ _ _ (rw (← c.self.view_is) at c.requires)
+    (ap (λ l. record (tables_of t) { blocks = l }) (map-with_item (λ (e : ℕ × Block). e.1) (λ x. x.name) t.blocks (c.in_ok-put.field-0, c.args.block))))

@@ -1,108 +1,98 @@
-use Rattle.std.proofs.Common.{◌≡◌, ◌==◌, ◌+◌, ℕ, List, Bool, true, false, Option, Some, None, map, refl, ap, sym, ◌∙◌, arith}
-use Rattle.std.specs.Prelude.{is_some, IfSome}
+use Rattle.std.proofs.Common.{◌≡◌, ◌==◌, ℕ, List, Bool, true, false, Some, None, refl, ap, sym, ◌∙◌, arith}
+use Rattle.std.specs.Prelude.{is_some, if◌then◌else◌}
 use Rattle.std.specs.List.{list_all}
 use Rattle.rail_model.specs.declared.items.Block.{Block}
 use Rattle.rail_model.specs.declared.items.Signal.{Signal}
 use Rattle.rail_model.specs.declared.items.Route.{Route}
 use Rattle.rail_model.specs.declared.items.Item.TheVariants as item
 use Rattle.rail_model.specs.declared.edit.Rule.TheVariants.{Unknown, Twice, Count}
-use Rattle.rail_model.specs.Rules.{is_named, has_route, refers_to_known, repeats, makes_miscount, rule_of_change}
+use Rattle.rail_model.specs.Rules.{is_named, has_route, makes_miscount, rule_of_change}
 use Rattle.rail_model.specs.Within.{is_within}
 use Rattle.line_tables.specs.declared.linked.Linked.{Linked}
 use Rattle.line_tables.specs.declared.line_tables.LineTables.TheInside.{Inside}
-use Rattle.line_tables.specs.Table.{under, named, key_of, IsTable}
-use Rattle.line_tables.specs.KeyCounts.{count_of, times}
-use Rattle.line_tables.specs.Links.{block_of, repeats_key}
+use Rattle.line_tables.specs.declared.route_signals.RouteSignals.{RouteSignals}
+use Rattle.line_tables.specs.RouteSignals.{AreSignalsOf}
+use Rattle.line_tables.specs.Table.{named, key_of, IsTable}
+use Rattle.line_tables.specs.Links.{block_of}
 use Rattle.line_tables.specs.Inside.{tables_of, IsJoined}
 use Rattle.line_tables.proofs.Found.{name_under, found_by_key}
 use Rattle.line_tables.proofs.References.{entry}
-use Rattle.line_tables.proofs.Views.{map-with_change}
-use Rattle.line_tables.proofs.Meets.{all_keys, repeats_by_key}
-use Rattle.line_tables.proofs.Along.{take_after, put_at_images}
+use Rattle.line_tables.proofs.Entries.{is_some-key_of}
+use Rattle.line_tables.proofs.Views.{is_named-map, map-with_change}
+use Rattle.line_tables.proofs.FoundSignals.{repeats_as_found}
+use Rattle.line_tables.proofs.Along.{change_at_images}
 use Rattle.line_tables.proofs.Moves.{one_block, listed_keys}
 use Rattle.line_tables.proofs.Known.{refs_of_found, route_known_by}
 use Rattle.line_tables.proofs.Answered.{refuses, makes}
-use Rattle.line_tables.proofs.RulesOfChange.{refused_unknown, refused_twice, refused_count}
-use Rattle.line_tables.proofs.JoinedRoutes.{route_stays, route_change}
+use Rattle.line_tables.proofs.RulesOfChange.{refused_route, refused_unknown, refused_twice, refused_count}
+use Rattle.line_tables.proofs.JoinedRoutes.{route_change}
 use Rattle.line_tables.proofs.line_tables.LineTables.change_route.Goals as goal
 
 abbrev signal_name : Linked Signal → List ℕ
 signal_name e = e.item.name
 
--- what refuses a route that is there, once its signals were looked up
-module _ (t : Inside) (j : IsJoined t) (signal_table : IsTable signal_name t.signals) (block_table : IsTable (λ (b : Block). b.name) t.blocks) (x : Route) (found : Option (List ℕ)) (known : is_some found ≡ list_all (is_named (named signal_name) t.signals) x.signals) (within : is_within (item.Route x) ≡ true) (there : has_route (tables_of t) x.name ≡ true) where
-  unknown : found ≡ None → rule_of_change (tables_of t) (item.Route x) ≡ Some Unknown
-  unknown is = refused_unknown (tables_of t) x within there (route_known_by t x ∙ sym known ∙ ap is_some is)
+abbrev route_name : Linked Route → List ℕ
+route_name e = e.item.name
 
-  module _ (signals blocks : List ℕ) (twice : Bool) (keyed : IfSome found (λ keys. map (key_of signal_name t.signals) x.signals ≡ map Some keys)) (is : found ≡ Some signals) (are : blocks ≡ map (block_of t.signals) signals) (told : twice ≡ repeats_key blocks) where
-    all_known : refers_to_known (tables_of t) (item.Route x) ≡ true
-    all_known = route_known_by t x ∙ sym known ∙ ap is_some is
+has_route_by : (t : Inside) (n : List ℕ) → has_route (tables_of t) n ≡ is_some (key_of route_name t.routes n)
+has_route_by t n =
+    is_named-map (λ (e : ℕ × Linked Route). e.1.item) (λ x. x.name) t.routes n ∙ sym (is_some-key_of route_name t.routes n)
 
-    repeated : repeats (tables_of t) (item.Route x) ≡ twice
-    repeated = repeats_by_key t j signal_table block_table x signals (rw is at keyed) ∙ sym (rw are at told)
+-- what refuses a route that is there and whose signals are
+module _ (t : Inside) (j : IsJoined t) (signal_table : IsTable signal_name t.signals) (block_table : IsTable (λ (b : Block). b.name) t.blocks) (x : Route) (within : is_within (item.Route x) ≡ true) (key : ℕ) (here : key_of route_name t.routes x.name ≡ Some key) (found : RouteSignals) (known : list_all (is_named (named signal_name) t.signals) x.signals ≡ true) (are : AreSignalsOf t.signals x.signals found) where
+  repeating : found.twice ≡ true → rule_of_change (tables_of t) (item.Route x) ≡ Some Twice
+  repeating twice =
+      refused_twice (tables_of t) x within (has_route_by t x.name ∙ ap is_some here) (route_known_by t x ∙ known) (repeats_as_found t j signal_table block_table x found are ∙ twice)
 
-    repeating : twice ≡ true → rule_of_change (tables_of t) (item.Route x) ≡ Some Twice
-    repeating holds = refused_twice (tables_of t) x within there all_known (repeated ∙ holds)
-
-    miscounting : twice ≡ false → makes_miscount (tables_of t) (item.Route x) ≡ true → rule_of_change (tables_of t) (item.Route x) ≡ Some Count
-    miscounting once wrong = refused_count (tables_of t) x within there all_known (repeated ∙ once) true wrong
-
-    accepts : twice ≡ false → makes_miscount (tables_of t) (item.Route x) ≡ false → rule_of_change (tables_of t) (item.Route x) ≡ None
-    accepts once right = refused_count (tables_of t) x within there all_known (repeated ∙ once) false right
+  counting : found.twice ≡ false → (wrong : Bool) → makes_miscount (tables_of t) (item.Route x) ≡ wrong → rule_of_change (tables_of t) (item.Route x) ≡ (if wrong then Some Count else None)
+  counting once wrong is =
+      refused_count (tables_of t) x within (has_route_by t x.name ∙ ap is_some here) (route_known_by t x ∙ known) (repeats_as_found t j signal_table block_table x found are ∙ once) wrong is
 
 pub returns-in_default : goal.returns-in_default
-returns-in_default c = rw (← c.self.view_is) (refuses _ _ _ _ Unknown (unknown c.self.inside c.self.invariant c.in_ok-signals.ensures.table c.learn_order.ensures c.args.route c.in_ok-signals.field-0 c.in_ok-signals.ensures.known c.requires (sym (rw (← c.self.view_is) at c.has_route.ensures) ∙ c.if-not-has_route.false) c.in_default.is) refl)
+returns-in_default c =
+    rw (← c.self.view_is) (refuses _ _ _ _ Unknown (refused_route (tables_of c.self.inside) c.args.route.now c.requires (has_route_by c.self.inside c.args.route.now.name ∙ ap is_some (sym c.in_default.ensures.key))) refl)
 
-pub blocks_of-requires-clause-there : goal.blocks_of-requires-clause-there
-blocks_of-requires-clause-there c =
-    let keyed = rw c.in-Some.is at c.in_ok-signals.ensures.keys in
-    all_keys signal_name c.self.inside.signals c.in_ok-signals.ensures.table c.args.route.signals c.in-Some.signals keyed
+pub returns-in_default-2 : goal.returns-in_default-2
+returns-in_default-2 c =
+    let t = c.self.inside in
+    let x = c.args.route.now in
+    rw (← c.self.view_is) (refuses _ _ _ _ Unknown (refused_unknown (tables_of t) x c.requires (has_route_by t x.name ∙ ap is_some (sym c.in-Some.ensures.key)) (route_known_by t x ∙ sym c.in_ok-found.ensures.known ∙ ap is_some c.in_default-2.is)) refl)
 
-pub blocks_of-requires-clause-one : goal.blocks_of-requires-clause-one
-blocks_of-requires-clause-one c = one_block c.self.inside c.self.invariant
+pub route_signals-requires : goal.route_signals-requires
+route_signals-requires c = one_block c.self.inside c.self.invariant
 
-pub returns-then-branch : goal.returns-then-branch
-returns-then-branch c =
-    let rule = repeating c.self.inside c.self.invariant c.in_ok-signals.ensures.table c.learn_order.ensures c.args.route c.in_ok-signals.field-0 c.in_ok-signals.ensures.known c.requires (sym (rw (← c.self.view_is) at c.has_route.ensures) ∙ c.if-not-has_route.false) c.in-Some.signals c.in_ok-blocks.blocks c.in_ok-repeats.field-0 c.in_ok-signals.ensures.keys c.in-Some.is c.in_ok-blocks.ensures (rw c.slice.ensures at c.in_ok-repeats.ensures) c.if-branch.true in
-    rw (← c.self.view_is) (refuses _ _ _ _ Twice rule refl)
+pub returns-then-found : goal.returns-then-found
+returns-then-found c =
+    let found = c.in_ok-found.ensures in
+    rw (← c.self.view_is) (refuses _ _ _ _ Twice (repeating c.self.inside c.self.invariant found.table c.learn_order.ensures c.args.route.now c.requires c.in-Some.key (sym c.in-Some.ensures.key) c.in-Some-2.found (sym found.known ∙ ap is_some c.in-Some-2.is) (rw c.in-Some-2.is at found.found) c.if-found.true) refl)
+
+pub makes_miscount-requires : goal.makes_miscount-requires
+makes_miscount-requires c =
+    rw (← c.self.view_is) (has_route_by c.self.inside c.args.route.now.name ∙ ap is_some (sym c.in-Some.ensures.key))
 
 pub returns-then-makes_miscount : goal.returns-then-makes_miscount
 returns-then-makes_miscount c =
-    let rule = miscounting c.self.inside c.self.invariant c.in_ok-signals.ensures.table c.learn_order.ensures c.args.route c.in_ok-signals.field-0 c.in_ok-signals.ensures.known c.requires (sym (rw (← c.self.view_is) at c.has_route.ensures) ∙ c.if-not-has_route.false) c.in-Some.signals c.in_ok-blocks.blocks c.in_ok-repeats.field-0 c.in_ok-signals.ensures.keys c.in-Some.is c.in_ok-blocks.ensures (rw c.slice.ensures at c.in_ok-repeats.ensures) c.if-branch.false (sym (rw (← c.self.view_is) at c.makes_miscount.ensures) ∙ c.if-makes_miscount.true) in
-    rw (← c.self.view_is) (refuses _ _ _ _ Count rule refl)
+    let found = c.in_ok-found.ensures in
+    let wrong = sym (rw (← c.self.view_is) at c.makes_miscount.ensures) ∙ c.if-makes_miscount.true in
+    rw (← c.self.view_is) (refuses _ _ _ _ Count (counting c.self.inside c.self.invariant found.table c.learn_order.ensures c.args.route.now c.requires c.in-Some.key (sym c.in-Some.ensures.key) c.in-Some-2.found (sym found.known ∙ ap is_some c.in-Some-2.is) (rw c.in-Some-2.is at found.found) c.if-found.false true wrong) refl)
 
-pub unwrap-key-requires : goal.unwrap-key-requires
-unwrap-key-requires c =
-    let rule = accepts c.self.inside c.self.invariant c.in_ok-signals.ensures.table c.learn_order.ensures c.args.route c.in_ok-signals.field-0 c.in_ok-signals.ensures.known c.requires (sym (rw (← c.self.view_is) at c.has_route.ensures) ∙ c.if-not-has_route.false) c.in-Some.signals c.in_ok-blocks.blocks c.in_ok-repeats.field-0 c.in_ok-signals.ensures.keys c.in-Some.is c.in_ok-blocks.ensures (rw c.slice.ensures at c.in_ok-repeats.ensures) c.if-branch.false (sym (rw (← c.self.view_is) at c.makes_miscount.ensures) ∙ c.if-makes_miscount.false) in
-    c.key_of.ensures.there ∙ route_stays c.self.inside c.args.route rule
-
-pub swap_linked-requires-clause-same_name : goal.swap_linked-requires-clause-same_name
-swap_linked-requires-clause-same_name c =
-    rw c.in_ok-kept.ensures
-    (name_under (λ (e : Linked _). e.item.name) c.self.inside.routes c.args.route.name c.unwrap-key.result c.key_of.ensures.table (sym c.key_of.ensures.key ∙ c.unwrap-key.ensures))
-
-pub swap_linked-requires-clause-counted_before : goal.swap_linked-requires-clause-counted_before
-swap_linked-requires-clause-counted_before c e k h =
+pub swap_route-requires : goal.swap_route-requires
+swap_route-requires c =
     let t = c.self.inside in
-    let key = c.unwrap-key.result in
-    omega (arith, c.self.invariant.signal_uses k, c.make_room.ensures.same k, refs_of_found (λ u. u.0 == key) t.routes e k h)
-
-pub get-requires : goal.get-requires
-get-requires c =
-    let found = found_by_key (λ (e : Linked Route). e.item.name) c.self.inside.routes c.args.route.name c.unwrap-key.result c.key_of.ensures.table (sym c.key_of.ensures.key ∙ c.unwrap-key.ensures) in
-    rw found.1.under refl
-
-pub take-requires-clause-there : goal.take-requires-clause-there
-take-requires-clause-there c =
-    rw c.slice-old.ensures (listed_keys c.self.inside c.self.invariant c.in_ok-signals.ensures.table c.unwrap-key.result c.get.result.now c.get.ensures.item)
-
-pub take-requires-clause-one : goal.take-requires-clause-one
-take-requires-clause-one c = one_block c.self.inside c.self.invariant
-
-pub invariant_of-self-in_err-make_room-2 : goal.invariant_of-self-in_err-make_room-2
-invariant_of-self-in_err-make_room-2 c =
-    let j = c.self.invariant in
+    let key = c.in-Some.key in
     record {
+      same_name = rw c.in_ok-of.ensures (name_under route_name t.routes c.args.route.now.name key c.key_of.ensures.table (sym c.in-Some.ensures.key));
+      counted_before = λ e k h. omega (arith, c.self.invariant.signal_uses k, refs_of_found (λ u. u.0 == key) t.routes e k h);
+      there = λ e h. listed_keys t c.self.invariant c.in_ok-found.ensures.table key e h;
+      one = one_block t c.self.invariant;
+    }
+
+pub invariant_of-self-in_err-swap_route : goal.invariant_of-self-in_err-swap_route
+invariant_of-self-in_err-swap_route c =
+    let j = c.self.invariant in
+    let stayed = c.in_err-swap_route.ensures in
+    rw stayed.kept
+    (record {
       sound = j.sound;
       signals = j.signals;
       routes = j.routes;
@@ -110,40 +100,41 @@ invariant_of-self-in_err-make_room-2 c =
       sections = j.sections;
       connections = j.connections;
       block_uses = j.block_uses;
-      signal_uses = λ k. c.make_room.ensures.same k ∙ j.signal_uses k;
+      signal_uses = λ k. stayed.kept_counts k ∙ j.signal_uses k;
       route_uses = j.route_uses;
       run_uses = j.run_uses;
-      signal_routes = λ x r. c.make_room-2.ensures.signals x r ∙ j.signal_routes x r;
-      block_routes = λ x r. c.make_room-2.ensures.blocks x r ∙ j.block_routes x r;
-    }
+      signal_routes = λ x r. stayed.kept_signals x r ∙ j.signal_routes x r;
+      block_routes = λ x r. stayed.kept_blocks x r ∙ j.block_routes x r;
+    })
 
 pub invariant_of-self-2 : goal.invariant_of-self-2
 invariant_of-self-2 c =
     let t = c.self.inside in
-    let f = block_of t.signals in
-    let key = c.unwrap-key.result in
-    let refs = c.in-Some.signals in
-    let done = c.swap_linked.ensures in
-    let made = c.make_room-2.ensures in
-    let before = c.get.result.now in
-    let rule = accepts c.self.inside c.self.invariant c.in_ok-signals.ensures.table c.learn_order.ensures c.args.route c.in_ok-signals.field-0 c.in_ok-signals.ensures.known c.requires (sym (rw (← c.self.view_is) at c.has_route.ensures) ∙ c.if-not-has_route.false) c.in-Some.signals c.in_ok-blocks.blocks c.in_ok-repeats.field-0 c.in_ok-signals.ensures.keys c.in-Some.is c.in_ok-blocks.ensures (rw c.slice.ensures at c.in_ok-repeats.ensures) c.if-branch.false (sym (rw (← c.self.view_is) at c.makes_miscount.ensures) ∙ c.if-makes_miscount.false) in
-    let blocks : c.slice-6.result.now ≡ map f refs = c.slice-6.ensures ∙ c.in_ok-blocks.ensures in
-    let same = name_under (λ (e : Linked _). e.item.name) t.routes c.args.route.name key c.key_of.ensures.table (sym c.key_of.ensures.key ∙ c.unwrap-key.ensures) in
-    let counted : (e : Linked Route) (k : ℕ) → under t.routes key ≡ Some e → count_of c.swap_linked.new.uses k + times k e.refs ≡ count_of t.signal_uses k + times k refs =
-    λ e k h. omega (arith, done.counted e k h, c.make_room.ensures.same k) in
-    rw (done.changed, c.in_ok-kept.ensures)
-    (route_change t key c.args.route refs c.swap_linked.new.uses c.self.invariant c.key_of.ensures.table same rule (rw c.in-Some.is at c.in_ok-signals.ensures.keys) counted before c.take.new.self c.put.new.self c.get.ensures.item
-    (take_after (λ q. q) before.refs key t.route_sets.of_signals c.make_room-2.new.self.of_signals c.take.new.self.of_signals made.signals (rw c.slice-old.ensures at c.take.ensures.signals))
-    (take_after f before.refs key t.route_sets.of_blocks c.make_room-2.new.self.of_blocks c.take.new.self.of_blocks made.blocks (rw c.slice-old.ensures at c.take.ensures.blocks))
-    (rw c.slice-5.ensures at c.put.ensures.signals)
-    (put_at_images f refs c.slice-6.result.now key c.take.new.self.of_blocks c.put.new.self.of_blocks blocks c.put.ensures.blocks))
+    let x = c.args.route.now in
+    let key = c.in-Some.key in
+    let here = sym c.in-Some.ensures.key in
+    let signals = c.in-Some-2.found in
+    let done = c.in_ok-swap_route.ensures in
+    let found = c.in_ok-found.ensures in
+    let are = rw c.in-Some-2.is at found.found in
+    let right = sym (rw (← c.self.view_is) at c.makes_miscount.ensures) ∙ c.if-makes_miscount.false in
+    let rule = counting t c.self.invariant found.table c.learn_order.ensures x c.requires key here signals (sym found.known ∙ ap is_some c.in-Some-2.is) are c.if-found.false false right in
+    let before = found_by_key route_name t.routes x.name key c.key_of.ensures.table here in
+    rw (done.changed, c.in_ok-of.ensures)
+    (route_change t key x signals.keys c.swap_route.new.uses c.self.invariant c.key_of.ensures.table (name_under route_name t.routes x.name key c.key_of.ensures.table here) rule are.keyed done.counted before.0 c.swap_route.new.sets before.1.under
+    (done.signals before.0 before.1.under)
+    (change_at_images (block_of t.signals) before.0.refs signals.keys signals.blocks key t.route_sets.of_blocks c.swap_route.new.sets.of_blocks are.blocks (done.blocks before.0 before.1.under)))
 
 pub returns : goal.returns
 returns c =
     let t = c.self.inside in
-    let key = c.unwrap-key.result in
-    let rule = accepts c.self.inside c.self.invariant c.in_ok-signals.ensures.table c.learn_order.ensures c.args.route c.in_ok-signals.field-0 c.in_ok-signals.ensures.known c.requires (sym (rw (← c.self.view_is) at c.has_route.ensures) ∙ c.if-not-has_route.false) c.in-Some.signals c.in_ok-blocks.blocks c.in_ok-repeats.field-0 c.in_ok-signals.ensures.keys c.in-Some.is c.in_ok-blocks.ensures (rw c.slice.ensures at c.in_ok-repeats.ensures) c.if-branch.false (sym (rw (← c.self.view_is) at c.makes_miscount.ensures) ∙ c.if-makes_miscount.false) in
-    let same = name_under (λ (e : Linked _). e.item.name) t.routes c.args.route.name key c.key_of.ensures.table (sym c.key_of.ensures.key ∙ c.unwrap-key.ensures) in
-    rw (← c.self.view_is, c.swap_linked.ensures.changed, c.in_ok-kept.ensures)
+    let x = c.args.route.now in
+    let key = c.in-Some.key in
+    let here = sym c.in-Some.ensures.key in
+    let signals = c.in-Some-2.found in
+    let found = c.in_ok-found.ensures in
+    let right = sym (rw (← c.self.view_is) at c.makes_miscount.ensures) ∙ c.if-makes_miscount.false in
+    let rule = counting t c.self.invariant found.table c.learn_order.ensures x c.requires key here signals (sym found.known ∙ ap is_some c.in-Some-2.is) (rw c.in-Some-2.is at found.found) c.if-found.false false right in
+    rw (← c.self.view_is, c.in_ok-swap_route.ensures.changed, c.in_ok-of.ensures)
     (makes _ _ _ _ rule
-    (ap (λ l. record (tables_of t) { routes = l }) (map-with_change (λ (e : Linked _). e.item) (λ x. x.name) t.routes key (entry c.args.route c.in-Some.signals) c.key_of.ensures.table same)))
+    (ap (λ l. record (tables_of t) { routes = l }) (map-with_change (λ (e : Linked _). e.item) (λ x. x.name) t.routes key (entry x signals.keys) c.key_of.ensures.table (name_under route_name t.routes x.name key c.key_of.ensures.table here))))

@@ -1,5 +1,5 @@
-use Rattle.std.proofs.Common.{◌≡◌, ◌∙◌, ℕ, List, Bool, false, if◌then◌else◌, Option, Some, None, map, refl, sym, ap}
-use Rattle.std.specs.Prelude.{is_some, IfSome}
+use Rattle.std.proofs.Common.{◌≡◌, ◌∙◌, ℕ, List, Bool, true, if◌then◌else◌, Option, Some, None, false, refl, sym, ap}
+use Rattle.std.specs.Prelude.{is_some}
 use Rattle.std.specs.List.{list_all}
 use Rattle.rail_model.specs.declared.items.Item.TheVariants as item
 use Rattle.rail_model.specs.declared.items.Block.{Block}
@@ -10,14 +10,16 @@ use Rattle.rail_model.specs.declared.edit.Rule.TheVariants.{Unknown, Twice}
 use Rattle.rail_model.specs.Rules.{is_named, refers_to_known, rule_of_put}
 use Rattle.line_tables.specs.declared.linked.Linked.{Linked}
 use Rattle.line_tables.specs.declared.line_tables.LineTables.TheInside.{Inside}
-use Rattle.line_tables.specs.Links.{block_of, repeats_key}
-use Rattle.line_tables.specs.Table.{named, key_of, IsTable}
+use Rattle.line_tables.specs.declared.route_signals.RouteSignals.{RouteSignals}
+use Rattle.line_tables.specs.RouteSignals.{AreSignalsOf}
+use Rattle.line_tables.specs.Links.{block_of}
+use Rattle.line_tables.specs.Table.{named, IsTable}
 use Rattle.line_tables.specs.References.{rule_of_item}
 use Rattle.line_tables.specs.Inside.{tables_of, IsJoined}
 use Rattle.line_tables.proofs.References.{entry}
 use Rattle.line_tables.proofs.Views.{map-with_item}
-use Rattle.line_tables.proofs.Meets.{all_keys, repeats_by_key}
 use Rattle.line_tables.proofs.Along.{put_at_images}
+use Rattle.line_tables.proofs.FoundSignals.{repeats_as_found}
 use Rattle.line_tables.proofs.Moves.{one_block}
 use Rattle.line_tables.proofs.Known.{route_known_by, refused_unknown, refused_twice}
 use Rattle.line_tables.proofs.Answered.{refuses, makes}
@@ -28,63 +30,55 @@ use Rattle.line_tables.proofs.line_tables.LineTables.put_route.Goals as goal
 abbrev signal_name : Linked Signal → List ℕ
 signal_name e = e.item.name
 
--- what refuses a route whose signals are there: one block twice, or nothing
-module _ (t : Inside) (j : IsJoined t) (signal_table : IsTable signal_name t.signals) (block_table : IsTable (λ (b : Block). b.name) t.blocks) (x : Route) where
-  told : rule_of_item (tables_of t) (item.Route x) ≡ None → (found : Option (List ℕ)) (signals blocks : List ℕ) (twice : Bool) → is_some found ≡ list_all (is_named (named signal_name) t.signals) x.signals → IfSome found (λ keys. map (key_of signal_name t.signals) x.signals ≡ map Some keys) → found ≡ Some signals → blocks ≡ map (block_of t.signals) signals → twice ≡ repeats_key blocks → rule_of_put (tables_of t) (item.Route x) ≡ (if twice then Some Twice else None)
-  told itself found signals blocks twice known keyed is are repeated =
-      refused_then (tables_of t) x itself
-      ∙ refused_twice (tables_of t) (item.Route x) twice (route_known_by t x ∙ sym known ∙ ap is_some is)
-      (repeats_by_key t j signal_table block_table x signals (rw is at keyed) ∙ sym (rw are at repeated))
-
 abbrev answer : Bool → Option Rule
 answer twice = if twice then Some Twice else None
+
+-- what refuses a route whose signals are there: one block twice, or nothing
+told : (t : Inside) → IsJoined t → IsTable signal_name t.signals → IsTable (λ (b : Block). b.name) t.blocks → (x : Route) → rule_of_item (tables_of t) (item.Route x) ≡ None → (found : RouteSignals) → list_all (is_named (named signal_name) t.signals) x.signals ≡ true → AreSignalsOf t.signals x.signals found → rule_of_put (tables_of t) (item.Route x) ≡ answer found.twice
+told t j signal_table block_table x itself found known are =
+    refused_then (tables_of t) x itself
+    ∙ refused_twice (tables_of t) (item.Route x) found.twice (route_known_by t x ∙ known) (repeats_as_found t j signal_table block_table x found are)
+
+pub route_signals-requires : goal.route_signals-requires
+route_signals-requires c = one_block c.self.inside c.self.invariant
 
 pub returns-in_default : goal.returns-in_default
 returns-in_default c =
     let t = c.self.inside in
-    let x = c.args.route in
-    let unknown : refers_to_known (tables_of t) (item.Route x) ≡ false = route_known_by t x ∙ sym c.in_ok-signals.ensures.known ∙ ap is_some c.in_default.is in
+    let x = c.args.route.now in
+    let unknown : refers_to_known (tables_of t) (item.Route x) ≡ false = route_known_by t x ∙ sym c.in_ok-found.ensures.known ∙ ap is_some c.in_default.is in
     rw (← c.self.view_is) (refuses _ _ _ _ Unknown (refused_then (tables_of t) x (rw (← c.self.view_is) at c.requires) ∙ refused_unknown (tables_of t) (item.Route x) unknown) refl)
 
-pub blocks_of-requires-clause-there : goal.blocks_of-requires-clause-there
-blocks_of-requires-clause-there c =
-    let keyed = rw c.in-Some.is at c.in_ok-signals.ensures.keys in
-    all_keys signal_name c.self.inside.signals c.in_ok-signals.ensures.table c.args.route.signals c.in-Some.signals keyed
-
-pub blocks_of-requires-clause-one : goal.blocks_of-requires-clause-one
-blocks_of-requires-clause-one c = one_block c.self.inside c.self.invariant
-
-pub returns-then-branch : goal.returns-then-branch
-returns-then-branch c =
-    let found = c.in_ok-signals in
-    let rule = told c.self.inside c.self.invariant found.ensures.table c.learn_order.ensures c.args.route (rw (← c.self.view_is) at c.requires) found.field-0 c.in-Some.signals c.in_ok-blocks.blocks c.in_ok-repeats.field-0 found.ensures.known found.ensures.keys c.in-Some.is c.in_ok-blocks.ensures (rw c.slice.ensures at c.in_ok-repeats.ensures) in
-    rw (← c.self.view_is) (refuses _ _ _ _ Twice (rule ∙ ap answer c.if-branch.true) refl)
+pub returns-then-found : goal.returns-then-found
+returns-then-found c =
+    let found = c.in_ok-found.ensures in
+    let rule = told c.self.inside c.self.invariant found.table c.learn_order.ensures c.args.route.now (rw (← c.self.view_is) at c.requires) c.in-Some.found (sym found.known ∙ ap is_some c.in-Some.is) (rw c.in-Some.is at found.found) in
+    rw (← c.self.view_is) (refuses _ _ _ _ Twice (rule ∙ ap answer c.if-found.true) refl)
 
 pub enter_route-requires : goal.enter_route-requires
 enter_route-requires c =
-    let found = c.in_ok-signals in
-    let rule = told c.self.inside c.self.invariant found.ensures.table c.learn_order.ensures c.args.route (rw (← c.self.view_is) at c.requires) found.field-0 c.in-Some.signals c.in_ok-blocks.blocks c.in_ok-repeats.field-0 found.ensures.known found.ensures.keys c.in-Some.is c.in_ok-blocks.ensures (rw c.slice.ensures at c.in_ok-repeats.ensures) in
-    rw c.in_ok-kept.ensures (route_is_new c.self.inside c.args.route (rule ∙ ap answer c.if-branch.false))
+    let found = c.in_ok-found.ensures in
+    let rule = told c.self.inside c.self.invariant found.table c.learn_order.ensures c.args.route.now (rw (← c.self.view_is) at c.requires) c.in-Some.found (sym found.known ∙ ap is_some c.in-Some.is) (rw c.in-Some.is at found.found) in
+    rw c.in_ok-of.ensures (route_is_new c.self.inside c.args.route.now (rule ∙ ap answer c.if-found.false))
 
 pub invariant_of-self-2 : goal.invariant_of-self-2
 invariant_of-self-2 c =
     let t = c.self.inside in
-    let x = c.args.route in
-    let signals = c.in-Some.signals in
+    let x = c.args.route.now in
     let key = c.in_ok-enter_route.field-0 in
     let done = c.in_ok-enter_route.ensures in
-    let found = c.in_ok-signals in
-    let rule = told t c.self.invariant found.ensures.table c.learn_order.ensures x (rw (← c.self.view_is) at c.requires) found.field-0 signals c.in_ok-blocks.blocks c.in_ok-repeats.field-0 found.ensures.known found.ensures.keys c.in-Some.is c.in_ok-blocks.ensures (rw c.slice.ensures at c.in_ok-repeats.ensures) in
-    let blocks : c.slice-2.result.now ≡ map (block_of t.signals) signals = c.slice-2.ensures ∙ c.in_ok-blocks.ensures in
-    rw (done.put, c.in_ok-kept.ensures)
-    (route_put t key x signals c.enter_route.new.uses c.self.invariant done.table (rule ∙ ap answer c.if-branch.false) (rw c.in-Some.is at found.ensures.keys) done.counted c.enter_route.new.sets done.fresh done.signals
-    (put_at_images (block_of t.signals) signals c.slice-2.result.now key t.route_sets.of_blocks c.enter_route.new.sets.of_blocks blocks done.blocks))
+    let found = c.in_ok-found.ensures in
+    let are = rw c.in-Some.is at found.found in
+    let rule = told t c.self.invariant found.table c.learn_order.ensures x (rw (← c.self.view_is) at c.requires) c.in-Some.found (sym found.known ∙ ap is_some c.in-Some.is) are in
+    rw (done.put, c.in_ok-of.ensures)
+    (route_put t key x c.in-Some.found.keys c.enter_route.new.uses c.self.invariant done.table (rule ∙ ap answer c.if-found.false) are.keyed done.counted c.enter_route.new.sets done.fresh done.signals
+    (put_at_images (block_of t.signals) c.in-Some.found.keys c.in-Some.found.blocks key t.route_sets.of_blocks c.enter_route.new.sets.of_blocks are.blocks done.blocks))
 
 pub returns : goal.returns
 returns c =
     let t = c.self.inside in
-    let found = c.in_ok-signals in
-    let rule = told t c.self.invariant found.ensures.table c.learn_order.ensures c.args.route (rw (← c.self.view_is) at c.requires) found.field-0 c.in-Some.signals c.in_ok-blocks.blocks c.in_ok-repeats.field-0 found.ensures.known found.ensures.keys c.in-Some.is c.in_ok-blocks.ensures (rw c.slice.ensures at c.in_ok-repeats.ensures) in
-    rw (← c.self.view_is, c.in_ok-enter_route.ensures.put, c.in_ok-kept.ensures)
-    (makes _ _ _ _ (rule ∙ ap answer c.if-branch.false)
-    (ap (λ l. record (tables_of t) { routes = l }) (map-with_item (λ (e : ℕ × Linked _). e.1.item) (λ x. x.name) t.routes (c.in_ok-enter_route.field-0, entry c.args.route c.in-Some.signals))))
+    let found = c.in_ok-found.ensures in
+    let rule = told t c.self.invariant found.table c.learn_order.ensures c.args.route.now (rw (← c.self.view_is) at c.requires) c.in-Some.found (sym found.known ∙ ap is_some c.in-Some.is) (rw c.in-Some.is at found.found) in
+    rw (← c.self.view_is, c.in_ok-enter_route.ensures.put, c.in_ok-of.ensures)
+    (makes _ _ _ _ (rule ∙ ap answer c.if-found.false)
+    (ap (λ l. record (tables_of t) { routes = l }) (map-with_item (λ (e : ℕ × Linked _). e.1.item) (λ x. x.name) t.routes (c.in_ok-enter_route.field-0, entry c.args.route.now c.in-Some.found.keys))))

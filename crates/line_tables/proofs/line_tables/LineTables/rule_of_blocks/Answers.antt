@@ -12,7 +12,7 @@ pub returns-in_default : goal.returns-in_default
 returns-in_default c =
     let t = c.self.inside in
     let x = c.args.section.now in
-    let known = c.in_ok-blocks.ensures.known in
+    let known = rw c.slice.ensures at c.in_ok-blocks.ensures.known in
     let unknown : refers_to_known (tables_of t) (item.Section x) ≡ false = section_known_by t x ∙ sym known ∙ ap is_some c.in_default.is in
     rw (← c.self.view_is) (sym (refused_unknown (tables_of t) (item.Section x) unknown))
 
@@ -20,8 +20,8 @@ pub returns : goal.returns
 returns c =
     let t = c.self.inside in
     let x = c.args.section.now in
-    let known = c.in_ok-blocks.ensures.known in
+    let known = rw c.slice.ensures at c.in_ok-blocks.ensures.known in
     let there : refers_to_known (tables_of t) (item.Section x) ≡ true = section_known_by t x ∙ sym known ∙ ap is_some c.in-Some.is in
-    let keyed = rw c.in-Some.is at c.in_ok-blocks.ensures.keys in
-    let twice = has_repeat_keyed (λ (b : Block). b.name) t.blocks c.in_ok-blocks.ensures.table x.blocks c.in-Some.blocks keyed ∙ sym (rw c.slice.ensures at c.in_ok-repeats.ensures) in
+    let keyed = rw (c.slice.ensures, c.in-Some.is) at c.in_ok-blocks.ensures.keys in
+    let twice = has_repeat_keyed (λ (b : Block). b.name) t.blocks c.in_ok-blocks.ensures.table x.blocks c.in-Some.blocks keyed ∙ sym (rw c.slice-2.ensures at c.in_ok-repeats.ensures) in
     rw (← c.self.view_is) (c.twice_if.ensures ∙ sym (refused_twice (tables_of t) (item.Section x) c.in_ok-repeats.field-0 there twice))

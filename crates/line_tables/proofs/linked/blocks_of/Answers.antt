@@ -1,0 +1,15 @@
+use Rattle.std.proofs.Common.{get_or, sym, ◌∙◌, arith}
+use Rattle.std.proofs.lemmas.List.{map_more}
+use Rattle.line_tables.specs.Links.{block_of}
+use Rattle.line_tables.proofs.linked.blocks_of.Goals as goal
+
+pub loop-key-preserved : goal.loop-key-preserved
+loop-key-preserved c =
+    let keys = c.args.keys.now in
+    let i = c.loop-key.key-index in
+    let so_far = c.loop-key.invariant in
+    record {
+      blocks = rw (c.push_reserved.ensures.items, c.block_of.ensures, so_far.blocks) (sym (map_more (block_of c.args.signals.now) keys i 0 c.loop-key-test.true));
+      count = omega (arith, so_far.count, c.push_reserved.ensures.len);
+      room = c.push_reserved.ensures.capacity ∙ so_far.room;
+    }
