@@ -1,5 +1,5 @@
-use Rattle.std.proofs.Common.{get_or, sym, ◌∙◌, arith}
-use Rattle.std.proofs.lemmas.List.{map_more}
+use Rattle.std.proofs.Common.{map, get_or, sym, ap, ◌∙◌, arith}
+use Rattle.std.proofs.lemmas.List.{map_more, take_all}
 use Rattle.line_tables.specs.Links.{block_of}
 use Rattle.line_tables.proofs.linked.blocks_of.Goals as goal
 
@@ -13,3 +13,13 @@ loop-key-preserved c =
       count = omega (arith, so_far.count, c.push_reserved.ensures.len);
       room = c.push_reserved.ensures.capacity ∙ so_far.room;
     }
+
+pub push_reserved-requires : goal.push_reserved-requires
+push_reserved-requires c =
+    let so_far = c.loop-key.invariant in
+    omega (arith, so_far.count, so_far.room, c.loop-key-test.true)
+
+pub returns : goal.returns
+returns c =
+    let all = take_all c.loop-key.key-index c.args.keys.now c.loop-key-test.false in
+    c.from_vec.ensures ∙ c.loop-key.invariant.blocks ∙ ap (map (block_of c.args.signals.now)) all

@@ -1,6 +1,7 @@
-use Rattle.std.proofs.Common.{◌≡◌, get_or, sym, ap, ◌∙◌, refl, arith}
+use Rattle.std.proofs.Common.{◌≡◌, Some, map, get_or, sym, ap, ◌∙◌, refl, arith}
+use Rattle.std.specs.List.{list_all}
 use Rattle.std.proofs.lemmas.Bool.{and_from}
-use Rattle.std.proofs.lemmas.List.{map-append, map_more}
+use Rattle.std.proofs.lemmas.List.{map-append, map_more, take_all}
 use Rattle.std.proofs.lemmas.List.Folds.{list_all_at, list_all_more}
 use Rattle.rail_model.specs.Rules.{is_named}
 use Rattle.line_tables.specs.Table.{key_of, named}
@@ -32,3 +33,20 @@ loop-name-preserved g c =
       count = omega (arith, so_far.count, c.push_reserved.ensures.len);
       room = c.push_reserved.ensures.capacity ∙ so_far.room;
     }
+
+pub push_reserved-requires : goal.push_reserved-requires
+push_reserved-requires g c =
+    let so_far = c.loop-name.invariant in
+    omega (arith, so_far.count, so_far.room, c.loop-name-test.true)
+
+pub returns-clause-known : goal.returns-clause-known
+returns-clause-known g c =
+    let p = is_named (named g.T.Named.label) c.args.table.now in
+    let all = take_all c.loop-name.name-index c.args.names.now c.loop-name-test.false in
+    sym (ap (list_all p) (sym all) ∙ c.loop-name.invariant.known)
+
+pub returns-clause-keys : goal.returns-clause-keys
+returns-clause-keys g c =
+    let f = key_of g.T.Named.label c.args.table.now in
+    let all = take_all c.loop-name.name-index c.args.names.now c.loop-name-test.false in
+    ap (map f) (sym all) ∙ c.loop-name.invariant.keys ∙ ap (map Some) (sym c.from_vec.ensures)

@@ -1,5 +1,6 @@
-use Rattle.std.proofs.Common.{length, sym, ap, ◌∙◌, arith}
-use Rattle.std.proofs.lemmas.List.{map_more}
+use Rattle.std.proofs.Common.{length, map, sym, ap, ◌∙◌, subst, arith}
+use Rattle.std.specs.Prelude.{All}
+use Rattle.std.proofs.lemmas.List.{map_more, take_all}
 use Rattle.std.proofs.lemmas.List.Elements.{All-more}
 use Rattle.rail_model.specs.Name.{IsName}
 use Rattle.line_tables.proofs.Split.{is_short}
@@ -21,3 +22,16 @@ loop-name-preserved c =
       count = omega (arith, so_far.count, c.push_reserved.ensures.len);
       room = c.push_reserved.ensures.capacity ∙ so_far.room;
     }
+
+pub push_reserved-requires : goal.push_reserved-requires
+push_reserved-requires c =
+    let so_far = c.loop-name.invariant in
+    omega (arith, so_far.count, so_far.room, c.loop-name-test.true)
+
+pub returns-clause-lens : goal.returns-clause-lens
+returns-clause-lens c =
+    c.loop-name.invariant.lens ∙ ap (map length) (take_all c.loop-name.name-index c.args.names.now c.loop-name-test.false)
+
+pub returns-clause-named : goal.returns-clause-named
+returns-clause-named c =
+    subst (All (λ name. ∥ IsName name ∥₁)) (take_all c.loop-name.name-index c.args.names.now c.loop-name-test.false) c.loop-name.invariant.named
