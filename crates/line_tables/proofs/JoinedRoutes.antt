@@ -13,9 +13,9 @@ use Rattle.rail_model.proofs.Sound.{accepted, changeable, free, IsSound-after_pu
 use Rattle.line_tables.specs.declared.linked.Linked.{Linked}
 use Rattle.line_tables.specs.declared.line_tables.LineTables.TheInside.{Inside}
 use Rattle.line_tables.specs.Table.{under, with_change, key_of, item_of, IsTable}
-use Rattle.line_tables.specs.KeyCounts.{count_of, times}
+use Rattle.line_tables.specs.KeyCounts.{count_of, times, SameCounts}
 use Rattle.line_tables.specs.Links.{IsLinked, block_of}
-use Rattle.line_tables.specs.RouteSets.{IsPutAt, IsTakenAt, IsChangedAt, AreSetsOf}
+use Rattle.line_tables.specs.RouteSets.{SameSets, IsPutAt, IsTakenAt, IsChangedAt, AreSetsOf}
 use Rattle.line_tables.specs.declared.route_sets.RouteSets.{RouteSets}
 use Rattle.line_tables.specs.Inside.{items_of, tables_of, names_of_route, names_of_run, IsJoined}
 use Rattle.line_tables.proofs.References.{entry}
@@ -47,6 +47,23 @@ module _ (t : Inside) where
     run_uses = j.run_uses;
     signal_routes = of_signals;
     block_routes = of_blocks;
+  }
+
+  -- no route changes, and counts and sets say what they said
+  pub routes_stay : (uses : List ℕ) (sets : RouteSets) → IsJoined t → SameCounts t.signal_uses uses → SameSets t.route_sets.of_signals sets.of_signals → SameSets t.route_sets.of_blocks sets.of_blocks → IsJoined (record t { signal_uses = uses; route_sets = sets })
+  routes_stay uses sets j counts listed led = record {
+    sound = j.sound;
+    signals = j.signals;
+    routes = j.routes;
+    runs = j.runs;
+    sections = j.sections;
+    connections = j.connections;
+    block_uses = j.block_uses;
+    signal_uses = λ k. counts k ∙ j.signal_uses k;
+    route_uses = j.route_uses;
+    run_uses = j.run_uses;
+    signal_routes = λ x r. listed x r ∙ j.signal_routes x r;
+    block_routes = λ x r. led x r ∙ j.block_routes x r;
   }
 
   named_route : (n : List ℕ) → is_named (λ (x : Route). x.name) (items_of t.routes) n ≡ is_named (λ e. e.1.item.name) t.routes n

@@ -25,7 +25,7 @@ use Rattle.line_tables.proofs.Moves.{one_block, listed_keys}
 use Rattle.line_tables.proofs.Known.{refs_of_found, route_known_by}
 use Rattle.line_tables.proofs.Answered.{refuses, makes}
 use Rattle.line_tables.proofs.RulesOfChange.{refused_route, refused_unknown, refused_twice, refused_count}
-use Rattle.line_tables.proofs.JoinedRoutes.{route_change}
+use Rattle.line_tables.proofs.JoinedRoutes.{routes_stay, route_change}
 use Rattle.line_tables.proofs.line_tables.LineTables.change_route.Goals as goal
 
 abbrev signal_name : Linked Signal → List ℕ
@@ -89,23 +89,8 @@ swap_route-requires c =
 
 pub invariant_of-self-in_err-swap_route : goal.invariant_of-self-in_err-swap_route
 invariant_of-self-in_err-swap_route c =
-    let j = c.self.invariant in
     let stayed = c.in_err-swap_route.ensures in
-    rw stayed.kept
-    (record {
-      sound = j.sound;
-      signals = j.signals;
-      routes = j.routes;
-      runs = j.runs;
-      sections = j.sections;
-      connections = j.connections;
-      block_uses = j.block_uses;
-      signal_uses = λ k. stayed.kept_counts k ∙ j.signal_uses k;
-      route_uses = j.route_uses;
-      run_uses = j.run_uses;
-      signal_routes = λ x r. stayed.kept_signals x r ∙ j.signal_routes x r;
-      block_routes = λ x r. stayed.kept_blocks x r ∙ j.block_routes x r;
-    })
+    rw stayed.kept (routes_stay c.self.inside c.swap_route.new.uses c.swap_route.new.sets c.self.invariant stayed.kept_counts stayed.kept_signals stayed.kept_blocks)
 
 pub invariant_of-self-2 : goal.invariant_of-self-2
 invariant_of-self-2 c =

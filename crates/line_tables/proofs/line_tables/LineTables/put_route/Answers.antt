@@ -24,7 +24,7 @@ use Rattle.line_tables.proofs.Moves.{one_block}
 use Rattle.line_tables.proofs.Known.{route_known_by, refused_unknown, refused_twice}
 use Rattle.line_tables.proofs.Answered.{refuses, makes}
 use Rattle.line_tables.proofs.RulesOfPut.{refused_then}
-use Rattle.line_tables.proofs.JoinedRoutes.{route_is_new, route_put}
+use Rattle.line_tables.proofs.JoinedRoutes.{routes_stay, route_is_new, route_put}
 use Rattle.line_tables.proofs.line_tables.LineTables.put_route.Goals as goal
 
 abbrev signal_name : Linked Signal → List ℕ
@@ -60,6 +60,11 @@ enter_route-requires c =
     let found = c.in_ok-found.ensures in
     let rule = told c.self.inside c.self.invariant found.table c.learn_order.ensures c.args.route.now (rw (← c.self.view_is) at c.requires) c.in-Some.found (sym found.known ∙ ap is_some c.in-Some.is) (rw c.in-Some.is at found.found) in
     rw c.in_ok-of.ensures (route_is_new c.self.inside c.args.route.now (rule ∙ ap answer c.if-found.false))
+
+pub invariant_of-self-in_err-enter_route : goal.invariant_of-self-in_err-enter_route
+invariant_of-self-in_err-enter_route c =
+    let stayed = c.in_err-enter_route.ensures in
+    rw stayed.kept (routes_stay c.self.inside c.enter_route.new.uses c.enter_route.new.sets c.self.invariant stayed.kept_counts stayed.kept_signals stayed.kept_blocks)
 
 pub invariant_of-self-2 : goal.invariant_of-self-2
 invariant_of-self-2 c =
