@@ -1,12 +1,12 @@
 -- The rules of a put: those of the item itself, and then those of what it refers to.
-use Rattle.std.proofs.Common.{◌≡◌, Bool, true, false, not, if◌then◌else◌, Option, Some, None, refl, ◌∙◌}
+use Rattle.std.proofs.Common.{◌≡◌, Bool, true, false, not, if◌then◌else◌, Option, Some, None, refl}
 use Rattle.rail_model.specs.declared.items.Route.{Route}
 use Rattle.rail_model.specs.declared.items.Item.{Item}
 use Rattle.rail_model.specs.declared.items.Item.TheVariants as item
 use Rattle.rail_model.specs.declared.edit.Rule.{Rule}
-use Rattle.rail_model.specs.declared.edit.Rule.TheVariants.{Range, Limit, Unknown, Twice, Count}
+use Rattle.rail_model.specs.declared.edit.Rule.TheVariants.{Range, Limit, Twice}
 use Rattle.rail_model.specs.declared.tables.Tables.{Tables}
-use Rattle.rail_model.specs.Rules.{is_taken, is_full, refers_to_known, repeats, miscounts_legs, rule_of_put}
+use Rattle.rail_model.specs.Rules.{is_taken, is_full, rule_of_put}
 use Rattle.rail_model.specs.Within.{is_within}
 use Rattle.line_tables.specs.References.{rule_of_item, rule_of_references, rule_of_parts}
 

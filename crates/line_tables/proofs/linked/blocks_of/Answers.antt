@@ -1,4 +1,4 @@
-use Rattle.std.proofs.Common.{map, get_or, sym, ap, ◌∙◌, arith}
+use Rattle.std.proofs.Common.{map, sym, ap, ◌∙◌, arith}
 use Rattle.std.proofs.lemmas.List.{map_more, take_all}
 use Rattle.line_tables.specs.Links.{block_of}
 use Rattle.line_tables.proofs.linked.blocks_of.Goals as goal
