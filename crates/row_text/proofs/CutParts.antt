@@ -1,6 +1,6 @@
 -- A text that is cut in parts, one after the other.
 use Rattle.std.proofs.Common.{◌≡◌, ◌≢◌, ℕ, zero, suc, ◌+◌, ◌-◌, ◌<◌, ◌≤◌, ◌==◌, List, [], ◌∷◌, ◌++◌, length, get_or, map, take, drop, slice_range, inl, inr, refl, sym, subst, ap, ◌∙◌, arith, append_assoc}
-use Rattle.std.specs.Prelude.{slice_index, Result, Ok, Option, Some}
+use Rattle.std.specs.Prelude.{slice_index, Result, Ok, Err, Option, Some, None}
 use Rattle.std.specs.List.{All}
 use Rattle.std.proofs.lemmas.Bool.{cases_Bool, eqb-true}
 use Rattle.std.proofs.lemmas.Bool.Decides.{nat_tests}
@@ -11,7 +11,7 @@ use Rattle.csv.specs.Records.{Rising, last_end, prev}
 use Rattle.csv.proofs.RecordFacts.{rising-shrink}
 use Rattle.row_text.specs.declared.plain_rows.CutFields.{CutFields}
 use Rattle.row_text.specs.Cuts.{CutsIn, fields_cut_at}
-use Rattle.row_text.specs.Parts.{AreParts, EndsPart, HasPlaces, IsPart}
+use Rattle.row_text.specs.Parts.{AreParts, EndsPart, EndsRise, HasPlaces, IsPart}
 use Rattle.row_text.specs.Pieces.{pieces}
 use Rattle.row_text.specs.PlainRows.{cut_rows, ends_line, HasCutAll, is_blank, with_line}
 use Rattle.row_text.specs.Row.{Row}
@@ -164,12 +164,16 @@ HasPlaces-more text from to cuts ends part line order within has cut =
     }
 
 -- what was cut from the part that comes after some others
-module _ {E : Type 0} (text ends : List ℕ) (before rest : List (Result (Option CutFields) E)) where
-  pub part-cut : (parts : List (Result (Option CutFields) E)) (part : Result (Option CutFields) E) (cut : CutFields) → AreParts text ends parts → parts ≡ before ++ part ∷ rest → length before < length ends → part ≡ Ok (Some cut)
-      → HasCutAll (take (slice_index ends (length before)) text) (prev 0 ends (length before)) cut
-  part-cut parts part cut are is there whole =
-      let here : get_or parts (length before) part ≡ part = ap (λ xs. get_or xs (length before) part) is ∙ get_or-append_seam before part rest part in
-      subst (IsPart text ends (length before)) (here ∙ whole) (are.each (length before) part there)
+pub part-at : {E : Type 0} (text ends : List ℕ) (before rest parts : List (Result (Option CutFields) E)) (part : Result (Option CutFields) E) → AreParts text ends parts → parts ≡ before ++ part ∷ rest → length before < length ends
+    → IsPart text ends (length before) part
+part-at text ends before rest parts part are is there =
+    let here : get_or parts (length before) part ≡ part = ap (λ xs. get_or xs (length before) part) is ∙ get_or-append_seam before part rest part in
+    subst (IsPart text ends (length before)) here (are.each (length before) part there)
+
+pub ends-rise : {E : Type 0} (text ends : List ℕ) (i : ℕ) (part : Result (Option CutFields) E) → IsPart text ends i part → EndsRise part
+ends-rise text ends i (Err e) is = tt
+ends-rise text ends i (Ok None) is = tt
+ends-rise text ends i (Ok (Some cut)) is = is.fits.rise
 
 pub none-left : {X : Type 0} (xs : List X) → length xs ≡ 0 → xs ≡ []
 none-left [] none = refl

@@ -77,7 +77,3 @@ word_of-ask = refl
 pub word_of-planner : word_of (codes "planner") ≡ Some word.Planner
 unfolding word_of
 word_of-planner = refl
-
-pub word_of-none : word_of [] ≡ None
-unfolding word_of
-word_of-none = refl

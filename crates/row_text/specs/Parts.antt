@@ -1,9 +1,9 @@
 -- A long text that is cut in parts.
-use Rattle.std.specs.Prelude.{◌≡◌, ◌⊎◌, ℕ, ◌+◌, ◌-◌, ◌<◌, ◌≤◌, List, [], ◌++◌, length, map, get_or, slice_index, slice_index_or, take, Result, Ok, Err, Option, Some, None, IfOk, IfSome}
+use Rattle.std.specs.Prelude.{◌≡◌, ◌⊎◌, ℕ, ◌+◌, ◌-◌, ◌<◌, ◌≤◌, List, [], ◌++◌, length, map, get_or, slice_index, slice_index_or, take, Result, Ok, Option, Some, IfOk, IfSome}
 use Rattle.std.specs.List.{All}
 use Rattle.csv.specs.Records.{Rising, last_end, prev}
 use Rattle.row_text.specs.declared.plain_rows.CutFields.{CutFields}
-use Rattle.row_text.specs.declared.parts.Places.{Places}
+use Rattle.row_text.specs.declared.places.Places.{Places}
 use Rattle.row_text.specs.Cuts.{rows_cut_at, RowsIn}
 use Rattle.row_text.specs.PlainRows.{cut_rows, HasCutAll, HasNoQuote}
 
@@ -34,18 +34,15 @@ pub record HasPlaces (text : List ℕ) (to : ℕ) (cuts ends : List ℕ) : Type 
   pub lie : RowsIn text cuts ends
   pub all : last_end 0 ends ≡ length cuts
 
+-- the ends of the rows of a part lie within its places
+abbrev pub EndsRise : {E : Type 0} → Result (Option CutFields) E → Type 0
+EndsRise part = IfOk part (λ found. IfSome found (λ cut. Rising 0 cut.ends.items (length cut.cuts.items)))
+
 -- the places of a part stand after those of the parts before it
-pub record PutsPart (old new : Places) (part : CutFields) : Type 0 where
-  pub cuts : new.cuts.items ≡ old.cuts.items ++ part.cuts.items
-  pub ends : new.ends.items ≡ old.ends.items ++ map (λ end. length old.cuts.items + end) part.ends.items
+pub record PutsPlaces (old new : Places) (cut : CutFields) : Type 0 where
+  pub cuts : new.cuts.items ≡ old.cuts.items ++ cut.cuts.items
+  pub ends : new.ends.items ≡ old.ends.items ++ map (λ end. length old.cuts.items + end) cut.ends.items
 
--- how many places and rows a part has
-abbrev pub cuts_in : {E : Type 0} → Result (Option CutFields) E → ℕ
-cuts_in (Ok (Some cut)) = length cut.cuts.items
-cuts_in (Ok None) = 0
-cuts_in (Err e) = 0
-
-abbrev pub rows_in : {E : Type 0} → Result (Option CutFields) E → ℕ
-rows_in (Ok (Some cut)) = length cut.ends.items
-rows_in (Ok None) = 0
-rows_in (Err e) = 0
+-- the part has no double quote, and its places were put
+abbrev pub PutsPart : {E : Type 0} → Places → Places → Result (Option CutFields) E → Type 0
+PutsPart old new part = (cut : CutFields) × (part ≡ Ok (Some cut)) × PutsPlaces old new cut

@@ -1,7 +1,11 @@
 -- The rows of a text.
-use Rattle.std.specs.Prelude.{◌≡◌, ℕ, ◌+◌, ◌^◌, ◌<◌, ◌≤◌, List, [], ◌∷◌, ◌++◌, length, take, vec_len, vec_capacity}
+use Rattle.std.specs.Prelude.{◌≡◌, ℕ, ◌+◌, ◌^◌, ◌<◌, ◌≤◌, List, [], ◌∷◌, ◌++◌, length, take, vec_len, vec_capacity, Bool, true, false, Some}
+use Rattle.std.specs.Borrow.{Bor}
 use Rattle.std.specs.List.{All}
-use Rattle.csv.specs.Reading.{default_config, records, strip_bom}
+use Rattle.csv.specs.Reading.{default_config, records, strip_bom, Reached, Ready, source_of}
+use Rattle.csv.specs.declared.parser.State.TheVariants as st
+use Rattle.csv.specs.declared.reader.Reader.{Reader}
+use Rattle.csv.specs.declared.reader.Trim.TheVariants as trim
 use Rattle.csv.specs.Records.{Rising, field_count, last_end, text_of, Row as Record}
 use Rattle.row_text.specs.declared.row_list.Taken.{Taken}
 use Rattle.row_text.specs.Row.{Row}
@@ -51,3 +55,20 @@ PutsRow old new row = (cuts : List ℕ) × HasPut old new cuts row
 -- one row more was taken
 abbrev pub Takes : Taken → Taken → Row → Type 0
 Takes old new row = (rows : List Row) → HasTaken old rows → HasTaken new (rows ++ row ∷ [])
+
+-- a reader of a text has given these rows, and the bytes of the rest are left
+pub record HasRead (reader : Reader (Bor (List ℕ))) (text rest : List ℕ) (rows : List Row) : Type 0 where
+  pub trim : reader.trim ≡ trim.None
+  pub ready : Ready reader
+  pub config : reader.config ≡ default_config
+  pub source : source_of (λ s. Some s.now) reader ≡ Some rest
+  pub reached : Reached default_config st.StartRecord (strip_bom text) rows reader.state rest
+
+-- the rows that a reader of a text has given so far were taken
+abbrev pub IsReading : Taken → Reader (Bor (List ℕ)) → List ℕ → Type 0
+IsReading taken reader text = (rest : List ℕ) × (rows : List Row) × HasRead reader text rest rows × HasTaken taken rows
+
+-- a reader gives one row more, or has given all
+abbrev pub GivesNext : Bool → Reader (Bor (List ℕ)) → Reader (Bor (List ℕ)) → Row → Type 0
+GivesNext true old new row = (text rest : List ℕ) (rows : List Row) → HasRead old text rest rows → (more : List ℕ) × HasRead new text more (rows ++ row ∷ [])
+GivesNext false old new row = (text rest : List ℕ) (rows : List Row) → HasRead old text rest rows → rows_of text ≡ rows

@@ -10,6 +10,8 @@ use Rattle.rail_model.specs.declared.items.Item.{Item}
 use Rattle.rail_model.specs.declared.items.Item.TheVariants as item
 use Rattle.row_text.specs.declared.line.Line.{Line}
 use Rattle.row_text.specs.declared.line.Line.TheVariants as line
+use Rattle.row_text.specs.declared.line_row.Part.{Part}
+use Rattle.row_text.specs.declared.line_row.Part.TheVariants as part
 use Rattle.row_text.specs.declared.word.Word.TheVariants as word
 use Rattle.row_text.specs.declared.time_text.TheConstants.{GREATEST_CLOCK_S}
 use Rattle.row_text.specs.Row.{Row}
@@ -78,6 +80,12 @@ item_fields version (item.Run r) =
 item_fields version (item.Section s) =
     s.name ∷ time_text version s.from_s ∷ time_text version s.to_s ∷ decimal s.add_percent ∷ s.blocks
 item_fields version (item.Connection c) = c.name ∷ c.first ∷ c.second ∷ decimal c.minimum_s ∷ []
+
+-- the field of a row that says a name, a number or a time
+abbrev pub part_text : ℕ → Part → List ℕ
+part_text version (part.Name name) = name.now
+part_text version (part.Number n) = decimal n
+part_text version (part.Time seconds) = time_text version seconds
 
 -- the row of a line in a version of the rows
 abbrev pub edit_row : ℕ → Edit → Row

@@ -134,6 +134,16 @@ impl<'a> Row<'a> {
         self.len() == 0
     }
 
+    // The field that the row begins with, without bytes where there is none.
+    pub(crate) fn word(&self) -> &'a [u8]
+        ensures { result.now ≡ field self.now 0 }
+    {
+        if self.is_empty() {
+            return b"";
+        }
+        self.get(0)
+    }
+
     /// A copy of the fields.
     pub fn to_fields(&self, alloc: Global) -> Result<Fields, OutOfMemory>
         ensures { IfOk result (λ fields. fields ≡ self.now) }
@@ -214,7 +224,7 @@ pub(crate) fn put_field(
     Ok(put_reserved(bytes, cuts, used, field, 0, field.len()))
 }
 
-// The same where there is room for it, of a field that is a part of a text.
+// Puts a field that is a part of a text, where there is room for it and its place.
 #[inline]
 pub(crate) fn put_reserved(
     bytes: &mut Vec<u8>,

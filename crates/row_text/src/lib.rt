@@ -32,6 +32,7 @@ mod line;
 mod line_row;
 mod lists;
 mod parts;
+mod places;
 mod plain_rows;
 mod put;
 mod read_field;

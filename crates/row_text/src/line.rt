@@ -1,6 +1,5 @@
 //! Rows to lines.
-ghost use Rattle.std.specs.Prelude.{◌≡◌, ◌<◌, length, IfOk, IsTrue};
-ghost use Rattle.row_text.specs.Row.{field};
+ghost use Rattle.std.specs.Prelude.{◌≡◌, length, IfOk, IsTrue};
 ghost use Rattle.row_text.specs.Words as words;
 ghost use Rattle.row_text.specs.Lines as lines;
 ghost use Rattle.row_text.specs.Reads.{Reads};
@@ -31,7 +30,8 @@ pub fn read_row(alloc: Global, fields: &Fields) -> Result<Result<Line, Form>, Ou
     read_line(alloc, 1, &fields.row())
 }
 
-/// The same in a version of the rows: 1 or 2. Any other is read as version 1.
+/// The line that a row spells in a version of the rows, 1 or 2, or its first form fault. Any other
+/// version is read as 1.
 pub fn read_row_in(
     alloc: Global,
     version: u32,
@@ -42,7 +42,7 @@ pub fn read_row_in(
     read_line(alloc, version, &fields.row())
 }
 
-/// The same of a row that lies somewhere else: it is read there.
+/// Reads a row as `read_row_in` does, where it lies, without a copy of its fields.
 pub fn read_line(
     alloc: Global,
     version: u32,
@@ -60,23 +60,13 @@ pub fn read_line(
 fn line_in(alloc: Global, version: u32, row: &Row<'_>) -> Result<Line, Unread>
     ensures { Reads result (lines.read_in version row.now) }
 {
-    let Some(word) = row_word(row) else {
+    let Some(word) = word_of(row.word()) else {
         return Err(Unread::Fault(Form::Kind));
     };
     if !word.allows(row.len()) {
         return Err(Unread::Fault(Form::Fields));
     }
     line_of(alloc, version, word, row)
-}
-
-// The word of a row.
-fn row_word(row: &Row<'_>) -> Option<Word>
-    ensures { result ≡ words.word_of (field row.now 0) }
-{
-    if row.is_empty() {
-        return None;
-    }
-    word_of(row.get(0))
 }
 
 // The line of a row of a word.

@@ -1,8 +1,9 @@
 //! Lines to rows.
 ghost use Rattle.std.specs.Prelude.{◌≡◌, ◌++◌, ◌∷◌, [], map, decimal, IfOk, OnOk, IsTrue, Ok, true, ◌==◌, if◌then◌else◌};
-ghost use Rattle.rail_model.specs.declared.edit.Kind.TheVariants as kind;
+ghost use Rattle.rail_model.specs.declared.items.Item.TheVariants as item;
 ghost use Rattle.row_text.specs.Spelling as spelling;
 ghost use Rattle.row_text.specs.Lines.{read_in};
+ghost use Rattle.row_text.specs.Row.{field};
 ghost use Rattle.row_text.specs.Words.{word_text};
 
 use crate::fields::Fields;
@@ -11,9 +12,7 @@ use crate::line::Line;
 use crate::time_text::{GREATEST_CLOCK_S, clock_text};
 use crate::word::Word;
 use itoa::Buffer;
-use rail_model::{
-    Block, Connection, Edit, Item, Kind, Name, OutOfMemory, Route, Run, Section, Signal,
-};
+use rail_model::{Edit, Item, Kind, List, Name, OutOfMemory, Route, Run, Section, Signal};
 use std::alloc::Global;
 
 /// The row that spells a line in version 1 of the rows: where any row spells the line, reading this
@@ -54,46 +53,49 @@ pub fn has_times_in(alloc: Global, version: u32, line: &Line) -> Result<bool, Ou
 fn has_item_times_in(alloc: Global, version: u32, item: &Item) -> Result<bool, OutOfMemory>
     ensures { IfOk result (λ has. has ≡ spelling.has_item_times_in version item.now) }
 {
-    if version != 2 {
-        return Ok(true);
-    }
     match item {
-        Item::Run(run) => {
-            let steps = leg_times(alloc, run.legs.slice())?;
-            Ok(run.start_s <= GREATEST_CLOCK_S && are_clock_times(run.start_s, steps.slice()))
-        }
-        Item::Section(section) => {
+        Item::Run(run) if version == 2 => has_clock_times(alloc, run),
+        Item::Section(section) if version == 2 => {
             Ok(section.from_s <= GREATEST_CLOCK_S && section.to_s <= GREATEST_CLOCK_S)
         }
         _ => Ok(true),
     }
 }
 
+fn has_clock_times(alloc: Global, run: &Run) -> Result<bool, OutOfMemory>
+    ensures { IfOk result (λ has. has ≡ spelling.has_clock_times (item.Run run.now)) }
+{
+    if run.start_s > GREATEST_CLOCK_S {
+        return Ok(false);
+    }
+    let steps = leg_times(alloc, run.legs.slice())?;
+    Ok(are_clock_times(run.start_s, steps.slice()))
+}
+
 fn push_line(row: &mut Fields, alloc: Global, version: u32, line: &Line) -> Result<(), OutOfMemory>
     requires { IsTrue (spelling.has_times_in version line.now) }
     ensures { OnOk result (row.new ≡ row.old ++ spelling.row_in version line.now) }
 {
+    row.push(word_of_line(line).text())?;
     match line {
-        Line::Edit(Edit::Put(item)) => {
-            row.push(Word::Put(kind_of_item(item)).text())?;
-            push_item(row, alloc, version, item)
-        }
-        Line::Edit(Edit::Change(item)) => {
-            row.push(Word::Change(kind_of_item(item)).text())?;
-            push_item(row, alloc, version, item)
-        }
-        Line::Edit(Edit::Drop(kind, name)) => {
-            row.push(Word::Drop(*kind).text())?;
-            row.push(name.bytes())
-        }
-        Line::Ask(section) => {
-            row.push(Word::Ask.text())?;
-            row.push(section.bytes())
-        }
-        Line::Planner(planner) => {
-            row.push(Word::Planner.text())?;
-            push_number(row, *planner)
-        }
+        Line::Edit(Edit::Put(item)) => push_item(row, alloc, version, item),
+        Line::Edit(Edit::Change(item)) => push_item(row, alloc, version, item),
+        Line::Edit(Edit::Drop(_, name)) => row.push(name.bytes()),
+        Line::Ask(section) => row.push(section.bytes()),
+        Line::Planner(planner) => push_number(row, *planner),
+    }
+}
+
+// The word that the row of a line begins with.
+fn word_of_line(line: &Line) -> Word
+    ensures { word_text result ≡ field (spelling.row_in 1 line.now) 0 }
+{
+    match line {
+        Line::Edit(Edit::Put(item)) => Word::Put(kind_of_item(item)),
+        Line::Edit(Edit::Change(item)) => Word::Change(kind_of_item(item)),
+        Line::Edit(Edit::Drop(kind, _)) => Word::Drop(*kind),
+        Line::Ask(_) => Word::Ask,
+        Line::Planner(_) => Word::Planner,
     }
 }
 
@@ -115,34 +117,45 @@ fn push_item(row: &mut Fields, alloc: Global, version: u32, item: &Item) -> Resu
     ensures { OnOk result (row.new ≡ row.old ++ spelling.item_fields version item.now) }
 {
     match item {
-        Item::Block(block) => push_block(row, block),
-        Item::Signal(signal) => push_signal(row, signal),
+        Item::Block(block) => {
+            let parts = [Part::Name(&block.name), Part::Number(block.length_m)];
+            push_parts(row, alloc, version, &parts)
+        }
+        Item::Signal(signal) => push_signal(row, alloc, version, signal),
         Item::Route(route) => push_route(row, route),
         Item::Run(run) => push_run(row, alloc, version, run),
         Item::Section(section) => push_section(row, alloc, version, section),
-        Item::Connection(connection) => push_connection(row, connection),
+        Item::Connection(connection) => {
+            let parts = [
+                Part::Name(&connection.name),
+                Part::Name(&connection.first),
+                Part::Name(&connection.second),
+                Part::Number(connection.minimum_s),
+            ];
+            push_parts(row, alloc, version, &parts)
+        }
     }
 }
 
-ghost use Rattle.rail_model.specs.declared.items.Item.TheVariants as item;
-
-fn push_block(row: &mut Fields, block: &Block) -> Result<(), OutOfMemory>
-    ensures { OnOk result (row.new ≡ row.old ++ spelling.item_fields 1 (item.Block block.now)) }
+fn push_signal(
+    row: &mut Fields,
+    alloc: Global,
+    version: u32,
+    signal: &Signal,
+) -> Result<(), OutOfMemory>
+    ensures { OnOk result (row.new
+        ≡ row.old ++ spelling.item_fields version (item.Signal signal.now)) }
 {
-    row.push(block.name.bytes())?;
-    push_number(row, block.length_m)
-}
-
-fn push_signal(row: &mut Fields, signal: &Signal) -> Result<(), OutOfMemory>
-    ensures { OnOk result (row.new ≡ row.old ++ spelling.item_fields 1 (item.Signal signal.now)) }
-{
-    row.push(signal.name.bytes())?;
-    row.push(signal.block.bytes())?;
-    push_number(row, signal.approach_m)?;
-    push_number(row, signal.watch_s)?;
-    push_number(row, signal.form_s)?;
-    push_number(row, signal.overlap_m)?;
-    push_number(row, signal.release_s)
+    let parts = [
+        Part::Name(&signal.name),
+        Part::Name(&signal.block),
+        Part::Number(signal.approach_m),
+        Part::Number(signal.watch_s),
+        Part::Number(signal.form_s),
+        Part::Number(signal.overlap_m),
+        Part::Number(signal.release_s),
+    ];
+    push_parts(row, alloc, version, &parts)
 }
 
 fn push_route(row: &mut Fields, route: &Route) -> Result<(), OutOfMemory>
@@ -156,18 +169,29 @@ fn push_run(row: &mut Fields, alloc: Global, version: u32, run: &Run) -> Result<
     requires { version ≡ 2 → IsTrue (spelling.has_clock_times (item.Run run.now)) }
     ensures { OnOk result (row.new ≡ row.old ++ spelling.item_fields version (item.Run run.now)) }
 {
-    row.push(run.name.bytes())?;
-    row.push(run.route.bytes())?;
-    push_number(row, run.length_m)?;
-    push_number(row, run.tail_s)?;
-    push_time(row, alloc, version, run.start_s)?;
+    let parts = [
+        Part::Name(&run.name),
+        Part::Name(&run.route),
+        Part::Number(run.length_m),
+        Part::Number(run.tail_s),
+        Part::Time(run.start_s),
+    ];
+    push_parts(row, alloc, version, &parts)?;
+    let times = run_times(alloc, version, run)?;
+    push_times(row, alloc, version, times.slice())
+}
+
+// The times after a run's start, as a row in a version has them.
+fn run_times(alloc: Global, version: u32, run: &Run) -> Result<List<u32>, OutOfMemory>
+    requires { version ≡ 2 → IsTrue (spelling.has_clock_times (item.Run run.now)) }
+    ensures { IfOk result (λ times. times
+        ≡ spelling.run_times version run.now.start_s run.now.legs) }
+{
     let steps = leg_times(alloc, run.legs.slice())?;
     if version == 2 {
-        let times = sums(alloc, run.start_s, steps.slice())?;
-        push_times(row, alloc, version, times.slice())
-    } else {
-        push_times(row, alloc, version, steps.slice())
+        return sums(alloc, run.start_s, steps.slice());
     }
+    Ok(steps)
 }
 
 fn push_section(
@@ -179,21 +203,51 @@ fn push_section(
     ensures { OnOk result (row.new
         ≡ row.old ++ spelling.item_fields version (item.Section section.now)) }
 {
-    row.push(section.name.bytes())?;
-    push_time(row, alloc, version, section.from_s)?;
-    push_time(row, alloc, version, section.to_s)?;
-    push_number(row, section.add_percent)?;
+    let parts = [
+        Part::Name(&section.name),
+        Part::Time(section.from_s),
+        Part::Time(section.to_s),
+        Part::Number(section.add_percent),
+    ];
+    push_parts(row, alloc, version, &parts)?;
     push_names(row, section.blocks.slice())
 }
 
-fn push_connection(row: &mut Fields, connection: &Connection) -> Result<(), OutOfMemory>
-    ensures { OnOk result (row.new
-        ≡ row.old ++ spelling.item_fields 1 (item.Connection connection.now)) }
+// A field of a row by its sort.
+#[derive(Clone, Copy)]
+enum Part<'a> {
+    Name(&'a Name),
+    Number(u32),
+    Time(u32),
+}
+
+fn push_parts(
+    row: &mut Fields,
+    alloc: Global,
+    version: u32,
+    parts: &[Part<'_>],
+) -> Result<(), OutOfMemory>
+    ensures { OnOk result (row.new ≡ row.old ++ map (spelling.part_text version) parts.now) }
 {
-    row.push(connection.name.bytes())?;
-    row.push(connection.first.bytes())?;
-    row.push(connection.second.bytes())?;
-    push_number(row, connection.minimum_s)
+    for part in parts {
+        push_part(row, alloc, version, part)?;
+    }
+    Ok(())
+}
+
+fn push_part(
+    row: &mut Fields,
+    alloc: Global,
+    version: u32,
+    part: &Part<'_>,
+) -> Result<(), OutOfMemory>
+    ensures { OnOk result (row.new ≡ row.old ++ spelling.part_text version part.now ∷ []) }
+{
+    match part {
+        Part::Name(name) => row.push(name.bytes()),
+        Part::Number(number) => push_number(row, *number),
+        Part::Time(time) => push_time(row, alloc, version, *time),
+    }
 }
 
 fn push_names(row: &mut Fields, names: &[Name]) -> Result<(), OutOfMemory>

@@ -1,14 +1,14 @@
 //! The rows of a long text without double quotes, of which several threads cut parts.
-ghost use Rattle.std.specs.Prelude.{◌≡◌, ◌+◌, ◌-◌, ◌*◌, ◌<◌, ◌≤◌, ◌^◌, length, min, IfOk, IfSome, OnOk};
-ghost use Rattle.std.specs.List.{sum_by};
+ghost use Rattle.std.specs.Prelude.{◌≡◌, ◌+◌, ◌*◌, ◌<◌, ◌≤◌, ◌^◌, length, IfOk, IfSome, IsTrue, OnOk};
 ghost use Rattle.csv.specs.Reading.{strip_bom};
 ghost use Rattle.csv.specs.Records.{Rising};
 ghost use Rattle.row_text.specs.declared.parts.TheConstants.{LEAST_PART};
 ghost use Rattle.row_text.specs.Rows.{rows_of};
-ghost use Rattle.row_text.specs.Parts.{cuts_in, rows_in, AreParts, EndsPart, IsPart, PutsPart, Splits};
+ghost use Rattle.row_text.specs.Parts.{AreParts, EndsPart, EndsRise, IsPart, PutsPart, PutsPlaces, Splits};
 
 use crate::fields::{GREATEST_PLACE, span};
-use crate::plain_rows::{CutFields, Room, cut_from, starts_with_mark};
+use crate::places::{Places, places_for, push_place};
+use crate::plain_rows::{CutFields, cut_from, starts_with_mark};
 use crate::row_list::{RowList, rows, rows_read};
 use rail_model::OutOfMemory;
 use rayon::current_num_threads;
@@ -133,16 +133,7 @@ fn cut_part(alloc: Global, text: &[u8], ends: &[u32], i: usize) -> Part
     cut_from(alloc, &text[..to], from)
 }
 
-// Where the fields of parts are cut, one part after the other, and where the places of each row
-// end.
-#[derive(Drop)]
-struct Places {
-    cuts: Vec<u32>,
-    ends: Vec<u32>,
-}
-
-// The rows of a text from what is cut from its parts. Each part goes when its places are put after
-// those of the others, so that not all places are there twice.
+// The rows of a text from what is cut from its parts.
 fn joined<'a>(
     alloc: Global,
     text: &'a [u8],
@@ -154,61 +145,37 @@ fn joined<'a>(
     requires parts { AreParts text.now ends.now parts.items }
     ensures { IfOk result (λ found. IfSome found (λ rows. rows ≡ rows_of text.now)) }
 {
-    let room = room_of(&parts);
-    let mut places = Places {
-        cuts: Vec::with_capacity(alloc, room.cuts)?,
-        ends: Vec::with_capacity(alloc, room.rows)?,
-    };
+    let mut places = places_for(alloc, text)?;
     for part in parts {
-        match part? {
-            Some(cut) => put_part(&mut places, &cut)?,
-            None => return Ok(None),
+        if !put_part(&mut places, part)? {
+            return Ok(None);
         }
     }
     Ok(Some(RowList::of_cuts(text, places.cuts, places.ends)))
 }
 
-// Just enough room for the places and rows of these parts.
-fn room_of(parts: &[Part]) -> Room
-    ensures cuts { result.cuts ≡ min (sum_by cuts_in parts.now) (2 ^ 64 - 1) }
-    ensures rows { result.rows ≡ min (sum_by rows_in parts.now) (2 ^ 64 - 1) }
+// Puts the places of a part after those of the parts before it. False where it has a double quote.
+// The part goes, so that not all places are there twice.
+fn put_part(places: &mut Places, part: Part) -> Result<bool, OutOfMemory>
+    requires { EndsRise part }
+    ensures { IfOk result (λ plain. IsTrue plain → PutsPart places.old places.new part) }
 {
-    let mut room = Room { cuts: 0, rows: 0 };
-    for part in parts {
-        let more = part_room(part);
-        room.cuts = room.cuts.saturating_add(more.cuts);
-        room.rows = room.rows.saturating_add(more.rows);
-    }
-    room
+    let Some(cut) = part? else {
+        return Ok(false);
+    };
+    put_places(places, &cut)?;
+    Ok(true)
 }
 
-// How many places and rows a part has.
-fn part_room(part: &Part) -> Room
-    ensures cuts { result.cuts ≡ cuts_in part.now }
-    ensures rows { result.rows ≡ rows_in part.now }
-{
-    match part {
-        Ok(Some(cut)) => Room {
-            cuts: cut.cuts.len(),
-            rows: cut.ends.len(),
-        },
-        _ => Room { cuts: 0, rows: 0 },
-    }
-}
-
-// Puts the places of a part after those of the parts before it.
-fn put_part(places: &mut Places, part: &CutFields) -> Result<(), OutOfMemory>
-    requires { Rising 0 part.now.ends.items (length part.now.cuts.items) }
-    ensures { OnOk result (PutsPart places.old places.new part.now) }
+// Puts the places that were cut from a part.
+fn put_places(places: &mut Places, cut: &CutFields) -> Result<(), OutOfMemory>
+    requires { Rising 0 cut.now.ends.items (length cut.now.cuts.items) }
+    ensures { OnOk result (PutsPlaces places.old places.new cut.now) }
 {
     let before = places.cuts.len();
-    places.cuts.extend_from_slice(&part.cuts)?;
-    if places.cuts.len() > GREATEST_PLACE {
-        return Err(OutOfMemory);
-    }
-    for i in 0..part.ends.len() {
-        let end = before + part.ends[i] as usize;
-        places.ends.push(end as u32)?;
+    places.cuts.extend_from_slice(&cut.cuts)?;
+    for i in 0..cut.ends.len() {
+        push_place(&mut places.ends, before + cut.ends[i] as usize)?;
     }
     Ok(())
 }

@@ -5,6 +5,7 @@ ghost use Rattle.row_text.specs.PlainRows.{ends_line, EndsField, EndsLine, HasCu
 ghost use Rattle.row_text.specs.Rows.{rows_of};
 
 use crate::fields::GREATEST_PLACE;
+use crate::places::{places_for, push_place};
 use crate::row_list::RowList;
 use rail_model::OutOfMemory;
 use std::alloc::Global;
@@ -20,26 +21,6 @@ pub(crate) struct CutFields {
     start: usize,
     // How many places there are before the line at hand.
     first: usize,
-}
-
-// Room for the places and rows of a text.
-#[derive(Clone, Copy)]
-pub(crate) struct Room {
-    pub(crate) cuts: usize,
-    pub(crate) rows: usize,
-}
-
-// As much as is enough where no field is empty, and where rows have sixteen bytes each: a row has a
-// place more than fields. It isn't counted: that takes longer than to let it grow where it is too
-// little, and what isn't written to takes no page.
-pub(crate) fn room_for(text: &[u8]) -> Room
-    ensures { (result.cuts ≤ length text.now + 2) × (result.rows ≤ length text.now + 1) }
-{
-    let rows = text.len() / 16 + 1;
-    Room {
-        cuts: text.len() / 2 + 1 + rows,
-        rows,
-    }
 }
 
 // The rows of a text, as CSV reads them. None for a text that is left to a reader of CSV: one with
@@ -66,10 +47,10 @@ pub(crate) fn cut_from(
     requires from { from ≤ length text.now }
     ensures { IfOk result (λ found. IfSome found (HasCutAll text.now from)) }
 {
-    let room = room_for(&text[from..]);
+    let places = places_for(alloc, &text[from..])?;
     let mut cut = CutFields {
-        cuts: Vec::with_capacity(alloc, room.cuts)?,
-        ends: Vec::with_capacity(alloc, room.rows)?,
+        cuts: places.cuts,
+        ends: places.ends,
         start: from,
         first: 0,
     };
@@ -159,12 +140,8 @@ fn end_line(cut: &mut CutFields, i: usize) -> Result<(), OutOfMemory>
     }
     end_field(cut, i)?;
     cut.cuts.push(cut.start as u32)?;
-    let end = cut.cuts.len();
-    if end > GREATEST_PLACE {
-        return Err(OutOfMemory);
-    }
-    cut.ends.push(end as u32)?;
-    cut.first = end;
+    cut.first = cut.cuts.len();
+    push_place(&mut cut.ends, cut.first)?;
     Ok(())
 }
 

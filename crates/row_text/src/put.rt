@@ -91,6 +91,7 @@ pub(crate) fn put_signed(text: &mut [u8], used: usize, has_field: bool, number: 
     put_digits(text, at + 1, number.unsigned_abs())
 }
 
+// Writes a number that is not negative, as `put_signed` does.
 #[inline]
 pub(crate) fn put_unsigned(text: &mut [u8], used: usize, has_field: bool, number: u64) -> usize
     requires { used + 22 ≤ length text.old }
@@ -103,7 +104,7 @@ pub(crate) fn put_unsigned(text: &mut [u8], used: usize, has_field: bool, number
     put_digits(text, at, number)
 }
 
-// The same of a field's text.
+// Writes the text of a field after the bytes that are used, as `put_signed` writes a number.
 #[inline]
 pub(crate) fn put_text(text: &mut [u8], used: usize, has_field: bool, bytes: &[u8]) -> usize
     requires { used + length bytes.now + 1 ≤ length text.old }
@@ -130,7 +131,7 @@ pub(crate) fn put_end(text: &mut [u8], used: usize, is_blank: bool) -> usize
     put_bytes(text, used, b"\n")
 }
 
-// The same of several numbers.
+// Writes numbers, each as `put_signed` does.
 #[inline]
 pub(crate) fn put_numbers(text: &mut [u8], used: usize, has_field: bool, numbers: &[i64]) -> usize
     requires { used + 22 * length numbers.now ≤ length text.old }
@@ -148,6 +149,8 @@ pub(crate) fn put_numbers(text: &mut [u8], used: usize, has_field: bool, numbers
     at
 }
 
+// Writes a comma after the bytes that are used. It is among the used ones only after a field: no
+// branch is needed, since what comes next is written over it.
 #[inline]
 fn put_comma(text: &mut [u8], used: usize, has_field: bool) -> usize
     requires { used + 1 ≤ length text.old }

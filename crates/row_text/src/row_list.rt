@@ -1,17 +1,19 @@
 //! The rows of a text.
 ghost use Rattle.std.specs.Prelude.{◌≡◌, ◌<◌, ◌≤◌, ◌^◌, [], length, slice_index_or, IfOk, OnOk, IsTrue, ◌↔◌};
+ghost use Rattle.csv.specs.Reading.{strip_bom};
 ghost use Rattle.csv.specs.Records.{fields_of, IsRecord};
 ghost use Rattle.row_text.specs.Cuts.{rows_cut_at, RowsIn};
 ghost use Rattle.row_text.specs.Row.{field};
 ghost use Rattle.row_text.specs.Lines.{read_in};
 ghost use Rattle.row_text.specs.Versions.{has_version_row, version_of, version_in, first_line};
 
-use crate::fields::{Fields, GREATEST_PLACE, Row, end_after, put_reserved, span};
+use crate::fields::{Fields, Row, end_after, put_reserved, span};
 use crate::line::{Line, read_line};
-use crate::plain_rows::{plain_rows, room_for};
+use crate::places::{places_for, push_place};
+use crate::plain_rows::plain_rows;
 use crate::put::make_room;
 use crate::read_field::number_at;
-use csv::{ByteRecord, ReaderBuilder};
+use csv::{ByteRecord, Reader, ReaderBuilder};
 use rail_model::{Form, OutOfMemory};
 use std::alloc::Global;
 use std::borrow::CowSlice;
@@ -123,11 +125,7 @@ impl<'a> RowList<'a> {
         ensures value { result ≡ has_version_row self.now }
         ensures there { IsTrue result → 0 < length self.now }
     {
-        if self.is_empty() {
-            return false;
-        }
-        let first = self.get(0);
-        !first.is_empty() && first.get(0) == b"version".as_slice()
+        !self.is_empty() && self.get(0).word() == b"version".as_slice()
     }
 }
 
@@ -167,7 +165,7 @@ struct Taken {
     ends: Vec<u32>,
 }
 
-ghost use Rattle.row_text.specs.Rows.{rows_of, HasRoom, HasSame, HasTaken, PutsRow, Takes};
+ghost use Rattle.row_text.specs.Rows.{rows_of, GivesNext, HasRead, HasRoom, HasSame, HasTaken, IsReading, PutsRow, Takes};
 
 /// The rows of a text as CSV reads them: commas, double quotes, no header row, rows of any lengths.
 /// A byte order mark at the start is left out. Any error of the reader is that memory ran out.
@@ -180,44 +178,80 @@ pub fn rows(alloc: Global, text: &[u8]) -> Result<RowList<'_>, OutOfMemory>
     }
 }
 
-// The same for any text, by a reader of CSV.
+// The rows of any text, by a reader of CSV.
 pub(crate) fn rows_read(alloc: Global, text: &[u8]) -> Result<RowList<'_>, OutOfMemory>
     ensures { IfOk result (λ rows. rows ≡ rows_of text.now) }
 {
     let mut taken = nothing_taken(alloc, text)?;
-    let mut reader = ReaderBuilder::new()
-        .has_headers(false)
-        .flexible(true)
-        .from_reader(alloc, text);
-    let mut row = ByteRecord::new(alloc);
-    // A text has no more rows than bytes.
-    'rows: for _ in 0..text.len() + 1 {
-        match reader.read_byte_record(&mut row) {
-            Ok(true) => take(&mut taken, &row)?,
-            Ok(false) => {
-                return Ok(RowList {
-                    bytes: CowSlice::Owned(taken.bytes),
-                    cuts: taken.cuts,
-                    ends: taken.ends,
-                });
-            }
-            Err(_) => return Err(OutOfMemory),
-        }
-    }
-    Err(OutOfMemory)
+    take_text(&mut taken, alloc, text)?;
+    Ok(RowList {
+        bytes: CowSlice::Owned(taken.bytes),
+        cuts: taken.cuts,
+        ends: taken.ends,
+    })
 }
 
 // No row of a text, and room for all.
 fn nothing_taken(alloc: Global, text: &[u8]) -> Result<Taken, OutOfMemory>
     ensures { IfOk result (λ taken. HasTaken taken []) }
 {
-    let room = room_for(text);
+    let places = places_for(alloc, text)?;
     Ok(Taken {
         bytes: Vec::new(alloc),
         used: 0,
-        cuts: Vec::with_capacity(alloc, room.cuts)?,
-        ends: Vec::with_capacity(alloc, room.rows)?,
+        cuts: places.cuts,
+        ends: places.ends,
     })
+}
+
+// Takes the rows of a text.
+fn take_text(taken: &mut Taken, alloc: Global, text: &[u8]) -> Result<(), OutOfMemory>
+    requires { HasTaken taken.old [] }
+    ensures { OnOk result (HasTaken taken.new (rows_of text.now)) }
+{
+    let mut reader = reader_of(alloc, text);
+    take_rows(taken, &mut reader, alloc, text)
+}
+
+// A reader at the start of a text.
+fn reader_of(alloc: Global, text: &[u8]) -> Reader<&[u8]>
+    ensures { HasRead result text.now (strip_bom text.now) [] }
+{
+    ReaderBuilder::new()
+        .has_headers(false)
+        .flexible(true)
+        .from_reader(alloc, text)
+}
+
+// Takes the rows that a reader of a text gives.
+fn take_rows(
+    taken: &mut Taken,
+    reader: &mut Reader<&[u8]>,
+    alloc: Global,
+    text: &[u8],
+) -> Result<(), OutOfMemory>
+    requires { IsReading taken.old reader.old text.now }
+    ensures { OnOk result (HasTaken taken.new (rows_of text.now)) }
+{
+    let mut row = ByteRecord::new(alloc);
+    // A text has no more rows than bytes.
+    for _ in 0..text.len() + 1 {
+        if !read_next(reader, &mut row)? {
+            return Ok(());
+        }
+        take(taken, &row)?;
+    }
+    Err(OutOfMemory)
+}
+
+// Reads the next row of a reader. False where there is none. Any error is that memory ran out.
+fn read_next(reader: &mut Reader<&[u8]>, row: &mut ByteRecord) -> Result<bool, OutOfMemory>
+    ensures { IfOk result (λ found. GivesNext found reader.old reader.new (fields_of row.new)) }
+{
+    let Ok(found) = reader.read_byte_record(row) else {
+        return Err(OutOfMemory);
+    };
+    Ok(found)
 }
 
 // Takes one row more.
@@ -228,11 +262,7 @@ fn take(taken: &mut Taken, row: &ByteRecord) -> Result<(), OutOfMemory>
     ensures { OnOk result (Takes taken.old taken.new (fields_of row.now)) }
 {
     put_fields(taken, row)?;
-    let end = taken.cuts.len();
-    if end > GREATEST_PLACE {
-        return Err(OutOfMemory);
-    }
-    taken.ends.push(end as u32)?;
+    push_place(&mut taken.ends, taken.cuts.len())?;
     Ok(())
 }
 

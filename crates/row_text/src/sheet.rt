@@ -151,7 +151,7 @@ impl Sheet {
         self.push_plain(field)
     }
 
-    // The same of one that stands in quotes.
+    // Adds a field that needs quotes, by way of a text of its own.
     #[inline(never)]
     fn push_quoted(&mut self, field: &[u8]) -> Result<(), OutOfMemory>
         ensures ok { OnOk result (self.new ≡ with_field self.old field.now) }
@@ -162,7 +162,7 @@ impl Sheet {
         self.push_written(&written)
     }
 
-    // The same of one that stands as it is.
+    // Adds a field that needs no quotes, straight into the room.
     fn push_plain(&mut self, field: &[u8]) -> Result<(), OutOfMemory>
         requires { needs_quotes default_writer field.now ≡ false }
         ensures ok { OnOk result (self.new ≡ with_field self.old field.now) }
@@ -224,7 +224,8 @@ impl Sheet {
         self.end_row()
     }
 
-    /// The same of fields that are kept.
+    /// Writes a whole row of fields that are kept. A row that is being written is dropped first;
+    /// where memory runs out, the rows stay as they were.
     pub fn write_row(&mut self, fields: &Fields) -> Result<(), OutOfMemory>
         requires { 0 < length fields.now }
         ensures ok { OnOk result (self.new ≡ with_row self.old fields.now) }
@@ -244,7 +245,7 @@ impl Sheet {
         &self.text[..self.ended]
     }
 
-    /// The same without a copy.
+    /// The text of the rows that were ended, without a copy of it.
     pub fn into_text(self) -> Vec<u8>
         ensures { result.items ≡ text_of_rows self.rows }
     {

@@ -28,8 +28,7 @@ fn push_after_colon(text: &mut Vec<u8>, n: u32) -> Result<(), OutOfMemory>
     requires { n < 100 }
     ensures { OnOk result (text.new.items ≡ text.old.items ++ (58 ∷ spelling.two_digits n)) }
 {
-    text.push(b':')?;
-    text.push(b'0' + (n / 10) as u8)?;
-    text.push(b'0' + (n % 10) as u8)?;
+    let more = [b':', b'0' + (n / 10) as u8, b'0' + (n % 10) as u8];
+    text.extend_from_slice(&more)?;
     Ok(())
 }

@@ -2,7 +2,6 @@
 ghost use Rattle.std.specs.Prelude.{◌≡◌, find};
 ghost use Rattle.rail_model.specs.Name.{is_same};
 ghost use Rattle.row_text.specs.Words as words;
-ghost use Rattle.row_text.specs.declared.word.Word.TheVariants as word;
 
 use rail_model::{Kind, PATH_HOPS};
 
@@ -24,9 +23,24 @@ impl Word {
         ensures { result.now ≡ word_text self }
     {
         match self {
-            Word::Put(kind) => put_text(kind),
-            Word::Change(kind) => change_text(kind),
-            Word::Drop(kind) => drop_text(kind),
+            Word::Put(Kind::Block) => b"block",
+            Word::Put(Kind::Signal) => b"signal",
+            Word::Put(Kind::Route) => b"route",
+            Word::Put(Kind::Run) => b"run",
+            Word::Put(Kind::Section) => b"section",
+            Word::Put(Kind::Connection) => b"connect",
+            Word::Change(Kind::Block) => b"change-block",
+            Word::Change(Kind::Signal) => b"change-signal",
+            Word::Change(Kind::Route) => b"change-route",
+            Word::Change(Kind::Run) => b"change-run",
+            Word::Change(Kind::Section) => b"change-section",
+            Word::Change(Kind::Connection) => b"change-connect",
+            Word::Drop(Kind::Block) => b"drop-block",
+            Word::Drop(Kind::Signal) => b"drop-signal",
+            Word::Drop(Kind::Route) => b"drop-route",
+            Word::Drop(Kind::Run) => b"drop-run",
+            Word::Drop(Kind::Section) => b"drop-section",
+            Word::Drop(Kind::Connection) => b"drop-connect",
             Word::Ask => b"ask",
             Word::Planner => b"planner",
         }
@@ -99,43 +113,4 @@ fn kind_of(field: &[u8]) -> Option<Kind>
         return Some(Kind::Connection);
     }
     None
-}
-
-fn put_text(kind: Kind) -> &'static [u8]
-    ensures { result.now ≡ words.word_text (word.Put kind) }
-{
-    match kind {
-        Kind::Block => b"block",
-        Kind::Signal => b"signal",
-        Kind::Route => b"route",
-        Kind::Run => b"run",
-        Kind::Section => b"section",
-        Kind::Connection => b"connect",
-    }
-}
-
-fn change_text(kind: Kind) -> &'static [u8]
-    ensures { result.now ≡ words.word_text (word.Change kind) }
-{
-    match kind {
-        Kind::Block => b"change-block",
-        Kind::Signal => b"change-signal",
-        Kind::Route => b"change-route",
-        Kind::Run => b"change-run",
-        Kind::Section => b"change-section",
-        Kind::Connection => b"change-connect",
-    }
-}
-
-fn drop_text(kind: Kind) -> &'static [u8]
-    ensures { result.now ≡ words.word_text (word.Drop kind) }
-{
-    match kind {
-        Kind::Block => b"drop-block",
-        Kind::Signal => b"drop-signal",
-        Kind::Route => b"drop-route",
-        Kind::Run => b"drop-run",
-        Kind::Section => b"drop-section",
-        Kind::Connection => b"drop-connect",
-    }
 }

@@ -39,7 +39,7 @@ impl Written {
         Ok(Written { fields, text })
     }
 
-    /// The same fields and one more.
+    /// These fields and one more after them.
     pub fn with(self, alloc: Global, field: &[u8]) -> Result<Written, OutOfMemory>
         ensures { IfOk result (λ written. written ≡ self ++ field.now ∷ []) }
     {

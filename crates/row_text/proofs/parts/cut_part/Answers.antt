@@ -16,3 +16,6 @@ slice_bounds-cut_from-end c = sym (long c)
 
 pub cut_from-requires-clause-from : goal.cut_from-requires-clause-from
 cut_from-requires-clause-from c = omega (arith, (within c).0, long c)
+
+pub returns : goal.returns
+returns c = rw (c.span-from.ensures.start, c.span-from.ensures.end) at c.cut_from.ensures

@@ -3,7 +3,7 @@ use Rattle.row_text.proofs.PlainRows.{HasCut-none}
 use Rattle.row_text.proofs.plain_rows.cut_from.Goals as goal
 
 pub cut_text-requires-clause-fresh : goal.cut_text-requires-clause-fresh
-cut_text-requires-clause-fresh c = HasCut-none c.args.text.now c.args.from _ c.requires.from c.in_ok-with_capacity.ensures.items c.in_ok-with_capacity-2.ensures.items refl refl
+cut_text-requires-clause-fresh c = HasCut-none c.args.text.now c.args.from _ c.requires.from c.in_ok-places.ensures.cuts c.in_ok-places.ensures.ends refl refl
 
 pub returns : goal.returns
 returns c = c.in_ok-cut_text.ensures (search rules)

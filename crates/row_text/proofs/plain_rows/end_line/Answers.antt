@@ -7,5 +7,5 @@ returns-then-is_blank c = λ text within order fits. LineEnded-blank text c.args
 
 pub returns : goal.returns
 returns c = λ text within order fits.
-    let count : c.len-end.result ≡ length c.push.new.self.items = c.len-end.ensures ∙ c.push.new.self.ok.0 in
-    LineEnded-row text c.args.cut.now c.end_field.new.cut _ c.args.i within order fits (sym c.is_blank.ensures ∙ c.if-is_blank.false) c.in_ok-end_field.ensures c.in_ok-push.ensures.items (rw count at c.in_ok-push-2.ensures.items) count refl
+    let count : c.len-cut.result ≡ length c.push.new.self.items = c.len-cut.ensures ∙ c.push.new.self.ok.0 in
+    LineEnded-row text c.args.cut.now c.end_field.new.cut _ c.args.i within order fits (sym c.is_blank.ensures ∙ c.if-is_blank.false) c.in_ok-end_field.ensures c.in_ok-push.ensures.items (rw count at c.in_ok-push_place.ensures.ok) count refl

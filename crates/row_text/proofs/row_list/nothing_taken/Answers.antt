@@ -3,4 +3,4 @@ use Rattle.row_text.proofs.Taken.{HasTaken-none}
 use Rattle.row_text.proofs.row_list.nothing_taken.Goals as goal
 
 pub returns : goal.returns
-returns c = HasTaken-none _ refl c.in_ok-with_capacity.ensures.items c.in_ok-with_capacity-2.ensures.items
+returns c = HasTaken-none _ refl c.in_ok-places.ensures.cuts c.in_ok-places.ensures.ends
