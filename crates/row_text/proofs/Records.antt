@@ -9,7 +9,7 @@ use Rattle.csv.specs.declared.parser.State.{State}
 use Rattle.csv.specs.declared.parser.State.TheVariants as st
 use Rattle.csv.specs.declared.reader.Reader.{Reader}
 use Rattle.csv.specs.declared.reader.Trim.TheVariants as trim
-use Rattle.csv.specs.Reading.{Ready, ReadRecord, default_config, source_of}
+use Rattle.csv.specs.Reading.{Ready, ReadRecord, default_config}
 use Rattle.csv.proofs.ReadFacts.{rows-more, rows-end}
 use Rattle.std.proofs.lemmas.List.{append-nil}
 use Rattle.row_text.specs.Rows.{rows_of, GivesNext, HasRead}

@@ -21,18 +21,16 @@ pub(crate) fn leg_times(alloc: Global, legs: &[Leg]) -> Result<List<u32>, OutOfM
     Ok(times)
 }
 
-// The times at which steps end that begin at a time.
-pub(crate) fn sums(alloc: Global, start_s: u32, steps: &[u32]) -> Result<List<u32>, OutOfMemory>
-    requires { IsTrue (spelling.are_clock_times (spelling.sums start_s steps.now)) }
-    ensures { IfOk result (λ times. times ≡ spelling.sums start_s steps.now) }
+// Makes of steps, of which the first begins at a time, the times at which they end.
+pub(crate) fn add_up(start_s: u32, steps: &mut [u32])
+    requires { IsTrue (spelling.are_clock_times (spelling.sums start_s steps.old)) }
+    ensures { steps.new ≡ spelling.sums start_s steps.old }
 {
-    let mut times = List::new(alloc);
     let mut before = start_s;
-    for step in steps {
-        before += *step;
-        times.push(before)?;
+    for i in 0..steps.len() {
+        before += steps[i];
+        steps[i] = before;
     }
-    Ok(times)
 }
 
 // Whether all times at which steps end that begin at a time can be written as times of day.

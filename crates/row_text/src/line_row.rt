@@ -7,12 +7,12 @@ ghost use Rattle.row_text.specs.Row.{field};
 ghost use Rattle.row_text.specs.Words.{word_text};
 
 use crate::fields::Fields;
-use crate::leg_times::{are_clock_times, leg_times, sums};
+use crate::leg_times::{add_up, are_clock_times, leg_times};
 use crate::line::Line;
 use crate::time_text::{GREATEST_CLOCK_S, clock_text};
 use crate::word::Word;
 use itoa::Buffer;
-use rail_model::{Edit, Item, Kind, List, Name, OutOfMemory, Route, Run, Section, Signal};
+use rail_model::{Edit, Item, Kind, Name, OutOfMemory, Route, Run, Section, Signal};
 use std::alloc::Global;
 
 /// The row that spells a line in version 1 of the rows: where any row spells the line, reading this
@@ -178,20 +178,20 @@ fn push_run(row: &mut Fields, alloc: Global, version: u32, run: &Run) -> Result<
     ];
     push_parts(row, alloc, version, &parts)?;
     let times = run_times(alloc, version, run)?;
-    push_times(row, alloc, version, times.slice())
+    push_times(row, alloc, version, &times)
 }
 
 // The times after a run's start, as a row in a version has them.
-fn run_times(alloc: Global, version: u32, run: &Run) -> Result<List<u32>, OutOfMemory>
+fn run_times(alloc: Global, version: u32, run: &Run) -> Result<Vec<u32>, OutOfMemory>
     requires { version ≡ 2 → IsTrue (spelling.has_clock_times (item.Run run.now)) }
-    ensures { IfOk result (λ times. times
+    ensures { IfOk result (λ times. times.items
         ≡ spelling.run_times version run.now.start_s run.now.legs) }
 {
-    let steps = leg_times(alloc, run.legs.slice())?;
+    let mut times = leg_times(alloc, run.legs.slice())?.into_vec();
     if version == 2 {
-        return sums(alloc, run.start_s, steps.slice());
+        add_up(run.start_s, &mut times);
     }
-    Ok(steps)
+    Ok(times)
 }
 
 fn push_section(

@@ -38,8 +38,8 @@ pub(crate) fn run_legs(
     if version != 2 {
         return legs_from(alloc, row, from);
     }
-    let times = times_from(alloc, version, row, from)?;
-    legs_between(alloc, start_s, times.slice())
+    let mut times = times_from(alloc, version, row, from)?.into_vec();
+    legs_between(alloc, start_s, &mut times)
 }
 
 // The legs of the running and dwell times in the fields from one on, as in version 1, where they
@@ -82,14 +82,14 @@ fn times_from(alloc: Global, version: u32, row: &Row<'_>, from: usize) -> Result
 }
 
 // The legs of the arrivals and departures after a start.
-fn legs_between(alloc: Global, start_s: u32, times: &[u32]) -> Result<List<Leg>, Unread>
-    ensures { Reads result (lines.run_legs 2 start_s times.now) }
+fn legs_between(alloc: Global, start_s: u32, times: &mut [u32]) -> Result<List<Leg>, Unread>
+    ensures { Reads result (lines.run_legs 2 start_s times.old) }
 {
     if falls(start_s, times) {
         return Err(Unread::Fault(Form::Order));
     }
-    let steps = differences(alloc, start_s, times)?;
-    Ok(legs_of(alloc, steps.slice())?)
+    take_differences(start_s, times);
+    Ok(legs_of(alloc, times)?)
 }
 
 // The legs of running and dwell times.
@@ -114,17 +114,16 @@ fn legs_of(alloc: Global, times: &[u32]) -> Result<List<Leg>, OutOfMemory>
     Ok(List::from_vec(legs))
 }
 
-// How long after the one before it each time comes.
-fn differences(alloc: Global, start_s: u32, times: &[u32]) -> Result<List<u32>, OutOfMemory>
-    ensures { IfOk result (λ steps. steps ≡ lines.differences start_s times.now) }
+// Makes of times how long after the one before it each comes.
+fn take_differences(start_s: u32, times: &mut [u32])
+    ensures { times.new ≡ lines.differences start_s times.old }
 {
-    let mut steps = List::new(alloc);
     let mut before = start_s;
-    for time in times {
-        steps.push(time.saturating_sub(before))?;
-        before = *time;
+    for i in 0..times.len() {
+        let time = times[i];
+        times[i] = time.saturating_sub(before);
+        before = time;
     }
-    Ok(steps)
 }
 
 // Whether a time is less than the time before it.

@@ -1,4 +1,4 @@
-use Rattle.std.proofs.Common.{◌≡◌, ◌<◌, ◌≤◌, [], ◌∷◌, ◌++◌, length, take, get_or, inl, refl, sym, ap, ◌∙◌, append-nil, append_assoc, length-append, arith, rules, Ok}
+use Rattle.std.proofs.Common.{◌≡◌, ◌<◌, ◌≤◌, [], ◌∷◌, ◌++◌, length, take, get_or, inl, refl, sym, ap, ◌∙◌, append-nil, append_assoc, length-append, arith, rules}
 use Rattle.std.proofs.lemmas.List.{take_all}
 use Rattle.csv.specs.Records.{prev}
 use Rattle.csv.proofs.RecordFacts.{field-bounds, prev-first}

@@ -1,4 +1,4 @@
-use Rattle.std.proofs.Common.{◌≡◌, ◌≤◌, length, arith}
+use Rattle.std.proofs.Common.{◌≡◌, ◌≤◌, length, arith, rules}
 use Rattle.row_text.specs.PlainRows.{HasCut}
 use Rattle.row_text.proofs.PlainRows.{HasCut-comma, HasCut-end, HasCut-past}
 use Rattle.row_text.proofs.plain_rows.cut_text.Goals as goal
@@ -16,3 +16,9 @@ returns c = λ whole.
     let has : HasCut text c.args.from c.loop-i.cut (length text) = rw last at c.loop-i.invariant in
     let le : length text ≤ length text = omega arith in
     HasCut-end text c.args.from c.loop-i.cut c.end_line.new.cut (length text) le (c.in_ok-end_line.ensures text le has.start has.fits) has
+
+pub loop-i-init : goal.loop-i-init
+loop-i-init c = c.requires.fresh
+
+pub loop-i-preserved : goal.loop-i-preserved
+loop-i-preserved c = c.in_ok-take_below_comma.ensures (search rules) c.args.text.now c.args.from c.loop-i-test.true (search rules) c.loop-i.invariant
