@@ -1,6 +1,6 @@
 -- The records that a reader has given so far are the first of the records of the text.
 use Rattle.std.proofs.Common.{◌≡◌, ◌⊎◌, ℕ, zero, suc, ◌+◌, ◌≤◌, List, [], ◌∷◌, ◌++◌, length, Some, None, refl, ap, inl, inr, arith, subst}
-use Rattle.std.proofs.Common.{Bool, Bor, true, false, ◌∙◌}
+use Rattle.std.proofs.Common.{Bor, true, false, ◌∙◌}
 use Rattle.std.proofs.lemmas.Bool.{cases_Bool}
 use Rattle.csv.specs.Machine.{Read, next_record, step, is_end, fields_after, field_after, ends_at_end}
 use Rattle.csv.specs.Reading.{Reached, records_from, strip_bom}
@@ -8,11 +8,10 @@ use Rattle.csv.specs.declared.parser.Config.{Config}
 use Rattle.csv.specs.declared.parser.State.{State}
 use Rattle.csv.specs.declared.parser.State.TheVariants as st
 use Rattle.csv.specs.declared.reader.Reader.{Reader}
-use Rattle.csv.specs.declared.reader.Trim.TheVariants as trim
-use Rattle.csv.specs.Reading.{Ready, ReadRecord, default_config}
+use Rattle.csv.specs.Reading.{ReadRecord, default_config}
 use Rattle.csv.proofs.ReadFacts.{rows-more, rows-end}
 use Rattle.std.proofs.lemmas.List.{append-nil}
-use Rattle.row_text.specs.Rows.{rows_of, GivesNext, HasRead}
+use Rattle.row_text.specs.Rows.{rows_of, HasRead}
 use Rattle.row_text.specs.Row.{Row}
 
 -- a record takes a byte, or ends the text
@@ -69,20 +68,15 @@ records_from-end cfg zero s xs e = refl
 records_from-end cfg (suc n) s xs e = rw e refl
 
 -- after one row more
-HasRead-more : (old new : Reader (Bor (List ℕ))) (text rest : List ℕ) (rows : List Row) (row : Row) → HasRead old text rest rows → ReadRecord (λ s. Some s.now) old new true row → new.first ≡ true
+pub HasRead-more : (old new : Reader (Bor (List ℕ))) (text rest : List ℕ) (rows : List Row) (row : Row) → HasRead old text rest rows → ReadRecord (λ s. Some s.now) old new true row → new.first ≡ true
     → (more : List ℕ) × HasRead new text more (rows ++ row ∷ [])
 HasRead-more old new text rest rows row has step first =
     let next = rows-more (λ (s : Bor (List ℕ)). Some s.now) old new row default_config st.StartRecord (strip_bom text) rest rows has.config has.source has.reached step in
     (next.0, record { trim = step.3 ∙ has.trim; ready = inl first; config = step.2 ∙ has.config; source = next.1; reached = next.2 })
 
 -- at the end of the text
-HasRead-end : (old new : Reader (Bor (List ℕ))) (text rest : List ℕ) (rows : List Row) (row : Row) → HasRead old text rest rows → ReadRecord (λ s. Some s.now) old new false row → rows_of text ≡ rows
+pub HasRead-end : (old new : Reader (Bor (List ℕ))) (text rest : List ℕ) (rows : List Row) (row : Row) → HasRead old text rest rows → ReadRecord (λ s. Some s.now) old new false row → rows_of text ≡ rows
 HasRead-end old new text rest rows row has step =
     let none = rows-end (λ (s : Bor (List ℕ)). Some s.now) old new row default_config rest has.config has.source step in
     let all = records_from-Reached default_config (length (strip_bom text) + 1) st.StartRecord (strip_bom text) rows old.state rest has.reached (Reached-length default_config st.StartRecord (strip_bom text) rows old.state rest has.reached) in
     all.1 ∙ ap (λ more. rows ++ more) (records_from-end default_config all.0 old.state rest none) ∙ append-nil rows
-
--- a read of a reader that neither trims nor names its fields
-pub gives-next : (found : Bool) (old new : Reader (Bor (List ℕ))) (row : Row) → (old.trim ≡ trim.None → Ready old → ReadRecord (λ s. Some s.now) old new found row) → (old.trim ≡ trim.None → new.first ≡ true) → GivesNext found old new row
-gives-next true old new row reads first = λ text rest rows has. HasRead-more old new text rest rows row has (reads has.trim has.ready) (first has.trim)
-gives-next false old new row reads first = λ text rest rows has. HasRead-end old new text rest rows row has (reads has.trim has.ready)

@@ -1,5 +1,5 @@
 -- The rows of a text.
-use Rattle.std.specs.Prelude.{◌≡◌, ℕ, ◌+◌, ◌^◌, ◌<◌, ◌≤◌, List, [], ◌∷◌, ◌++◌, length, take, vec_len, vec_capacity, Bool, true, false, Some}
+use Rattle.std.specs.Prelude.{◌≡◌, ℕ, ◌+◌, ◌^◌, ◌<◌, ◌≤◌, List, [], ◌∷◌, ◌++◌, length, take, vec_len, vec_capacity, Some}
 use Rattle.std.specs.Borrow.{Bor}
 use Rattle.std.specs.List.{All}
 use Rattle.csv.specs.Reading.{default_config, records, strip_bom, Reached, Ready, source_of}
@@ -67,8 +67,3 @@ pub record HasRead (reader : Reader (Bor (List ℕ))) (text rest : List ℕ) (ro
 -- the rows that a reader of a text has given so far were taken
 abbrev pub IsReading : Taken → Reader (Bor (List ℕ)) → List ℕ → Type 0
 IsReading taken reader text = (rest : List ℕ) × (rows : List Row) × HasRead reader text rest rows × HasTaken taken rows
-
--- a reader gives one row more, or has given all
-abbrev pub GivesNext : Bool → Reader (Bor (List ℕ)) → Reader (Bor (List ℕ)) → Row → Type 0
-GivesNext true old new row = (text rest : List ℕ) (rows : List Row) → HasRead old text rest rows → (more : List ℕ) × HasRead new text more (rows ++ row ∷ [])
-GivesNext false old new row = (text rest : List ℕ) (rows : List Row) → HasRead old text rest rows → rows_of text ≡ rows

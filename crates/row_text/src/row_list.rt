@@ -1,6 +1,5 @@
 //! The rows of a text.
 ghost use Rattle.std.specs.Prelude.{◌≡◌, ◌<◌, ◌≤◌, ◌^◌, [], length, slice_index_or, IfOk, OnOk, IsTrue, ◌↔◌};
-ghost use Rattle.csv.specs.Reading.{strip_bom};
 ghost use Rattle.csv.specs.Records.{fields_of, IsRecord};
 ghost use Rattle.row_text.specs.Cuts.{rows_cut_at, RowsIn};
 ghost use Rattle.row_text.specs.Row.{field};
@@ -165,7 +164,7 @@ struct Taken {
     ends: Vec<u32>,
 }
 
-ghost use Rattle.row_text.specs.Rows.{rows_of, GivesNext, HasRead, HasRoom, HasSame, HasTaken, IsReading, PutsRow, Takes};
+ghost use Rattle.row_text.specs.Rows.{rows_of, HasRoom, HasSame, HasTaken, IsReading, PutsRow, Takes};
 
 /// The rows of a text as CSV reads them: commas, double quotes, no header row, rows of any lengths.
 /// A byte order mark at the start is left out. Any error of the reader is that memory ran out.
@@ -209,21 +208,14 @@ fn take_text(taken: &mut Taken, alloc: Global, text: &[u8]) -> Result<(), OutOfM
     requires { HasTaken taken.old [] }
     ensures { OnOk result (HasTaken taken.new (rows_of text.now)) }
 {
-    let mut reader = reader_of(alloc, text);
+    let mut reader = ReaderBuilder::new()
+        .has_headers(false)
+        .flexible(true)
+        .from_reader(alloc, text);
     take_rows(taken, &mut reader, alloc, text)
 }
 
-// A reader at the start of a text.
-fn reader_of(alloc: Global, text: &[u8]) -> Reader<&[u8]>
-    ensures { HasRead result text.now (strip_bom text.now) [] }
-{
-    ReaderBuilder::new()
-        .has_headers(false)
-        .flexible(true)
-        .from_reader(alloc, text)
-}
-
-// Takes the rows that a reader of a text gives.
+// Takes the rows that a reader of a text gives. Any error of the reader is that memory ran out.
 fn take_rows(
     taken: &mut Taken,
     reader: &mut Reader<&[u8]>,
@@ -236,22 +228,13 @@ fn take_rows(
     let mut row = ByteRecord::new(alloc);
     // A text has no more rows than bytes.
     for _ in 0..text.len() + 1 {
-        if !read_next(reader, &mut row)? {
-            return Ok(());
+        match reader.read_byte_record(&mut row) {
+            Ok(true) => take(taken, &row)?,
+            Ok(false) => return Ok(()),
+            Err(_) => return Err(OutOfMemory),
         }
-        take(taken, &row)?;
     }
     Err(OutOfMemory)
-}
-
-// Reads the next row of a reader. False where there is none. Any error is that memory ran out.
-fn read_next(reader: &mut Reader<&[u8]>, row: &mut ByteRecord) -> Result<bool, OutOfMemory>
-    ensures { IfOk result (λ found. GivesNext found reader.old reader.new (fields_of row.new)) }
-{
-    let Ok(found) = reader.read_byte_record(row) else {
-        return Err(OutOfMemory);
-    };
-    Ok(found)
 }
 
 // Takes one row more.

@@ -1,5 +1,7 @@
-use Rattle.std.proofs.Common.{◌≡◌, true, false, rules, subst, sym}
+use Rattle.std.proofs.Common.{subst, sym}
+use Rattle.csv.specs.Records.{fields_of}
 use Rattle.row_text.specs.Rows.{HasTaken}
+use Rattle.row_text.proofs.Records.{HasRead-more, HasRead-end}
 use Rattle.row_text.proofs.row_list.take_rows.Goals as goal
 
 pub take-requires : goal.take-requires
@@ -10,14 +12,16 @@ take-requires c =
 pub loop-preserved : goal.loop-preserved
 loop-preserved c =
     let inv = c.loop.invariant in
-    let found : c.in_ok-read_next.field-0 ≡ true = search rules in
-    let gives = rw found at c.in_ok-read_next.ensures in
-    let more = gives c.args.text.now inv.0 inv.1 inv.2 in
-    (more.0, _, more.1, c.in_ok-take.ensures inv.1 inv.3)
+    let has = inv.2 in
+    let row = fields_of c.read_byte_record.new.row in
+    let step = rw c.in-Ok-true.field-0-test at (c.in-Ok-true.ensures.reads has.trim has.ready) in
+    let more = HasRead-more c.loop.reader c.read_byte_record.new.self c.args.text.now inv.0 inv.1 row has step (c.in-Ok-true.ensures.ready has.trim) in
+    (more.0, _, more.1, c.in_ok-take-in-Ok-true.ensures inv.1 inv.3)
 
-pub returns-then-not-branch : goal.returns-then-not-branch
-returns-then-not-branch c =
+pub returns-in-Ok-false : goal.returns-in-Ok-false
+returns-in-Ok-false c =
     let inv = c.loop.invariant in
-    let last : c.in_ok-read_next.field-0 ≡ false = search rules in
-    let gives = rw last at c.in_ok-read_next.ensures in
-    subst (HasTaken c.loop.taken) (sym (gives c.args.text.now inv.0 inv.1 inv.2)) inv.3
+    let has = inv.2 in
+    let step = rw c.in-Ok-false.field-0-test at (c.in-Ok-false.ensures.reads has.trim has.ready) in
+    let all = HasRead-end c.loop.reader c.read_byte_record.new.self c.args.text.now inv.0 inv.1 (fields_of c.read_byte_record.new.row) has step in
+    subst (HasTaken c.loop.taken) (sym all) inv.3
