@@ -62,27 +62,3 @@ rows_partitioned rows name rise i j d le l passes =
         | inr gt ↦ absurd (omega (arith, le, gt))
       ]
     ]
-
--- the place of a name at an end
-pub reached_none : (rows : List CutRow) (name : List ℕ) → length rows ≡ 0 → IsReached rows name 0
-reached_none rows name none = record {
-  before = record { within = omega arith; below = λ k l. absurd (omega (arith, l)) };
-  stops = λ below. absurd (omega (arith, none, below));
-}
-
-pub reached_first : (rows : List CutRow) (name : List ℕ) → is_before (get_or rows 0 no_member).name name ≡ false → IsReached rows name 0
-reached_first rows name first = record {
-  before = record { within = omega arith; below = λ k l. absurd (omega (arith, l)) };
-  stops = λ below. first;
-}
-
-pub reached_last : (rows : List CutRow) (name : List ℕ) → NamesRise (λ r. r.name) rows → (at : ℕ) → at + 1 ≡ length rows
-    → is_before (get_or rows at no_member).name name ≡ true → IsReached rows name (length rows)
-reached_last rows name rise at last passes = record {
-  before = record {
-    within = omega arith;
-    below = λ k l. IsBefore-from (get_or rows k no_member).name name
-        (rows_partitioned rows name rise k at no_member (omega (arith, l, last)) (omega (arith, last)) passes);
-  };
-  stops = λ below. absurd (omega (arith, below));
-}

@@ -24,13 +24,13 @@ pub fn stairways(alloc: Global, tables: &LineTables) -> Result<List<Stair>, OutO
     let paths = tables.paths()?;
     let mut all = List::new(alloc);
     for run in 0..tables.runs() {
-        let path = paths.path(run)?;
-        all.push(stairs(alloc, &path)?)?;
+        all.push(stair_by(alloc, &paths, run)?)?;
     }
     Ok(all)
 }
 
-/// The same, made by at most as many threads as there are processors.
+/// The stairway of each run, in the order of the runs' names, made by at most as many threads as
+/// there are processors.
 pub fn stairways_in_parts(
     rt: &(impl Threads + Sync),
     alloc: Global,

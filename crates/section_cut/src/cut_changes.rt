@@ -248,8 +248,13 @@ pub fn cut_change(
     ensures kept { OnErr result (cut.new ≡ cut.old) }
 {
     after.learn_sound();
-    let changes = CutChanges::of(alloc, before, after, edit)?;
-    match changes.cut_after(alloc, cut.as_ref(), section, number)? {
+    let change = CutChanges::of(alloc, before, after, edit)?.cut_after(
+        alloc,
+        cut.as_ref(),
+        section,
+        number,
+    )?;
+    match change {
         CutChange::Untouched => Ok(false),
         CutChange::Touched(later) => {
             *cut = later;

@@ -37,9 +37,9 @@ pub fn cut_of(
     Ok(Some(cut_by(alloc, tables, &stairs, number, stamp)?))
 }
 
-/// The same cut of the section of a number, by all stairways, which are made once for many
-/// sections by `stairways` and `AllStairways::of`. A run whose blockings all start before the
-/// section's window, or all at its end or later, is passed over without a look at each of them.
+/// The cut of the section of a number, by all stairways, which are made once for many sections by
+/// `stairways` and `AllStairways::of`. A run whose blockings all start before the section's window,
+/// or all at its end or later, is passed over without a look at each of them.
 pub fn cut_among(
     alloc: Global,
     tables: &LineTables,
@@ -56,7 +56,8 @@ pub fn cut_among(
     cut_by(alloc, tables, stairs, section, stamp)
 }
 
-// The same cut by stairs that may be without the uses of runs that are no members.
+// The cut of the section of a number by stairs that may be without the uses of runs that are no
+// members.
 fn cut_by(
     alloc: Global,
     tables: &LineTables,

@@ -1,12 +1,29 @@
 //! The cuts of a line's sections: which runs enter a section within its window, what they use of
 //! it, and which connections bind them.
 //!
-//! `cut_of` makes the cut of one section. For the cuts of many sections `stairways` makes the
-//! stairways of all runs once, and `cut_among` takes each cut from them. `stairways_in_parts` makes
-//! them side by side.
+//! `cut_of` makes one cut from the runs' stairways. A table over the numbers of blocks says where
+//! each stands in the section, so no name is looked up for a use. A run is passed over where all
+//! its uses start before the window or all after it. Connections come after that: one that binds
+//! adds a use to the rows of its two runs. `cut_among` makes the cuts of many sections from
+//! stairways that are made once, by `stairways` or, side by side, by `stairways_in_parts`.
 //!
 //! `cut_change` makes a cut that is kept that of the tables after an edit, with the stamps of its
-//! rows, and tells whether the edit touches the section; `CutChanges` does so for many sections.
+//! rows, and tells whether the edit touches the section; `CutChanges` does so for many sections:
+//!
+//! - An edit of a run makes that run's stairway once, for all sections. Where its row keeps its
+//!   positions, the times are compared where they stand. One row is put in place of the old one, or
+//!   the cut is made anew with the run or without it.
+//! - An edit of a block, a signal or a route compares the row of each run that passes it with the
+//!   run's new stairway. A row that differs is copied, and its uses that differ are written anew.
+//! - With connections all rows are made anew, but for an edit of a section.
+//! - Rows that stand as before keep their stamps.
+//!
+//! ```text
+//! let stairs = AllStairways::of(alloc, stairways(alloc, &tables)?)?;
+//! for section in 0..tables.sections() {
+//!     let cut = cut_among(alloc, &tables, &stairs, section, stamp)?;
+//! }
+//! ```
 #![tactic(auto)]
 
 mod all_stairways;

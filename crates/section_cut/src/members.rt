@@ -107,7 +107,8 @@ pub(crate) fn member_row(
     }))
 }
 
-// The same row, which takes the uses, by their least start.
+// The row of a run with these uses of the section's blocks, whose least start is the entry, if it
+// is a member. The row takes the uses.
 pub(crate) fn row_with(
     section: &Section,
     name: Name,

@@ -82,7 +82,8 @@ pub(crate) fn same_first(uses: &[Use], positions: &[u32], stairway: &[Use]) -> u
     uses.len()
 }
 
-// The same four by four, up to the first four of which one isn't, so that fewer steps are taken.
+// How many are so, four by four, up to the first four of which one isn't, so that fewer steps are
+// taken.
 fn same_fours(uses: &[Use], positions: &[u32], stairway: &[Use]) -> usize
     requires there { All (λ u. u.block < length positions.now) stairway.now }
     requires long { length uses.now ≡ length stairway.now }

@@ -129,8 +129,8 @@ fn row_by_stair(
     Ok(with_own_stamp(row, old, at, number))
 }
 
-// The same row, where the one before the edit has as many uses as the stair: it is copied where it
-// has the same, and otherwise those that differ are written in a copy of its uses. `None` where it
+// That row, where the one before the edit has as many uses as the stair: it is copied where it has
+// the same, and otherwise those that differ are written in a copy of its uses. `None` where it
 // hasn't as many, or a block isn't in the section.
 fn whole_row(
     alloc: Global,

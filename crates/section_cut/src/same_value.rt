@@ -14,7 +14,7 @@ pub fn same_cut(a: &Cut, b: &Cut) -> bool
         && same_rows(a.rows.slice(), b.rows.slice())
 }
 
-// The same, where the rows at a place are looked at first.
+// Whether two cuts are equal but for their stamps. The rows at a place are looked at first.
 pub(crate) fn same_cut_from(a: &Cut, b: &Cut, at: usize) -> bool
     ensures { IsTrue result ↔ IsSameCut a.now b.now }
 {
@@ -90,15 +90,7 @@ fn same_section(a: &Section, b: &Section) -> bool
 fn same_names(a: &[Name], b: &[Name]) -> bool
     ensures { IsTrue result ↔ (a.now ≡ b.now) }
 {
-    if a.len() != b.len() {
-        return false;
-    }
-    for i in 0..a.len() {
-        if !same_name(&a[i], &b[i]) {
-            return false;
-        }
-    }
-    true
+    a == b
 }
 
 // Whether two names are equal.

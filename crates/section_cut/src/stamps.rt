@@ -40,30 +40,12 @@ fn reached(rows: &[CutRow], name: &Name, from: usize) -> usize
     rows.len()
 }
 
-// The same place where the names rise: at an end, or else by halving.
+// The place of the first row whose name isn't before this one, by halving.
 pub(crate) fn place_of(rows: &[CutRow], name: &Name) -> usize
     requires { NamesRise (λ r. r.name) rows.now }
     ensures { IsReached rows.now name.now result }
 {
-    let count = rows.len();
-    if count == 0 {
-        return 0;
-    }
-    if is_row_before(rows, count - 1, name) {
-        return count;
-    }
-    if !is_row_before(rows, 0, name) {
-        return 0;
-    }
     rows.partition_point(|row| is_before(&row.name, name))
-}
-
-// Whether the row at a place has a name before this one.
-fn is_row_before(rows: &[CutRow], at: usize, name: &Name) -> bool
-    requires { at < length rows.now }
-    ensures { result ≡ is_before (slice_index_or rows.now at no_member).name name.now }
-{
-    is_before(&rows[at].name, name)
 }
 
 // Whether a name is before another.
