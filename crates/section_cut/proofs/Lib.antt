@@ -32,7 +32,6 @@ pub mod OneRun
 pub mod Standing
 pub mod Reached
 pub mod NoRun
-pub mod RowPlaces
 pub mod ReachedRuns
 pub mod RowsAfter
 pub mod KeptBlocks

@@ -20,38 +20,6 @@ passing_at p (x ∷ xs) (suc k) d l h =
       | inr e ↦ rw e rest
     ]
 
--- what passes first stands in the list
-first_passing : {X : Type 0} (p : X → Bool) (xs : List X) (d : X) → 0 < length (filter p xs)
-    → (j : ℕ) × (j < length xs) × (get_or (filter p xs) 0 d ≡ get_or xs j d)
-first_passing p [] d some = absurd (omega (arith, some))
-first_passing p (x ∷ xs) d some =
-    elim (cases_Bool (p x)) [
-      | inl e ↦ (0, omega arith, rw e refl)
-      | inr e ↦
-          let fewer : 0 < length (filter p xs) = rw e at some in
-          let rest = first_passing p xs d fewer in (suc rest.0, omega (arith, rest.1), rw e rest.2)
-    ]
-
--- where an item fails a test, what stands at its place among those that pass comes after it
-pub passing_behind : {X : Type 0} (p : X → Bool) (xs : List X) (k : ℕ) (d : X) → k < length xs → p (get_or xs k d) ≡ false
-    → length (filter p (take k xs)) < length (filter p xs)
-    → (j : ℕ) × (k < j) × (j < length xs) × (get_or (filter p xs) (length (filter p (take k xs))) d ≡ get_or xs j d)
-passing_behind p [] k d l h some = absurd (omega (arith, l))
-passing_behind p (x ∷ xs) zero d l h some =
-    let fewer : 0 < length (filter p xs) = rw h at some in
-    let rest = first_passing p xs d fewer in (suc rest.0, omega arith, omega (arith, rest.1), rw h rest.2)
-passing_behind p (x ∷ xs) (suc k) d l h some =
-    elim (cases_Bool (p x)) [
-      | inl e ↦
-          let less : suc (length (filter p (take k xs))) < suc (length (filter p xs)) = rw e at some in
-          let rest = passing_behind p xs k d (omega (arith, l)) h (omega (arith, less)) in
-          (suc rest.0, omega (arith, rest.1), omega (arith, rest.2), rw e rest.3)
-      | inr e ↦
-          let less : length (filter p (take k xs)) < length (filter p xs) = rw e at some in
-          let rest = passing_behind p xs k d (omega (arith, l)) h less in
-          (suc rest.0, omega (arith, rest.1), omega (arith, rest.2), rw e rest.3)
-    ]
-
 -- an item more with its number
 pub enumerate_push : {X : Type 0} (n : ℕ) (xs : List X) (x : X)
     → enumerate_from n (xs ++ x ∷ []) ≡ enumerate_from n xs ++ (n + length xs, x) ∷ []

@@ -32,7 +32,12 @@ use Rattle.std.proofs.lemmas.List.Folds.{find_at}
 use Rattle.rail_model.specs.Rules.{has_run}
 use Rattle.rail_model.proofs.Places.{number_of-missing}
 use Rattle.std.proofs.lemmas.List.{get_or_default}
+use Rattle.section_cut.specs.declared.cut_changes.CutChange.{CutChange}
+use Rattle.section_cut.specs.Change.{IsChange}
+use Rattle.section_cut.specs.EditedRun.{IsPut}
 use Rattle.section_cut.specs.OneRun.{before, behind, with_one, cut_with, row_of_stair, IsOneRun}
+use Rattle.section_cut.specs.Stamps.{IsReached, IsOwn}
+use Rattle.section_cut.proofs.Placed.{put_is}
 use Rattle.section_cut.proofs.SameValue.{sound_cut_of}
 use Rattle.section_cut.proofs.MemberRows.{row_listed}
 use Rattle.section_cut.proofs.Around.{split, filter_rows}
@@ -131,7 +136,7 @@ filter_mapped f p q same (x ∷ xs) =
       | inr e ↦ rw (same x, e) (filter_mapped f p q same xs)
     ]
 
-map_one : (row : Option CutRow) → map (stamped_row 0) (option_to_list row) ≡ option_to_list (option_map (stamped_row 0) row)
+pub map_one : (row : Option CutRow) → map (stamped_row 0) (option_to_list row) ≡ option_to_list (option_map (stamped_row 0) row)
 map_one None = refl
 map_one (Some row) = refl
 
@@ -185,20 +190,15 @@ module _ (earlier later : Tables) (name section : List ℕ) (its : Option Stair)
   pub old_sound : IsSoundCut old
   old_sound = sound_cut_of earlier earlier_sound section old is
 
-  -- the stair's uses are of blocks of the tables
-  pub its_uses : IfSome its (λ (s : Stair). All (λ (u : Use). u.block < length later.blocks) s.uses)
-  its_uses = subst (λ o. IfSome o (λ (s : Stair). All (λ (u : Use). u.block < length later.blocks) s.uses)) (sym one.stair)
-      (uses_found later later_sound name (find (λ (r : Run). is_same r.name name) later.runs) refl)
-
   module _ (number : ℕ) (row : Option CutRow) (row_is : row ≡ row_of_stair later old.section number its) where
     row_is_for : row ≡ row_for later old.section number (find (λ (r : Run). is_same r.name name) later.runs)
     row_is_for = row_is ∙ ap (row_of_stair later old.section number) one.stair ∙ by_stair later old.section number (find (λ (r : Run). is_same r.name name) later.runs)
 
-    pub row_named : IfSome row (λ r. (r.name ≡ name) × (r.stamp ≡ number))
+    row_named : IfSome row (λ r. (r.name ≡ name) × (r.stamp ≡ number))
     row_named = subst (λ o. IfSome o (λ (r : CutRow). (r.name ≡ name) × (r.stamp ≡ number))) (sym row_is_for)
         (name_found later name (find (λ (r : Run). is_same r.name name) later.runs) refl old.section number)
 
-    pub cut_is : cut_of later section ≡ Some (stamped 0 (cut_with name row old))
+    cut_is : cut_of later section ≡ Some (stamped 0 (cut_with name row old))
     cut_is =
         let found = find (λ (r : Run). is_same r.name name) later.runs in
         let here = located earlier section old (find (λ (s : Section). is_same s.name section) earlier.sections) refl is in
@@ -211,10 +211,11 @@ module _ (earlier later : Tables) (name section : List ℕ) (its : Option Stair)
         ∙ ap (λ r. cut_with name r (stamped 0 old)) (sym (ap (option_map (stamped_row 0)) row_is_for ∙ bare_row_for later old.section number found))
         ∙ sym (bare_with name row old))
 
-    pub with_sound : IsSoundCut (cut_with name row old)
-    with_sound = sound_cut_of later later_sound section (cut_with name row old) cut_is
-
-pub both_known : (name : List ℕ) (number : ℕ) (row : Option CutRow) → IfSome row (λ r. (r.name ≡ name) × (r.stamp ≡ number))
-    → IfSome row (λ r. r.name ≡ name) × IfSome row (λ r. r.stamp ≡ number)
-both_known name number None both = (tt, tt)
-both_known name number (Some row) both = both
+    -- what becomes of the cut by the edit, where this row is put
+    pub run_changes : (own : Option CutRow) (at : ℕ) (result : CutChange) → IsReached old.rows name at → IsOwn old.rows name at own
+        → IsPut old at own row result → IsChange (cut_of earlier section) (cut_of later section) number (Some old) result
+    run_changes own at result reached own_is put =
+        subst (λ v. IsChange v (cut_of later section) number (Some old) result) (sym is)
+        (subst (λ v. IsChange (Some (stamped 0 old)) v number (Some old) result) (sym cut_is)
+        (put_is old name at number old_sound reached own row result own_is row_named
+        (sound_cut_of later later_sound section (cut_with name row old) cut_is) put))

@@ -1,25 +1,27 @@
 -- A cut with another row for one name, or without it: by the place of the name among its rows.
 use Rattle.std.proofs.Common.{◌≡◌, ℕ, suc, ◌+◌, ◌<◌, ◌≤◌, false, List, ◌∷◌, ◌++◌, length, map, take, drop, get_or, insert, set, Some, None, refl, sym, ap, ◌∙◌, subst, inl, inr, arith}
-use Rattle.std.specs.Prelude.{filter, remove, All, Option}
+use Rattle.std.specs.Prelude.{filter, find, remove, All, Option, IfSome}
 use Rattle.std.specs.Option.{option_to_list}
 use Rattle.std.proofs.lemmas.Bool.{both_ways, false_from_ne_true, cases_lt}
 use Rattle.std.proofs.lemmas.List.{take-append-drop, get_or-take, get_or-drop, length-take-le, length-drop, length-map, append-nil, set_split, get_or-set_same, get_or-map, get_or_default, map-set, set-get_or}
 use Rattle.std.proofs.lemmas.List.Edits.{length-insert, length-remove}
 use Rattle.std.proofs.lemmas.List.Elements.{filter-append, All-append, All-cons, All-take, All-drop}
 use Rattle.std.proofs.Math.Seq.{drop-cons}
-use Rattle.rail_model.specs.Name.{is_before, IsBefore, NamesRise}
+use Rattle.rail_model.specs.Name.{is_before, is_same, IsBefore, NamesRise}
 use Rattle.rail_model.proofs.NameOrder.{is_before-from, is_before-back, is_before-itself, IsBefore-trans, IsBefore-from}
 use Rattle.rail_model.proofs.Places.{filter_all, filter_none}
 use Rattle.plan_model.specs.declared.cut.CutRow.{CutRow}
 use Rattle.plan_model.specs.declared.cut.Cut.{Cut}
 use Rattle.plan_model.specs.Cut.{stamped_row, stamped, IsSoundCut}
 use Rattle.plan_model.specs.Members.{no_member}
+use Rattle.section_cut.specs.declared.cut_changes.CutChange.{CutChange}
 use Rattle.section_cut.specs.declared.cut_changes.CutChange.TheVariants as change
 use Rattle.section_cut.specs.Change.{IsRestamped, IsChange}
-use Rattle.section_cut.specs.Stamps.{IsReached, IsThere}
+use Rattle.section_cut.specs.EditedRun.{IsPut}
+use Rattle.section_cut.specs.Stamps.{IsReached, IsThere, IsOwn, IsStamped}
 use Rattle.section_cut.specs.OneRun.{before, behind, with_one, cut_with}
 use Rattle.section_cut.proofs.Rows.{found_at, after_there, none_found}
-use Rattle.section_cut.proofs.Restamped.{new_stamp, stamp_new}
+use Rattle.section_cut.proofs.Restamped.{stamp_first, stamp_new}
 
 abbrev name_of : CutRow → List ℕ
 name_of r = r.name
@@ -106,7 +108,7 @@ module _ (old : Cut) (n : List ℕ) (at number : ℕ) (sound : IsSoundCut old) (
 
   -- ---- the edit doesn't touch the section
 
-  pub none_there : (IsThere old.rows n at → ⊥) → stamped 0 (cut_with n None old) ≡ stamped 0 old
+  none_there : (IsThere old.rows n at → ⊥) → stamped 0 (cut_with n None old) ≡ stamped 0 old
   none_there gone =
       ap (λ rows. stamped 0 (record old { rows = rows }))
       (with_gone old.rows n at sound.names_rise reached gone None ∙ take-append-drop at old.rows)
@@ -114,7 +116,7 @@ module _ (old : Cut) (n : List ℕ) (at number : ℕ) (sound : IsSoundCut old) (
   set_is : IsThere old.rows n at → (row : CutRow) → with_one name_of n (Some row) old.rows ≡ set old.rows at row
   set_is there row = with_there old.rows n at sound.names_rise reached there (Some row) ∙ sym (set_split old.rows at row there.0)
 
-  pub same_there : IsThere old.rows n at → (row : CutRow) → stamped_row 0 (get_or old.rows at no_member) ≡ stamped_row 0 row
+  same_there : IsThere old.rows n at → (row : CutRow) → stamped_row 0 (get_or old.rows at no_member) ≡ stamped_row 0 row
       → stamped 0 (cut_with n (Some row) old) ≡ stamped 0 old
   same_there there row same =
       let mark = stamped_row 0 in
@@ -140,7 +142,7 @@ module _ (old : Cut) (n : List ℕ) (at number : ℕ) (sound : IsSoundCut old) (
     },
   )
 
-  pub removed : IsThere old.rows n at → IsSoundCut (cut_with n None old)
+  removed : IsThere old.rows n at → IsSoundCut (cut_with n None old)
       → IsChange (Some (stamped 0 old)) (Some (stamped 0 (cut_with n None old))) number (Some old) (change.Touched (Some (record old { rows = remove old.rows at })))
   removed there later =
       let rows = old.rows in
@@ -166,25 +168,28 @@ module _ (old : Cut) (n : List ℕ) (at number : ℕ) (sound : IsSoundCut old) (
         (All-take (IsRestamped number (Some old)) at old.rows stay)
         (All-cons (IsRestamped number (Some old)) row (drop rest old.rows) own (All-drop (IsRestamped number (Some old)) rest old.rows stay))
 
-    pub added : (IsThere old.rows n at → ⊥) → IsSoundCut (cut_with n (Some row) old)
+    added : (IsThere old.rows n at → ⊥) → IsSoundCut (cut_with n (Some row) old)
         → IsChange (Some (stamped 0 old)) (Some (stamped 0 (cut_with n (Some row) old))) number (Some old) (change.Touched (Some (record old { rows = insert old.rows at row })))
     added gone later =
         let rows = old.rows in
         let mark = stamped_row 0 in
-        let own = subst (IsRestamped number (Some old)) marked
-        (new_stamp old number at row sound.names_rise here
-        (none_found rows row.name at sound.names_rise here (λ below e. gone (below, e ∙ named)))) in
+        let own : IsRestamped number (Some old) row = subst (λ o. IsStamped number o row)
+        (sym (none_found rows row.name at sound.names_rise here (λ below e. gone (below, e ∙ named))))
+        (subst (IsStamped number None) marked (stamp_first number row)) in
         touched (Some row) (insert rows at row) (with_gone rows n at sound.names_rise reached gone (Some row))
         (around_row at own)
         (λ e. omega (arith, ap length e, length-map rows mark, length-map (insert rows at row) mark, length-insert rows at row reached.before.within))
         later
 
-    pub changed : IsThere old.rows n at → (stamped_row 0 (get_or old.rows at no_member) ≡ stamped_row 0 row → ⊥) → IsSoundCut (cut_with n (Some row) old)
+    changed : IsThere old.rows n at → (stamped_row 0 (get_or old.rows at no_member) ≡ stamped_row 0 row → ⊥) → IsSoundCut (cut_with n (Some row) old)
         → IsChange (Some (stamped 0 old)) (Some (stamped 0 (cut_with n (Some row) old))) number (Some old) (change.Touched (Some (record old { rows = set old.rows at row })))
     changed there differ later =
         let rows = old.rows in
         let mark = stamped_row 0 in
-        let own = subst (IsRestamped number (Some old)) marked (stamp_new old number at row sound.names_rise here there.0 differ) in
+        let found = subst (λ m. find (λ (r : CutRow). is_same r.name m) rows ≡ Some (get_or rows at no_member)) (there.1 ∙ sym named)
+        (found_at name_of rows at no_member sound.names_rise there.0) in
+        let own : IsRestamped number (Some old) row = subst (λ o. IsStamped number o row) (sym found)
+        (subst (IsStamped number (Some (get_or rows at no_member))) marked (stamp_new number (get_or rows at no_member) row differ)) in
         touched (Some row) (set rows at row) (set_is there row)
         (subst (All (IsRestamped number (Some old))) (sym (set_split rows at row there.0)) (around_row (suc at) own))
         (λ e.
@@ -194,3 +199,17 @@ module _ (old : Cut) (n : List ℕ) (at number : ℕ) (sound : IsSoundCut old) (
         ∙ get_or-map mark rows at no_member no_member there.0 in
         differ (sym at_row))
         later
+
+  -- ---- what becomes of the cut with a row of this name, or without one
+  pub put_is : (own row : Option CutRow) (result : CutChange) → IsOwn old.rows n at own → IfSome row (λ r. (r.name ≡ n) × (r.stamp ≡ number))
+      → IsSoundCut (cut_with n row old) → IsPut old at own row result
+      → IsChange (Some (stamped 0 old)) (Some (stamped 0 (cut_with n row old))) number (Some old) result
+  put_is None None result gone known later is = rw is (ap Some (none_there gone))
+  put_is None (Some row) result gone known later is = rw is (added row known.0 known.1 gone later)
+  put_is (Some own) None result own_is known later is = rw is (removed own_is.0 later)
+  put_is (Some own) (Some row) result own_is known later is = elim is [
+    | inl same ↦ rw (same.1) (ap Some (same_there own_is.0 row (ap (stamped_row 0) own_is.1 ∙ same.0)))
+    | inr other ↦
+        let made = changed row known.0 known.1 own_is.0 (λ e. other.0 (ap (stamped_row 0) (sym own_is.1) ∙ e)) later in
+        rw (other.1) (own_is.0.0, made.0, made.1)
+  ]

@@ -1,40 +1,39 @@
 -- The rows of a section's cut after an edit that changes the paths of some runs.
-use Rattle.std.proofs.Common.{◌≡◌, ◌↔◌, ℕ, zero, suc, ◌+◌, ◌<◌, ◌≤◌, Bool, true, false, cond, ltb, List, [], ◌∷◌, ◌++◌, length, map, get_or, take, drop, Option, Some, None, IsTrue, refl, sym, ap, ◌∙◌, subst, inl, inr, arith}
+use Rattle.std.proofs.Common.{◌≡◌, ℕ, zero, suc, ◌+◌, ◌<◌, ◌≤◌, Bool, true, false, cond, ltb, List, [], ◌∷◌, ◌++◌, length, map, get_or, take, Option, Some, None, refl, sym, ap, ◌∙◌, subst, inl, inr, arith}
 use Rattle.std.specs.Prelude.{All, filter, find, option_map, IfSome}
 use Rattle.std.specs.Option.{option_to_list}
-use Rattle.std.proofs.lemmas.Bool.{cases_Bool, cases_lt, ltb-true}
+use Rattle.std.proofs.lemmas.Bool.{cases_lt, ltb-true}
 use Rattle.std.proofs.Math.ListN.{get_or-append}
-use Rattle.std.proofs.lemmas.List.{length-map, map-append, get_or-map, get_or_push, length-append, take_all, take-map, take-append-drop}
-use Rattle.std.proofs.Math.Seq.{take-append_seam}
-use Rattle.std.proofs.lemmas.List.Elements.{filter_more, filter-append}
+use Rattle.std.proofs.lemmas.List.{append-nil, map-append, get_or_push, length-append, take_all}
+use Rattle.std.proofs.lemmas.List.Elements.{All-push}
 use Rattle.rail_model.specs.declared.items.Run.{Run}
 use Rattle.rail_model.specs.declared.items.Section.{Section}
 use Rattle.rail_model.specs.declared.stair.Stair.{Stair}
 use Rattle.rail_model.specs.declared.stair.Use.{Use}
 use Rattle.rail_model.specs.declared.path.Path.{Path}
 use Rattle.rail_model.specs.declared.tables.Tables.{Tables}
-use Rattle.rail_model.specs.Name.{IsBefore, NamesRise, is_same}
+use Rattle.rail_model.specs.Name.{NamesRise, is_same}
 use Rattle.rail_model.specs.Blocking.{stairway, stair_of}
 use Rattle.rail_model.specs.Tables.{no_run, number_of, run_at, block_name, path_in}
 use Rattle.rail_model.specs.Sound.{IsSound}
-use Rattle.rail_model.proofs.Lists.{map_same}
+use Rattle.rail_model.proofs.Lists.{map_same, find-map}
 use Rattle.rail_model.proofs.Timetables.{used_there}
-use Rattle.rail_model.proofs.NameOrder.{never_before_itself}
 use Rattle.plan_model.specs.declared.cut.CutRow.{CutRow}
 use Rattle.plan_model.specs.declared.cut.Cut.{Cut}
 use Rattle.plan_model.specs.Cut.{stamped_row, stamped}
-use Rattle.plan_model.specs.Members.{no_member}
 use Rattle.plan_model.specs.SectionCut.{use_in_section, section_uses, is_member, section_cut, cut_of}
-use Rattle.section_cut.specs.declared.reached_runs.RunAt.{RunAt}
-use Rattle.section_cut.specs.Members.{member_row, row_on_blocks, rows_on_blocks}
-use Rattle.section_cut.specs.Positions.{IsPositions, uses_in}
-use Rattle.section_cut.specs.Stamps.{IsReached, IsThere}
-use Rattle.section_cut.specs.ReachedRuns.{IsStairIfReached, AreReachedRuns, IsBareRow, IsOwnRow, IsSameBefore, row_before, row_after}
+use Rattle.section_cut.specs.Members.{enters, member_row, row_with, row_on_blocks, rows_on_blocks}
+use Rattle.section_cut.specs.Positions.{uses_in}
+use Rattle.section_cut.specs.declared.cut_changes.CutChange.TheVariants as change
+use Rattle.section_cut.specs.Change.{IsChange}
+use Rattle.section_cut.specs.RowsAfter.{AreBeside, AreRowsAfter, IsOwnOf}
+use Rattle.section_cut.specs.Stamps.{AreBefore, IsReached, IsStamped, IsStampedBy}
+use Rattle.section_cut.specs.ReachedRuns.{IsStairIfReached, AreReachedRuns, IsBareRow, IsRowAfter, StaysRow, row_after}
 use Rattle.section_cut.proofs.BlockUses.{uses_inside}
-use Rattle.section_cut.proofs.Lists.{passing_at, passing_behind}
 use Rattle.section_cut.proofs.MemberRows.{rows_more, uses_by_table}
-use Rattle.section_cut.proofs.RowPlaces.{reached_is}
-use Rattle.section_cut.proofs.OneRun.{bare_cut, located}
+use Rattle.section_cut.proofs.OneRun.{bare_cut, located, map_one}
+use Rattle.section_cut.proofs.Rows.{before_later, found_passing}
+use Rattle.section_cut.proofs.SameValue.{sound_cut_of}
 
 -- a run of the same path has the same uses, where the blocks have the same names
 pub uses_by_path : (earlier later : Tables) (s : Section) (run : Run) → ((block : ℕ) → block_name later block ≡ block_name earlier block)
@@ -46,84 +45,63 @@ uses_by_path earlier later s run names same =
     (λ k d l. let u = get_or (stairway (path_in later run)) k d in ap (placed u) (names u.block))
     ∙ ap (λ (p : Path). map (use_in_section earlier s) (stairway p)) same)
 
--- ---- the old rows beside the runs
+-- ---- the row of a run among those of a cut
 
-module _ (tables : Tables) (s : Section) (rise : NamesRise (λ (r : Run). r.name) tables.runs) (old : List CutRow) (is : map (stamped_row 0) old ≡ rows_on_blocks tables s 0) (n : ℕ) (below : n < length tables.runs) (at : ℕ) (passed : at ≡ length (filter (is_member tables s) (take n tables.runs))) where
-  abbrev members : List Run
-  members = filter (is_member tables s) tables.runs
+listed : (tables : Tables) (s : Section) (run : Run) (b : Bool) → b ≡ is_member tables s run
+    → option_map (row_on_blocks tables s 0) (cond b (Some run) None) ≡ member_row s run.name 0 (section_uses tables s run)
+listed tables s run true e = rw (sym e) refl
+listed tables s run false e = rw (sym e) refl
 
-  count : length old ≡ length members
-  count = sym (length-map old (stamped_row 0)) ∙ ap length is ∙ length-map members (row_on_blocks tables s 0)
+-- by the tables
+pub row_found : (tables : Tables) (s : Section) → NamesRise (λ (r : Run). r.name) tables.runs → (n : ℕ) → n < length tables.runs
+    → find (λ r. is_same r.name (run_at tables n).name) (rows_on_blocks tables s 0)
+    ≡ member_row s (run_at tables n).name 0 (section_uses tables s (run_at tables n))
+row_found tables s rise n below =
+    let run = run_at tables n in
+    find-map (row_on_blocks tables s 0) (λ (r : CutRow). is_same r.name run.name) (filter (is_member tables s) tables.runs)
+    ∙ ap (option_map (row_on_blocks tables s 0)) (found_passing (λ (r : Run). r.name) (is_member tables s) tables.runs n no_run rise below)
+    ∙ listed tables s run (is_member tables s run) refl
 
-  row_is : (k : ℕ) → k < length old → stamped_row 0 (get_or old k no_member) ≡ row_on_blocks tables s 0 (get_or members k no_run)
-  row_is k l =
-      sym (get_or-map (stamped_row 0) old k no_member no_member l) ∙ ap (λ rows. get_or rows k no_member) is
-      ∙ get_or-map (row_on_blocks tables s 0) members k no_run no_member (omega (arith, count, l))
+-- by rows of the values that the tables give
+pub old_found : (tables : Tables) (s : Section) → NamesRise (λ (r : Run). r.name) tables.runs → (old : List CutRow)
+    → map (stamped_row 0) old ≡ rows_on_blocks tables s 0 → (n : ℕ) → n < length tables.runs
+    → option_map (stamped_row 0) (find (λ r. is_same r.name (run_at tables n).name) old)
+    ≡ member_row s (run_at tables n).name 0 (section_uses tables s (run_at tables n))
+old_found tables s rise old is n below =
+    sym (find-map (stamped_row 0) (λ (r : CutRow). is_same r.name (run_at tables n).name) old)
+    ∙ ap (find (λ (r : CutRow). is_same r.name (run_at tables n).name)) is
+    ∙ row_found tables s rise n below
 
-  -- the row of a member stands at its place
-  pub member_there : is_member tables s (run_at tables n) ≡ true
-      → (at < length old) × (stamped_row 0 (get_or old at no_member) ≡ row_on_blocks tables s 0 (run_at tables n))
-  member_there member =
-      let found = passing_at (is_member tables s) tables.runs n no_run below member in
-      let there : at < length old = omega (arith, passed, count, found.0) in (
-        there,
-        row_is at there ∙ ap (λ k. row_on_blocks tables s 0 (get_or members k no_run)) passed ∙ ap (row_on_blocks tables s 0) found.1,
-      )
+-- a row of the value of a member's has its uses
+pub uses_of_row : (s : Section) (name : List ℕ) (uses : List Use) (row : CutRow) (b : Bool) → b ≡ enters s uses
+    → Some (stamped_row 0 row) ≡ member_row s name 0 uses → row.uses ≡ uses
+uses_of_row s name uses row true e is =
+    let same : Some (stamped_row 0 row) ≡ Some (row_with name 0 uses) = rw (sym e) at is in
+    let value : stamped_row 0 row ≡ row_with name 0 uses = cc in
+    ap (λ (r : CutRow). r.uses) value
+uses_of_row s name uses row false e is = let gone : Some (stamped_row 0 row) ≡ None = rw (sym e) at is in absurd (cc)
 
-  -- and that of no other run does
-  other_there : is_member tables s (run_at tables n) ≡ false → IsThere old (run_at tables n).name at → ⊥
-  other_there outside there =
-      let inside : length (filter (is_member tables s) (take n tables.runs)) < length members = omega (arith, there.0, count, passed) in
-      let found = passing_behind (is_member tables s) tables.runs n no_run below outside inside in
-      let name : (get_or tables.runs found.0 no_run).name ≡ (run_at tables n).name =
-      ap (λ (r : Run). r.name) (sym found.3) ∙ ap (λ k. (get_or members k no_run).name) (sym passed)
-      ∙ ap (λ (r : CutRow). r.name) (sym (row_is at there.0)) ∙ there.1 in
-      never_before_itself (run_at tables n).name (subst (IsBefore (run_at tables n).name) name (rise n found.0 no_run found.1 found.2))
+-- and its name
+name_of_row : (s : Section) (name : List ℕ) (uses : List Use) (row : CutRow) (b : Bool) → b ≡ enters s uses
+    → Some (stamped_row 0 row) ≡ member_row s name 0 uses → row.name ≡ name
+name_of_row s name uses row true e is =
+    let same : Some (stamped_row 0 row) ≡ Some (row_with name 0 uses) = rw (sym e) at is in
+    let value : stamped_row 0 row ≡ row_with name 0 uses = cc in
+    ap (λ (r : CutRow). r.name) value
+name_of_row s name uses row false e is = let gone : Some (stamped_row 0 row) ≡ None = rw (sym e) at is in absurd (cc)
 
-  pub there_is : (b : Bool) → IsTrue b ↔ IsThere old (run_at tables n).name at → b ≡ is_member tables s (run_at tables n)
-  there_is b told = elim (cases_Bool (is_member tables s (run_at tables n))) [
-    | inl member ↦
-        let found = member_there member in
-        told.1 (found.0, ap (λ (r : CutRow). r.name) found.1) ∙ sym member
-    | inr outside ↦ elim (cases_Bool b) [
-      | inl e ↦ absurd (other_there outside (told.0 e))
-      | inr e ↦ e ∙ sym outside
-    ]
-  ]
-
-  -- the place behind it
-  pub place_more : (b : Bool) → b ≡ is_member tables s (run_at tables n)
-      → cond b (at + 1) at ≡ length (filter (is_member tables s) (take (n + 1) tables.runs))
-  place_more b e =
-      let test = is_member tables s in
-      let before = filter test (take n tables.runs) in
-      let more : (c : Bool) → cond c (at + 1) at ≡ length (before ++ cond c (run_at tables n ∷ []) []) = λ c. by_test c in
-      ap (λ c. cond c (at + 1) at) e ∙ more (test (run_at tables n)) ∙ ap length (sym (filter_more test tables.runs n no_run below))
-    where
-      by_test : (c : Bool) → cond c (at + 1) at ≡ length (filter (is_member tables s) (take n tables.runs) ++ cond c (run_at tables n ∷ []) [])
-      by_test true = omega (arith, passed, length-append (filter (is_member tables s) (take n tables.runs)) (run_at tables n ∷ []))
-      by_test false = omega (arith, passed, length-append (filter (is_member tables s) (take n tables.runs)) [])
-
-  abbrev kept : Bool → Option CutRow
-  kept b = cond b (Some (get_or old at no_member)) None
-
-  -- the row that is kept is the run's
-  kept_is : (b : Bool) → b ≡ is_member tables s (run_at tables n)
-      → option_map (stamped_row 0) (kept b) ≡ member_row s (run_at tables n).name 0 (section_uses tables s (run_at tables n))
-  kept_is true e = rw (sym e) (ap Some (member_there (sym e)).1)
-  kept_is false e = rw (sym e) refl
-
--- a row of the value of a member's is bare
-bare_at : (tables : Tables) (s : Section) → IsSound tables → (n : ℕ) → n < length tables.runs → is_member tables s (run_at tables n) ≡ true
-    → (row : CutRow) → stamped_row 0 row ≡ row_on_blocks tables s 0 (run_at tables n) → IsBareRow s (run_at tables n).name row
-bare_at tables s sound n below member row is =
-    let uses : row.uses ≡ section_uses tables s (run_at tables n) = ap (λ (r : CutRow). r.uses) is in
-    let own : member_row s (run_at tables n).name 0 (section_uses tables s (run_at tables n)) ≡ Some (row_on_blocks tables s 0 (run_at tables n)) = rw member refl in
+-- and is bare
+bare_of : (tables : Tables) (s : Section) → IsSound tables → (n : ℕ) → n < length tables.runs → (name : List ℕ) (own : Option CutRow)
+    → option_map (stamped_row 0) own ≡ member_row s name 0 (section_uses tables s (run_at tables n)) → IfSome own (IsBareRow s name)
+bare_of tables s sound n below name None is = tt
+bare_of tables s sound n below name (Some row) is =
+    let uses = section_uses tables s (run_at tables n) in
+    let same = uses_of_row s name uses row (enters s uses) refl is in
     record {
-      member = ap (member_row s (run_at tables n).name 0) uses ∙ own ∙ ap Some (sym is);
+      member = ap (member_row s name 0) same ∙ sym is;
       inside = λ k d l.
           ltb-true (get_or row.uses k d).block (length s.blocks)
-          (subst (All (λ (u : Use). ltb u.block (length s.blocks) ≡ true)) (sym uses) (uses_inside tables sound s n below) k d l);
+          (subst (All (λ (u : Use). ltb u.block (length s.blocks) ≡ true)) (sym same) (uses_inside tables sound s n below) k d l);
     }
 
 -- ---- the rows with the next run's
@@ -182,118 +160,90 @@ rows_stay earlier later s runs each =
     ∙ rows_so_far earlier later s count (length later.runs) (omega arith) each
     ∙ ap (λ rs. map (row_on_blocks earlier s 0) (filter (is_member earlier s) rs)) (take_all (length later.runs) earlier.runs (omega (arith, count)))
 
-pub same_before : (earlier later : Tables) (s : Section) (n at : ℕ) → later.runs ≡ earlier.runs → n < length later.runs
-    → ((k : ℕ) → k < n → IsSameRow earlier later s k) → at ≡ length (filter (is_member earlier s) (take n earlier.runs))
-    → IsSameBefore earlier later s (record { run = n; at = at })
-same_before earlier later s n at runs below each passed = record {
-  within = omega (arith, below);
-  same = rows_so_far earlier later s (ap length runs) n (omega (arith, below)) each;
-  passed = passed;
-}
+module _ {earlier later : Tables} {stairs : List (Option Stair)} {s : Section} {positions : List ℕ} {old : List CutRow} (beside : AreBeside earlier later stairs s positions old) where
+  pub before_next : (n at : ℕ) → IsReached old (run_at later n).name at → n + 1 < length later.runs → AreBefore old (run_at later (n + 1)).name at
+  before_next n at reached below =
+      before_later old (run_at later n).name at beside.rise reached (run_at later (n + 1)).name
+      (beside.later_sound.runs.names n (n + 1) no_run (omega arith) below)
 
--- the rows of these runs are the first of the earlier cut
-module _ (earlier later : Tables) (s : Section) (old : List CutRow) (is : map (stamped_row 0) old ≡ rows_on_blocks earlier s 0) (first : RunAt) (same : IsSameBefore earlier later s first) where
-  abbrev front : List Run
-  front = filter (is_member earlier s) (take first.run earlier.runs)
+  module _ (n : ℕ) (below : n < length later.runs) (stair : Option Stair) (its : stair ≡ get_or stairs n stair) where
+    reached_is : IsStairIfReached earlier later (run_at later n) stair
+    reached_is = subst (IsStairIfReached earlier later (run_at later n)) (sym its) (beside.reached.each n stair below)
 
-  abbrev back : List Run
-  back = filter (is_member earlier s) (drop first.run earlier.runs)
+    pub stair_uses : IfSome stair (λ (t : Stair). All (λ (u : Use). u.block < length positions) t.uses)
+    stair_uses = subst (λ k. IfSome stair (λ (t : Stair). All (λ (u : Use). u.block < k) t.uses)) (sym beside.table.count)
+        (reached_uses earlier later beside.later_sound n below stair reached_is)
 
-  rows_are : map (stamped_row 0) old ≡ map (row_on_blocks earlier s 0) (front ++ back)
-  rows_are =
-      is
-      ∙ ap (map (row_on_blocks earlier s 0))
-      (ap (filter (is_member earlier s)) (sym (take-append-drop first.run earlier.runs))
-      ∙ filter-append (is_member earlier s) (take first.run earlier.runs) (drop first.run earlier.runs))
+    module _ (own : Option CutRow) (found : IsOwnOf later n old own) where
+      same_run : run_at later n ≡ run_at earlier n
+      same_run = ap (λ runs. get_or runs n no_run) beside.reached.same.runs
 
-  pub first_within : first.at ≤ length old
-  first_within =
-      omega (arith, ap length rows_are, length-map old (stamped_row 0), length-map (front ++ back) (row_on_blocks earlier s 0), length-append front back, same.passed)
+      below_earlier : n < length earlier.runs
+      below_earlier = omega (arith, below, ap length beside.reached.same.runs)
 
-  pub first_are : map (stamped_row 0) (take first.at old) ≡ map (row_on_blocks later s 0) (filter (is_member later s) (take first.run later.runs))
-  first_are =
-      sym (take-map (stamped_row 0) first.at old)
-      ∙ ap (take first.at) rows_are
-      ∙ take-map (row_on_blocks earlier s 0) first.at (front ++ back)
-      ∙ ap (map (row_on_blocks earlier s 0)) (ap (λ k. take k (front ++ back)) same.passed ∙ take-append_seam front back)
-      ∙ sym same.same
+      abbrev name : List ℕ
+      name = (run_at later n).name
 
-module _ (earlier later : Tables) (s : Section) (sound : IsSound earlier) (later_sound : IsSound later) (stairs : List (Option Stair)) (reached : AreReachedRuns earlier later stairs) (old : List CutRow) (is : map (stamped_row 0) old ≡ rows_on_blocks earlier s 0) (positions : List ℕ) (table : IsPositions later s positions) (n : ℕ) (below : n < length later.runs) (at : ℕ) (passed : at ≡ length (filter (is_member earlier s) (take n earlier.runs))) where
-  same_run : run_at later n ≡ run_at earlier n
-  same_run = ap (λ runs. get_or runs n no_run) reached.same.runs
+      own_is : option_map (stamped_row 0) own ≡ member_row s name 0 (section_uses earlier s (run_at earlier n))
+      own_is =
+          ap (option_map (stamped_row 0)) found
+          ∙ subst (λ (r : Run). option_map (stamped_row 0) (find (λ (o : CutRow). is_same o.name r.name) old) ≡ member_row s r.name 0 (section_uses earlier s (run_at earlier n)))
+          (sym same_run) (old_found earlier s beside.earlier_sound.runs.names old beside.rows n below_earlier)
 
-  below_earlier : n < length earlier.runs
-  below_earlier = omega (arith, below, ap length reached.same.runs)
+      -- the row before the edit is the stair's run's
+      pub own_bare : IfSome stair (λ t. IfSome own (IsBareRow s t.run))
+      own_bare = by_stair stair reached_is (bare_of earlier s beside.earlier_sound n below_earlier name own own_is)
+        where
+          by_stair : (o : Option Stair) → IsStairIfReached earlier later (run_at later n) o → IfSome own (IsBareRow s name)
+              → IfSome o (λ t. IfSome own (IsBareRow s t.run))
+          by_stair None is bare = tt
+          by_stair (Some t) is bare = subst (λ (u : Stair). IfSome own (IsBareRow s u.run)) (sym is) bare
 
-  abbrev rise : NamesRise (λ (r : Run). r.name) earlier.runs
-  rise = sound.runs.names
+      -- the row after it is the run's
+      after_is : row_after s positions stair (option_map (stamped_row 0) own) ≡ member_row s name 0 (section_uses later s (run_at later n))
+      after_is = by_stair stair reached_is
+        where
+          by_stair : (o : Option Stair) → IsStairIfReached earlier later (run_at later n) o
+              → row_after s positions o (option_map (stamped_row 0) own) ≡ member_row s name 0 (section_uses later s (run_at later n))
+          by_stair None is =
+              own_is ∙ ap (λ (r : Run). member_row s name 0 (section_uses earlier s r)) (sym same_run)
+              ∙ ap (member_row s name 0) (sym (uses_by_path earlier later s (run_at later n) beside.reached.same.names is))
+          by_stair (Some t) is =
+              ap (λ (u : Stair). member_row s u.run 0 (uses_in positions (length s.blocks) u.uses)) is
+              ∙ ap (member_row s name 0) (uses_by_table later s beside.later_sound positions beside.table n below)
 
-  made_is : (stair : Option Stair) (b : Bool) → IsStairIfReached earlier later (run_at later n) stair → b ≡ is_member earlier s (run_at earlier n)
-      → row_after s positions stair (row_before old at b) ≡ member_row s (run_at later n).name 0 (section_uses later s (run_at later n))
-  made_is (Some stair) b own e =
-      ap (λ (t : Stair). member_row s t.run 0 (uses_in positions (length s.blocks) t.uses)) own
-      ∙ ap (member_row s (run_at later n).name 0) (uses_by_table later s later_sound positions table n below)
-  made_is None b own e =
-      kept_is earlier s rise old is n below_earlier at passed b e
-      ∙ ap (λ (r : Run). member_row s r.name 0 (section_uses earlier s r)) (sym same_run)
-      ∙ ap (member_row s (run_at later n).name 0) (sym (uses_by_path earlier later s (run_at later n) reached.same.names own))
+      -- it stays exactly where the row by the tables does
+      pub row_same : StaysRow s positions stair own → IsSameRow earlier later s n
+      row_same stays =
+          sym after_is ∙ stays ∙ own_is ∙ ap (λ (r : Run). member_row s r.name 0 (section_uses earlier s (run_at earlier n))) same_run
 
-  map_one : (row : Option CutRow) → map (stamped_row 0) (option_to_list row) ≡ option_to_list (option_map (stamped_row 0) row)
-  map_one None = refl
-  map_one (Some row) = refl
+      pub rows_differ : (StaysRow s positions stair own → ⊥) → rows_on_blocks later s 0 ≡ rows_on_blocks earlier s 0 → ⊥
+      rows_differ changes same =
+          changes
+          (after_is ∙ sym (row_found later s beside.later_sound.runs.names n below)
+          ∙ ap (find (λ (r : CutRow). is_same r.name name)) (same ∙ sym beside.rows)
+          ∙ find-map (stamped_row 0) (λ (r : CutRow). is_same r.name name) old ∙ ap (option_map (stamped_row 0)) (sym found))
 
-  there_earlier : (b : Bool) → IsTrue b ↔ IsThere old (run_at later n).name at → b ≡ is_member earlier s (run_at earlier n)
-  there_earlier b told =
-      there_is earlier s rise old is n below_earlier at passed b (subst (λ (r : Run). IsTrue b ↔ IsThere old r.name at) same_run told)
+      -- the rows with the run's
+      module _ (number : ℕ) (row : Option CutRow) (is : IsRowAfter (row_after s positions stair (option_map (stamped_row 0) own)) number own row) (rows : List CutRow) where
+        pub rows_with : map (stamped_row 0) rows ≡ map (row_on_blocks later s 0) (filter (is_member later s) (take n later.runs))
+            → map (stamped_row 0) (rows ++ option_to_list row) ≡ map (row_on_blocks later s 0) (filter (is_member later s) (take (n + 1) later.runs))
+        rows_with so_far =
+            map-append (stamped_row 0) rows (option_to_list row)
+            ∙ ap (λ rs. rs ++ map (stamped_row 0) (option_to_list row)) so_far
+            ∙ ap (λ rs. map (row_on_blocks later s 0) (filter (is_member later s) (take n later.runs)) ++ rs)
+            (map_one row ∙ ap option_to_list (is.value ∙ after_is))
+            ∙ sym (rows_more later s 0 n below)
 
-  pub rows_with : (rows : List CutRow) (row : Option CutRow) (d : Option Stair) (b : Bool) → IsTrue b ↔ IsThere old (run_at later n).name at
-      → map (stamped_row 0) rows ≡ map (row_on_blocks later s 0) (filter (is_member later s) (take n later.runs))
-      → option_map (stamped_row 0) row ≡ row_after s positions (get_or stairs n d) (row_before old at b)
-      → map (stamped_row 0) (rows ++ option_to_list row) ≡ map (row_on_blocks later s 0) (filter (is_member later s) (take (n + 1) later.runs))
-  rows_with rows row d b told so_far own =
-      map-append (stamped_row 0) rows (option_to_list row)
-      ∙ ap (λ rs. rs ++ map (stamped_row 0) (option_to_list row)) so_far
-      ∙ ap (λ rs. map (row_on_blocks later s 0) (filter (is_member later s) (take n later.runs)) ++ rs)
-      (map_one row ∙ ap option_to_list (own ∙ made_is (get_or stairs n d) b (reached.each n d below) (there_earlier b told)))
-      ∙ sym (rows_more later s 0 n below)
-
-  pub place_with : (b : Bool) → IsTrue b ↔ IsThere old (run_at later n).name at
-      → cond b (at + 1) at ≡ length (filter (is_member earlier s) (take (n + 1) earlier.runs))
-  place_with b told = place_more earlier s rise old is n below_earlier at passed b (there_earlier b told)
-
-  -- the old row at the place is the run's
-  pub own_row : (b : Bool) → IsTrue b ↔ IsThere old (run_at later n).name at → IsOwnRow s old (run_at later n).name at b
-  own_row b told = record {
-    reached = subst (λ (r : Run). IsReached old r.name at) (sym same_run) (reached_is earlier s rise old is n below_earlier at passed);
-    told = told;
-    bare = λ e.
-        let member : is_member earlier s (run_at earlier n) ≡ true = sym (there_earlier b told) ∙ e in
-        let row = (member_there earlier s rise old is n below_earlier at passed member).1 in
-        subst (λ (r : Run). IsBareRow s r.name (get_or old at no_member)) (sym same_run)
-        (bare_at earlier s sound n below_earlier member (get_or old at no_member) row);
-  }
-
-  -- and so that of its stair, if it is reached
-  pub stair_own : (stair d : Option Stair) (b : Bool) → stair ≡ get_or stairs n d → IsTrue b ↔ IsThere old (run_at later n).name at
-      → IfSome stair (λ t. IsOwnRow s old t.run at b)
-  stair_own None d b own told = tt
-  stair_own (Some stair) d b own told =
-      let its : stair ≡ stair_of (path_in later (run_at later n)) = subst (IsStairIfReached earlier later (run_at later n)) (sym own) (reached.each n d below) in
-      subst (λ (t : Stair). IsOwnRow s old t.run at b) (sym its) (own_row b told)
-
-  -- a run's row is as before, where what is made is what was there
-  row_same : (stair : Option Stair) (d : Option Stair) (b : Bool) → stair ≡ get_or stairs n d → IsTrue b ↔ IsThere old (run_at later n).name at
-      → row_after s positions stair (row_before old at b) ≡ row_before old at b → IsSameRow earlier later s n
-  row_same stair d b own told same =
-      let member = there_earlier b told in
-      sym (made_is stair b (subst (IsStairIfReached earlier later (run_at later n)) (sym own) (reached.each n d below)) member)
-      ∙ same ∙ kept_is earlier s rise old is n below_earlier at passed b member
-
-  -- the same by what is told of its stair
-  pub same_told : (stair d : Option Stair) (b : Bool) → stair ≡ get_or stairs n d → IsTrue b ↔ IsThere old (run_at later n).name at
-      → IfSome stair (λ t. row_after s positions (Some t) (row_before old at b) ≡ row_before old at b) → IsSameRow earlier later s n
-  same_told None d b own told same = row_same None d b own told refl
-  same_told (Some stair) d b own told same = row_same (Some stair) d b own told same
+        pub stamps_with : All (IsStampedBy number old) rows → All (IsStampedBy number old) (rows ++ option_to_list row)
+        stamps_with so_far = by_row row (is.value ∙ after_is) is.stamp
+          where
+            by_row : (o : Option CutRow) → option_map (stamped_row 0) o ≡ member_row s name 0 (section_uses later s (run_at later n))
+                → IfSome o (IsStamped number own) → All (IsStampedBy number old) (rows ++ option_to_list o)
+            by_row None value stamp = rw (append-nil rows) so_far
+            by_row (Some r) value stamp =
+                All-push (IsStampedBy number old) rows r so_far
+                (subst (λ o. IsStamped number o r) (found ∙ ap (λ m. find (λ (x : CutRow). is_same x.name m) old) (sym (name_of_row s name (section_uses later s (run_at later n)) r (enters s (section_uses later s (run_at later n))) refl value))) stamp)
 
 -- ---- the cut after the edit
 
@@ -319,6 +269,19 @@ module _ (earlier later : Tables) (stairs : List (Option Stair)) (reached : AreR
   -- where the rows are the same, so is the cut
   pub cut_same : rows_on_blocks later old.section 0 ≡ rows_on_blocks earlier old.section 0 → cut_of later name ≡ cut_of earlier name
   cut_same rows = cut_made old refl (ap (λ (c : Cut). c.connections) (sym here.1 ∙ bare_cut earlier old.section reached.same.earlier_none)) (old_rows ∙ sym rows) ∙ sym is
+
+  -- a cut of other rows, and what becomes of the earlier one by it
+  pub cut_changes : (made : Cut) → made.section ≡ old.section → made.connections ≡ [] → (number : ℕ)
+      → AreRowsAfter earlier later old.section number old.rows made.rows → IsSound later
+      → IsChange (cut_of earlier name) (cut_of later name) number (Some old) (change.Touched (Some made))
+  cut_changes made section connections number after sound =
+      let now = cut_made made section connections after.value in (
+        λ same.
+            let both : Some (stamped 0 made) ≡ Some (stamped 0 old) = sym now ∙ same ∙ is in
+            let values : stamped 0 made ≡ stamped 0 old = cc in
+            after.differ (sym after.value ∙ ap (λ (c : Cut). c.rows) values ∙ old_rows),
+        record { same = now; stamps = after.stamps; sound = sound_cut_of later sound name made now },
+      )
 
 -- where no run is reached, no cut differs
 module _ (earlier later : Tables) (stairs : List (Option Stair)) (reached : AreReachedRuns earlier later stairs) (none : All (λ s. s ≡ None) stairs) where

@@ -11,46 +11,20 @@ use Rattle.plan_model.specs.declared.cut.Cut.{Cut}
 use Rattle.plan_model.specs.Cut.{stamped_row}
 use Rattle.plan_model.specs.Members.{no_member}
 use Rattle.section_cut.specs.Change.{IsRestamped}
-use Rattle.section_cut.specs.Stamps.{AreBefore, IsReached}
-use Rattle.section_cut.proofs.Rows.{found_at, none_found}
+use Rattle.section_cut.specs.Stamps.{IsStamped}
 
-module _ (old : Cut) (number at : ℕ) (row : CutRow) (rise : NamesRise (λ r. r.name) old.rows) (reached : IsReached old.rows row.name at) where
-  pub new_stamp : find (λ r. is_same r.name row.name) old.rows ≡ None → IsRestamped number (Some old) (stamped_row number row)
-  new_stamp none = inr (refl, λ e. let it : None ≡ Some (stamped_row 0 row) = subst (λ o. option_map (stamped_row 0) o ≡ Some (stamped_row 0 row)) none e in absurd (cc))
+-- the row of the name before the edit has this value, or another, or isn't there
+pub stamp_kept : (number : ℕ) (before row : CutRow) → stamped_row 0 before ≡ stamped_row 0 row
+    → IsStamped number (Some before) (stamped_row before.stamp row)
+stamp_kept number before row same = inl (ap (λ r. Some (stamped_row before.stamp r)) same)
 
-  -- no old row is left from this name on
-  pub stamp_past : length old.rows ≤ at → IsRestamped number (Some old) (stamped_row number row)
-  stamp_past past = new_stamp (none_found old.rows row.name at rise reached (λ below. absurd (omega arith)))
+pub stamp_new : (number : ℕ) (before row : CutRow) → (stamped_row 0 before ≡ stamped_row 0 row → ⊥)
+    → IsStamped number (Some before) (stamped_row number row)
+stamp_new number before row differ =
+    inr (refl, λ e. let both : Some (stamped_row 0 before) ≡ Some (stamped_row 0 row) = e in differ (cc))
 
-  module _ (below : at < length old.rows) where
-    abbrev before : CutRow
-    before = get_or old.rows at no_member
-
-    found : before.name ≡ row.name → find (λ r. is_same r.name row.name) old.rows ≡ Some before
-    found e = subst (λ n. find (λ (r : CutRow). is_same r.name n) old.rows ≡ Some before) e
-        (found_at (λ (r : CutRow). r.name) old.rows at no_member rise below)
-
-    -- the old row of this name has this value
-    pub stamp_kept : stamped_row 0 before ≡ stamped_row 0 row → IsRestamped number (Some old) (stamped_row before.stamp row)
-    stamp_kept same =
-        inl (found (ap (λ r. r.name) same) ∙ ap (λ r. Some (stamped_row before.stamp r)) same)
-
-    -- it has another, or another name
-    pub stamp_new : (stamped_row 0 before ≡ stamped_row 0 row → ⊥) → IsRestamped number (Some old) (stamped_row number row)
-    stamp_new differ =
-        elim (cases_Bool (is_same before.name row.name)) [
-          | inl same ↦ inr (
-            refl,
-            λ e.
-                let is = found (same_name before.name row.name same) in
-                let both : Some (stamped_row 0 before) ≡ Some (stamped_row 0 row) =
-                subst (λ o. option_map (stamped_row 0) o ≡ Some (stamped_row 0 row)) is e in
-                differ (cc),
-          )
-          | inr other ↦
-              new_stamp (none_found old.rows row.name at rise reached
-              (λ here e. both_ways (is_same before.name row.name) other (is_same-from before.name row.name e)))
-        ]
+pub stamp_first : (number : ℕ) (row : CutRow) → IsStamped number None (stamped_row number row)
+stamp_first number row = inr (refl, λ e. let it : None ≡ Some (stamped_row 0 row) = e in absurd (cc))
 
 -- the rows with one more of them stamped
 module _ (number : ℕ) (old : Cut) (rows : List CutRow) (i stamp : ℕ) (within : i < length rows) where
@@ -69,16 +43,3 @@ module _ (number : ℕ) (old : Cut) (rows : List CutRow) (i stamp : ℕ) (within
   stamps_more all one =
       subst (All (IsRestamped number (Some old))) (sym (take_more_set rows i (stamped_row stamp row) within))
       (All-push (IsRestamped number (Some old)) (take i rows) (stamped_row stamp row) all one)
-
-  pub before_next : (at : ℕ) → NamesRise (λ r. r.name) rows → IsReached old.rows row.name at
-      → i + 1 < length (set rows i (stamped_row stamp row))
-      → AreBefore old.rows (get_or (set rows i (stamped_row stamp row)) (i + 1) no_member).name at
-  before_next at rise reached next =
-      let there : i + 1 < length rows = omega (arith, length-set rows i (stamped_row stamp row)) in
-      let other : i + 1 ≡ i → ⊥ = λ e. omega arith in
-      rw (get_or-set_other rows i (i + 1) (stamped_row stamp row) no_member other)
-      (record {
-        within = reached.before.within;
-        below = λ k early. IsBefore-trans (get_or old.rows k no_member).name row.name (get_or rows (i + 1) no_member).name
-            (reached.before.below k early) (rise i (i + 1) no_member (omega arith) there);
-      })

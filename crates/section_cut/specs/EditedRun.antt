@@ -1,11 +1,19 @@
--- What is known of the run that an edit puts, changes or drops, without connections.
-use Rattle.std.specs.Prelude.{◌≡◌, true, List, ℕ, length, option_map, Some}
+-- What is known of the run that an edit puts, changes or drops, without connections, and what becomes of a cut by it.
+use Rattle.std.specs.Prelude.{◌≡◌, ◌≢◌, ◌⊎◌, ◌<◌, ◌≤◌, true, List, ℕ, length, insert, remove, slice_index_or, Option, Some, None, IfSome}
+use Rattle.rail_model.specs.declared.items.Section.{Section}
+use Rattle.rail_model.specs.declared.stair.Stair.{Stair}
 use Rattle.rail_model.specs.declared.tables.Tables.{Tables}
 use Rattle.rail_model.specs.Rules.{has_run}
 use Rattle.rail_model.specs.Tables.{run_named}
 use Rattle.plan_model.specs.declared.cut.CutRow.{CutRow}
+use Rattle.plan_model.specs.declared.cut.Cut.{Cut}
+use Rattle.plan_model.specs.Cut.{stamped_row}
+use Rattle.plan_model.specs.Members.{no_member}
+use Rattle.section_cut.specs.declared.cut_changes.CutChange.{CutChange}
+use Rattle.section_cut.specs.declared.cut_changes.CutChange.TheVariants as change
 use Rattle.section_cut.specs.declared.one_run.EditedRun.{EditedRun}
-use Rattle.section_cut.specs.OneRun.{IsOneRun}
+use Rattle.section_cut.specs.OneRun.{IsOneRun, uses_of_section}
+use Rattle.section_cut.specs.Times.{with_times}
 
 -- the run of a name is there by both tables, on one route
 pub record KeepsRoute (earlier later : Tables) (name : List ℕ) : Type 0 where
@@ -19,7 +27,21 @@ pub record IsEditedRun (earlier later : Tables) (run : EditedRun) : Type 0 where
   pub one : IsOneRun earlier later run.name run.stair
   pub route : run.keeps_route ≡ true → KeepsRoute earlier later run.name
 
--- the run keeps its route, and a row has as many uses as its stair
-pub record IsWhole (row : CutRow) (run : EditedRun) : Type 0 where
-  pub route : run.keeps_route ≡ true
-  pub count : option_map (λ s. length s.uses) run.stair ≡ Some (length row.uses)
+-- a row's uses, with the times of a stair of as many, are the stair's uses of a section
+abbrev pub KeepsPlaces : Tables → Section → Option Stair → CutRow → Type 0
+KeepsPlaces tables section stair row =
+    IfSome stair (λ s. length row.uses ≡ length s.uses → with_times row.uses s.uses ≡ uses_of_section tables section s.uses)
+
+-- this is the row at a place of these rows, or the place is one of theirs or behind them
+abbrev pub StandsAt : List CutRow → ℕ → Option CutRow → Type 0
+StandsAt rows at (Some own) = (at < length rows) × (slice_index_or rows at no_member ≡ own)
+StandsAt rows at None = at ≤ length rows
+
+-- what becomes of a cut where its own row at a place, if there is one, is to be this one, or to go
+abbrev pub IsPut : Cut → ℕ → Option CutRow → Option CutRow → CutChange → Type 0
+IsPut old at None None result = result ≡ change.Untouched
+IsPut old at None (Some row) result = result ≡ change.Touched (Some (record old { rows = insert old.rows at row }))
+IsPut old at (Some own) None result = result ≡ change.Touched (Some (record old { rows = remove old.rows at }))
+IsPut old at (Some own) (Some row) result =
+    ((stamped_row 0 own ≡ stamped_row 0 row) × (result ≡ change.Untouched))
+    ⊎ ((stamped_row 0 own ≢ stamped_row 0 row) × (result ≡ change.Row at row))

@@ -9,4 +9,5 @@ pub mod OneRun
 pub mod EditedRun
 pub mod Times
 pub mod ReachedRuns
+pub mod RowsAfter
 pub mod Reach

@@ -1,6 +1,6 @@
 -- Changes of blocks, signals and routes, without connections: the runs whose paths they change, and
 -- these runs' rows.
-use Rattle.std.specs.Prelude.{◌≡◌, ℕ, ◌<◌, ◌≤◌, ⊤, Bool, true, false, List, [], length, map, filter, take, slice_index_or, Option, Some, None, option_map, if◌then◌else◌, IsTrue, ◌↔◌, All, IfSome}
+use Rattle.std.specs.Prelude.{◌≡◌, ℕ, ◌<◌, ⊤, Bool, true, false, List, [], length, slice_index_or, Option, Some, None, option_map, All, IfSome}
 use Rattle.rail_model.specs.declared.items.Run.{Run}
 use Rattle.rail_model.specs.declared.items.Section.{Section}
 use Rattle.rail_model.specs.declared.items.Item.{Item}
@@ -14,14 +14,9 @@ use Rattle.rail_model.specs.Name.{is_same}
 use Rattle.rail_model.specs.Tables.{no_run, run_at, block_name, path_in}
 use Rattle.line_tables.specs.Passing.{passes_block, passes_signal}
 use Rattle.plan_model.specs.declared.cut.CutRow.{CutRow}
-use Rattle.plan_model.specs.declared.cut.Cut.{Cut}
 use Rattle.plan_model.specs.Cut.{stamped_row}
-use Rattle.plan_model.specs.Members.{no_member}
-use Rattle.section_cut.specs.Change.{IsRestamped}
-use Rattle.plan_model.specs.SectionCut.{is_member}
-use Rattle.section_cut.specs.declared.reached_runs.RunAt.{RunAt}
-use Rattle.section_cut.specs.Members.{member_row, row_on_blocks}
-use Rattle.section_cut.specs.Stamps.{IsReached, IsThere}
+use Rattle.section_cut.specs.Members.{member_row}
+use Rattle.section_cut.specs.Stamps.{IsStamped}
 use Rattle.section_cut.specs.Positions.{uses_in}
 
 -- a put of a signal or a route, or a change of a block, a signal or a route
@@ -66,10 +61,6 @@ pub record AreReachedRuns (earlier later : Tables) (stairs : List (Option Stair)
   pub each : (n : ℕ) (d : Option Stair) → n < length later.runs
       → IsStairIfReached earlier later (run_at later n) (slice_index_or stairs n d)
 
--- the row at a place, if it is there, without its stamp
-abbrev pub row_before : List CutRow → ℕ → Bool → Option CutRow
-row_before old at there = option_map (stamped_row 0) (if there then Some (slice_index_or old at no_member) else None)
-
 -- a run's row in a section: by its stair, if that is reached, and otherwise the row that it had, if
 -- it had one
 abbrev pub row_after : Section → List ℕ → Option Stair → Option CutRow → Option CutRow
@@ -82,24 +73,16 @@ pub record IsBareRow (section : Section) (name : List ℕ) (row : CutRow) : Type
   pub member : member_row section name 0 row.uses ≡ Some (stamped_row 0 row)
   pub inside : All (λ u. u.block < length section.blocks) row.uses
 
--- the row of a name in a section's cut stands at this place, or none does
-pub record IsOwnRow (section : Section) (old : List CutRow) (name : List ℕ) (at : ℕ) (there : Bool) : Type 0 where
-  pub reached : IsReached old name at
-  pub told : IsTrue there ↔ IsThere old name at
-  pub bare : there ≡ true → IsBareRow section name (slice_index_or old at no_member)
+-- a row has its value, if it is there, by the stair of its run
+abbrev pub StaysRow : Section → List ℕ → Option Stair → Option CutRow → Type 0
+StaysRow section positions stair own =
+    row_after section positions stair (option_map (stamped_row 0) own) ≡ option_map (stamped_row 0) own
 
--- a row has this value after the edit of a number, and its stamp; or neither is there
-pub record IsRowAfter (bare : Option CutRow) (number : ℕ) (old : Cut) (row : Option CutRow) : Type 0 where
+-- a row has this value after the edit of a number, and its stamp by the run's own row before the edit; or neither is
+-- there
+pub record IsRowAfter (bare : Option CutRow) (number : ℕ) (own row : Option CutRow) : Type 0 where
   pub value : option_map (stamped_row 0) row ≡ bare
-  pub stamp : IfSome row (IsRestamped number (Some old))
-
--- the rows of the runs before this one are the same by both tables, and the place is behind as many
--- rows as they have
-pub record IsSameBefore (earlier later : Tables) (section : Section) (first : RunAt) : Type 0 where
-  pub within : first.run ≤ length later.runs
-  pub same : map (row_on_blocks later section 0) (filter (is_member later section) (take first.run later.runs))
-      ≡ map (row_on_blocks earlier section 0) (filter (is_member earlier section) (take first.run earlier.runs))
-  pub passed : first.at ≡ length (filter (is_member earlier section) (take first.run earlier.runs))
+  pub stamp : IfSome row (IsStamped number own)
 
 -- ---- the runs that pass what is edited
 

@@ -34,12 +34,18 @@ pub enum CutChange {
     Row { place: usize, row: CutRow },
 }
 
+// The tables before and after an edit.
+#[derive(Clone, Copy)]
+pub(crate) struct BothTables<'a> {
+    pub(crate) before: &'a LineTables,
+    pub(crate) after: &'a LineTables,
+}
+
 /// The tables before and after an edit, with what is made of them once for the cuts of many
 /// sections.
 #[derive(Drop)]
 pub struct CutChanges<'a> {
-    before: &'a LineTables,
-    after: &'a LineTables,
+    both: BothTables<'a>,
     reach: Reach,
 }
 
@@ -49,9 +55,9 @@ impl<'a> Model for CutChanges<'a> {
 
     ghost Value = { TwoTables };
 
-    ghost view = { λ c. record { before = c.before.now; after = c.after.now } };
+    ghost view = { λ c. record { before = c.both.before.now; after = c.both.after.now } };
 
-    ghost invariant = { λ c. IsReach c.before.now c.after.now c.reach };
+    ghost invariant = { λ c. IsReach c.both.before.now c.both.after.now c.reach };
 }
 
 impl<'a> CutChanges<'a> {
@@ -68,8 +74,7 @@ impl<'a> CutChanges<'a> {
     {
         let reach = reach_of(alloc, before, after, edit)?;
         Ok(CutChanges {
-            before,
-            after,
+            both: BothTables { before, after },
             reach,
         })
     }
@@ -90,30 +95,18 @@ impl<'a> CutChanges<'a> {
             (cut_of self.now.after section.now) number (option_copied cut.entry)) }
     {
         match &self.reach {
-            Reach::All(stairs) => {
-                cut_after_all(alloc, self.before, self.after, stairs, cut, section, number)
-            }
+            Reach::All(stairs) => { cut_after_all(alloc, self.both, stairs, cut, section, number) }
             Reach::Run(run) => match cut {
-                Some(old) => cut_after_run(
-                    alloc,
-                    self.before,
-                    self.after,
-                    run,
-                    old,
-                    section,
-                    number,
-                ),
+                Some(old) => cut_after_run(alloc, self.both, run, old, section, number),
                 None => Ok(CutChange::Untouched),
             },
             Reach::Nothing => Ok(CutChange::Untouched),
             Reach::Runs(stairs) => match cut {
-                Some(old) => {
-                    cut_after_runs(alloc, self.before, self.after, stairs, old, section, number)
-                }
+                Some(old) => cut_after_runs(alloc, self.both, stairs, old, section, number),
                 None => Ok(CutChange::Untouched),
             },
             Reach::Section(name) => {
-                cut_after_section(alloc, self.before, self.after, name, cut, section, number)
+                cut_after_section(alloc, self.both, name, cut, section, number)
             }
         }
     }
@@ -122,43 +115,41 @@ impl<'a> CutChanges<'a> {
 // What the edit of a number makes of the cut of the section of a name, by all stairways after it.
 fn cut_after_all(
     alloc: Global,
-    before: &LineTables,
-    after: &LineTables,
+    both: BothTables<'_>,
     stairs: &AllStairways,
     cut: Option<&Cut>,
     section: &Name,
     number: u64,
 ) -> Result<CutChange, OutOfMemory>
-    requires stairs { stairs.now ≡ timetable after.now }
-    requires cut { cut_of before.now section.now ≡ option_map (stamped 0) (option_copied cut) }
-    ensures { IfOk result (IsChange (cut_of before.now section.now) (cut_of after.now section.now)
-        number (option_copied cut.entry)) }
+    requires stairs { stairs.now ≡ timetable both.after.now }
+    requires cut { cut_of both.before.now section.now ≡ option_map (stamped 0) (option_copied cut) }
+    ensures { IfOk result (IsChange (cut_of both.entry.before.now section.now)
+        (cut_of both.entry.after.now section.now) number (option_copied cut.entry)) }
 {
-    before.learn_sound();
-    let later = cut_anew(alloc, after, stairs, section, number)?;
+    both.before.learn_sound();
+    let later = cut_anew(alloc, both.after, stairs, section, number)?;
     Ok(changed(cut, later, number))
 }
 
 // What the edit of a section makes of the cut of the section of a name.
 fn cut_after_section(
     alloc: Global,
-    before: &LineTables,
-    after: &LineTables,
+    both: BothTables<'_>,
     edited: &Name,
     cut: Option<&Cut>,
     section: &Name,
     number: u64,
 ) -> Result<CutChange, OutOfMemory>
-    requires one { IsOneSection before.now after.now edited.now }
-    requires cut { cut_of before.now section.now ≡ option_map (stamped 0) (option_copied cut) }
-    ensures { IfOk result (IsChange (cut_of before.now section.now) (cut_of after.now section.now)
-        number (option_copied cut.entry)) }
+    requires one { IsOneSection both.before.now both.after.now edited.now }
+    requires cut { cut_of both.before.now section.now ≡ option_map (stamped 0) (option_copied cut) }
+    ensures { IfOk result (IsChange (cut_of both.entry.before.now section.now)
+        (cut_of both.entry.after.now section.now) number (option_copied cut.entry)) }
 {
     if !same_name(edited, section) {
         return Ok(CutChange::Untouched);
     }
-    before.learn_sound();
-    let later = cut_of(alloc, after, section, number)?;
+    both.before.learn_sound();
+    let later = cut_of(alloc, both.after, section, number)?;
     Ok(changed(cut, later, number))
 }
 

@@ -10,7 +10,7 @@ use crate::all_stairways::AllStairways;
 use crate::connections::connections;
 use crate::late::stairways_to;
 use crate::members::{MemberRows, members};
-use crate::positions::positions;
+use crate::positions::{SectionTable, positions};
 use line_tables::LineTables;
 use plan_model::Cut;
 use rail_model::{Name, OutOfMemory};
@@ -72,9 +72,13 @@ fn cut_by(
     ensures sound { IfOk result IsSoundCut }
 {
     tables.learn_sound();
-    let table = positions(alloc, tables, section)?;
+    let positions = positions(alloc, tables, section)?;
     let section = tables.section(section);
-    let MemberRows { mut rows, of_run } = members(alloc, tables, section, &table, stairs, stamp)?;
+    let table = SectionTable {
+        section,
+        positions: &positions,
+    };
+    let MemberRows { mut rows, of_run } = members(alloc, tables, table, stairs, stamp)?;
     let connections = connections(alloc, tables, section, &of_run, &mut rows)?;
     Ok(Cut {
         section: section.copy(alloc)?,

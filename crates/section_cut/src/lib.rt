@@ -10,9 +10,9 @@
 //! `cut_change` makes a cut that is kept that of the tables after an edit, with the stamps of its
 //! rows, and tells whether the edit touches the section; `CutChanges` does so for many sections:
 //!
-//! - An edit of a run makes that run's stairway once, for all sections. Where its row keeps its
-//!   positions, the times are compared where they stand. One row is put in place of the old one, or
-//!   the cut is made anew with the run or without it.
+//! - An edit of a run makes that run's stairway once, for all sections. Where its row has a use for
+//!   each block of its path, the positions stay, and only times are written. One row is put in place
+//!   of the old one, or the cut is made anew with the run or without it.
 //! - An edit of a block, a signal or a route compares the row of each run that passes it with the
 //!   run's new stairway. A row that differs is copied, and its uses that differ are written anew.
 //! - With connections all rows are made anew, but for an edit of a section.

@@ -1,5 +1,5 @@
 //! The members of a section: the runs that enter it within its window.
-ghost use Rattle.std.specs.Prelude.{◌≡◌, ◌≤◌, ◌<◌, All, ◌++◌, ◌∷◌, [], length, map, IfOk, OnOk, option_map};
+ghost use Rattle.std.specs.Prelude.{◌≡◌, ◌<◌, All, ◌++◌, ◌∷◌, [], length, map, IfOk, OnOk, option_map};
 ghost use Rattle.std.specs.Option.{option_to_list};
 ghost use Rattle.plan_model.specs.Cut.{least};
 ghost use Rattle.section_cut.specs.Late.{AreStairsFor};
@@ -8,10 +8,10 @@ ghost use Rattle.rail_model.specs.Timetable.{stair_at};
 ghost use Rattle.section_cut.specs.Members as rows;
 
 use crate::all_stairways::AllStairways;
-use crate::positions::gather;
+use crate::positions::{SectionTable, gather};
 use line_tables::LineTables;
 use plan_model::{CutRow, least_start};
-use rail_model::{List, Name, OutOfMemory, PATH_HOPS, Section, Stair, Use};
+use rail_model::{List, Name, OutOfMemory, Section, Stair, Use};
 use std::alloc::Global;
 
 // A member's row by its place among the rows, and its entry.
@@ -32,18 +32,16 @@ pub(crate) struct MemberRows {
 pub(crate) fn members(
     alloc: Global,
     tables: &LineTables,
-    section: &Section,
-    positions: &[u32],
+    table: SectionTable<'_>,
     stairs: &AllStairways,
     stamp: u64,
 ) -> Result<MemberRows, OutOfMemory>
-    requires stairs { AreStairsFor tables.now section.now stairs.now }
-    requires positions { IsPositions tables.now section.now positions.now }
-    requires blocks { length section.now.blocks ≤ PATH_HOPS }
+    requires stairs { AreStairsFor tables.now table.section.now stairs.now }
+    requires positions { IsPositions tables.now table.section.now table.positions.now }
     ensures rows { IfOk result
-        (λ all. all.rows ≡ rows.rows_on_blocks tables.now section.now stamp) }
+        (λ all. all.rows ≡ rows.rows_on_blocks tables.now table.entry.section.now stamp) }
     ensures of_run { IfOk result
-        (λ all. all.of_run.items ≡ rows.members_by_run tables.now section.now) }
+        (λ all. all.of_run.items ≡ rows.members_by_run tables.now table.entry.section.now) }
 {
     tables.learn_sound();
     let mut all = MemberRows {
@@ -52,7 +50,7 @@ pub(crate) fn members(
     };
     let mut uses = Vec::new(alloc);
     for n in 0..stairs.len() {
-        let row = row_at(alloc, section, positions, stairs, n, stamp, &mut uses)?;
+        let row = row_at(alloc, table, stairs, n, stamp, &mut uses)?;
         add_run(&mut all, row)?;
     }
     Ok(all)
@@ -62,26 +60,25 @@ pub(crate) fn members(
 // blocks are gathered in a list that serves run after run.
 fn row_at(
     alloc: Global,
-    section: &Section,
-    positions: &[u32],
+    table: SectionTable<'_>,
     stairs: &AllStairways,
     n: usize,
     stamp: u64,
     found: &mut Vec<Use>,
 ) -> Result<Option<CutRow>, OutOfMemory>
     requires at { n < length stairs.now }
-    requires there { All (λ u. u.block < length positions.now) (stair_at stairs.now n).uses }
-    requires blocks { length section.now.blocks ≤ PATH_HOPS }
-    ensures { IfOk result (λ row. row ≡ rows.member_row section.now (stair_at stairs.now n).run stamp
-        (uses_in positions.now (length section.now.blocks) (stair_at stairs.now n).uses)) }
+    requires there { All (λ u. u.block < length table.positions.now) (stair_at stairs.now n).uses }
+    ensures { IfOk result
+        (λ row. row ≡ rows.member_row table.entry.section.now (stair_at stairs.now n).run stamp
+        (uses_in table.entry.positions.now (length table.entry.section.now.blocks)
+        (stair_at stairs.now n).uses)) }
 {
-    if stairs.passes_by(n, section) {
+    if stairs.passes_by(n, table.section) {
         return Ok(None);
     }
     let stair = stairs.stair(n);
-    let blocks = section.blocks.len() as u32;
-    gather(found, positions, blocks, stair.uses.slice())?;
-    member_row(alloc, section, stair.run, stamp, found)
+    gather(found, table, stair.uses.slice())?;
+    member_row(alloc, table.section, stair.run, stamp, found)
 }
 
 // The row of a run with these uses of the section's blocks, if it is a member.

@@ -1,27 +1,27 @@
 //! What an edit of one run makes of a section's cut, where there are no connections: it reaches the
 //! run's own row alone.
-ghost use Rattle.std.specs.Prelude.{◌≡◌, ◌<◌, ◌≤◌, ◌↔◌, true, false, IsTrue, All, length, IfOk, IfSome, Some, find, option_map, insert, remove, slice_index_or};
-ghost use Rattle.plan_model.specs.Cut.{stamped, IsSoundCut};
+ghost use Rattle.std.specs.Prelude.{◌≡◌, ◌<◌, ◌≤◌, true, false, All, length, IfOk, IfSome, Some, find, option_map, insert, remove};
+ghost use Rattle.std.specs.Option.{option_copied};
+ghost use Rattle.plan_model.specs.Cut.{stamped};
 ghost use Rattle.section_cut.specs.Change.{IsChange};
 ghost use Rattle.section_cut.specs.Members.{member_row};
-ghost use Rattle.section_cut.specs.OneRun.{run_edited, cut_with, uses_of_section, PassesBy};
-ghost use Rattle.section_cut.specs.EditedRun.{KeepsRoute, IsEditedRun, IsWhole};
-ghost use Rattle.plan_model.specs.Members.{no_member};
+ghost use Rattle.section_cut.specs.OneRun.{run_edited, uses_of_section, PassesBy};
+ghost use Rattle.section_cut.specs.EditedRun.{KeepsRoute, IsEditedRun, KeepsPlaces, StandsAt, IsPut};
 ghost use Rattle.section_cut.specs.OneRun as one;
+ghost use Rattle.section_cut.specs.Times.{with_times};
 ghost use Rattle.plan_model.specs.SectionCut.{cut_of, position_in_section};
 ghost use Rattle.rail_model.specs.Blocking.{stair_of};
 ghost use Rattle.rail_model.specs.Tables.{number_of, path_in, section_at};
 ghost use Rattle.rail_model.specs.Name.{is_same};
-ghost use Rattle.section_cut.specs.Stamps.{IsReached, IsThere};
 ghost use Rattle.section_cut.specs.Starts.{EntersEarly};
 
-use crate::cut_changes::CutChange;
+use crate::cut_changes::{BothTables, CutChange};
 use crate::members::{member_row, row_with};
-use crate::positions::{gather, positions};
+use crate::positions::{SectionTable, gather, positions};
 use crate::same_value::{same_name, same_row};
-use crate::stamps::place_of;
+use crate::stamps::{own_row, place_of};
 use crate::timed_stair::TimedStair;
-use crate::times::{same_times, with_times};
+use crate::times::with_times;
 use blocking_time::stairs;
 use line_tables::LineTables;
 use plan_model::{Cut, CutRow};
@@ -71,41 +71,90 @@ pub(crate) fn run_edited(edit: &Edit) -> Option<Name>
     }
 }
 
-// The row that the edited run has in a section, which has this name, if it is there and a member.
-// Where the run passes by the section's window or its blocks, or its path starts in the section
-// before the window, no table is made for it.
-fn row_of_run(
+// The row that the edited run has in a section after the edit of a number, if it is there and a
+// member. Where it keeps its route, and its own row before the edit has a use for each block of its
+// path, the positions of these blocks stay: only times change.
+fn row_after_run(
     alloc: Global,
     tables: &LineTables,
-    name: &Name,
     section: &Section,
     run: &EditedRun,
-    stamp: u64,
+    own: Option<&CutRow>,
+    number: u64,
 ) -> Result<Option<CutRow>, OutOfMemory>
-    requires section { find (λ s. is_same s.name name.now) tables.now.sections ≡ Some section.now }
+    requires section { find (λ s. is_same s.name section.now.name) tables.now.sections
+        ≡ Some section.now }
     requires stair { run.now.stair ≡ option_map (λ r. stair_of (path_in tables.now r))
         (find (λ r. is_same r.name run.now.name) tables.now.runs) }
     requires blocks { length section.now.blocks ≤ PATH_HOPS }
+    requires keeps { run.now.keeps_route ≡ true → IfSome (option_copied own)
+        (KeepsPlaces tables.now section.now run.now.stair) }
     ensures { IfOk result
-        (λ row. row ≡ one.row_of_stair tables.now section.now stamp run.now.stair) }
+        (λ row. row ≡ one.row_of_stair tables.now section.now number run.now.stair) }
 {
     let Some(stair) = &run.stair else {
         return Ok(None);
     };
+    if run.keeps_route {
+        if let Some(row) = own {
+            if row.uses.len() == stair.stair().uses.len() {
+                return row_with_times(alloc, section, row, stair, number);
+            }
+        }
+    }
+    row_by_stair(alloc, tables, section, &run.name, stair, number)
+}
+
+// The row of the run of a stair, if it is a member, where it has the places of the uses of a row of
+// as many, and only times change.
+fn row_with_times(
+    alloc: Global,
+    section: &Section,
+    row: &CutRow,
+    stair: &TimedStair,
+    stamp: u64,
+) -> Result<Option<CutRow>, OutOfMemory>
+    requires { length row.now.uses ≡ length stair.now.uses }
+    ensures { IfOk result (λ made. made ≡ member_row section.now stair.now.run stamp
+        (with_times row.now.uses stair.now.uses)) }
+{
+    let own = stair.stair();
+    let uses = with_times(alloc, row.uses.slice(), own.uses.slice())?;
+    Ok(row_with(section, own.run, stamp, stair.entry(), uses))
+}
+
+// The row in a section of the run of a name, whose stair this is, if it is a member. Where it is
+// told otherwise that the run is none, no table of positions is made.
+fn row_by_stair(
+    alloc: Global,
+    tables: &LineTables,
+    section: &Section,
+    name: &Name,
+    stair: &TimedStair,
+    stamp: u64,
+) -> Result<Option<CutRow>, OutOfMemory>
+    requires section { find (λ s. is_same s.name section.now.name) tables.now.sections
+        ≡ Some section.now }
+    requires stair { Some stair.now ≡ option_map (λ r. stair_of (path_in tables.now r))
+        (find (λ r. is_same r.name name.now) tables.now.runs) }
+    requires blocks { length section.now.blocks ≤ PATH_HOPS }
+    ensures { IfOk result
+        (λ row. row ≡ one.row_of_stair tables.now section.now stamp (Some stair.now)) }
+{
     tables.learn_sound();
+    let Some(place) = tables.section_number(&section.name) else {
+        unreachable!();
+    };
     if stair.passes_by(section) {
         return Ok(None);
     }
     if enters_early(tables, section, stair) {
         return Ok(None);
     }
-    let Some(place) = tables.section_number(name) else {
-        unreachable!();
-    };
-    if !passes(tables, &run.name, place) {
+    if !passes(tables, name, place) {
         return Ok(None);
     }
-    row_by(alloc, tables, place, section, stair, stamp)
+    row_by_positions(alloc, tables, place, section, stair, stamp)
 }
 
 // Whether the first use of a stair is of one of a section's blocks and starts before its window.
@@ -144,7 +193,7 @@ fn passes(tables: &LineTables, name: &Name, section: u32) -> bool
 }
 
 // The row of the run of a stair in the section of a number, if it is a member.
-fn row_by(
+fn row_by_positions(
     alloc: Global,
     tables: &LineTables,
     place: u32,
@@ -159,15 +208,14 @@ fn row_by(
     ensures { IfOk result (λ row. row ≡ member_row section.now stair.now.run stamp
         (uses_of_section tables.now section.now stair.now.uses)) }
 {
-    let table = positions(alloc, tables, place)?;
+    let positions = positions(alloc, tables, place)?;
     let mut found = Vec::new(alloc);
     let own = stair.stair();
-    gather(
-        &mut found,
-        &table,
-        section.blocks.len() as u32,
-        own.uses.slice(),
-    )?;
+    let table = SectionTable {
+        section,
+        positions: &positions,
+    };
+    gather(&mut found, table, own.uses.slice())?;
     member_row(alloc, section, own.run, stamp, &found)
 }
 
@@ -204,119 +252,51 @@ fn keeps_route(before: &LineTables, after: &LineTables, name: &Name) -> bool
 // What the edit of a run makes of the cut of a section that is there.
 pub(crate) fn cut_after_run(
     alloc: Global,
-    before: &LineTables,
-    after: &LineTables,
+    both: BothTables<'_>,
     run: &EditedRun,
     old: &Cut,
     section: &Name,
     number: u64,
 ) -> Result<CutChange, OutOfMemory>
-    requires edited { IsEditedRun before.now after.now run.now }
-    requires cut { cut_of before.now section.now ≡ Some (stamped 0 old.now) }
-    ensures { IfOk result (IsChange (cut_of before.now section.now) (cut_of after.now section.now)
-        number (Some old.now)) }
+    requires edited { IsEditedRun both.before.now both.after.now run.now }
+    requires cut { cut_of both.before.now section.now ≡ Some (stamped 0 old.now) }
+    ensures { IfOk result (IsChange (cut_of both.entry.before.now section.now)
+        (cut_of both.entry.after.now section.now) number (Some old.now)) }
 {
-    before.learn_sound();
-    after.learn_sound();
+    both.before.learn_sound();
+    both.after.learn_sound();
     let rows = old.rows.slice();
     let at = place_of(rows, &run.name);
-    let there = stands_at(rows, &run.name, at);
-    if there && is_whole(&rows[at], run) {
-        return cut_with_times(alloc, before, after, run, old, section, at, number);
-    }
-    let row = row_of_run(alloc, after, section, &old.section, run, number)?;
-    with_row(alloc, old, &run.name, at, there, row, number)
+    let own = own_row(rows, &run.name, at);
+    let row = row_after_run(alloc, both.after, &old.section, run, own, number)?;
+    with_row(alloc, old, at, own, row)
 }
 
-// Whether the row of the edited run before the edit has a use for each block of its path after it,
-// and so the positions of these blocks.
-fn is_whole(row: &CutRow, run: &EditedRun) -> bool
-    ensures { result ≡ true → IsWhole row.now run.now }
-{
-    let Some(stair) = &run.stair else {
-        return false;
-    };
-    if !run.keeps_route {
-        return false;
-    }
-    row.uses.len() == stair.stair().uses.len()
-}
-
-// What the edit of a number makes of a cut, where the row of the edited run at a place has a use
-// for each block of its path: only the times of these uses change.
-fn cut_with_times(
-    alloc: Global,
-    before: &LineTables,
-    after: &LineTables,
-    run: &EditedRun,
-    old: &Cut,
-    section: &Name,
-    at: usize,
-    number: u64,
-) -> Result<CutChange, OutOfMemory>
-    requires edited { IsEditedRun before.now after.now run.now }
-    requires cut { cut_of before.now section.now ≡ Some (stamped 0 old.now) }
-    requires reached { IsReached old.now.rows run.now.name at }
-    requires there { IsThere old.now.rows run.now.name at }
-    requires whole { IsWhole (slice_index_or old.now.rows at no_member) run.now }
-    ensures { IfOk result (IsChange (cut_of before.now section.now) (cut_of after.now section.now)
-        number (Some old.now)) }
-{
-    before.learn_sound();
-    after.learn_sound();
-    let Some(stair) = &run.stair else {
-        unreachable!();
-    };
-    let places = old.rows.slice()[at].uses.slice();
-    let times = stair.stair().uses.slice();
-    if same_times(places, times) {
-        return Ok(CutChange::Untouched);
-    }
-    let uses = with_times(alloc, places, times)?;
-    let row = row_with(&old.section, run.name, number, stair.entry(), uses);
-    with_row(alloc, old, &run.name, at, true, row, number)
-}
-
-// What the edit of a number makes of a cut, where the row of this name is this one after it, if it
-// is there.
+// What becomes of a cut whose row at a place, if it is there, is another, or is to stand there, or
+// goes.
 fn with_row(
     alloc: Global,
     old: &Cut,
-    name: &Name,
     at: usize,
-    there: bool,
+    own: Option<&CutRow>,
     row: Option<CutRow>,
-    number: u64,
 ) -> Result<CutChange, OutOfMemory>
-    requires reached { IsReached old.now.rows name.now at }
-    requires there { IsTrue there ↔ IsThere old.now.rows name.now at }
-    requires old_sound { IsSoundCut old.now }
-    requires sound { IsSoundCut (cut_with name.now row old.now) }
-    requires named { IfSome row (λ r. r.name ≡ name.now) }
-    requires stamp { IfSome row (λ r. r.stamp ≡ number) }
-    ensures { IfOk result (IsChange (Some (stamped 0 old.now))
-        (Some (stamped 0 (cut_with name.now row old.now))) number (Some old.now)) }
+    requires { StandsAt old.now.rows at (option_copied own) }
+    ensures { IfOk result (IsPut old.now at (option_copied own.entry) row) }
 {
     let Some(row) = row else {
-        if !there {
+        if own.is_none() {
             return Ok(CutChange::Untouched);
         }
         return Ok(CutChange::Touched(Some(row_removed(alloc, old, at)?)));
     };
-    if !there {
+    let Some(own) = own else {
         return Ok(CutChange::Touched(Some(row_inserted(alloc, old, at, row)?)));
-    }
-    if same_row(&old.rows.slice()[at], &row) {
+    };
+    if same_row(own, &row) {
         return Ok(CutChange::Untouched);
     }
     Ok(CutChange::Row { place: at, row })
-}
-
-// Whether the row at a place has this name.
-pub(crate) fn stands_at(rows: &[CutRow], name: &Name, at: usize) -> bool
-    ensures { IsTrue result ↔ IsThere rows.now name.now at }
-{
-    at < rows.len() && rows[at].name == *name
 }
 
 // A copy of a cut without the row at a place.

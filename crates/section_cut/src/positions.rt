@@ -1,12 +1,21 @@
 //! Where blocks stand in a section's list: a table over the numbers of blocks, filled once a
 //! section; and the uses of a stairway by it.
-ghost use Rattle.std.specs.Prelude.{◌≡◌, ◌↔◌, ◌+◌, ◌<◌, true, IsTrue, length, map, take, slice_set, All, IfOk, IfSome, OnOk};
+ghost use Rattle.std.specs.Prelude.{◌≡◌, ◌↔◌, ◌+◌, ◌<◌, ◌≤◌, true, IsTrue, length, map, take, slice_set, All, IfOk, IfSome, OnOk};
 ghost use Rattle.rail_model.specs.Tables.{section_at};
+ghost use Rattle.rail_model.specs.declared.limits.TheConstants.{PATH_HOPS};
 ghost use Rattle.section_cut.specs.Positions.{IsPositions, AreSameTo, AreSameFirst, IsUsePlaced, ArePlaced, with_position, uses_in};
 
 use line_tables::LineTables;
-use rail_model::{List, OutOfMemory, Use};
+use rail_model::{List, OutOfMemory, Section, Use};
 use std::alloc::Global;
+
+// A section, with the position of each block of the tables in it.
+#[derive(Clone, Copy)]
+pub(crate) struct SectionTable<'a> {
+    pub(crate) section: &'a Section,
+    pub(crate) positions: &'a [u32],
+    ghost most: { length section.now.blocks ≤ PATH_HOPS },
+}
 
 // For each block of the tables its position in the list of the section of a number, or the list's
 // length where it isn't there. The list is taken from its end, so of two positions the first would
@@ -39,19 +48,20 @@ fn place(table: &mut [u32], block: u32, position: u32)
     table[block as usize] = position;
 }
 
-// Gathers the uses of a stairway that are in a section of this many blocks, by their positions.
+// Gathers the uses of a stairway that are in a section, by their positions.
 pub(crate) fn gather(
     found: &mut Vec<Use>,
-    positions: &[u32],
-    blocks: u32,
+    table: SectionTable<'_>,
     uses: &[Use],
 ) -> Result<(), OutOfMemory>
-    requires { All (λ u. u.block < length positions.now) uses.now }
-    ensures { OnOk result (found.new.items ≡ uses_in positions.now blocks uses.now) }
+    requires { All (λ u. u.block < length table.positions.now) uses.now }
+    ensures { OnOk result (found.new.items
+        ≡ uses_in table.entry.positions.now (length table.entry.section.now.blocks) uses.now) }
 {
     found.clear();
+    let blocks = table.section.blocks.len() as u32;
     for one in uses {
-        let block = positions[one.block as usize];
+        let block = table.positions[one.block as usize];
         if block < blocks {
             found.push(Use { block, ..*one })?;
         }
@@ -121,24 +131,26 @@ fn is_placed(one: &Use, positions: &[u32], other: &Use) -> bool
     one.start == other.start && one.end == other.end && one.block == positions[other.block as usize]
 }
 
-// The uses of a stairway by their positions in a section of this many blocks, if all are in it,
-// where these are as many, all in it, and the same up to a place.
+// The uses of a stairway by their positions in a section, if all are in it, where these are as
+// many, all in it, and the same up to a place.
 pub(crate) fn placed(
     alloc: Global,
-    positions: &[u32],
-    blocks: u32,
+    table: SectionTable<'_>,
     old: &[Use],
     same: usize,
     stairway: &[Use],
 ) -> Result<Option<List<Use>>, OutOfMemory>
-    requires there { All (λ u. u.block < length positions.now) stairway.now }
+    requires there { All (λ u. u.block < length table.positions.now) stairway.now }
     requires long { length old.now ≡ length stairway.now }
-    requires inside { All (λ u. u.block < blocks) old.now }
-    requires same { map (with_position positions.now) (take same stairway.now) ≡ take same old.now }
-    ensures { IfOk result (λ uses. IfSome uses (ArePlaced positions.now blocks stairway.now)) }
+    requires inside { All (λ u. u.block < length table.section.now.blocks) old.now }
+    requires same { map (with_position table.positions.now) (take same stairway.now)
+        ≡ take same old.now }
+    ensures { IfOk result (λ uses. IfSome uses
+        (ArePlaced table.entry.positions.now (length table.entry.section.now.blocks) stairway.now)) }
 {
     let mut uses = Vec::from_slice(alloc, old)?;
-    if !place_from(&mut uses, positions, blocks, stairway, same) {
+    let blocks = table.section.blocks.len() as u32;
+    if !place_from(&mut uses, table.positions, blocks, stairway, same) {
         return Ok(None);
     }
     Ok(Some(List::from_vec(uses)))

@@ -1,15 +1,16 @@
 //! What a change of a block, a signal or a route makes of a section's cut, where there are no
 //! connections: it reaches the rows of the runs that pass what is edited, and no other.
-ghost use Rattle.std.specs.Prelude.{◌≡◌, ◌<◌, ◌≤◌, ◌+◌, ◌++◌, true, false, Bool, if◌then◌else◌, All, length, map, take, IfOk, IfSome, OnOk, Some, None};
-ghost use Rattle.std.specs.Option.{option_to_list};
+ghost use Rattle.std.specs.Prelude.{◌≡◌, ◌↔◌, ◌<◌, ◌++◌, IsTrue, Bool, if◌then◌else◌, All, length, map, IfOk, IfSome, IfNone, OnOk, Some, None};
+ghost use Rattle.std.specs.Option.{option_to_list, option_copied};
 ghost use Rattle.line_tables.specs.Paths.{paths_of};
 ghost use Rattle.plan_model.specs.Cut.{stamped, stamped_row};
 ghost use Rattle.plan_model.specs.SectionCut.{cut_of};
 ghost use Rattle.rail_model.specs.Tables.{run_at, path_in};
-ghost use Rattle.section_cut.specs.Change.{IsChange, IsRestamped};
+ghost use Rattle.section_cut.specs.Change.{IsChange};
 ghost use Rattle.section_cut.specs.Members.{rows_on_blocks};
-ghost use Rattle.section_cut.specs.Positions.{IsPositions};
-ghost use Rattle.section_cut.specs.ReachedRuns.{IsSameTraffic, IsSameBefore, KeepsBlocks, IsTold, AreReachedRuns};
+ghost use Rattle.section_cut.specs.ReachedRuns.{IsSameTraffic, KeepsBlocks, IsTold, AreReachedRuns};
+ghost use Rattle.section_cut.specs.RowsAfter.{AreBeside, AreRowsAfter, IsOwnOf};
+ghost use Rattle.section_cut.specs.Stamps.{AreBefore, IsReached, IsStampedBy};
 ghost use Rattle.line_tables.specs.Passing.{passes_block, passes_signal};
 ghost use Rattle.rail_model.specs.declared.items.Run.{Run};
 ghost use Rattle.rail_model.specs.Edits as edits;
@@ -18,27 +19,20 @@ ghost use Rattle.rail_model.specs.Path.{Fits};
 ghost use Rattle.rail_model.specs.Blocking.{stair_of};
 ghost use Rattle.section_cut.specs.ReachedRuns as reached;
 
-use crate::cut_changes::CutChange;
-use crate::one_run::stands_at;
-use crate::positions::positions;
-use crate::reached_rows::{row_anew, row_differs};
-use crate::same_value::{same_cut_from, same_name};
+use crate::cut_changes::{BothTables, CutChange};
+use crate::positions::{SectionTable, positions};
+use crate::reached_rows::{row_anew, row_stays};
+use crate::same_value::same_name;
+use crate::stamps::next_row;
 use crate::timed_stair::TimedStair;
 use blocking_time::stairs;
 use line_tables::{LineTables, Paths};
 use plan_model::{Cut, CutRow};
-use rail_model::{Edit, Item, List, Name, OutOfMemory, PATH_HOPS, Path};
+use rail_model::{Edit, Item, List, Name, OutOfMemory, Path};
 use std::alloc::Global;
 
 // How many reached runs each get a path of their own: for more, the paths of all runs are made.
 const FEW: usize = 32;
-
-// A run by its number, and where its row stands in a cut, or would stand.
-#[derive(Clone, Copy)]
-struct RunAt {
-    run: u32,
-    at: usize,
-}
 
 // For each run, in the order of the runs' names, its stair after an edit, where the edit may change
 // its path: only the runs that pass what is put or changed are looked at.
@@ -190,121 +184,127 @@ fn path_by(after: &LineTables, paths: &Option<Paths<'_>>, run: u32) -> Result<Pa
 // What the edit of a number makes of the cut of a section that is there.
 pub(crate) fn cut_after_runs(
     alloc: Global,
-    before: &LineTables,
-    after: &LineTables,
+    both: BothTables<'_>,
     reached: &[Option<TimedStair>],
     old: &Cut,
     section: &Name,
     number: u64,
 ) -> Result<CutChange, OutOfMemory>
-    requires reached { AreReachedRuns before.now after.now reached.now }
-    requires cut { cut_of before.now section.now ≡ Some (stamped 0 old.now) }
-    ensures { IfOk result (IsChange (cut_of before.now section.now) (cut_of after.now section.now)
-        number (Some old.now)) }
+    requires reached { AreReachedRuns both.before.now both.after.now reached.now }
+    requires cut { cut_of both.before.now section.now ≡ Some (stamped 0 old.now) }
+    ensures { IfOk result (IsChange (cut_of both.entry.before.now section.now)
+        (cut_of both.entry.after.now section.now) number (Some old.now)) }
 {
-    before.learn_sound();
-    after.learn_sound();
-    let Some(place) = after.section_number(section) else {
+    both.before.learn_sound();
+    both.after.learn_sound();
+    let Some(place) = both.after.section_number(section) else {
         unreachable!();
     };
-    let table = positions(alloc, after, place)?;
-    let Some(first) = first_differing(alloc, before, after, reached, old, &table)? else {
+    let positions = positions(alloc, both.after, place)?;
+    let table = SectionTable {
+        section: &old.section,
+        positions: &positions,
+    };
+    let Some(rows) = rows_changed(alloc, both, reached, table, old.rows.slice(), number)? else {
         return Ok(CutChange::Untouched);
     };
-    let rows = rows_after(alloc, before, after, reached, old, &table, first, number)?;
-    let later = Cut {
+    Ok(CutChange::Touched(Some(Cut {
         section: old.section.copy(alloc)?,
         connections: List::new(alloc),
         rows,
-    };
-    if same_cut_from(old, &later, first.at) {
-        return Ok(CutChange::Untouched);
-    }
-    Ok(CutChange::Touched(Some(later)))
+    })))
 }
 
-// The first run whose row may be another after an edit than in the cut before it; none where all
-// rows are the same.
-fn first_differing(
+// The rows of a section's cut after the edit of a number, where the cut before it has these; `None`
+// exactly where their values stay.
+fn rows_changed(
     alloc: Global,
-    before: &LineTables,
-    after: &LineTables,
+    both: BothTables<'_>,
     reached: &[Option<TimedStair>],
-    old: &Cut,
-    positions: &[u32],
-) -> Result<Option<RunAt>, OutOfMemory>
-    requires reached { AreReachedRuns before.now after.now reached.now }
-    requires rows { map (stamped_row 0) old.now.rows ≡ rows_on_blocks before.now old.now.section 0 }
-    requires blocks { length old.now.section.blocks ≤ PATH_HOPS }
-    requires table { IsPositions after.now old.now.section positions.now }
-    requires rise { NamesRise (λ r. r.name) old.now.rows }
-    ensures none { IfOk result (λ first. first ≡ None → rows_on_blocks after.now old.now.section 0
-        ≡ rows_on_blocks before.now old.now.section 0) }
-    ensures some { IfOk result (λ first. IfSome first
-        (IsSameBefore before.now after.now old.now.section)) }
+    table: SectionTable<'_>,
+    old: &[CutRow],
+    number: u64,
+) -> Result<Option<List<CutRow>>, OutOfMemory>
+    requires { AreBeside both.before.now both.after.now reached.now table.section.now
+        table.positions.now old.now }
+    ensures stay { IfOk result (λ rows. IfNone rows
+        (rows_on_blocks both.entry.after.now table.entry.section.now 0
+        ≡ rows_on_blocks both.entry.before.now table.entry.section.now 0)) }
+    ensures change { IfOk result (λ rows. IfSome rows (AreRowsAfter both.entry.before.now both.entry.after.now
+        table.entry.section.now number old.now)) }
 {
-    before.learn_sound();
+    if rows_stay(alloc, both, reached, table, old)? {
+        return Ok(None);
+    }
+    Ok(Some(rows_after(alloc, both, reached, table, old, number)?))
+}
+
+// Whether all rows have the values after an edit that they had before it.
+fn rows_stay(
+    alloc: Global,
+    both: BothTables<'_>,
+    reached: &[Option<TimedStair>],
+    table: SectionTable<'_>,
+    old: &[CutRow],
+) -> Result<bool, OutOfMemory>
+    requires { AreBeside both.before.now both.after.now reached.now table.section.now
+        table.positions.now old.now }
+    ensures { IfOk result (λ stay. IsTrue stay
+        ↔ (rows_on_blocks both.entry.after.now table.entry.section.now 0
+        ≡ rows_on_blocks both.entry.before.now table.entry.section.now 0)) }
+{
     let mut found = Vec::new(alloc);
     let mut at = 0;
-    for n in 0..after.runs() {
-        let own = old.rows.slice();
-        let there = stands_at(own, &after.run(n).name, at);
-        let stair = &reached[n as usize];
-        if row_differs(alloc, positions, stair, old, at, there, &mut found)? {
-            return Ok(Some(RunAt { run: n, at }));
+    for n in 0..both.after.runs() {
+        let own = row_of(both.after, n, old, &mut at);
+        if !row_stays(alloc, table, &reached[n as usize], own, &mut found)? {
+            return Ok(false);
         }
-        at = place_behind(own, at, there);
     }
-    Ok(None)
+    Ok(true)
 }
 
-// The rows of a section's cut after an edit of a number, where the cut before it has these: their
-// values and their stamps. Those of the runs before the first that may differ are copied.
+// The rows after the edit of a number: their values and their stamps.
 fn rows_after(
     alloc: Global,
-    before: &LineTables,
-    after: &LineTables,
+    both: BothTables<'_>,
     reached: &[Option<TimedStair>],
-    old: &Cut,
-    positions: &[u32],
-    first: RunAt,
+    table: SectionTable<'_>,
+    old: &[CutRow],
     number: u64,
 ) -> Result<List<CutRow>, OutOfMemory>
-    requires reached { AreReachedRuns before.now after.now reached.now }
-    requires rows { map (stamped_row 0) old.now.rows ≡ rows_on_blocks before.now old.now.section 0 }
-    requires blocks { length old.now.section.blocks ≤ PATH_HOPS }
-    requires table { IsPositions after.now old.now.section positions.now }
-    requires rise { NamesRise (λ r. r.name) old.now.rows }
-    requires first { IsSameBefore before.now after.now old.now.section first }
-    ensures value { IfOk result
-        (λ rows. map (stamped_row 0) rows ≡ rows_on_blocks after.now old.now.section 0) }
-    ensures stamps { IfOk result (All (IsRestamped number (Some old.now))) }
+    requires { AreBeside both.before.now both.after.now reached.now table.section.now
+        table.positions.now old.now }
+    ensures value { IfOk result (λ rows. map (stamped_row 0) rows
+        ≡ rows_on_blocks both.entry.after.now table.entry.section.now 0) }
+    ensures stamps { IfOk result (All (IsStampedBy number old.now)) }
 {
-    before.learn_sound();
     let mut found = Vec::new(alloc);
-    let mut rows = first_rows(alloc, old, first.at)?;
-    let mut at = first.at;
-    for n in first.run..after.runs() {
-        let own = old.rows.slice();
-        let there = stands_at(own, &after.run(n).name, at);
-        let stair = &reached[n as usize];
-        let row = row_anew(alloc, positions, stair, old, at, there, number, &mut found)?;
+    let mut rows = List::new(alloc);
+    let mut at = 0;
+    for n in 0..both.after.runs() {
+        let own = row_of(both.after, n, old, &mut at);
+        let row = row_anew(alloc, table, &reached[n as usize], own, number, &mut found)?;
         push_row(&mut rows, row)?;
-        at = place_behind(own, at, there);
     }
     Ok(rows)
 }
 
-// Copies of the first rows of a cut.
-fn first_rows(alloc: Global, old: &Cut, count: usize) -> Result<List<CutRow>, OutOfMemory>
-    requires { count ≤ length old.now.rows }
-    ensures { IfOk result (λ rows. rows ≡ take count old.now.rows) }
+// The row of the run of a number, if it has one, where all rows below a place have names before the
+// run's. The place is then that of the first row whose name isn't before it.
+fn row_of<'a>(
+    tables: &LineTables,
+    run: u32,
+    rows: &'a [CutRow],
+    at: &mut usize,
+) -> Option<&'a CutRow>
+    requires there { run < length tables.now.runs }
+    requires rise { NamesRise (λ r. r.name) rows.now }
+    requires before { AreBefore rows.now (run_at tables.now run).name at.old }
+    ensures at { IsReached rows.now (run_at tables.now run).name at.new }
+    ensures own { IsOwnOf tables.now run rows.now (option_copied result) }
 {
-    let mut rows = List::new(alloc);
-    for i in 0..count {
-        rows.push(old.rows.slice()[i].copy(alloc)?)?;
-    }
-    Ok(rows)
+    next_row(rows, &tables.run(run).name, at)
 }
 
 // Adds a row, if there is one.
@@ -315,15 +315,4 @@ fn push_row(rows: &mut List<CutRow>, row: Option<CutRow>) -> Result<(), OutOfMem
         Some(row) => rows.push(row),
         None => Ok(()),
     }
-}
-
-// The place of the next row, where the one at a place is passed if it is there.
-fn place_behind(rows: &[CutRow], at: usize, there: bool) -> usize
-    requires { there ≡ true → at < length rows.now }
-    ensures { result ≡ (if there then at + 1 else at) }
-{
-    if there {
-        return at + 1;
-    }
-    at
 }

@@ -1,5 +1,5 @@
 //! Whether two cuts have one value: stamps are no part of it.
-ghost use Rattle.std.specs.Prelude.{◌≡◌, ◌≢◌, ◌↔◌, false, IsTrue, map};
+ghost use Rattle.std.specs.Prelude.{◌≡◌, ◌↔◌, IsTrue, map};
 ghost use Rattle.plan_model.specs.Cut.{stamped_row, IsSameCut};
 
 use plan_model::{Cut, CutRow};
@@ -12,23 +12,6 @@ pub fn same_cut(a: &Cut, b: &Cut) -> bool
     same_section(&a.section, &b.section)
         && same_names(a.connections.slice(), b.connections.slice())
         && same_rows(a.rows.slice(), b.rows.slice())
-}
-
-// Whether two cuts are equal but for their stamps. The rows at a place are looked at first.
-pub(crate) fn same_cut_from(a: &Cut, b: &Cut, at: usize) -> bool
-    ensures { IsTrue result ↔ IsSameCut a.now b.now }
-{
-    same_at(a.rows.slice(), b.rows.slice(), at) && same_cut(a, b)
-}
-
-// Whether the rows at a place are equal but for their stamps; `true` also where a list has none.
-fn same_at(a: &[CutRow], b: &[CutRow], at: usize) -> bool
-    ensures { result ≡ false → map (stamped_row 0) a.now ≢ map (stamped_row 0) b.now }
-{
-    if at >= a.len() || at >= b.len() {
-        return true;
-    }
-    same_row(&a[at], &b[at])
 }
 
 /// Whether two rows are equal but for their stamps.

@@ -18,7 +18,7 @@ pub members-requires-clause-positions : goal.members-requires-clause-positions
 members-requires-clause-positions c =
     let tables = c.args.tables.now in
     let is = get_or_from_slice_get tables.sections c.args.section c.section-section.result.now no_section c.section-section.ensures in
-    rw c.deref.ensures.value (subst (λ s. IsPositions tables s c.in_ok-table.table.items) is c.in_ok-table.ensures)
+    rw c.deref.ensures.value (subst (λ s. IsPositions tables s c.in_ok-positions.positions.items) is c.in_ok-positions.ensures)
 
 pub connections-requires-clause-rows : goal.connections-requires-clause-rows
 connections-requires-clause-rows c =

@@ -16,13 +16,13 @@ row_at-requires-clause-there c =
     let tables = c.args.tables.now in
     let n = c.loop-n.n in
     let here : n < length tables.runs = omega (arith, c.loop-n-test.true, c.len-n-end.ensures, c.requires.stairs.count) in
-    let there = stair_there tables c.args.section.now c.learn_sound.ensures n here (stair_at c.args.stairs.now n) (c.requires.stairs.each n no_stair here) in
+    let there = stair_there tables c.args.table.section.now c.learn_sound.ensures n here (stair_at c.args.stairs.now n) (c.requires.stairs.each n no_stair here) in
     λ k d l. omega (arith, there k d l, c.requires.positions.count)
 
 pub loop-n-preserved : goal.loop-n-preserved
 loop-n-preserved c =
     let tables = c.args.tables.now in
-    let section = c.args.section.now in
+    let section = c.args.table.section.now in
     let stamp = c.args.stamp in
     let n = c.loop-n.n in
     let run = run_at tables n in
@@ -32,8 +32,8 @@ loop-n-preserved c =
     let sound = c.learn_sound.ensures in
     let row : c.in_ok-row.row ≡ member_row section run.name stamp (section_uses tables section run) =
     c.in_ok-row.ensures
-    ∙ ap (λ name. member_row section name stamp (uses_in c.args.positions.now (length section.blocks) stair.uses)) (stair_name tables section sound n here stair is)
-    ∙ stair_row tables section sound n here stamp c.args.positions.now c.requires.positions stair is in
+    ∙ ap (λ name. member_row section name stamp (uses_in c.args.table.positions.now (length section.blocks) stair.uses)) (stair_name tables section sound n here stair is)
+    ∙ stair_row tables section sound n here stamp c.args.table.positions.now c.requires.positions stair is in
     record {
       rows = c.in_ok-add_run.ensures.rows ∙ ap (λ rs. rs ++ option_to_list c.in_ok-row.row) c.loop-n.invariant.rows
           ∙ ap (λ r. map (row_on_blocks tables section stamp) (filter (is_member tables section) (take n tables.runs)) ++ option_to_list r) row ∙ sym (rows_more tables section stamp n here);

@@ -8,6 +8,6 @@ use Rattle.section_cut.proofs.members.members.Given as goal
 -- the rows and the members so far
 abbrev pub invariant-loop-n : goal.invariant-loop-n
 invariant-loop-n l = record {
-  rows : l.all.rows ≡ map (row_on_blocks l.tables l.section l.stamp) (filter (is_member l.tables l.section) (take l.n l.tables.runs));
-  of_run : l.all.of_run.items ≡ map (member_at l.tables l.section) (range_with_len 0 l.n);
+  rows : l.all.rows ≡ map (row_on_blocks l.tables l.table.section.now l.stamp) (filter (is_member l.tables l.table.section.now) (take l.n l.tables.runs));
+  of_run : l.all.of_run.items ≡ map (member_at l.tables l.table.section.now) (range_with_len 0 l.n);
 }

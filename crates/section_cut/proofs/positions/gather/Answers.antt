@@ -1,4 +1,4 @@
-use Rattle.std.proofs.Common.{get_or, ◌∷◌, [], ◌++◌, w64, sym, ap, ◌∙◌, rules, arith}
+use Rattle.std.proofs.Common.{get_or, length, ◌∷◌, [], ◌++◌, w64, sym, ap, ◌∙◌, rules, arith}
 use Rattle.std.proofs.lemmas.Int.{to_z-of_z}
 use Rattle.plan_model.specs.Members.{no_use}
 use Rattle.section_cut.specs.Positions.{with_position}
@@ -16,9 +16,9 @@ loop-one-preserved c =
           let start = to_z-of_z w64 one.start (search rules) in
           let end = to_z-of_z w64 one.«end» (search rules) in
           let pushed = rw (start, end) at w.in_ok-push.ensures.items in
-          ap (λ v. v.items) w.found-is ∙ pushed ∙ ap (λ us. us ++ with_position c.args.positions.now one ∷ []) c.loop-one.invariant
-          ∙ sym (uses_in_yes c.args.positions.now c.args.blocks uses i no_use c.loop-one-test.true (omega (arith, w.if-block-blocks.true)))
+          ap (λ v. v.items) w.found-is ∙ pushed ∙ ap (λ us. us ++ with_position c.args.table.positions.now one ∷ []) c.loop-one.invariant
+          ∙ sym (uses_in_yes c.args.table.positions.now (length c.args.table.section.now.blocks) uses i no_use c.loop-one-test.true (omega (arith, w.if-block-blocks.true)))
       | else-block-blocks w ↦
           ap (λ v. v.items) w.found-is ∙ c.loop-one.invariant
-          ∙ sym (uses_in_no c.args.positions.now c.args.blocks uses i no_use c.loop-one-test.true (omega (arith, w.if-block-blocks.false)))
+          ∙ sym (uses_in_no c.args.table.positions.now (length c.args.table.section.now.blocks) uses i no_use c.loop-one-test.true (omega (arith, w.if-block-blocks.false)))
     ]

@@ -5,13 +5,13 @@ use Rattle.section_cut.proofs.reached_rows.row_made.Goals as goal
 
 pub returns-then-passes_by : goal.returns-then-passes_by
 returns-then-passes_by c =
-    let section = c.args.section.now in
-    let stays = outside_not_entered section (slice_index c.args.positions.now) (length section.blocks) c.args.stair.now.uses
+    let section = c.args.table.section.now in
+    let stays = outside_not_entered section (slice_index c.args.table.positions.now) (length section.blocks) c.args.stair.now.uses
     (c.passes_by.ensures c.if-passes_by.true) in
     rw stays refl
 
 pub returns-then-enters_early : goal.returns-then-enters_early
 returns-then-enters_early c =
-    let stays = early_not_entered c.args.section.now (slice_index c.args.positions.now) c.args.stair.now.uses
+    let stays = early_not_entered c.args.table.section.now (slice_index c.args.table.positions.now) c.args.stair.now.uses
     (c.enters_early.ensures c.if-enters_early.true) in
     rw stays refl
