@@ -7,6 +7,7 @@ use Rattle.plan_model.specs.declared.cut.CutRow.{CutRow}
 use Rattle.plan_model.specs.Cut.{stamped, IsSoundCut}
 use Rattle.plan_model.specs.SectionCut.{section_cut}
 use Rattle.rail_model.specs.Tables.{no_section, section_at}
+use Rattle.section_cut.specs.Late.{AreStairsFor}
 use Rattle.section_cut.specs.Positions.{IsPositions}
 use Rattle.section_cut.specs.Members.{members_of, row_on_blocks}
 use Rattle.section_cut.proofs.Sections.{section_stands, section_within}
@@ -19,6 +20,19 @@ members-requires-clause-positions c =
     let tables = c.args.tables.now in
     let is = get_or_from_slice_get tables.sections c.args.section c.section-section.result.now no_section c.section-section.ensures in
     rw c.deref.ensures.value (subst (λ s. IsPositions tables s c.in_ok-positions.positions.items) is c.in_ok-positions.ensures)
+
+pub members-requires-clause-stairs : goal.members-requires-clause-stairs
+members-requires-clause-stairs c =
+    subst (λ s. AreStairsFor c.args.tables.now s c.args.stairs.now)
+    (get_or_from_slice_get c.args.tables.now.sections c.args.section c.section-section.result.now no_section c.section-section.ensures)
+    c.requires.stairs
+
+pub invariant_of-table : goal.invariant_of-table
+invariant_of-table c = record {
+  most = subst (λ (s : Section). length s.blocks ≤ PATH_HOPS)
+      (get_or_from_slice_get c.args.tables.now.sections c.args.section c.section-section.result.now no_section c.section-section.ensures)
+      (section_within c.args.tables.now c.learn_sound.ensures c.args.section c.requires.there).most;
+}
 
 pub connections-requires-clause-rows : goal.connections-requires-clause-rows
 connections-requires-clause-rows c =

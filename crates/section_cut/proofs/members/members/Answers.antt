@@ -1,7 +1,9 @@
-use Rattle.std.proofs.Common.{◌≡◌, ◌<◌, ◌++◌, ◌∷◌, [], length, sym, ap, ◌∙◌, arith}
+use Rattle.std.proofs.Common.{◌≡◌, ◌<◌, List, ◌++◌, ◌∷◌, [], length, sym, ap, ◌∙◌, arith}
 use Rattle.std.specs.List.{range_with_len}
 use Rattle.std.specs.Prelude.{map, filter, take, option_map}
 use Rattle.std.specs.Option.{option_to_list}
+use Rattle.std.proofs.lemmas.List.{take_all}
+use Rattle.rail_model.specs.declared.items.Run.{Run}
 use Rattle.rail_model.specs.Tables.{run_at}
 use Rattle.plan_model.specs.SectionCut.{section_uses, is_member}
 use Rattle.rail_model.specs.Timetable.{no_stair, stair_at}
@@ -42,3 +44,11 @@ loop-n-preserved c =
           ∙ ap (λ r. map (member_at tables section) (range_with_len 0 n) ++ option_map (member_of (length c.loop-n.all.rows)) r ∷ []) row
           ∙ sym (members_more tables section stamp n c.loop-n.all.rows c.loop-n.invariant.rows);
     }
+
+pub returns-clause-rows : goal.returns-clause-rows
+returns-clause-rows c =
+    let tables = c.args.tables.now in
+    let section = c.args.table.section.now in
+    c.loop-n.invariant.rows
+    ∙ ap (λ (rs : List Run). map (row_on_blocks tables section c.args.stamp) (filter (is_member tables section) rs))
+    (take_all c.loop-n.n tables.runs (omega (arith, c.loop-n-test.false, c.len-n-end.ensures, c.requires.stairs.count)))
