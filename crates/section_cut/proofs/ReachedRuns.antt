@@ -13,7 +13,7 @@ use Rattle.rail_model.specs.declared.stair.Use.{Use}
 use Rattle.rail_model.specs.declared.path.Path.{Path}
 use Rattle.rail_model.specs.declared.tables.Tables.{Tables}
 use Rattle.rail_model.specs.Name.{NamesRise, is_same}
-use Rattle.rail_model.specs.Blocking.{stairway, stair_of}
+use Rattle.rail_model.specs.Blocking.{stairway}
 use Rattle.rail_model.specs.Tables.{no_run, number_of, run_at, block_name, path_in}
 use Rattle.rail_model.specs.Sound.{IsSound}
 use Rattle.rail_model.proofs.Lists.{map_same, find-map}

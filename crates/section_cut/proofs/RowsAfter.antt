@@ -1,6 +1,6 @@
 -- One row of a cut after an edit: its value and its stamp.
 use Rattle.std.proofs.Common.{◌≡◌, ℕ, List, map, length, Some, refl, sym, ap, ◌∙◌, inl, inr}
-use Rattle.std.specs.Prelude.{Option, option_map}
+use Rattle.std.specs.Prelude.{option_map}
 use Rattle.std.proofs.lemmas.Bool.{cases_Bool}
 use Rattle.rail_model.specs.declared.items.Section.{Section}
 use Rattle.rail_model.specs.declared.stair.Use.{Use}

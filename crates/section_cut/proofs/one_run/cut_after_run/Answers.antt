@@ -1,4 +1,4 @@
-use Rattle.std.proofs.Common.{◌≡◌, Some, Result, Ok, Err, sym, ap, ◌∙◌, subst}
+use Rattle.std.proofs.Common.{◌≡◌, Some, Result, Ok, Err, sym, ap, subst}
 use Rattle.std.specs.Prelude.{find, IfOk}
 use Rattle.std.specs.Option.{option_copied}
 use Rattle.line_tables.proofs.Found.{find_some}

@@ -1,4 +1,4 @@
-use Rattle.std.proofs.Common.{◌<◌, length, Some, refl, sym, ◌∙◌, subst}
+use Rattle.std.proofs.Common.{◌<◌, length, Some, refl, sym, subst}
 use Rattle.std.specs.Prelude.{All, IfSome}
 use Rattle.rail_model.specs.declared.stair.Stair.{Stair}
 use Rattle.rail_model.specs.declared.stair.Use.{Use}

@@ -1,4 +1,4 @@
-use Rattle.std.proofs.Common.{◌≡◌, Some, None, refl, sym, subst, inl}
+use Rattle.std.proofs.Common.{Some, None, refl, sym, subst, inl}
 use Rattle.std.specs.Prelude.{option_map}
 use Rattle.std.specs.Option.{option_copied}
 use Rattle.plan_model.specs.declared.cut.CutRow.{CutRow}
