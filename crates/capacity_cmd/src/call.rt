@@ -24,8 +24,8 @@ use rail_outside::{Gate, Sink, Source, Taken, take_all};
 use std::sync::Wait;
 use std::thread::Threads;
 
-/// Whether a call with these words waits for nobody: all but a session with workers, which a line
-/// that is made has, too.
+/// Whether a call with these words waits for nobody: `made` and a session with workers have threads
+/// that wait for one another, and no other call has.
 pub fn alone(words: &[String]) -> bool
     ensures { IsTrue result ↔ IsAlone (map string_bytes words.now) }
 {
@@ -225,7 +225,7 @@ fn reply_from<R: AllocGlobal + Threads + Sync, S: Source>(
     }
 }
 
-// The same of a session with workers.
+// Reads the input and makes the reply of a session with workers, or says why there is none.
 fn session_reply<R: AllocGlobal + Threads + Wait + Sync, S: Source, G: Gate>(
     rt: &R,
     workers: u32,
@@ -252,8 +252,8 @@ fn session_reply<R: AllocGlobal + Threads + Wait + Sync, S: Source, G: Gate>(
     }
 }
 
-// Reads the input: what it gives to a command, or the reply that refuses it. Or says why there is
-// neither.
+// Reads the input and says what it gives to a command, or the reply that refuses it. The status of
+// an error is that of a failed read or of memory that ran out.
 fn input_from<R: AllocGlobal + Threads + Sync, S: Source>(
     rt: &R,
     command: &Command,

@@ -33,7 +33,7 @@ pub(crate) fn cut_text(
     }
 }
 
-// The text of a cut. Of one with more members than are compressed only their number is told.
+// Of a cut with more members than are compressed only their number is told.
 fn text_of_cut(alloc: Global, cut: &Cut) -> Result<Vec<u8>, OutOfMemory>
     requires { IsSoundCut cut.now }
     ensures { IfOk result (λ text. IsCutText cut.now text.items) }
@@ -45,6 +45,7 @@ fn text_of_cut(alloc: Global, cut: &Cut) -> Result<Vec<u8>, OutOfMemory>
     }
 }
 
+// How many members a crowded cut has.
 fn count_text(alloc: Global, cut: &Cut) -> Result<Vec<u8>, OutOfMemory>
     requires sound { IsSoundCut cut.now }
     requires many { MEMBERS < member_count cut.now }
@@ -55,6 +56,7 @@ fn count_text(alloc: Global, cut: &Cut) -> Result<Vec<u8>, OutOfMemory>
     Ok(sheet.into_text())
 }
 
+// The rows of the pieces into which a cut that is not crowded is parted.
 fn cutting_text(alloc: Global, cut: &Cut) -> Result<Vec<u8>, OutOfMemory>
     requires sound { IsSoundCut cut.now }
     requires few { member_count cut.now ≤ MEMBERS }

@@ -33,7 +33,7 @@ pub(crate) fn cycle_text(
     }
 }
 
-// The text of a cut.
+// The cycle of a cut whose trains have an order; of any other the head of its answer.
 fn text_of_cut(alloc: Global, cut: &Cut) -> Result<Vec<u8>, OutOfMemory>
     requires { IsSoundCut cut.now }
     ensures { IfOk result (λ text. IsCycleText cut.now text.items) }

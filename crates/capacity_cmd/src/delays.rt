@@ -40,7 +40,8 @@ pub(crate) fn delays_text(
     }
 }
 
-// The same on the section's cut.
+// The rows for the cut of the section, or the refusal of delays of which one is given to a word that
+// is no name.
 fn text_on_cut(
     alloc: Global,
     cut: &Cut,
@@ -61,7 +62,8 @@ fn text_on_cut(
     }
 }
 
-// The same for delays that are given to runs by their names.
+// The rows for a cut and delays that are given to runs by their names, or the refusal of a run that
+// is no member.
 fn text_of_given(
     alloc: Global,
     cut: &Cut,

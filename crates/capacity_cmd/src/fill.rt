@@ -37,7 +37,7 @@ pub(crate) fn fill_text(
     }
 }
 
-// The same on the section's cut.
+// The rows for the cut of the section, or the refusal of a run that is no member.
 fn text_on_cut(
     alloc: Global,
     cut: &Cut,
@@ -58,7 +58,8 @@ fn text_on_cut(
     }
 }
 
-// The text of a cut and one of its members.
+// The head of the answer where the cut has no compressed timetable, and else the rows of the section
+// that is filled with copies of the member.
 fn member_text(alloc: Global, cut: &Cut, row: usize) -> Result<Vec<u8>, OutOfMemory>
     requires sound { IsSoundCut cut.now }
     requires there { row < member_count cut.now }

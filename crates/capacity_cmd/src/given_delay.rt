@@ -37,7 +37,6 @@ impl Model for Delay {
 }
 
 impl Delay {
-    // No delay.
     fn none() -> Delay
         ensures { result ≡ 0 }
     {
@@ -57,7 +56,7 @@ impl Delay {
         }
     }
 
-    /// Its seconds.
+    /// The delay in seconds, at most `GREATEST_DELAY_S`.
     pub fn seconds(&self) -> u32
         ensures same { result ≡ self.now }
         ensures limit { result ≤ GREATEST_DELAY_S }
@@ -80,7 +79,7 @@ pub(crate) fn are_delays(words: &[String]) -> bool
     !words.is_empty() && words.len() <= 2 * GIVEN_DELAYS && are_pairs(words)
 }
 
-// The same of however many pairs.
+// Whether words are pairs of a run's word and its delay's, however many, no run's word twice.
 fn are_pairs(words: &[String]) -> bool
     ensures { result ≡ are_pairs (map string_bytes words.now) }
 {

@@ -44,7 +44,7 @@ fn text_of_heads(alloc: Global, tables: &LineTables, heads: &[Head]) -> Result<V
     Ok(sheet.into_text())
 }
 
-// Adds the same rows to a sheet, made in this thread.
+// Adds the heads of all sections and their total to a sheet. Only this thread makes them.
 pub(crate) fn add_report(
     alloc: Global,
     sheet: &mut Sheet,

@@ -33,7 +33,6 @@ impl Model for ScriptRows {
 }
 
 impl ScriptRows {
-    // No scripts.
     pub(crate) fn new(alloc: Global) -> ScriptRows
         ensures { result ≡ [] }
     {
@@ -82,7 +81,6 @@ impl ScriptRows {
         Ok(None)
     }
 
-    // The scripts.
     pub(crate) fn end(self) -> Scripts
         ensures same { result ≡ self }
         ensures tasks { sum_by length self ≤ TASKS }

@@ -24,8 +24,8 @@ pub enum Cause {
     #[error("no train of the section has that name")]
     NoMember,
     /// The row may not stand at its place in the input: rows `planner` and `ask` stand in sessions
-    /// alone, planners in the order of their numbers and at most 16, a question below a planner,
-    /// and there are at most 256 tasks.
+    /// alone, planners in the order of their numbers and at most `PLANNERS`, a question below a
+    /// planner, and there are at most `TASKS` tasks.
     #[error("the row may not stand there")]
     Script,
 }

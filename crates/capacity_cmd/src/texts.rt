@@ -59,7 +59,7 @@ pub(crate) fn text_of(
     }
 }
 
-// The same text in one piece, or why there is none.
+// A text in one piece, or why there is none, as every command ends with it.
 fn in_one_piece(made: Result<Vec<u8>, Cause>) -> Result<Result<Text, Cause>, OutOfMemory>
     ensures { IfOk result (λ whole. MatchResult made
         (λ text. whole ≡ Ok text.items)
