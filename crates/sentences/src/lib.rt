@@ -17,6 +17,7 @@
 //! ```
 #![tactic(auto)]
 
+mod clashes;
 mod column;
 mod form_sentence;
 mod found;

@@ -2,6 +2,7 @@
 ghost use Rattle.std.specs.Prelude.{◌<◌, length};
 
 use crate::Told;
+use crate::clashes::clashing_places;
 use crate::found::{Found, NAMED, tell_found};
 use crate::piece::Written;
 use blocking_time::stairs;
@@ -149,41 +150,14 @@ fn is_member(cut: &Cut, run: &Name) -> bool {
         .is_ok()
 }
 
-// All uses of a cut by place, start and end.
-fn uses_in_order(alloc: Global, cut: &Cut) -> Result<Vec<(u32, i64, i64)>, OutOfMemory> {
-    let mut uses = Vec::new(alloc);
-    for row in cut.rows.slice() {
-        for one in row.uses.slice() {
-            uses.push((one.block, one.start, one.end))?;
-        }
-    }
-    uses.sort()?;
-    Ok(uses)
-}
-
-// The blocks and the connections of a cut of which a use starts before an earlier one ends.
+// The blocks and the connections of a cut that two members use at one time.
 fn clashes(alloc: Global, cut: &Cut) -> Result<(Found<'_>, Found<'_>), OutOfMemory> {
-    let uses = uses_in_order(alloc, cut)?;
-    Ok(clashes_in(cut, &uses))
-}
-
-fn clashes_in<'a>(cut: &'a Cut, uses: &[(u32, i64, i64)]) -> (Found<'a>, Found<'a>) {
+    let places = clashing_places(alloc, cut)?;
     let (mut blocks, mut connections) = (Found::nothing(), Found::nothing());
-    // The place of the last use, and until when it is used; nothing once a clash is found there.
-    let (mut last, mut until) = (u32::MAX, None);
-    for (place, start, end) in uses {
-        until = match until {
-            _ if *place != last => Some(*end),
-            Some(until) if *start >= until => Some(until.max(*end)),
-            Some(_) => {
-                add_place(&mut blocks, &mut connections, cut, *place as usize);
-                None
-            }
-            None => None,
-        };
-        last = *place;
+    for place in places.iter() {
+        add_place(&mut blocks, &mut connections, cut, *place);
     }
-    (blocks, connections)
+    Ok((blocks, connections))
 }
 
 fn add_place<'a>(blocks: &mut Found<'a>, connections: &mut Found<'a>, cut: &'a Cut, place: usize) {
