@@ -1,17 +1,25 @@
 #!/usr/bin/env python3
-"""Measures two programs beside each other: bench/beside.py PROGRAM PLAIN [CASE ..]
+"""Measures two programs beside each other: bench/beside.py PROGRAM PLAIN [CASE ..] [--only counts | --only walls] ..
 
 PLAIN is a program of the same commands. Prints a table in Markdown, a row for each case: how many times PLAIN's the program's
-instructions, wall time on one processor and on all, and peak memory are, with the program's own figures in brackets. Below
-1.00 the program needs less. Instructions are callgrind's, of the whole program, reading and writing included; the two take
-turns at the calls that are timed, and the least of 9 counts; the peak is GNU time's. A figure whose tool isn't there is left
-out. Where the texts differ, but for those of threads, the case says so and the script ends with status 1.
+instructions, peak memory and wall time are, with the program's own figures in brackets. Below 1.00 the program needs less.
+Where the texts differ, but for those of threads, the case says so and the script ends with status 1.
+
+- Instructions are callgrind's, of the whole program, reading and writing included; the peak is GNU time's. These are the
+  counts. They don't depend on what else the machine does, so --jobs N measures N cases at once.
+- Wall times are those of one processor and of all. The two programs take turns, and the least of 9 calls counts, of three
+  where these take long. They want a quiet machine, for some five minutes.
+
+--figures FILE keeps what is measured in FILE, and takes from it what is not: so counts and walls can be measured at different
+times, and the table has both. A figure that isn't known, or whose tool isn't there, is left out.
 
 The inputs are those of bench/make_line.py, make_hard.py and make_session.py. A case is named by the first words of its row,
-as `headways` or `session-mid`; without names all are measured, which takes some ten minutes, most of it callgrind's, and
-wants a quiet machine.
+as `headways` or `session-mid`; without names all are measured.
 """
+import argparse
+import concurrent.futures
 import hashlib
+import json
 import os
 import pathlib
 import re
@@ -22,8 +30,7 @@ import tempfile
 import time
 
 BENCH = pathlib.Path(__file__).resolve().parent
-TIMES = 9
-LONG = 2.0  # seconds, beyond which a call is timed three times only
+TIMES, FEWEST, LONG = 9, 3, 3.0  # calls that are timed, or fewer once they have taken so many seconds together
 
 # Of each case its name, the words, the script that makes the input and the script's words, and what the table says of it.
 CASES = [
@@ -76,13 +83,14 @@ def call(before, program, words, given):
         ended = subprocess.run([*before, program, *words.split()], stdin=source, stdout=text, stderr=subprocess.PIPE)
         seconds = time.perf_counter() - begun
         text.seek(0)
-        return ended.returncode, hashlib.file_digest(text, "sha256").digest(), ended.stderr.decode(errors="replace"), seconds
+        return ended.returncode, hashlib.file_digest(text, "sha256").hexdigest(), ended.stderr.decode(errors="replace"), seconds
 
 
-def instructions(program, words, given, folder):
+def instructions(program, words, given):
     if shutil.which("valgrind") is None:
         return None
-    said = call(["valgrind", "--tool=callgrind", "--callgrind-out-file=%s" % (folder / "callgrind.out")], program, words, given)[2]
+    with tempfile.NamedTemporaryFile() as file:
+        said = call(["valgrind", "--tool=callgrind", "--callgrind-out-file=" + file.name], program, words, given)[2]
     return int(re.search(r"refs:\s+([\d,]+)", said).group(1).replace(",", ""))
 
 
@@ -96,49 +104,105 @@ def peak(program, words, given):
 
 def walls(programs, words, given, processors):
     """The least seconds of each program on these processors, the programs taking turns."""
-    ours, least = os.sched_getaffinity(0), [float("inf")] * len(programs)
+    ours, least, begun = os.sched_getaffinity(0), [float("inf")] * len(programs), time.perf_counter()
     os.sched_setaffinity(0, processors)  # (a child has its parent's)
     for number in range(TIMES):
-        if number == 3 and max(least) > LONG:
+        if number >= FEWEST and time.perf_counter() - begun > LONG:
             break
         least = [min(before, call([], program, words, given)[3]) for before, program in zip(least, programs)]
     os.sched_setaffinity(0, ours)
     return least
 
 
-def figure(pair, form, unit):
-    """A cell: how many times the second the first is, and the first."""
-    return "" if pair[0] is None else "%.2f (%s)" % (pair[0] / pair[1], form % (pair[0] / unit))
-
-
-def measure(programs, case, folder):
-    name, words, script, about = case
-    given = made_input(folder, script)
+def counts_of(programs, case, given):
+    """Figures of a case that don't depend on the load, each of both programs."""
+    words = case[1]
     ends = [call([], program, words, given)[:2] for program in programs]
-    is_same = ends[0] == ends[1] or ends[0][0] == ends[1][0] and words == "session 4"
+    return {
+        "same": ends[0] == ends[1] or ends[0][0] == ends[1][0] and words == "session 4",
+        "instructions": [instructions(program, words, given) for program in programs],
+        "peak": [peak(program, words, given) for program in programs],
+    }
+
+
+def walls_of(programs, case, given):
     every = os.sched_getaffinity(0)
+    return {
+        "one": walls(programs, case[1], given, {max(every)}),
+        "all": walls(programs, case[1], given, every),
+        "processors": len(every),
+    }
+
+
+def cell(figures, name, form, unit):
+    """How many times the second figure the first is, and the first."""
+    pair = figures.get(name) or [None]
+    return "" if None in pair else "%.2f (%s)" % (pair[0] / pair[1], form % (pair[0] / unit))
+
+
+def row(case, figures):
+    name, words, _, about = case
     cells = [
-        figure([instructions(program, words, given, folder) for program in programs], "%.0f M", 1e6),
-        figure(walls(programs, words, given, {max(every)}), "%.0f ms", 1e-3),
-        figure(walls(programs, words, given, every), "%.0f ms", 1e-3),
-        figure([peak(program, words, given) for program in programs], "%.1f MB", 1e6),
+        "%s: `%s`%s" % (name, words, ", " + about if about else ""),
+        cell(figures, "instructions", "%.0f M", 1e6),
+        cell(figures, "peak", "%.1f MB", 1e6),
+        cell(figures, "one", "%.0f ms", 1e-3),
+        cell(figures, "all", "%.0f ms", 1e-3),
     ]
-    title = "%s: `%s`%s" % (name, words, ", " + about if about else "")
-    print("| %s | %s |%s" % (title, " | ".join(cells), "" if is_same else " THE TEXTS DIFFER"), flush=True)
-    return is_same
+    return "| %s |%s" % (" | ".join(cells), "" if figures.get("same", True) else " THE TEXTS DIFFER")
+
+
+def table(cases, known):
+    processors = [figures["processors"] for figures in known.values() if "processors" in figures]
+    every = "%d processors" % max(processors) if processors else "all processors"
+    heads = ["Case", "Instructions", "Peak memory", "Wall time, one processor", "Wall time, " + every]
+    return ["| %s |" % " | ".join(heads), "|---" * len(heads) + "|"] + [row(case, known.get(case[0], {})) for case in cases]
+
+
+def measured(options, cases, folder):
+    """The figures of each case, as soon as they are there."""
+    programs = [os.path.abspath(path) for path in (options.program, options.plain)]
+    given = {case[2]: made_input(folder, case[2]) for case in cases}
+    if options.only != "walls":
+        with concurrent.futures.ThreadPoolExecutor(options.jobs) as pool:
+            yield from zip(cases, pool.map(lambda case: counts_of(programs, case, given[case[2]]), cases))
+    if options.only != "counts":
+        yield from ((case, walls_of(programs, case, given[case[2]])) for case in cases)
+
+
+class Figures:
+    """What is known of each case, kept in a file if there is one; of these programs and of no others."""
+
+    def __init__(self, path, programs):
+        self.path, self.builds = path, [hashlib.sha256(pathlib.Path(program).read_bytes()).hexdigest() for program in programs]
+        kept = json.loads(path.read_text()) if path and path.exists() else {"builds": self.builds, "cases": {}}
+        if kept["builds"] != self.builds:
+            sys.exit("%s has the figures of other programs" % path)
+        self.cases = kept["cases"]
+
+    def add(self, name, figures):
+        self.cases.setdefault(name, {}).update(figures)
+        if self.path:
+            self.path.write_text(json.dumps({"builds": self.builds, "cases": self.cases}, indent=1))
 
 
 def main():
-    if len(sys.argv) < 3:
-        sys.exit(__doc__)
-    programs = [os.path.abspath(path) for path in sys.argv[1:3]]
-    cases = [case for case in CASES if not sys.argv[3:] or case[0] in sys.argv[3:]]
-    processors = len(os.sched_getaffinity(0))
-    print("| Case | Instructions | Wall time, one processor | Wall time, %d processors | Peak memory |" % processors)
-    print("|---|---|---|---|---|", flush=True)
+    parser = argparse.ArgumentParser(description=__doc__, formatter_class=argparse.RawDescriptionHelpFormatter)
+    parser.add_argument("program")
+    parser.add_argument("plain")
+    parser.add_argument("cases", nargs="*", metavar="CASE")
+    parser.add_argument("--only", choices=["counts", "walls"])
+    parser.add_argument("--figures", type=pathlib.Path)
+    parser.add_argument("--jobs", type=int, default=1)
+    options = parser.parse_intermixed_args()
+    cases = [case for case in CASES if not options.cases or case[0] in options.cases]
+    known = Figures(options.figures, [options.program, options.plain])
     with tempfile.TemporaryDirectory() as folder:
-        same = [measure(programs, case, pathlib.Path(folder)) for case in cases]
-    sys.exit(0 if all(same) else 1)
+        for case, figures in measured(options, cases, pathlib.Path(folder)):
+            known.add(case[0], figures)
+            print(row(case, figures), file=sys.stderr, flush=True)
+    print(*table(cases, known.cases), sep="\n")
+    sys.exit(0 if all(known.cases[case[0]].get("same", True) for case in cases) else 1)
 
 
 if __name__ == "__main__":

@@ -24,9 +24,8 @@ import multiprocessing
 import os
 import pathlib
 import random
-import subprocess
+import signal
 import sys
-import tempfile
 
 import random_lines
 import sessions
@@ -56,25 +55,41 @@ def csv_rows(edits):
 
 
 class Pair:
-    """Both programs, and a file for their input."""
+    """Both programs, and files in memory for their input and their text."""
 
-    def __init__(self, programs, folder):
+    def __init__(self, programs):
         self.programs = programs
-        self.path = os.path.join(folder, "input-%d" % os.getpid())
+        self.source, self.text = os.memfd_create("input"), os.memfd_create("text")
+        signal.signal(signal.SIGALRM, too_long)
 
     def call(self, program, words):
-        """The status and the text."""
-        with open(self.path, "rb") as source:
-            try:
-                ended = subprocess.run([program, *words], stdin=source, stdout=subprocess.PIPE, stderr=subprocess.DEVNULL, timeout=SECONDS)
-            except subprocess.TimeoutExpired:
-                return "no end", b""
-        return ended.returncode, ended.stdout
+        """The status and the text. (subprocess would take as long as the program itself.)"""
+        os.lseek(self.source, 0, os.SEEK_SET)
+        os.lseek(self.text, 0, os.SEEK_SET)
+        os.ftruncate(self.text, 0)
+        files = [(os.POSIX_SPAWN_DUP2, self.source, 0), (os.POSIX_SPAWN_DUP2, self.text, 1), (os.POSIX_SPAWN_OPEN, 2, os.devnull, os.O_WRONLY, 0)]
+        child = os.posix_spawn(program, [program, *words], os.environ, file_actions=files)
+        try:
+            signal.alarm(SECONDS)
+            status = os.waitstatus_to_exitcode(os.waitpid(child, 0)[1])
+        except TimeoutError:
+            os.kill(child, signal.SIGKILL)
+            os.waitpid(child, 0)
+            return "no end", b""
+        finally:
+            signal.alarm(0)
+        return status, os.pread(self.text, os.fstat(self.text).st_size, 0)
 
     def both(self, words, given):
-        with open(self.path, "wb") as out:
-            out.write(given)
+        os.ftruncate(self.source, 0)
+        written = 0
+        while written < len(given):
+            written += os.pwrite(self.source, given[written:], written)
         return [self.call(program, words) for program in self.programs]
+
+
+def too_long(*_):
+    raise TimeoutError
 
 
 class Call:
@@ -347,9 +362,9 @@ def one_input(seed):
     return seed, differences, counts
 
 
-def begin(options, folder):
+def begin(options):
     global SETTING
-    SETTING = Pair([os.path.abspath(options.program), os.path.abspath(options.plain)], folder), options
+    SETTING = Pair([os.path.abspath(options.program), os.path.abspath(options.plain)]), options
 
 
 def main():
@@ -363,7 +378,7 @@ def main():
     parser.add_argument("--keep")
     options = parser.parse_args()
     counts, different = collections.Counter(), 0
-    with tempfile.TemporaryDirectory() as folder, multiprocessing.Pool(options.jobs, begin, (options, folder)) as pool:
+    with multiprocessing.Pool(options.jobs, begin, [options]) as pool:
         for seed, differences, counted in pool.imap_unordered(one_input, range(options.seed, options.seed + options.count), CHUNK):
             counts.update(counted)
             different += len(differences)

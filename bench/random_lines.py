@@ -8,6 +8,7 @@ so that edits can be made that each rule refuses, or none.
 """
 import itertools
 import random
+import re
 import sys
 
 KINDS = ["block", "signal", "route", "run", "section", "connect"]
@@ -135,6 +136,8 @@ class Line:
 
 # ---- the spelling of rows
 
+QUOTED = re.compile('[,"\n\r]')
+
 
 def canonical(edit):
     """An edit's fields, as the journal writes them."""
@@ -181,7 +184,7 @@ class Spelling:
         return version + [edit if isinstance(edit, list) else self.fields(edit) for edit in edits]
 
     def field(self, field):
-        if any(sign in field for sign in ',"\n\r') or self.dice.random() < self.odd / 5:
+        if QUOTED.search(field) or self.dice.random() < self.odd / 5:
             return '"%s"' % field.replace('"', '""')
         return field
 

@@ -80,7 +80,7 @@ def random_task(dice):
 class Timetable:
     """What accepted rows make: the items of each kind, and the cuts of its sections."""
 
-    def __init__(self, program, rows):
+    def __init__(self, program, rows, stairs=None):
         self.program, self.rows = program, rows
         self.items = collections.defaultdict(dict)
         for row in rows:
@@ -90,7 +90,7 @@ class Timetable:
             else:
                 self.items[verb.removeprefix("change-")][name] = fields[1:]
         self.stairs = collections.defaultdict(list)
-        for row in call(program, ["stairs"], rows)[1]:
+        for row in stairs or call(program, ["stairs"], rows)[1]:
             self.stairs[row[1]].append((row[2], int(row[3]), int(row[4])))
         self.cuts = {name: self.cut(fields) for name, fields in self.items["section"].items()}
 
@@ -118,7 +118,7 @@ class Timetable:
     def edited(self, row):
         """The timetable after a row, or the rule for which it is refused."""
         status, text = call(self.program, ["stairs"], self.rows + [row])
-        return text[0][2] if status == 1 else Timetable(self.program, self.rows + [row])
+        return text[0][2] if status == 1 else Timetable(self.program, self.rows + [row], text)
 
     def answer(self, section):
         rows = call(self.program, ["compress", section], self.rows)[1]
