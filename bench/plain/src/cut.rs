@@ -115,39 +115,43 @@ impl Cutter {
         let (name, places) = (line.table(Kind::Section).name(section).clone(), traffic.places.clone());
         let (from, to) = (item.from as i32, item.to as i32);
         let cut = Cut { name, from, to, rate: item.rate, blocks, members: Vec::new(), places };
-        let mut cutter = Cutter { cut, ours, entries: Vec::new() };
-        cutter.entries = traffic.ways.iter().map(|way| cutter.entry(way)).collect();
+        let mut cutter = Cutter { cut, ours, entries: vec![None; traffic.ways.len()] };
+        let mut hops: Vec<Option<Vec<u16>>> = vec![None; line.table(Kind::Route).room()];
+        let route = |run: u32| line.runs[run as usize].route as usize;
         for &run in &traffic.runs {
-            if let Some(entry) = cutter.entries[run as usize] {
-                let uses = cutter.uses(line, traffic, run);
+            cutter.entries[run as usize] = cutter.entry(&traffic.ways[run as usize], &mut hops[route(run)]);
+        }
+        for &run in &traffic.runs {
+            if let (Some(entry), Some(hops)) = (cutter.entries[run as usize], &hops[route(run)]) {
+                let uses = cutter.uses(line, traffic, run, hops);
                 cutter.cut.members.push(Arc::new(Member { name: line.table(Kind::Run).name(run).clone(), entry, uses }));
             }
         }
         cutter
     }
 
-    fn uses_of<'a>(&'a self, way: &'a Way) -> impl Iterator<Item = Use> + 'a {
-        let ours = |each: &&Use| self.ours.get((each.place - FIRST_BLOCK) as usize) == Some(&true);
-        way.uses.iter().filter(ours).copied()
+    /// Which of a way's uses are of the section's blocks; the same for all ways along a route.
+    fn hops(&self, way: &Way) -> Vec<u16> {
+        let ours = |&hop: &u16| self.ours.get((way.uses[hop as usize].place - FIRST_BLOCK) as usize) == Some(&true);
+        (0..way.uses.len() as u16).filter(ours).collect()
     }
 
-    /// Where the run uses a block of the section and enters within the window, its entry.
-    fn entry(&self, way: &Way) -> Option<i32> {
+    /// Where the run enters the section within the window, its entry; its route's hops are found on the way.
+    fn entry(&self, way: &Way, hops: &mut Option<Vec<u16>>) -> Option<i32> {
         let Cut { from, to, .. } = self.cut;
         if way.first >= to || way.last < from {
             return None;
         }
-        self.uses_of(way).map(|each| each.start).min().filter(|entry| (from..to).contains(entry))
+        let hops = hops.get_or_insert_with(|| self.hops(way));
+        hops.iter().map(|&hop| way.uses[hop as usize].start).min().filter(|entry| (from..to).contains(entry))
     }
 
     /// A member's uses of the section's blocks and of the connections that bind in it.
-    fn uses(&self, line: &Line, traffic: &Traffic, run: u32) -> Vec<Use> {
-        let way = &traffic.ways[run as usize];
-        let mut uses = Vec::with_capacity(way.uses.len());
-        uses.extend(self.uses_of(way));
-        let links = traffic.links[run as usize].iter();
-        uses.extend(links.filter_map(|&link| self.link_use(line, traffic, run, link)));
-        uses.shrink_to_fit();
+    fn uses(&self, line: &Line, traffic: &Traffic, run: u32, hops: &[u16]) -> Vec<Use> {
+        let (way, links) = (&traffic.ways[run as usize], &traffic.links[run as usize]);
+        let mut uses = Vec::with_capacity(hops.len() + links.len());
+        uses.extend(hops.iter().map(|&hop| way.uses[hop as usize]));
+        uses.extend(links.iter().filter_map(|&link| self.link_use(line, traffic, run, link)));
         uses
     }
 
@@ -178,7 +182,7 @@ impl Cutter {
     pub fn refresh(&mut self, line: &Line, traffic: &Traffic, runs: &[u32]) -> bool {
         self.entries.resize(line.table(Kind::Run).room(), None);
         for &run in runs {
-            self.entries[run as usize] = self.entry(&traffic.ways[run as usize]);
+            self.entries[run as usize] = self.entry(&traffic.ways[run as usize], &mut None);
         }
         let mut differs = false;
         for &run in runs {
@@ -198,7 +202,8 @@ impl Cutter {
         let Some(entry) = self.entries[run as usize] else {
             return found.map(|at| self.cut.members.remove(at)).is_ok();
         };
-        let new = Member { name: name.clone(), entry, uses: self.uses(line, traffic, run) };
+        let uses = self.uses(line, traffic, run, &self.hops(&traffic.ways[run as usize]));
+        let new = Member { name: name.clone(), entry, uses };
         match found {
             Ok(at) if *self.cut.members[at] == new => return false,
             Ok(at) => self.cut.members[at] = Arc::new(new),

@@ -8,7 +8,7 @@ use crate::{input, session};
 const WORKERS: usize = 4;
 
 pub fn made(seed: u32) -> Text {
-    let input = input::read(rows(seed).as_bytes(), true).expect("a made line is accepted");
+    let input = input::read(&rows(seed).bytes, true).expect("a made line is accepted");
     let (edits, planners) = (input.edits, input.scripts.len());
     let mut text = Text::default();
     text.row("made").number(seed.into()).number(edits as i64).end();
@@ -25,42 +25,37 @@ fn write_sums(text: &mut Text, heads: &[Head]) {
     text.row("occupancy").number(heads.iter().map(|head| head.occupancy).sum()).end();
 }
 
-fn rows(seed: u32) -> String {
+fn rows(seed: u32) -> Text {
     let mut x = u64::from(seed);
     let mut draw = |below: u64| {
         x = (x * 1_103_515_245 + 12_345) % 2_147_483_648;
-        x / 65_536 % below
+        (x / 65_536 % below) as i64
     };
-    let list = |word: &str, numbers: std::ops::Range<u64>| -> String {
-        numbers.map(|number| format!(",{word}{number:02}")).collect()
-    };
-    let mut rows = String::new();
+    let name = |word: &str, number: usize| format!("{word}{number:02}");
+    let list = |word: &str, from: usize, to: usize| (from..to).map(|number| name(word, number)).collect::<Vec<_>>().join(",");
+    let mut rows = Text::default();
     for block in 0..64 {
-        rows += &format!("block,b{block:02},{}\n", 1_000 + draw(1_000));
+        rows.row("block").word(&name("b", block)).number(1_000 + draw(1_000)).end();
     }
-    for block in 0..64 {
-        rows += &format!("signal,s{block:02},b{block:02},1000,10,5,50,5\n");
-    }
-    rows += &format!("route,line{}\n", list("s", 0..64));
-    let mut runs = Vec::new();
-    for _ in 0..300 {
-        let length = 100 + draw(300);
-        let runnings: Vec<String> = (0..64).map(|_| (40 + draw(11)).to_string()).collect();
-        runs.push((length, runnings.join(",0,")));
-    }
-    let run = |word: &str, number: usize, later: usize| {
-        let (length, legs) = &runs[number];
-        format!("{word},r{number:03},line,{length},10,{},{legs}\n", 1_000 + 300 * number + later)
+    (0..64).for_each(|at| rows.row("signal").word(&name("s", at)).word(&name("b", at)).word("1000,10,5,50,5").end());
+    rows.row("route").word("line").word(&list("s", 0, 64)).end();
+    let runs: Vec<(i64, [i64; 64])> = (0..300).map(|_| (100 + draw(300), [(); 64].map(|()| 40 + draw(11)))).collect();
+    let run = |rows: &mut Text, word: &str, number: usize, later: i64| {
+        let (length, [first, others @ ..]) = &runs[number];
+        rows.row(word).word(&format!("r{number:03}")).word("line").number(*length).number(10);
+        rows.number(1_000 + 300 * number as i64 + later).number(*first);
+        others.iter().for_each(|&running| _ = rows.number(0).number(running));
+        rows.end();
     };
-    rows.extend((0..300).map(|number| run("run", number, 0)));
+    (0..300).for_each(|number| run(&mut rows, "run", number, 0));
     for section in 0..8 {
-        rows += &format!("section,q{section},0,86400,33{}\n", list("b", section * 8..section * 8 + 8));
+        rows.row("section").word(&format!("q{section},0,86400,33")).word(&list("b", section * 8, section * 8 + 8)).end();
     }
     for planner in 1..=4 {
-        rows += &format!("planner,{planner}\n");
+        rows.row("planner").number(planner as i64).end();
         for k in 0..16 {
-            rows += &run("change-run", 60 * planner + k, 30);
-            rows += &format!("ask,q{}\n", k % 8);
+            run(&mut rows, "change-run", 60 * planner + k, 30);
+            rows.row("ask").word(&format!("q{}", k % 8)).end();
         }
     }
     rows
