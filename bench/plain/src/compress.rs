@@ -13,11 +13,7 @@ pub enum Verdict { Within, Over, Disordered, Crowded }
 
 /// The rows of an answer that `report` writes, its verdict and its occupancy time.
 #[derive(Clone)]
-pub struct Head {
-    pub rows: Text,
-    pub verdict: Verdict,
-    pub occupancy: i64,
-}
+pub struct Head { pub rows: Text, pub verdict: Verdict, pub occupancy: i64 }
 
 /// The text of a command that speaks of one section, and of these trains of it.
 pub fn on_section(line: &Line, name: &[u8], runs: &[&[u8]], write: impl FnOnce(&mut Text, Cut, &[usize])) -> Result<Text, Refusal> {

@@ -30,13 +30,7 @@ enum Tail { Nothing, Names, Legs }
 
 /// The fields of a row that puts or changes an item, behind its word and name: some names, some numbers with
 /// their limits, and a tail.
-struct Shape {
-    kind: Kind,
-    noun: &'static str,
-    names: usize,
-    numbers: &'static [Number],
-    tail: Tail,
-}
+struct Shape { kind: Kind, noun: &'static str, names: usize, numbers: &'static [Number], tail: Tail }
 
 const DAY: u32 = 86_400;
 const FAR: u32 = 1_000_000;
@@ -62,11 +56,7 @@ static SHAPES: [Shape; 6] = [
 pub enum Verb { Put, Change, Drop }
 
 /// What a row spells; names are still the bytes of the row.
-pub enum Row<'a> {
-    Edit(Edit<'a>),
-    Planner(u32),
-    Ask(&'a [u8]),
-}
+pub enum Row<'a> { Edit(Edit<'a>), Planner(u32), Ask(&'a [u8]) }
 
 /// An edit; a drop has a name alone.
 pub struct Edit<'a> {
@@ -251,11 +241,7 @@ pub fn number(field: &[u8]) -> Result<u32, Cause> {
 }
 
 fn time(field: &[u8], version: u32) -> Result<u32, Cause> {
-    if version == 2 && field.contains(&b':') {
-        clock(field).ok_or("number")
-    } else {
-        number(field)
-    }
+    if version == 2 && field.contains(&b':') { clock(field).ok_or("number") } else { number(field) }
 }
 
 /// `HOURS:MM:SS`, with one to five digits of hours.

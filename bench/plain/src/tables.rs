@@ -128,11 +128,7 @@ fn set<T>(items: &mut Vec<T>, number: u32, item: T) {
 }
 
 /// The item that an edit has put, changed or dropped, and what it names or named.
-pub struct Change {
-    pub kind: Kind,
-    pub number: u32,
-    pub named: Vec<u32>,
-}
+pub struct Change { pub kind: Kind, pub number: u32, pub named: Vec<u32> }
 
 /// The tables; of each kind the items stand by their numbers.
 #[derive(Default)]

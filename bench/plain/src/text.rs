@@ -2,9 +2,7 @@
 
 /// Rows that are written one after the other, field by field.
 #[derive(Clone, Default)]
-pub struct Text {
-    pub bytes: Vec<u8>,
-}
+pub struct Text { pub bytes: Vec<u8> }
 
 impl Text {
     /// Begins a row with its word.
