@@ -2,7 +2,7 @@
 """Measures two programs beside each other: bench/beside.py PROGRAM PLAIN [CASE ..] [--only counts | --only walls] ..
 
 PLAIN is a program of the same commands. Prints a table in Markdown, a row for each case: how many times PLAIN's the program's
-instructions, peak memory and wall time are, with the program's own figures in brackets. Below 1.00 the program needs less.
+instructions, peak memory and wall time are. Below 1.00 the program needs less. --figures keeps the figures themselves.
 Where the texts differ, but for those of threads, the case says so and the script ends with status 1.
 
 - Instructions are callgrind's, of the whole program, reading and writing included; the peak is GNU time's. These are the
@@ -63,7 +63,7 @@ CASES = [
     ("session-wide", "session 0", "make_session wide", "edits of all kinds on 64 sections of 700 trains and 4 blocks"),
     ("session-crowded", "session 0", "make_session crowded", "64 sections of 2,048 trains"),
     ("session-four", "session 4", "make_session mid", "the first session with four workers"),
-    ("made", "made 12345", None, ""),
+    ("made", "made 12345", None, "a line of its own"),
 ]
 
 
@@ -134,20 +134,18 @@ def walls_of(programs, case, given):
     }
 
 
-def cell(figures, name, form, unit):
-    """How many times the second figure the first is, and the first."""
+def cell(figures, name):
+    """How many times the second figure the first is."""
     pair = figures.get(name) or [None]
-    return "" if None in pair else "%.2f (%s)" % (pair[0] / pair[1], form % (pair[0] / unit))
+    return "" if None in pair else "%.2f" % (pair[0] / pair[1])
 
 
 def row(case, figures):
     name, words, _, about = case
+    told = [] if words.split()[0] == name.split("-")[0] else ["`%s`" % words]
     cells = [
-        "%s: `%s`%s" % (name, words, ", " + about if about else ""),
-        cell(figures, "instructions", "%.0f M", 1e6),
-        cell(figures, "peak", "%.1f MB", 1e6),
-        cell(figures, "one", "%.0f ms", 1e-3),
-        cell(figures, "all", "%.0f ms", 1e-3),
+        "%s: %s" % (name, ", ".join([*told, about])),
+        *(cell(figures, figure) for figure in ("instructions", "peak", "one", "all")),
     ]
     return "| %s |%s" % (" | ".join(cells), "" if figures.get("same", True) else " THE TEXTS DIFFER")
 
