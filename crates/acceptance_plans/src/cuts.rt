@@ -1,74 +1,76 @@
 //! Cuts of sections.
-ghost use Rattle.std.specs.Prelude.{◌≡◌, length};
+ghost use Rattle.std.specs.Prelude.{◌≡◌, length, IfSome};
+ghost use Rattle.plan_model.specs.Cut.{IsSoundCut};
 
 use line_tables::LineTables;
 use plan_model::{Cut, CutRow};
 use rail_model::{Name, OutOfMemory};
-use section_cut::{AllStairways, cut_among, stairways};
-use small_lines::{cut_at, number_of, put, put_line, tables_of_rows, word};
+use section_cut::{AllStairways, cut_among, cut_of, stairways};
+use small_lines::Text;
 use std::alloc::Global;
 
-/// The cut of the section of a name, whose rows get the stamp of the case.
-pub(crate) fn write_cut(
+/// The cut of the section of a name, whose rows get this stamp, if it is there.
+pub(crate) fn cut_in(
     alloc: Global,
-    text: &mut String,
-    line: &[u8],
-    rows: &[u8],
-) -> Result<(), OutOfMemory> {
-    match cut_at(alloc, rows, word(line, 1), number_of(word(line, 2)))? {
-        Some(cut) => put_cut(text, &cut),
-        None => put_line(text, b"none"),
+    text: &mut Text,
+    tables: &LineTables,
+    section: &[u8],
+    stamp: u64,
+) -> Option<Cut>
+    ensures { IfSome result IsSoundCut }
+{
+    let Ok(name) = Name::read(section) else {
+        return None;
+    };
+    match cut_of(alloc, tables, &name, stamp) {
+        Ok(cut) => cut,
+        Err(_) => {
+            text.lose();
+            None
+        }
     }
 }
 
 /// The names of a cut's connections, each before a comma; then for each train the place, start and
 /// end of each use, and its entry, stamp and name.
-pub(crate) fn put_cut(text: &mut String, cut: &Cut) -> Result<(), OutOfMemory> {
-    put_names(text, cut.connections.slice())?;
-    put_line(text, b"cut")?;
+pub(crate) fn put_cut(text: &mut Text, cut: &Cut) {
+    put_names(text, cut.connections.slice());
+    text.put_line(b"cut");
     for row in cut.rows.slice() {
-        put_row(text, row)?;
+        put_row(text, row);
     }
-    Ok(())
 }
 
 /// Names, each before a comma.
-pub(crate) fn put_names(text: &mut String, names: &[Name]) -> Result<(), OutOfMemory> {
+pub(crate) fn put_names(text: &mut Text, names: &[Name]) {
     for name in names {
-        put(text, name.bytes())?;
-        text.push(',')?;
+        text.put(name.bytes());
+        text.put(b",");
     }
-    Ok(())
 }
 
-fn put_row(text: &mut String, row: &CutRow) -> Result<(), OutOfMemory> {
+fn put_row(text: &mut Text, row: &CutRow) {
     for one in row.uses.slice() {
-        let (place, start, end) = (one.block, one.start, one.end);
-        write!(text, "{place},{start},{end},")?;
+        text.show(b"", one.block);
+        text.show(b",", one.start);
+        text.show(b",", one.end);
+        text.put(b",");
     }
-    let (entry, stamp) = (row.entry, row.stamp);
-    write!(text, "{entry},{stamp},")?;
-    put_line(text, row.name.bytes())
+    text.show(b"", row.entry);
+    text.show(b",", row.stamp);
+    text.put(b",");
+    text.put_line(row.name.bytes());
 }
 
 /// The cut of the only section with stamp 7, by stairways that are made once.
-pub(crate) fn write_cut_among(
-    alloc: Global,
-    text: &mut String,
-    rows: &[u8],
-) -> Result<(), OutOfMemory> {
-    match tables_of_rows(alloc, rows)? {
-        Some(tables) => write_among(alloc, text, &tables),
-        None => put_line(text, b"no tables"),
-    }
-}
-
-fn write_among(alloc: Global, text: &mut String, tables: &LineTables) -> Result<(), OutOfMemory> {
+pub(crate) fn write_cut_among(alloc: Global, text: &mut Text, tables: &LineTables) {
     if tables.sections() != 1 {
-        return put_line(text, b"not one section");
+        return text.put_line(b"not one section");
     }
-    let cut = only_cut(alloc, tables)?;
-    put_cut(text, &cut)
+    match only_cut(alloc, tables) {
+        Ok(cut) => put_cut(text, &cut),
+        Err(_) => text.lose(),
+    }
 }
 
 fn only_cut(alloc: Global, tables: &LineTables) -> Result<Cut, OutOfMemory>

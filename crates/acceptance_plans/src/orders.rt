@@ -1,38 +1,29 @@
-//! The order of a section's trains, their disorder, and the occupancy time.
+//! The order of a section's trains, their disorder, the occupancy time, and its rate.
+ghost use Rattle.std.specs.Prelude.{◌≤◌};
+ghost use Rattle.plan_model.specs.declared.limits.TheConstants.{MEMBERS};
 ghost use Rattle.plan_model.specs.Cut.{IsSoundCut};
+ghost use Rattle.plan_model.specs.Members.{member_count};
 
 use crate::cuts::put_names;
-use occupancy_rate::occupancy;
-use plan_model::{Cut, Link, MEMBERS};
-use rail_model::{Name, OutOfMemory};
-use small_lines::{cut_at, put_line, small_number, word};
+use occupancy_rate::{consumption, occupancy};
+use plan_model::{Cut, Link};
+use small_lines::{Text, number_of, small_number, word};
 use std::alloc::Global;
 use train_order::{Disorder, Order, order};
 
 /// A row of the positions in order, of two opposite trains and their places, or a row for each link
 /// of a ring.
-pub(crate) fn write_order(
-    alloc: Global,
-    text: &mut String,
-    rows: &[u8],
-) -> Result<(), OutOfMemory> {
-    match cut_at(alloc, rows, b"S", 0)? {
-        Some(cut) => write_found(alloc, text, &cut),
-        None => put_line(text, b"no cut"),
-    }
-}
-
-fn write_found(alloc: Global, text: &mut String, cut: &Cut) -> Result<(), OutOfMemory>
-    requires { IsSoundCut cut.now }
+pub(crate) fn write_order(alloc: Global, text: &mut Text, cut: &Cut)
+    requires sound { IsSoundCut cut.now }
+    requires few { member_count cut.now ≤ MEMBERS }
 {
-    if cut.rows.len() > MEMBERS {
-        return put_line(text, b"too many trains");
+    match order(alloc, cut) {
+        Ok(found) => put_order(text, &found),
+        Err(_) => text.lose(),
     }
-    let found = order(alloc, cut)?;
-    put_order(text, &found)
 }
 
-fn put_order(text: &mut String, found: &Result<Order, Disorder>) -> Result<(), OutOfMemory> {
+fn put_order(text: &mut Text, found: &Result<Order, Disorder>) {
     match found {
         Ok(order) => put_positions(text, order.positions.slice()),
         Err(
@@ -42,59 +33,57 @@ fn put_order(text: &mut String, found: &Result<Order, Disorder>) -> Result<(), O
                 block1,
                 block2,
             },
-        ) => put_named(text, &[*first, *second, *block1, *block2], b"opposite"),
+        ) => {
+            put_names(text, &[*first, *second, *block1, *block2]);
+            text.put_line(b"opposite");
+        }
         Err(Disorder::Ring(links)) => put_links(text, links.slice()),
     }
 }
 
-fn put_links(text: &mut String, links: &[Link]) -> Result<(), OutOfMemory> {
-    for link in links {
-        put_named(text, &[link.train, link.block, link.next], b"link")?;
-    }
-    Ok(())
-}
-
-fn put_positions(text: &mut String, positions: &[u32]) -> Result<(), OutOfMemory> {
+fn put_positions(text: &mut Text, positions: &[u32]) {
     for position in positions {
-        write!(text, "{position},")?;
+        text.show(b"", *position);
+        text.put(b",");
     }
-    put_line(text, b"order")
+    text.put_line(b"order");
 }
 
-// A row of names that ends with a word.
-fn put_named(text: &mut String, names: &[Name], last: &[u8]) -> Result<(), OutOfMemory> {
-    put_names(text, names)?;
-    put_line(text, last)
+fn put_links(text: &mut Text, links: &[Link]) {
+    for link in links {
+        put_names(text, &[link.train, link.block, link.next]);
+        text.put_line(b"link");
+    }
 }
 
 /// The occupancy time and the busiest block where both trains of a section enter at the moments of
 /// the case.
-pub(crate) fn write_occupancy(
-    alloc: Global,
-    text: &mut String,
-    line: &[u8],
-    rows: &[u8],
-) -> Result<(), OutOfMemory> {
-    let (first, second) = (small_number(word(line, 1)), small_number(word(line, 2)));
-    match cut_at(alloc, rows, b"S", 0)? {
-        Some(cut) => put_occupancy(text, occupied(&cut, first, second)),
-        None => put_line(text, b"no cut"),
-    }
-}
-
-fn put_occupancy(text: &mut String, found: Option<(u64, Option<u32>)>) -> Result<(), OutOfMemory> {
-    match found {
-        Some((seconds, busiest)) => writeln!(text, "{seconds} s, busiest {busiest:?}")?,
-        None => text.push_str("not two trains\n")?,
-    }
-    Ok(())
-}
-
-fn occupied(cut: &Cut, first: u32, second: u32) -> Option<(u64, Option<u32>)>
-    requires sound { IsSoundCut cut.now }
+pub(crate) fn write_occupancy(text: &mut Text, line: &[u8], cut: &Cut)
+    requires { IsSoundCut cut.now }
 {
     if cut.rows.len() != 2 {
-        return None;
+        return text.put_line(b"not two trains");
     }
-    Some(occupancy(cut, &[i64::from(first), i64::from(second)]))
+    let (first, second) = (small_number(word(line, 1)), small_number(word(line, 2)));
+    let (seconds, busiest) = occupancy(cut, &[i64::from(first), i64::from(second)]);
+    text.show(b"", seconds);
+    text.show_all(b" s, busiest ", &busiest);
+    text.put(b"\n");
+}
+
+/// The capacity consumption by an occupancy time, an additional time rate and a window's length, as
+/// a reduced fraction: its parts, its hundredths of a per cent, and whether it lies within the
+/// capacity.
+pub(crate) fn write_rate(text: &mut Text, line: &[u8]) {
+    let seconds = number_of(word(line, 1));
+    let (add_percent, period_s) = (small_number(word(line, 2)), small_number(word(line, 3)));
+    if period_s == 0 {
+        return text.put_line(b"no window");
+    }
+    let rate = consumption(seconds, add_percent, period_s);
+    text.show(b"", rate.num());
+    text.show(b"/", rate.den());
+    text.show(b", hundredths ", rate.hundredths_up());
+    text.show(b", within ", rate.is_within());
+    text.put(b"\n");
 }

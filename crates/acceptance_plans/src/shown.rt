@@ -1,72 +1,69 @@
 //! What shows a cycle: a period, entries and a ring.
+ghost use Rattle.std.specs.Prelude.{◌≤◌};
+ghost use Rattle.plan_model.specs.declared.limits.TheConstants.{MEMBERS};
 ghost use Rattle.plan_model.specs.Cut.{IsSoundCut};
+ghost use Rattle.plan_model.specs.Members.{member_count};
 
 use cycle_time::{Cycle, Step, shows};
-use plan_model::{Cut, MEMBERS};
+use plan_model::Cut;
 use rail_model::{List, OutOfMemory};
 use small_lines::{
-    after_blanks, cut_at, number_of, piece_at, put_line, signed_number, small_number, word,
+    Text, after_pieces, number_of, parts_of, piece_at, signed_number, small_number, word,
 };
 use std::alloc::Global;
 
-/// Whether the numbers of a case show a cycle of the section S: its period; the entries, with a
-/// colon between them, or a dash where there is none; and the steps, each of two trains, a place,
-/// and whether the second train is one of the same pattern or of the next.
-pub(crate) fn write_shown(
-    alloc: Global,
-    text: &mut String,
-    line: &[u8],
-    rows: &[u8],
-) -> Result<(), OutOfMemory> {
-    match cut_at(alloc, rows, b"S", 0)? {
-        Some(cut) => write_of_cut(alloc, text, line, &cut),
-        None => put_line(text, b"no cut"),
-    }
-}
-
-fn write_of_cut(alloc: Global, text: &mut String, line: &[u8], cut: &Cut) -> Result<(), OutOfMemory>
-    requires { IsSoundCut cut.now }
+/// Whether the numbers of a case show a cycle of a section: its period; the entries, with a colon
+/// between them, or a dash where there is none; and the steps, each of two trains, a place, and
+/// whether the second train is one of the same pattern or of the next.
+pub(crate) fn write_shown(alloc: Global, text: &mut Text, line: &[u8], cut: &Cut)
+    requires sound { IsSoundCut cut.now }
+    requires few { member_count cut.now ≤ MEMBERS }
 {
-    if cut.rows.len() > MEMBERS {
-        return put_line(text, b"too many trains");
-    }
-    let cycle = cycle_in(alloc, line)?;
-    let found: &[u8] = if shows(cut, &cycle) {
-        b"shown"
-    } else {
-        b"not shown"
-    };
-    put_line(text, found)
-}
-
-fn cycle_in(alloc: Global, line: &[u8]) -> Result<Cycle, OutOfMemory> {
-    let entries = entries_of(alloc, word(line, 2))?;
-    Ok(Cycle {
+    let mut cycle = Cycle {
         period: number_of(word(line, 1)),
-        entries,
-        ring: ring_of(alloc, after_blanks(line, 3))?,
-    })
+        entries: List::new(alloc),
+        ring: List::new(alloc),
+    };
+    if push_all(&mut cycle, line).is_err() {
+        text.lose();
+    }
+    if shows(cut, &cycle) {
+        text.put_line(b"shown");
+    } else {
+        text.put_line(b"not shown");
+    }
 }
 
-fn entries_of(alloc: Global, word: &[u8]) -> Result<List<i64>, OutOfMemory> {
-    let mut entries = List::new(alloc);
-    if word == b"-".as_slice() {
-        return Ok(entries);
+fn push_all(cycle: &mut Cycle, line: &[u8]) -> Result<(), OutOfMemory> {
+    if word(line, 2) != b"-".as_slice() {
+        push_entries(&mut cycle.entries, word(line, 2))?;
     }
-    for entry in word.split(|byte: &u8| -> bool { *byte == b':' }) {
-        entries.push(signed_number(entry))?;
-    }
-    Ok(entries)
+    push_steps(&mut cycle.ring, after_pieces(line, b' ', 3))
 }
 
-fn ring_of(alloc: Global, words: &[u8]) -> Result<List<Step>, OutOfMemory> {
-    let mut ring = List::new(alloc);
-    for step in words.split(|byte: &u8| -> bool { *byte == b' ' }) {
+fn push_entries(entries: &mut List<i64>, numbers: &[u8]) -> Result<(), OutOfMemory> {
+    let mut rest = numbers;
+    for _ in 0..numbers.len() {
+        if rest.is_empty() {
+            return Ok(());
+        }
+        let (number, later) = parts_of(rest, b':');
+        entries.push(signed_number(number))?;
+        rest = later;
+    }
+    Ok(())
+}
+
+fn push_steps(ring: &mut List<Step>, words: &[u8]) -> Result<(), OutOfMemory> {
+    let mut rest = words;
+    for _ in 0..words.len() {
+        let (step, later) = parts_of(rest, b' ');
         if !step.is_empty() {
             ring.push(step_of(step))?;
         }
+        rest = later;
     }
-    Ok(ring)
+    Ok(())
 }
 
 fn step_of(step: &[u8]) -> Step {

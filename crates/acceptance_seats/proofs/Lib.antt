@@ -1,3 +1,4 @@
 pub mod Agreeing
+pub mod Holding
 pub mod Keeping
 pub mod Starting

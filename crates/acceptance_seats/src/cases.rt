@@ -1,31 +1,42 @@
 //! The cases, by their first word.
+use crate::books::write_book;
 use crate::drawn_edits::write_drawn;
-use crate::printing::{number_of, parts_of, push, push_line};
 use crate::races::write_race;
 use crate::repairs::write_repairs;
 use crate::takings::write_takings;
-use rail_model::OutOfMemory;
+use crate::turns::write_turns;
+use small_lines::{Text, number_of, parts_of};
 use std::sync::Wait;
 use std::thread::Threads;
 
-/// Adds a case's line and what comes of it. An empty line and a remark are none.
-pub(crate) fn write_case<R: AllocGlobal + Threads + Wait + Sync>(
+/// Adds the line of each case and what comes of it. An empty line and a remark are none.
+pub(crate) fn write_cases<R: AllocGlobal + Threads + Wait + Sync>(
     rt: &R,
-    text: &mut Vec<u8>,
-    line: &[u8],
-) -> Result<(), OutOfMemory> {
-    if matches!(line.first(), None | Some(b'#')) {
-        return Ok(());
+    text: &mut Text,
+    script: &[u8],
+) {
+    let mut rest = script;
+    for _ in 0..script.len() {
+        let (line, later) = parts_of(rest, b'\n');
+        if !matches!(line, [] | [b'#', ..]) {
+            write_case(rt, text, line);
+        }
+        rest = later;
     }
-    push_line(text, line)?;
+}
+
+fn write_case<R: AllocGlobal + Threads + Wait + Sync>(rt: &R, text: &mut Text, line: &[u8]) {
+    text.put_line(line);
     let (word, rest) = parts_of(line, b' ');
     let alloc = rt.alloc();
     match word {
         b"repairs" => return write_repairs(alloc, text, rest),
-        b"takings" => write_takings(rt, alloc, text, rest)?,
-        b"drawn" => write_drawn(alloc, text, u64::from(number_of(rest)))?,
-        b"race" => write_race(rt, alloc, text, rest)?,
-        _ => push(text, b"unknown")?,
+        b"takings" => write_takings(rt, alloc, text, rest),
+        b"drawn" => write_drawn(alloc, text, number_of(rest)),
+        b"book" => write_book(alloc, text, rest),
+        b"turns" => write_turns(rt, alloc, text),
+        b"race" => write_race(rt, alloc, text, rest),
+        _ => text.put(b"unknown"),
     }
-    push(text, b"\n")
+    text.put(b"\n");
 }

@@ -1,5 +1,5 @@
-//! Tries seats at a desk, workers and what they keep, each alone and where another thread comes
-//! first, and the desk itself.
+//! Tries books, seats at a desk, workers and what they keep, each alone and where another thread
+//! comes first.
 //!
 //! Standard input tells the cases, a line for each; what a case is, its first word says:
 //!
@@ -8,6 +8,8 @@
 //! repairs 0 ROW;2 ROW     edits by rows, and how many uses each repair may take: `repairs.rt`
 //! takings 4 2 ROW         how many uses a worker takes before and after an edit: `takings.rt`
 //! drawn 1                 many drawn edits, drawn from a number: `drawn_edits.rt`
+//! book read;publish;ROW   calls of a book: `books.rt`
+//! turns                   who has the turn at a desk over a book: `turns.rt`
 //! race after-reading ROW  a worker beside a planner: `races.rt`
 //! ```
 //!
@@ -15,20 +17,19 @@
 #![tactic(auto)]
 
 mod boards;
+mod books;
 mod cases;
 mod drawn_edits;
-mod printing;
 mod races;
 mod repairs;
 mod takings;
 mod telling;
+mod turns;
 
-use cases::write_case;
-use rail_model::OutOfMemory;
-use rail_outside::{StdSink, StdSource, send_all, take_all};
+use cases::write_cases;
+use rail_outside::{StdSink, StdSource, take_all};
+use small_lines::{Text, end_of};
 use std::process::ExitCode;
-use std::sync::Wait;
-use std::thread::Threads;
 
 // The most bytes of standard input.
 const MOST: usize = 1_000_000;
@@ -37,23 +38,7 @@ fn main(rt: HostRuntime) -> ExitCode {
     let Ok(Ok(script)) = take_all(rt.alloc(), &mut StdSource::of(rt.stdin()), MOST) else {
         return ExitCode::from(3);
     };
-    let Ok(text) = text_of(&rt, script.slice()) else {
-        return ExitCode::from(5);
-    };
-    match send_all(&mut StdSink::of(rt.stdout()), &text) {
-        Ok(()) => ExitCode::from(0),
-        Err(_) => ExitCode::from(4),
-    }
-}
-
-// What comes of all cases.
-fn text_of<R: AllocGlobal + Threads + Wait + Sync>(
-    rt: &R,
-    script: &[u8],
-) -> Result<Vec<u8>, OutOfMemory> {
-    let mut text = Vec::new(rt.alloc());
-    for line in script.split(|byte: &u8| -> bool { *byte == b'\n' }) {
-        write_case(rt, &mut text, line)?;
-    }
-    Ok(text)
+    let mut text = Text::new(rt.alloc());
+    write_cases(&rt, &mut text, script.slice());
+    end_of(&mut StdSink::of(rt.stdout()), &text)
 }

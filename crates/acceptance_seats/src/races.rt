@@ -3,14 +3,12 @@ ghost use Rattle.std.specs.Prelude.{◌≡◌, IfOk, IfSome};
 ghost use Rattle.turn_desk.specs.Known.{IsReady};
 
 use crate::boards::{asked, edited, opened, turned};
-use crate::printing::{parts_of, push};
 use plan_book::Book;
 use rail_model::OutOfMemory;
 use rail_outside::{Gate, Point};
 use section_worker::Worker;
-use small_lines::edit_of;
+use small_lines::{Text, edit_of, parts_of};
 use std::alloc::Global;
-use std::str::from_utf8;
 use std::sync::Wait;
 use std::sync::atomic::AtomicU64;
 use std::sync::atomic::Ordering::SeqCst;
@@ -37,9 +35,9 @@ enum Part<'a> {
 pub(crate) fn write_race<R: Threads + Wait + Sync>(
     rt: &R,
     alloc: Global,
-    text: &mut Vec<u8>,
+    text: &mut Text,
     line: &[u8],
-) -> Result<(), OutOfMemory> {
+) {
     let (word, rest) = parts_of(line, b' ');
     let point = match word {
         b"after-reading" => Point::AfterReading,
@@ -49,7 +47,22 @@ pub(crate) fn write_race<R: Threads + Wait + Sync>(
         b"worker" => Part::Worker,
         _ => Part::Planner(rest),
     };
-    write_raced(rt, alloc, text, point, part)
+    match started(rt, alloc, text) {
+        Ok(Some((desk, main, one, two))) => {
+            write_raced(
+                rt,
+                alloc,
+                text,
+                &Meeting::new(point),
+                &desk,
+                (one, two),
+                part,
+            );
+            asked(rt, text, &mut Seat::new(&desk, main));
+        }
+        Ok(None) => text.put(b"no desk"),
+        Err(_) => text.lose(),
+    }
 }
 
 // A gate that holds each worker at a point until two threads have come.
@@ -94,15 +107,16 @@ impl Gate for Meeting {
     }
 }
 
-// A desk over the book, its first pass, and two that this pass has drawn.
-fn started<R: Wait>(
+/// A desk over the book, its first pass, and two that this pass has drawn.
+pub(crate) fn started<R: Wait>(
     rt: &R,
     alloc: Global,
+    text: &mut Text,
 ) -> Result<Option<(Desk<Book>, Pass<Book>, Pass<Book>, Pass<Book>)>, OutOfMemory>
     ensures { IfOk result (λ r. IfSome r
         (λ d. IsReady d.0 d.1 × IsReady d.0 d.2 × IsReady d.0 d.3)) }
 {
-    let Some(book) = opened(alloc)? else {
+    let Some(book) = opened(alloc, text)? else {
         return Ok(None);
     };
     let (desk, mut main) = Desk::start(alloc, book)?;
@@ -124,62 +138,59 @@ fn one_turn<R: Wait>(
     pass: Pass<Book>,
     meeting: &Meeting,
     part: Part<'_>,
-) -> Result<Vec<u8>, OutOfMemory>
+) -> Text
     requires { IsReady desk.now pass }
 {
-    let mut told = Vec::new(alloc);
+    let mut told = Text::new(alloc);
     let mut seat = Seat::new(desk, pass);
     match part {
-        Part::Worker => turns(rt, alloc, &mut told, &mut seat, meeting)?,
-        Part::Planner(rows) => calls(rt, alloc, &mut told, &mut seat, meeting, rows)?,
+        Part::Worker => turns(rt, alloc, &mut told, &mut seat, meeting),
+        Part::Planner(rows) => calls(rt, alloc, &mut told, &mut seat, meeting, rows),
     }
-    Ok(told)
+    told
 }
 
 // Two turns of a new worker.
-fn turns<R: Wait>(
-    rt: &R,
-    alloc: Global,
-    told: &mut Vec<u8>,
-    seat: &mut Seat<'_>,
-    meeting: &Meeting,
-) -> Result<(), OutOfMemory> {
+fn turns<R: Wait>(rt: &R, alloc: Global, told: &mut Text, seat: &mut Seat<'_>, meeting: &Meeting) {
     let mut worker = Worker::new(alloc, 0, 1, 101);
-    turned(rt, told, &mut worker, seat, meeting)?;
-    push(told, b" ")?;
-    turned(rt, told, &mut worker, seat, meeting)
+    turned(rt, told, &mut worker, seat, meeting);
+    told.put(b" ");
+    turned(rt, told, &mut worker, seat, meeting);
 }
 
 // What a planner does once another thread is held.
 fn calls<R: Wait>(
     rt: &R,
     alloc: Global,
-    told: &mut Vec<u8>,
+    told: &mut Text,
     seat: &mut Seat<'_>,
     meeting: &Meeting,
     rows: &[u8],
-) -> Result<(), OutOfMemory> {
+) {
     meeting.wait(1);
-    for row in rows.split(|byte: &u8| -> bool { *byte == b';' }) {
-        if !told.is_empty() {
-            push(told, b" ")?;
+    let mut rest = rows;
+    for _ in 0..rows.len() {
+        if rest.is_empty() {
+            return meeting.come();
         }
-        made(rt, alloc, told, seat, row)?;
+        let (row, later) = parts_of(rest, b';');
+        if !told.bytes().is_empty() {
+            told.put(b" ");
+        }
+        made(rt, alloc, told, seat, row);
+        rest = later;
     }
     meeting.come();
-    Ok(())
 }
 
 // Makes the edit of a row; where the row spells none, asks for S.
-fn made<R: Wait>(
-    rt: &R,
-    alloc: Global,
-    told: &mut Vec<u8>,
-    seat: &mut Seat<'_>,
-    row: &[u8],
-) -> Result<(), OutOfMemory> {
-    match edit_of(alloc, from_utf8(row).unwrap_or(""))? {
-        Some(edit) => edited(rt, told, seat, edit),
+fn made<R: Wait>(rt: &R, alloc: Global, told: &mut Text, seat: &mut Seat<'_>, row: &[u8]) {
+    match edit_of(alloc, told, row) {
+        Some(edit) => {
+            if edited(rt, told, seat, edit).is_err() {
+                told.lose();
+            }
+        }
         None => asked(rt, told, seat),
     }
 }
@@ -192,16 +203,16 @@ fn both<R: Threads + Wait + Sync>(
     passes: (Pass<Book>, Pass<Book>),
     meeting: &Meeting,
     part: Part<'_>,
-) -> (Result<Vec<u8>, OutOfMemory>, Result<Vec<u8>, OutOfMemory>)
+) -> (Text, Text)
     requires { IsReady desk.now passes.0 × IsReady desk.now passes.1 }
 {
     let (one, two) = passes;
     join(
         rt,
-        move || -> Result<Vec<u8>, OutOfMemory>
+        move || -> Text
             requires { IsReady desk.now one }
         { one_turn(rt, alloc, desk, one, meeting, Part::Worker) },
-        move || -> Result<Vec<u8>, OutOfMemory>
+        move || -> Text
             requires { IsReady desk.now two }
         { one_turn(rt, alloc, desk, two, meeting, part) },
     )
@@ -210,41 +221,32 @@ fn both<R: Threads + Wait + Sync>(
 fn write_raced<R: Threads + Wait + Sync>(
     rt: &R,
     alloc: Global,
-    text: &mut Vec<u8>,
-    point: Point,
-    part: Part<'_>,
-) -> Result<(), OutOfMemory> {
-    let Some((desk, main, one, two)) = started(rt, alloc)? else {
-        return push(text, b"no desk");
-    };
-    let meeting = Meeting::new(point);
-    let (one, two) = both(rt, alloc, &desk, (one, two), &meeting, part);
-    write_told(text, &meeting, one, two)?;
-    asked(rt, text, &mut Seat::new(&desk, main))
-}
-
-// Tells what two threads told, in the order of letters.
-fn write_told(
-    text: &mut Vec<u8>,
+    text: &mut Text,
     meeting: &Meeting,
-    one: Result<Vec<u8>, OutOfMemory>,
-    two: Result<Vec<u8>, OutOfMemory>,
-) -> Result<(), OutOfMemory> {
+    desk: &Desk<Book>,
+    passes: (Pass<Book>, Pass<Book>),
+    part: Part<'_>,
+)
+    requires { IsReady desk.now passes.0 × IsReady desk.now passes.1 }
+{
+    let (one, two) = both(rt, alloc, desk, passes, meeting, part);
     if meeting.ran_out.load(SeqCst) > 0 {
-        push(text, b"the looks ran out; ")?;
+        text.put(b"the looks ran out; ");
     }
-    let one = one?;
-    let two = two?;
-    if one.as_slice() < two.as_slice() {
-        write_both(text, &one, &two)
+    if !one.is_whole() || !two.is_whole() {
+        text.lose();
+    }
+    if one.bytes() < two.bytes() {
+        write_both(text, one.bytes(), two.bytes());
     } else {
-        write_both(text, &two, &one)
+        write_both(text, two.bytes(), one.bytes());
     }
 }
 
-fn write_both(text: &mut Vec<u8>, first: &[u8], second: &[u8]) -> Result<(), OutOfMemory> {
-    push(text, first)?;
-    push(text, b"; ")?;
-    push(text, second)?;
-    push(text, b"; ")
+// Tells what two threads told.
+fn write_both(text: &mut Text, first: &[u8], second: &[u8]) {
+    text.put(first);
+    text.put(b"; ");
+    text.put(second);
+    text.put(b"; ");
 }

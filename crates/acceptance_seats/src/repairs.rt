@@ -9,53 +9,70 @@ ghost use Rattle.plan_repair.specs.Kept.{AgreesWith};
 ghost use Rattle.acceptance_seats.specs.Kept.{IsKept};
 
 use crate::boards::opened;
-use crate::printing::{number_of, parts_of, push, push_line};
 use crate::telling::{Telling, tell};
 use plan_book::Book;
 use plan_model::{Next, Reading};
 use plan_repair::Keep;
 use rail_model::OutOfMemory;
-use small_lines::edit_of;
+use small_lines::{Text, edit_of, number_of, parts_of};
 use std::alloc::Global;
-use std::str::from_utf8;
 
 // The most uses of the first reading.
 const FIRST_USES: u64 = 4;
 
 /// Makes the steps with a new book, and tells of each repair.
-pub(crate) fn write_repairs(
-    alloc: Global,
-    text: &mut Vec<u8>,
-    steps: &[u8],
-) -> Result<(), OutOfMemory> {
-    let Some(mut book) = opened(alloc)? else {
-        return push_line(text, b"no book");
-    };
-    write_steps(alloc, text, &mut book, steps)
+pub(crate) fn write_repairs(alloc: Global, text: &mut Text, steps: &[u8]) {
+    match opened(alloc, text) {
+        Ok(Some(mut book)) => write_steps(alloc, text, &mut book, steps),
+        Ok(None) => text.put_line(b"no book"),
+        Err(_) => text.lose(),
+    }
 }
 
-fn write_steps(
-    alloc: Global,
-    text: &mut Vec<u8>,
-    book: &mut Book,
-    steps: &[u8],
-) -> Result<(), OutOfMemory> {
-    let Some(mut keep) = first_kept(alloc, book, FIRST_USES)? else {
-        return push_line(text, b"nothing kept");
-    };
-    for step in steps.split(|byte: &u8| -> bool { *byte == b';' }) {
-        let (most, row) = parts_of(step, b' ');
-        let telling = Telling::Brief {
-            most: u64::from(number_of(most)),
-        };
-        edited(alloc, book, &keep, from_utf8(row).unwrap_or(""))?;
-        let Some(next) = repaired(alloc, text, book, keep, telling)? else {
-            return push_line(text, b"no reading of S");
-        };
-        keep = next;
-        push(text, b"\n")?;
+fn write_steps(alloc: Global, text: &mut Text, book: &mut Book, steps: &[u8]) {
+    match first_kept(alloc, book, FIRST_USES) {
+        Ok(Some(keep)) => write_each(alloc, text, book, keep, steps),
+        Ok(None) => text.put_line(b"nothing kept"),
+        Err(_) => text.lose(),
     }
-    Ok(())
+}
+
+fn write_each(alloc: Global, text: &mut Text, book: &mut Book, keep: Keep, steps: &[u8])
+    requires { IsKept book.old keep }
+{
+    let mut keep = keep;
+    let mut rest = steps;
+    for _step in 0..steps.len() {
+        if rest.is_empty() {
+            return;
+        }
+        let (step, later) = parts_of(rest, b';');
+        rest = later;
+        match stepped(alloc, text, book, keep, step) {
+            Ok(Some(next)) => keep = next,
+            Ok(None) => return text.put_line(b"no reading of S"),
+            Err(_) => return text.lose(),
+        }
+    }
+}
+
+// What is kept after a step. Tells of its repair.
+fn stepped(
+    alloc: Global,
+    text: &mut Text,
+    book: &mut Book,
+    keep: Keep,
+    step: &[u8],
+) -> Result<Option<Keep>, OutOfMemory>
+    requires { IsKept book.old keep }
+    ensures { IfOk result (λ r. IfSome r (IsKept book.new)) }
+{
+    let (most, row) = parts_of(step, b' ');
+    edited(alloc, text, book, &keep, row)?;
+    let most = number_of(most);
+    let next = repaired(alloc, text, book, keep, Telling::Brief { most })?;
+    text.put(b"\n");
+    Ok(next)
 }
 
 /// The next reading of a book, if a section is left.
@@ -103,14 +120,15 @@ fn reading_of(book: &Book, keep: &Keep) -> Result<Option<Reading>, OutOfMemory>
 /// Makes the edit of a row.
 pub(crate) fn edited(
     alloc: Global,
+    text: &mut Text,
     book: &mut Book,
     keep: &Keep,
-    row: &str,
+    row: &[u8],
 ) -> Result<(), OutOfMemory>
     requires { IsKept book.old keep.now }
     ensures { OnOk result (IsKept book.new keep.now) }
 {
-    let Some(edit) = edit_of(alloc, row)? else {
+    let Some(edit) = edit_of(alloc, text, row) else {
         return Ok(());
     };
     let _number = book.edit(0, edit)?;
@@ -120,7 +138,7 @@ pub(crate) fn edited(
 /// What is kept after a repair by the next reading. Tells of the answer.
 pub(crate) fn repaired(
     alloc: Global,
-    text: &mut Vec<u8>,
+    text: &mut Text,
     book: &Book,
     keep: Keep,
     telling: Telling,
@@ -133,6 +151,6 @@ pub(crate) fn repaired(
         return Ok(None);
     };
     let (keep, answer) = keep.repair(alloc, &mut reading)?;
-    tell(text, &reading, &answer, telling)?;
+    tell(text, &reading, &answer, telling);
     Ok(Some(keep))
 }

@@ -3,15 +3,13 @@ ghost use Rattle.std.specs.Prelude.{◌≡◌, ◌<◌};
 ghost use Rattle.plan_model.specs.Journal.{issued};
 
 use crate::boards::{edited, opened, turned};
-use crate::printing::{number_of, parts_of, push};
 use plan_book::{Alone, Book};
 use plan_model::{Asked, Board, Done, Next, NotTaken, Rows, Stepped};
 use rail_model::{Edit, Name, OutOfMemory, Rule};
 use rail_outside::OpenGate;
 use section_worker::Worker;
-use small_lines::edit_of;
+use small_lines::{Text, edit_of, number_of, parts_of};
 use std::alloc::Global;
-use std::str::from_utf8;
 use std::sync::Wait;
 
 // A board, and how many uses were taken of the reading that it was handed last.
@@ -60,57 +58,53 @@ impl<B: Board> Board for Noting<B> {
 
 /// Makes a turn of a new worker, an edit and a further turn. Tells of them, and whether the two turns
 /// took at most so many uses as the line says.
-pub(crate) fn write_takings<R: Wait>(
-    rt: &R,
-    alloc: Global,
-    text: &mut Vec<u8>,
-    line: &[u8],
-) -> Result<(), OutOfMemory> {
+pub(crate) fn write_takings<R: Wait>(rt: &R, alloc: Global, text: &mut Text, line: &[u8]) {
     let (first, rest) = parts_of(line, b' ');
     let (second, row) = parts_of(rest, b' ');
-    let Some(edit) = edit_of(alloc, from_utf8(row).unwrap_or(""))? else {
-        return push(text, b"no edit");
-    };
-    let Some((taken, later)) = two_turns(rt, alloc, text, edit)? else {
-        return push(text, b"no book");
-    };
-    if taken > u64::from(number_of(first)) || later > u64::from(number_of(second)) {
-        return push(text, b" too many uses");
+    match two_turns(rt, alloc, text, row) {
+        Ok(Some((taken, later))) => {
+            if taken > number_of(first) || later > number_of(second) {
+                text.put(b" too many uses");
+            }
+        }
+        Ok(None) => text.put(b"no book or no edit"),
+        Err(_) => text.lose(),
     }
-    Ok(())
 }
 
 // Tells of a new worker's turn, of an edit and of a further turn; how many uses the two turns took.
 fn two_turns<R: Wait>(
     rt: &R,
     alloc: Global,
-    text: &mut Vec<u8>,
-    edit: Edit,
+    text: &mut Text,
+    row: &[u8],
 ) -> Result<Option<(u64, u64)>, OutOfMemory> {
-    let Some(mut book) = opened(alloc)? else {
-        return Ok(None);
-    };
-    let uses = turns_with(rt, alloc, text, &mut book, edit)?;
-    Ok(Some(uses))
+    match opened(alloc, text)? {
+        Some(mut book) => turns_with(rt, alloc, text, &mut book, row),
+        None => Ok(None),
+    }
 }
 
 fn turns_with<R: Wait>(
     rt: &R,
     alloc: Global,
-    text: &mut Vec<u8>,
+    text: &mut Text,
     book: &mut Book,
-    edit: Edit,
-) -> Result<(u64, u64), OutOfMemory> {
+    row: &[u8],
+) -> Result<Option<(u64, u64)>, OutOfMemory> {
     let mut board = Noting {
         board: Alone::new(book, 0),
         handed: 0,
     };
     let mut worker = Worker::new(alloc, 0, 1, 101);
-    turned(rt, text, &mut worker, &mut board, &OpenGate)?;
+    turned(rt, text, &mut worker, &mut board, &OpenGate);
     let handed = board.handed;
-    push(text, b" ")?;
+    text.put(b" ");
+    let Some(edit) = edit_of(alloc, text, row) else {
+        return Ok(None);
+    };
     edited(rt, text, &mut board, edit)?;
-    push(text, b" ")?;
-    turned(rt, text, &mut worker, &mut board, &OpenGate)?;
-    Ok((handed, board.handed))
+    text.put(b" ");
+    turned(rt, text, &mut worker, &mut board, &OpenGate);
+    Ok(Some((handed, board.handed)))
 }

@@ -1,7 +1,7 @@
 //! What is told of an answer.
-use crate::printing::{push, push_number};
 use plan_model::{Answer, Link, Placed, Plan, Reading, Tie};
-use rail_model::{Name, OutOfMemory};
+use rail_model::Name;
+use small_lines::Text;
 
 /// How much is told of an answer.
 #[derive(Clone, Copy)]
@@ -14,45 +14,39 @@ pub(crate) enum Telling {
 }
 
 /// Tells of the answer of a reading.
-pub(crate) fn tell(
-    text: &mut Vec<u8>,
-    reading: &Reading,
-    answer: &Answer,
-    telling: Telling,
-) -> Result<(), OutOfMemory> {
+pub(crate) fn tell(text: &mut Text, reading: &Reading, answer: &Answer, telling: Telling) {
     match telling {
-        Telling::Brief { most } if reading.taken() > most => push(text, b"too many uses"),
+        Telling::Brief { most } if reading.taken() > most => text.put(b"too many uses"),
         Telling::Brief { .. } => tell_reading(text, reading, answer),
         Telling::Whole => tell_answer(text, answer),
     }
 }
 
-fn tell_reading(text: &mut Vec<u8>, reading: &Reading, answer: &Answer) -> Result<(), OutOfMemory> {
-    push_number(text, b"", reading.at())?;
+fn tell_reading(text: &mut Text, reading: &Reading, answer: &Answer) {
+    text.show(b"", reading.at());
     for i in 0..reading.count() {
-        push_number(text, b",", reading.stamp(i))?;
+        text.show(b",", reading.stamp(i));
     }
     if let Answer::Ordered(plan) = answer {
         for placed in plan.placed.slice() {
-            tell_entry(text, placed)?;
+            tell_entry(text, placed);
         }
-        return push_number(text, b"; ", plan.occupancy);
+        text.show(b"; ", plan.occupancy);
     }
-    Ok(())
 }
 
-fn tell_entry(text: &mut Vec<u8>, placed: &Placed) -> Result<(), OutOfMemory> {
-    push(text, b"; ")?;
-    push(text, placed.train.bytes())?;
-    push_number(text, b",", placed.entry)?;
+fn tell_entry(text: &mut Text, placed: &Placed) {
+    text.put(b"; ");
+    text.put(placed.train.bytes());
+    text.show(b",", placed.entry);
     match placed.tie {
-        Tie::Start => push(text, b",start"),
-        Tie::After { .. } => push(text, b",after"),
+        Tie::Start => text.put(b",start"),
+        Tie::After { .. } => text.put(b",after"),
     }
 }
 
 /// Tells of an answer all names and numbers that depend on the rows of the cut.
-pub(crate) fn tell_answer(text: &mut Vec<u8>, answer: &Answer) -> Result<(), OutOfMemory> {
+pub(crate) fn tell_answer(text: &mut Text, answer: &Answer) {
     match answer {
         Answer::Ordered(plan) => tell_plan(text, plan),
         Answer::Opposite {
@@ -61,51 +55,49 @@ pub(crate) fn tell_answer(text: &mut Vec<u8>, answer: &Answer) -> Result<(), Out
             block1,
             block2,
         } => {
-            push(text, b"opposite")?;
-            tell_names(text, first, second)?;
-            tell_names(text, block1, block2)
+            text.put(b"opposite");
+            tell_names(text, first, second);
+            tell_names(text, block1, block2);
         }
         Answer::Ring(links) => tell_links(text, links.slice()),
-        Answer::Crowded { count } => push_number(text, b"crowded ", *count),
+        Answer::Crowded { count } => text.show(b"crowded ", *count),
     }
 }
 
-fn tell_links(text: &mut Vec<u8>, links: &[Link]) -> Result<(), OutOfMemory> {
-    push(text, b"ring")?;
+fn tell_links(text: &mut Text, links: &[Link]) {
+    text.put(b"ring");
     for link in links {
-        tell_names(text, &link.train, &link.block)?;
+        tell_names(text, &link.train, &link.block);
     }
-    Ok(())
 }
 
-fn tell_names(text: &mut Vec<u8>, first: &Name, second: &Name) -> Result<(), OutOfMemory> {
-    push(text, b" ")?;
-    push(text, first.bytes())?;
-    push(text, b" ")?;
-    push(text, second.bytes())
+fn tell_names(text: &mut Text, first: &Name, second: &Name) {
+    text.put(b" ");
+    text.put(first.bytes());
+    text.put(b" ");
+    text.put(second.bytes())
 }
 
-fn tell_plan(text: &mut Vec<u8>, plan: &Plan) -> Result<(), OutOfMemory> {
-    push_number(text, b"ordered ", plan.from_s)?;
-    push_number(text, b" ", plan.occupancy)?;
-    push_number(text, b" ", plan.busiest.unwrap_or(99))?;
-    push_number(text, b" ", plan.critical.unwrap_or(99))?;
+fn tell_plan(text: &mut Text, plan: &Plan) {
+    text.show(b"ordered ", plan.from_s);
+    text.show(b" ", plan.occupancy);
+    text.show(b" ", plan.busiest.unwrap_or(99));
+    text.show(b" ", plan.critical.unwrap_or(99));
     for placed in plan.placed.slice() {
-        tell_placed(text, placed)?;
+        tell_placed(text, placed);
     }
-    Ok(())
 }
 
-fn tell_placed(text: &mut Vec<u8>, placed: &Placed) -> Result<(), OutOfMemory> {
-    push(text, b"; ")?;
-    push(text, placed.train.bytes())?;
-    push_number(text, b" ", placed.planned)?;
-    push_number(text, b" ", placed.entry)?;
+fn tell_placed(text: &mut Text, placed: &Placed) {
+    text.put(b"; ");
+    text.put(placed.train.bytes());
+    text.show(b" ", placed.planned);
+    text.show(b" ", placed.entry);
     match placed.tie {
-        Tie::Start => push(text, b" start"),
+        Tie::Start => text.put(b" start"),
         Tie::After { train, block } => {
-            push_number(text, b" ", train)?;
-            push_number(text, b" ", block)
+            text.show(b" ", train);
+            text.show(b" ", block);
         }
     }
 }

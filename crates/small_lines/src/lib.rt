@@ -1,14 +1,16 @@
-//! What tests share: the rows of a small line, the tables and cuts that rows make, and scripts of
-//! cases.
+//! What tests share: the texts that they write, scripts of cases, the tables that rows make, and a
+//! small line.
 #![tactic(auto)]
 
 mod lines;
 mod script;
 mod tables;
+mod text;
 
-pub use lines::{FIRST_RUN, LINE, REST, joined};
+pub use lines::small_line;
 pub use script::{
-    after_blanks, halves, line_at, number_of, piece_at, put, put_line, rows_of_case, signed_number,
-    small_number, starts_line, word,
+    after_line, after_pieces, halves, line_at, number_of, parts_of, piece_at, put_piece,
+    rows_of_case, signed_number, small_number, starts_line, word,
 };
-pub use tables::{cut_at, edit_of, edit_of_row, tables_of, tables_of_rows};
+pub use tables::{edit_of, tables_of};
+pub use text::{Text, end_of};

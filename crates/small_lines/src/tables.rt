@@ -1,72 +1,77 @@
-//! The tables and the cuts that rows make.
-ghost use Rattle.std.specs.Prelude.{◌<◌, length, IfOk, IfSome};
-ghost use Rattle.plan_model.specs.Cut.{IsSoundCut};
-
+//! The tables that rows make.
+use crate::Text;
 use line_tables::LineTables;
-use plan_model::Cut;
-use rail_model::{Edit, Name, OutOfMemory};
+use rail_model::Edit;
 use row_text::{Line, RowList, rows};
-use section_cut::cut_of;
 use std::alloc::Global;
 
-/// The edit that the first row of a text spells, if it spells one.
-pub fn edit_of(alloc: Global, row: &str) -> Result<Option<Edit>, OutOfMemory> {
-    edit_of_row(alloc, row.as_bytes())
-}
-
-/// The same of bytes.
-pub fn edit_of_row(alloc: Global, row: &[u8]) -> Result<Option<Edit>, OutOfMemory> {
-    let rows = rows(alloc, row)?;
-    if rows.is_empty() {
-        return Ok(None);
-    }
-    edit_at(alloc, &rows, 0)
-}
-
-fn edit_at(alloc: Global, rows: &RowList<'_>, i: usize) -> Result<Option<Edit>, OutOfMemory>
-    requires { i < length rows.now }
-{
-    match rows.line(alloc, 1, i)? {
-        Ok(Line::Edit(edit)) => Ok(Some(edit)),
-        _ => Ok(None),
-    }
-}
-
-/// The tables that the rows of a text make; none where one of them spells no edit or is refused.
-pub fn tables_of(alloc: Global, text: &str) -> Result<Option<LineTables>, OutOfMemory> {
-    tables_of_rows(alloc, text.as_bytes())
-}
-
-/// The same of bytes.
-pub fn tables_of_rows(alloc: Global, text: &[u8]) -> Result<Option<LineTables>, OutOfMemory> {
-    let rows = rows(alloc, text)?;
-    let mut tables = LineTables::new(alloc);
-    for i in 0..rows.len() {
-        let Some(edit) = edit_at(alloc, &rows, i)? else {
-            return Ok(None);
-        };
-        if tables.apply(&edit)?.is_err() {
-            return Ok(None);
+/// The edit that the first row of a text spells, if it spells one. Here and below, `text` notes
+/// where memory runs out.
+pub fn edit_of(alloc: Global, text: &mut Text, row: &[u8]) -> Option<Edit> {
+    match rows(alloc, row) {
+        Ok(rows) => edit_at(alloc, text, &rows, 0),
+        Err(_) => {
+            text.lose();
+            None
         }
     }
-    Ok(Some(tables))
 }
 
-/// The cut of the section of a name, whose rows get this stamp, if all rows are taken and the
-/// section is there.
-pub fn cut_at(
-    alloc: Global,
-    rows: &[u8],
-    section: &[u8],
-    stamp: u64,
-) -> Result<Option<Cut>, OutOfMemory>
-    ensures { IfOk result (λ cut. IfSome cut IsSoundCut) }
-{
-    let Ok(name) = Name::read(section) else {
-        return Ok(None);
-    };
-    match tables_of_rows(alloc, rows)? {
-        Some(tables) => cut_of(alloc, &tables, &name, stamp),
-        None => Ok(None),
+fn edit_at(alloc: Global, text: &mut Text, rows: &RowList<'_>, i: usize) -> Option<Edit> {
+    if i >= rows.len() {
+        return None;
     }
+    match rows.line(alloc, 1, i) {
+        Ok(Ok(Line::Edit(edit))) => Some(edit),
+        Ok(_) => None,
+        Err(_) => {
+            text.lose();
+            None
+        }
+    }
+}
+
+/// The tables that rows make; none where one of them spells no edit or is refused.
+pub fn tables_of(alloc: Global, text: &mut Text, bytes: &[u8]) -> Option<LineTables> {
+    let mut tables = LineTables::new(alloc);
+    if are_applied(alloc, text, &mut tables, bytes) {
+        return Some(tables);
+    }
+    None
+}
+
+fn are_applied(alloc: Global, text: &mut Text, tables: &mut LineTables, bytes: &[u8]) -> bool {
+    match rows(alloc, bytes) {
+        Ok(rows) => are_made(alloc, text, tables, &rows),
+        Err(_) => {
+            text.lose();
+            false
+        }
+    }
+}
+
+fn are_made(alloc: Global, text: &mut Text, tables: &mut LineTables, rows: &RowList<'_>) -> bool {
+    for i in 0..rows.len() {
+        if !is_made(alloc, text, tables, rows, i) {
+            return false;
+        }
+    }
+    true
+}
+
+fn is_made(
+    alloc: Global,
+    text: &mut Text,
+    tables: &mut LineTables,
+    rows: &RowList<'_>,
+    i: usize,
+) -> bool {
+    match edit_at(alloc, text, rows, i) {
+        Some(edit) => is_taken(tables, &edit),
+        None => false,
+    }
+}
+
+fn is_taken(tables: &mut LineTables, edit: &Edit) -> bool {
+    matches!(tables.apply(edit), Ok(Ok(())))
 }

@@ -15,14 +15,15 @@
 //! ```
 //!
 //! A mark `!` after an end says that its bytes don't begin the text, or that a refusal is another.
-use crate::call::Call;
+use crate::call::{Call, made};
 use crate::outside::{Outside, WORKING};
-use crate::printing::{push, push_line, push_number, push_status, push_whole_status, push_written};
+use crate::printing::{put_whole_status, put_written};
 use crate::words::words_of;
 use crate::worn::{WornSink, WornSource};
 use capacity_cmd::{Status, alone, run, run_alone};
 use rail_model::OutOfMemory;
-use rail_outside::{MemorySink, MemorySource, OpenGate};
+use rail_outside::OpenGate;
+use small_lines::Text;
 use std::sync::Wait;
 use std::thread::Threads;
 
@@ -58,13 +59,13 @@ impl Whole<'_> {
     }
 
     // Adds the number of a status and how many bytes are written.
-    fn push(self, text: &mut Vec<u8>, end: End) -> Result<(), OutOfMemory> {
-        push(text, b" ")?;
-        push_status(text, end.status)?;
-        push(text, b"/")?;
-        push_number(text, end.written as u64)?;
+    fn put(self, text: &mut Text, end: End) {
+        text.show(b" ", end.status.number());
+        text.show(b"/", end.written);
         let is_other = end.status.number() == 1 && end.status != self.status;
-        push(text, if is_other || !end.begins { b"!" } else { b"" })
+        if is_other || !end.begins {
+            text.put(b"!");
+        }
     }
 }
 
@@ -90,200 +91,178 @@ impl Failing {
     }
 }
 
+// Whether the counts of faults stand at their last value, where they show no fault.
+#[derive(Clone, Copy)]
+enum Counts {
+    Rising,
+    Worn,
+}
+
 /// Makes a call in all ways, and adds how it ends.
 pub(crate) fn write_each_way<R: AllocGlobal + Threads + Wait + Sync>(
     rt: &R,
-    text: &mut Vec<u8>,
+    text: &mut Text,
     words: &[u8],
     input: &[u8],
-) -> Result<(), OutOfMemory> {
-    push(text, b"%")?;
-    push_line(text, words)?;
-    let words = words_of(rt.alloc(), words)?;
+) {
+    let words = words_of(rt.alloc(), text, words);
     let call = Call {
         words: &words,
         input,
         outside: WORKING,
     };
-    write_whole(rt, text, call)
-}
-
-fn write_whole<R: AllocGlobal + Threads + Wait + Sync>(
-    rt: &R,
-    text: &mut Vec<u8>,
-    call: Call<'_>,
-) -> Result<(), OutOfMemory> {
-    let (status, sink) = whole_of(rt, call)?;
-    let whole = Whole {
-        status,
-        text: sink.bytes(),
-    };
-    write_ways(rt, text, call, whole)
-}
-
-fn whole_of<R: AllocGlobal + Threads + Wait + Sync>(
-    rt: &R,
-    call: Call<'_>,
-) -> Result<(Status, MemorySink), OutOfMemory> {
-    let mut sink = WORKING.sink(rt.alloc())?;
-    let mut source = WORKING.source(rt.alloc(), call.input)?;
-    let status = run(rt, call.words, &mut source, &mut sink, &OpenGate);
-    Ok((status, sink))
+    match made(rt, call, &OpenGate) {
+        Ok(ended) => {
+            let whole = Whole {
+                status: ended.status,
+                text: ended.sink.bytes(),
+            };
+            write_ways(rt, text, call, whole);
+        }
+        Err(_) => text.lose(),
+    }
 }
 
 fn write_ways<R: AllocGlobal + Threads + Wait + Sync>(
     rt: &R,
-    text: &mut Vec<u8>,
+    text: &mut Text,
     call: Call<'_>,
     whole: Whole<'_>,
-) -> Result<(), OutOfMemory> {
-    push_whole_status(text, whole.status)?;
-    push_written(text, whole.text)?;
-    write_alone(rt, text, call, whole)?;
-    write_pieces(rt, text, call, whole)?;
-    push(text, b"\nreads")?;
-    write_failing(rt, text, call, whole, Failing::Reads)?;
-    push(text, b"\nwrites")?;
-    write_failing(rt, text, call, whole, Failing::Writes)?;
-    push(text, b"\nworn reads")?;
-    write_worn(rt, text, call, whole, Failing::Reads)?;
-    push(text, b"\nworn writes")?;
-    write_worn(rt, text, call, whole, Failing::Writes)?;
-    push(text, b"\n")
+) {
+    put_whole_status(text, whole.status);
+    put_written(text, whole.text);
+    write_alone(rt, text, call, whole);
+    write_pieces(rt, text, call, whole);
+    text.put(b"\nreads");
+    write_failing(rt, text, call, whole, Failing::Reads, Counts::Rising);
+    text.put(b"\nwrites");
+    write_failing(rt, text, call, whole, Failing::Writes, Counts::Rising);
+    text.put(b"\nworn reads");
+    write_failing(rt, text, call, whole, Failing::Reads, Counts::Worn);
+    text.put(b"\nworn writes");
+    write_failing(rt, text, call, whole, Failing::Writes, Counts::Worn);
+    text.put(b"\n");
 }
 
 fn write_alone<R: AllocGlobal + Threads + Sync>(
     rt: &R,
-    text: &mut Vec<u8>,
+    text: &mut Text,
     call: Call<'_>,
     whole: Whole<'_>,
-) -> Result<(), OutOfMemory> {
-    push(text, b"alone")?;
-    if !alone(call.words) {
-        return push(text, b" waits");
+) {
+    text.put(b"alone");
+    match end_alone(rt, call, whole) {
+        Ok(Some(end)) => whole.put(text, end),
+        Ok(None) => text.put(b" waits"),
+        Err(_) => text.lose(),
     }
-    let mut source = WORKING.source(rt.alloc(), call.input)?;
-    let end = end_alone(rt, call, whole, &mut source)?;
-    whole.push(text, end)
 }
 
 fn end_alone<R: AllocGlobal + Threads + Sync>(
     rt: &R,
     call: Call<'_>,
     whole: Whole<'_>,
-    source: &mut MemorySource,
-) -> Result<End, OutOfMemory> {
-    let mut sink = WORKING.sink(rt.alloc())?;
+) -> Result<Option<End>, OutOfMemory> {
     if !alone(call.words) {
-        return Ok(whole.end(Status::BadWords, b""));
+        return Ok(None);
     }
-    let status = run_alone(rt, call.words, source, &mut sink);
-    Ok(whole.end(status, sink.bytes()))
+    let mut source = WORKING.source(rt.alloc(), call.input)?;
+    let mut sink = WORKING.sink(rt.alloc())?;
+    let status = run_alone(rt, call.words, &mut source, &mut sink);
+    Ok(Some(whole.end(status, sink.bytes())))
 }
 
 fn write_pieces<R: AllocGlobal + Threads + Wait + Sync>(
     rt: &R,
-    text: &mut Vec<u8>,
+    text: &mut Text,
     call: Call<'_>,
     whole: Whole<'_>,
-) -> Result<(), OutOfMemory> {
-    push(text, b"\npieces")?;
-    let single = Outside {
-        source_piece: 1,
-        sink_piece: 4_096,
-        ..WORKING
-    };
-    whole.push(text, end_of(rt, call, whole, single)?)?;
-    let double = Outside {
-        source_piece: 4_096,
-        sink_piece: 1,
-        ..WORKING
-    };
-    whole.push(text, end_of(rt, call, whole, double)?)?;
-    let full = Outside {
-        room: whole.text.len().saturating_sub(1),
-        ..WORKING
-    };
-    whole.push(text, end_of(rt, call, whole, full)?)
+) {
+    text.put(b"\npieces");
+    let ways = [
+        Outside {
+            source_piece: 1,
+            sink_piece: 4_096,
+            ..WORKING
+        },
+        Outside {
+            source_piece: 4_096,
+            sink_piece: 1,
+            ..WORKING
+        },
+        Outside {
+            room: whole.text.len().saturating_sub(1),
+            ..WORKING
+        },
+    ];
+    for outside in ways {
+        let call = Call { outside, ..call };
+        write_is_whole(rt, text, call, whole, Counts::Rising);
+    }
 }
 
 // Lets one call of the outside after the other fail, up to one that is not made.
 fn write_failing<R: AllocGlobal + Threads + Wait + Sync>(
     rt: &R,
-    text: &mut Vec<u8>,
+    text: &mut Text,
     call: Call<'_>,
     whole: Whole<'_>,
     failing: Failing,
-) -> Result<(), OutOfMemory> {
+    counts: Counts,
+) {
     for number in 1..=MOST {
-        let end = end_of(rt, call, whole, failing.outside(number))?;
-        whole.push(text, end)?;
-        if whole.is(end) {
-            return Ok(());
+        let outside = failing.outside(number);
+        let call = Call { outside, ..call };
+        if write_is_whole(rt, text, call, whole, counts) {
+            return;
         }
     }
-    Ok(())
+}
+
+// Makes a call and adds how it ends; whether it ends as where nothing fails.
+fn write_is_whole<R: AllocGlobal + Threads + Wait + Sync>(
+    rt: &R,
+    text: &mut Text,
+    call: Call<'_>,
+    whole: Whole<'_>,
+    counts: Counts,
+) -> bool {
+    let end = match counts {
+        Counts::Rising => end_of(rt, call, whole),
+        Counts::Worn => worn_end_of(rt, call, whole),
+    };
+    match end {
+        Ok(end) => {
+            whole.put(text, end);
+            whole.is(end)
+        }
+        Err(_) => {
+            text.lose();
+            true
+        }
+    }
 }
 
 fn end_of<R: AllocGlobal + Threads + Wait + Sync>(
     rt: &R,
     call: Call<'_>,
     whole: Whole<'_>,
-    outside: Outside,
 ) -> Result<End, OutOfMemory> {
-    let mut source = outside.source(rt.alloc(), call.input)?;
-    end_from(rt, call, whole, outside, &mut source)
-}
-
-fn end_from<R: AllocGlobal + Threads + Wait + Sync>(
-    rt: &R,
-    call: Call<'_>,
-    whole: Whole<'_>,
-    outside: Outside,
-    source: &mut MemorySource,
-) -> Result<End, OutOfMemory> {
-    let mut sink = outside.sink(rt.alloc())?;
-    let status = run(rt, call.words, source, &mut sink, &OpenGate);
-    Ok(whole.end(status, sink.bytes()))
-}
-
-// The same as `write_failing` where the counts of faults show no fault.
-fn write_worn<R: AllocGlobal + Threads + Wait + Sync>(
-    rt: &R,
-    text: &mut Vec<u8>,
-    call: Call<'_>,
-    whole: Whole<'_>,
-    failing: Failing,
-) -> Result<(), OutOfMemory> {
-    for number in 1..=MOST {
-        let end = worn_end_of(rt, call, whole, failing.outside(number))?;
-        whole.push(text, end)?;
-        if whole.is(end) {
-            return Ok(());
-        }
-    }
-    Ok(())
+    let ended = made(rt, call, &OpenGate)?;
+    Ok(whole.end(ended.status, ended.sink.bytes()))
 }
 
 fn worn_end_of<R: AllocGlobal + Threads + Wait + Sync>(
     rt: &R,
     call: Call<'_>,
     whole: Whole<'_>,
-    outside: Outside,
 ) -> Result<End, OutOfMemory> {
-    let source = outside.source(rt.alloc(), call.input)?;
-    worn_end_from(rt, call, whole, outside, &mut WornSource { source })
-}
-
-fn worn_end_from<R: AllocGlobal + Threads + Wait + Sync>(
-    rt: &R,
-    call: Call<'_>,
-    whole: Whole<'_>,
-    outside: Outside,
-    source: &mut WornSource<MemorySource>,
-) -> Result<End, OutOfMemory> {
-    let sink = outside.sink(rt.alloc())?;
-    let mut worn = WornSink { sink };
-    let status = run(rt, call.words, source, &mut worn, &OpenGate);
-    Ok(whole.end(status, worn.sink.bytes()))
+    let mut source = WornSource {
+        source: call.outside.source(rt.alloc(), call.input)?,
+    };
+    let mut sink = WornSink {
+        sink: call.outside.sink(rt.alloc())?,
+    };
+    let status = run(rt, call.words, &mut source, &mut sink, &OpenGate);
+    Ok(whole.end(status, sink.sink.bytes()))
 }

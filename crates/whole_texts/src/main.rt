@@ -5,7 +5,7 @@
 //!
 //! ```text
 //! # a remark
-//! =line             from here on, the rows of a piece that is named `line`
+//! =line             from here on, up to a `=` or a `?`, the plain rows of a piece named `line`
 //! ?compress S       from here on, the rows of a call with these words
 //! %compress S       the same, of a call that is made in all ways: `each_way.rt`
 //! >compress S       the same, of a call of which it is written what people are told: `telling.rt`
@@ -42,14 +42,12 @@ mod tries;
 mod words;
 mod worn;
 
-use calls::Calls;
+use calls::write_calls;
 use capacity_cmd::INPUT_BYTES;
-use printing::{push, push_answer};
-use rail_model::OutOfMemory;
-use rail_outside::{Failed, Sink, Source, StdSink, StdSource, send_all, take_all};
+use printing::put_answer;
+use rail_outside::{Sink, Source, StdSink, StdSource, take_all};
+use small_lines::{Text, end_of};
 use std::process::ExitCode;
-use std::sync::Wait;
-use std::thread::Threads;
 
 fn main(rt: HostRuntime) -> ExitCode {
     let mut source = StdSource::of(rt.stdin());
@@ -57,32 +55,12 @@ fn main(rt: HostRuntime) -> ExitCode {
     let Ok(Ok(script)) = take_all(rt.alloc(), &mut source, INPUT_BYTES) else {
         return ExitCode::from(3);
     };
-    let nothing = (source.read(&mut []), sink.write(b""));
-    let Ok(text) = text_of(&rt, script.slice(), nothing) else {
-        return ExitCode::from(5);
-    };
-    match send_all(&mut sink, &text) {
-        Ok(()) => ExitCode::from(0),
-        Err(_) => ExitCode::from(4),
-    }
-}
-
-// What all calls of a script end with, and what a read and a write of no byte of the standard
-// streams answer.
-fn text_of<R: AllocGlobal + Threads + Wait + Sync>(
-    rt: &R,
-    script: &[u8],
-    nothing: (Result<usize, Failed>, Result<usize, Failed>),
-) -> Result<Vec<u8>, OutOfMemory> {
-    let mut calls = Calls::new(rt.alloc());
-    for line in script.split(|byte: &u8| -> bool { *byte == b'\n' }) {
-        calls.take(rt, line)?;
-    }
-    let mut text = calls.end(rt)?;
-    push(&mut text, b"of no byte ")?;
-    push_answer(&mut text, nothing.0)?;
-    push(&mut text, b" ")?;
-    push_answer(&mut text, nothing.1)?;
-    push(&mut text, b"\n")?;
-    Ok(text)
+    let mut text = Text::new(rt.alloc());
+    write_calls(&rt, &mut text, script.slice());
+    text.put(b"of no byte ");
+    put_answer(&mut text, source.read(&mut []));
+    text.put(b" ");
+    put_answer(&mut text, sink.write(b""));
+    text.put(b"\n");
+    end_of(&mut sink, &text)
 }

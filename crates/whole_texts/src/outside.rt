@@ -1,7 +1,8 @@
 //! How the outside of a call behaves.
-use crate::words::{number_of, parts_of, two_of};
+use crate::words::two_of;
 use rail_model::{List, OutOfMemory};
 use rail_outside::{MemorySink, MemorySource};
+use small_lines::{parts_of, small_number, word};
 use std::alloc::Global;
 
 // The room for the text of one call.
@@ -51,11 +52,11 @@ pub(crate) const WHOLE: Outside = Outside {
 impl Outside {
     /// The outside of which a line says more: a word for what, and numbers.
     pub(crate) fn and(self, line: &[u8]) -> Outside {
-        let (word, numbers) = parts_of(line);
-        let number = number_of(parts_of(numbers).0);
+        let (what, numbers) = parts_of(line, b' ');
+        let number = small_number(word(numbers, 0));
         let mut outside = self;
         outside.is_set = true;
-        match word {
+        match what {
             b"reads" => outside.source_piece = number as usize,
             b"writes" => outside.sink_piece = number as usize,
             b"room" => outside.room = number as usize,

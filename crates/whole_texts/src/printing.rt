@@ -1,97 +1,54 @@
-//! Writing to the text that the program ends with.
+//! How statuses, answers and texts are written.
 use capacity_cmd::Status;
-use rail_model::OutOfMemory;
 use rail_outside::Failed;
+use small_lines::{Text, after_pieces};
 
 // The most lines of a text that are written.
 const MOST_LINES: usize = 1_000;
 
-/// Adds bytes.
-pub(crate) fn push(text: &mut Vec<u8>, bytes: &[u8]) -> Result<(), OutOfMemory> {
-    text.extend_from_slice(bytes)?;
-    Ok(())
-}
-
-/// Adds a line.
-pub(crate) fn push_line(text: &mut Vec<u8>, line: &[u8]) -> Result<(), OutOfMemory> {
-    push(text, line)?;
-    push(text, b"\n")
-}
-
-/// Adds the digits of a number.
-pub(crate) fn push_number(text: &mut Vec<u8>, number: u64) -> Result<(), OutOfMemory> {
-    let digits = format!(in *text.allocator(); "{number}")?;
-    push(text, digits.as_bytes())
-}
-
 /// Adds the number that a call of the outside answers, or that it failed.
-pub(crate) fn push_answer(
-    text: &mut Vec<u8>,
-    answer: Result<usize, Failed>,
-) -> Result<(), OutOfMemory> {
+pub(crate) fn put_answer(text: &mut Text, answer: Result<usize, Failed>) {
     match answer {
-        Ok(count) => push_number(text, count as u64),
-        Err(Failed) => push(text, b"failed"),
+        Ok(count) => text.show(b"", count),
+        Err(Failed) => text.put(b"failed"),
     }
 }
 
-/// Adds the number of a status.
-pub(crate) fn push_status(text: &mut Vec<u8>, status: Status) -> Result<(), OutOfMemory> {
-    push_number(text, u64::from(status.number()))
-}
-
-/// Adds the number of a status and all that it says.
-pub(crate) fn push_whole_status(text: &mut Vec<u8>, status: Status) -> Result<(), OutOfMemory> {
-    let number = status.number();
-    let said = format!(in *text.allocator(); "={number} {status:?}")?;
-    push(text, said.as_bytes())?;
-    push_cause(text, status)?;
-    push(text, b"\n")
-}
-
-// Adds what the cause of a refusal says of itself.
-fn push_cause(text: &mut Vec<u8>, status: Status) -> Result<(), OutOfMemory> {
-    let Status::Refused { cause, .. } = status else {
-        return Ok(());
-    };
-    let said = format!(in *text.allocator(); ": {cause}")?;
-    push(text, said.as_bytes())
+/// Adds the number of a status, all that it says, and what the cause of a refusal says of itself.
+pub(crate) fn put_whole_status(text: &mut Text, status: Status) {
+    text.show(b"=", status.number());
+    text.show_all(b" ", &status);
+    if let Status::Refused { cause, .. } = status {
+        text.show(b": ", cause);
+    }
+    text.put(b"\n");
 }
 
 /// Adds what a call wrote: of more lines than `MOST_LINES` the first, their number and the last two.
 /// Where it doesn't end in a line end, a backslash and a line end come after it.
-pub(crate) fn push_written(text: &mut Vec<u8>, written: &[u8]) -> Result<(), OutOfMemory> {
-    let lines = written.iter().filter(|byte| **byte == b'\n').count();
+pub(crate) fn put_written(text: &mut Text, written: &[u8]) {
+    let lines = lines_of(written);
     if lines > MOST_LINES {
-        return push_long(text, written, lines);
+        return put_long(text, written, lines);
     }
-    push(text, written)?;
-    match written.last() {
-        None | Some(b'\n') => Ok(()),
-        Some(_) => push(text, b"\\\n"),
+    text.put(written);
+    if !matches!(written.last(), None | Some(b'\n')) {
+        text.put(b"\\\n");
     }
 }
 
-fn push_long(text: &mut Vec<u8>, written: &[u8], lines: usize) -> Result<(), OutOfMemory> {
-    let first = start_of_line(written, 1).min(written.len());
-    let last = start_of_line(written, lines.saturating_sub(2)).min(written.len());
-    push(text, &written[..first])?;
-    push(text, b".. ")?;
-    push_number(text, lines as u64)?;
-    push(text, b" lines ..\n")?;
-    push(text, &written[last..])
+fn lines_of(written: &[u8]) -> usize {
+    let mut lines = 0usize;
+    for byte in written {
+        lines = lines.saturating_add(usize::from(*byte == b'\n'));
+    }
+    lines
 }
 
-// Where the line after so many line ends starts.
-fn start_of_line(text: &[u8], line_ends: usize) -> usize {
-    let mut left = line_ends;
-    for place in 0..text.len() {
-        if left == 0 {
-            return place;
-        }
-        if text[place] == b'\n' {
-            left -= 1;
-        }
-    }
-    text.len()
+fn put_long(text: &mut Text, written: &[u8], lines: usize) {
+    let after_first = after_pieces(written, b'\n', 1).len();
+    text.put(&written[..written.len().saturating_sub(after_first)]);
+    text.show(b".. ", lines);
+    text.put(b" lines ..\n");
+    text.put(after_pieces(written, b'\n', lines.saturating_sub(2)));
 }

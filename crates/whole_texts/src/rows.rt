@@ -1,7 +1,5 @@
-//! The rows that a line of a script adds.
-use crate::printing::{push, push_line};
-use crate::words::{number_of, parts_of};
-use rail_model::OutOfMemory;
+//! The rows of a call or of a text.
+use small_lines::{Text, after_line, parts_of, put_piece, small_number};
 use std::alloc::Global;
 
 // The most rows of one line, and the most times that it adds bytes.
@@ -10,82 +8,116 @@ const MOST: u32 = 10_000;
 // The most line ends of one line.
 const MOST_LINE_ENDS: usize = 20_000_000;
 
-/// Adds what a line tells that tells no piece.
-pub(crate) fn push_rows(alloc: Global, rows: &mut Vec<u8>, line: &[u8]) -> Result<(), OutOfMemory> {
-    match line.split_first() {
-        Some((b'*', repeated)) => push_numbered(alloc, rows, repeated),
-        Some((b'^', count)) => push_line_ends(rows, number_of(count)),
-        Some((b'+', repeated)) => push_repeated(alloc, rows, repeated),
-        Some((b'!', bytes)) => push(rows, bytes),
-        _ => push_line(rows, line),
+const LINE_ENDS: [u8; 1_024] = [b'\n'; 1_024];
+
+/// The rows after the line that starts at a place, up to the next line of another kind.
+pub(crate) fn rows_at(alloc: Global, script: &[u8], at: usize) -> Text {
+    let mut rows = Text::new(alloc);
+    put_rows(alloc, &mut rows, script, after_line(script, at));
+    rows
+}
+
+/// What stands after these rows.
+pub(crate) fn after_rows(script: &[u8], at: usize) -> &[u8] {
+    let lines = after_line(script, at);
+    let mut rest = lines;
+    for _ in 0..lines.len() {
+        if ends_rows(rest) {
+            return rest;
+        }
+        rest = after_line(rest, 0);
+    }
+    rest
+}
+
+// Whether lines start with one that is no row.
+fn ends_rows(lines: &[u8]) -> bool {
+    matches!(lines, [b'=' | b'?' | b'%' | b'>' | b'|' | b'~' | b':', ..])
+}
+
+/// Adds the rows that lines start with.
+pub(crate) fn put_rows(alloc: Global, rows: &mut Text, script: &[u8], lines: &[u8]) {
+    let mut rest = lines;
+    for _ in 0..lines.len() {
+        if ends_rows(rest) {
+            return;
+        }
+        let (line, later) = parts_of(rest, b'\n');
+        put_of_line(alloc, rows, script, line);
+        rest = later;
+    }
+}
+
+fn put_of_line(alloc: Global, rows: &mut Text, script: &[u8], line: &[u8]) {
+    match line {
+        [] | [b'#', ..] => {}
+        [b'<', name @ ..] => put_piece(rows, script, name),
+        [b'*', repeated @ ..] => put_numbered(rows, repeated),
+        [b'^', count @ ..] => put_line_ends(rows, small_number(count) as usize),
+        [b'+', repeated @ ..] => put_repeated(alloc, rows, repeated),
+        [b'!', bytes @ ..] => rows.put(bytes),
+        _ => rows.put_line(line),
     }
 }
 
 // Adds a row for each number from 1000 on, so many as a line says before its first blank, with the
 // number in the place of each `@` of what comes after it.
-fn push_numbered(alloc: Global, rows: &mut Vec<u8>, line: &[u8]) -> Result<(), OutOfMemory> {
-    let (count, row) = parts_of(line);
-    for n in 0..number_of(count).min(MOST) {
-        push_with_number(alloc, rows, row, 1_000 + n)?;
+fn put_numbered(rows: &mut Text, line: &[u8]) {
+    let (count, row) = parts_of(line, b' ');
+    for n in 0..small_number(count).min(MOST) {
+        put_with_number(rows, row, 1_000 + n);
     }
-    Ok(())
 }
 
 // Adds one row, with this number in the place of each `@`.
-fn push_with_number(
-    alloc: Global,
-    rows: &mut Vec<u8>,
-    row: &[u8],
-    number: u32,
-) -> Result<(), OutOfMemory> {
-    let digits = format!(in alloc; "{number}")?;
-    for byte in row {
-        if *byte == b'@' {
-            rows.extend_from_slice(digits.as_bytes())?;
-        } else {
-            rows.push(*byte)?;
+fn put_with_number(rows: &mut Text, row: &[u8], number: u32) {
+    let mut rest = row;
+    for _ in 0..row.len() {
+        let (piece, later) = parts_of(rest, b'@');
+        rows.put(piece);
+        if piece.len() == rest.len() {
+            return rows.put(b"\n");
         }
+        rows.show(b"", number);
+        rest = later;
     }
-    rows.push(b'\n')?;
-    Ok(())
+    rows.put(b"\n");
 }
 
-fn push_line_ends(rows: &mut Vec<u8>, count: u32) -> Result<(), OutOfMemory> {
-    let length = rows.len().saturating_add(count as usize);
-    rows.resize(length.min(MOST_LINE_ENDS), b'\n')?;
-    Ok(())
+fn put_line_ends(rows: &mut Text, count: usize) {
+    let count = count.min(MOST_LINE_ENDS);
+    for _ in 0..count / 1_024 {
+        rows.put(&LINE_ENDS);
+    }
+    rows.put(&LINE_ENDS[..count % 1_024]);
 }
 
 // Adds the bytes after the first blank so many times as a line says before it.
-fn push_repeated(alloc: Global, rows: &mut Vec<u8>, line: &[u8]) -> Result<(), OutOfMemory> {
-    let (count, spelled) = parts_of(line);
-    let bytes = bytes_of(alloc, spelled)?;
-    for _ in 0..number_of(count).min(MOST) {
-        rows.extend_from_slice(&bytes)?;
+fn put_repeated(alloc: Global, rows: &mut Text, line: &[u8]) {
+    let (count, spelled) = parts_of(line, b' ');
+    let mut bytes = Text::new(alloc);
+    put_spelled(&mut bytes, spelled);
+    for _ in 0..small_number(count).min(MOST) {
+        rows.put(bytes.bytes());
     }
-    Ok(())
 }
 
-// The bytes that are spelled, of which some by two digits after a backslash.
-fn bytes_of(alloc: Global, spelled: &[u8]) -> Result<Vec<u8>, OutOfMemory> {
-    let mut bytes = Vec::new(alloc);
-    let mut digits = 0u8;
-    let mut number = 0u8;
-    for byte in spelled {
-        if digits > 0 {
-            digits -= 1;
-            number = number.wrapping_mul(16).wrapping_add(digit_of(*byte));
-            if digits == 0 {
-                bytes.push(number)?;
-            }
-        } else if *byte == b'\\' {
-            digits = 2;
-            number = 0;
-        } else {
-            bytes.push(*byte)?;
+// Adds bytes that are spelled, of which some by two digits after a backslash.
+fn put_spelled(bytes: &mut Text, spelled: &[u8]) {
+    let (plain, mut rest) = parts_of(spelled, b'\\');
+    bytes.put(plain);
+    for _ in 0..spelled.len() {
+        let (piece, later) = parts_of(rest, b'\\');
+        if let [high, low, plain @ ..] = piece {
+            bytes.put(&[
+                digit_of(*high)
+                    .wrapping_mul(16)
+                    .wrapping_add(digit_of(*low)),
+            ]);
+            bytes.put(plain);
         }
+        rest = later;
     }
-    Ok(bytes)
 }
 
 fn digit_of(byte: u8) -> u8 {

@@ -9,11 +9,12 @@
 //! :statuses         the numbers of all statuses
 //! ```
 use crate::outside::{Outside, WORKING};
-use crate::printing::{push, push_answer, push_line, push_status};
-use crate::words::{number_of, parts_of, two_of, words_of};
+use crate::printing::put_answer;
+use crate::words::{two_of, words_of};
 use capacity_cmd::{Cause, Status, alone};
 use rail_model::OutOfMemory;
-use rail_outside::{MemorySink, MemorySource, Sink, Source, Taken, send_all, take_all};
+use rail_outside::{Failed, MemorySource, Sink, Source, Taken, send_all, take_all};
+use small_lines::{Text, parts_of, small_number, word};
 use std::alloc::Global;
 
 // The bytes of a source, and a text to send.
@@ -22,20 +23,23 @@ const BYTES: &[u8] = b"abcde";
 const TEXT: &[u8] = b"0123456789abcdefghij";
 
 /// Makes such a call. Adds its line, and what it answers.
-pub(crate) fn write_try(alloc: Global, text: &mut Vec<u8>, line: &[u8]) -> Result<(), OutOfMemory> {
-    push(text, b":")?;
-    push_line(text, line)?;
-    let (word, rest) = parts_of(line);
-    match word {
-        b"read" => write_reads(alloc, text, rest)?,
-        b"take" => write_taken(alloc, text, rest)?,
-        b"send" => write_sent(alloc, text, rest)?,
-        b"full" => write_full(alloc, text)?,
-        b"alone" => write_alone(alloc, text, rest)?,
-        b"statuses" => write_statuses(text)?,
-        _ => push(text, b"unknown")?,
+pub(crate) fn write_try(alloc: Global, text: &mut Text, line: &[u8]) {
+    text.put(b":");
+    text.put_line(line);
+    let (word, rest) = parts_of(line, b' ');
+    let answer = match word {
+        b"read" => write_reads(alloc, text, rest),
+        b"take" => write_taken(alloc, text, rest),
+        b"send" => write_sent(alloc, text, rest),
+        b"full" => write_full(alloc, text),
+        b"alone" => Ok(write_alone(alloc, text, rest)),
+        b"statuses" => Ok(write_statuses(text)),
+        _ => Ok(text.put(b"unknown")),
+    };
+    if answer.is_err() {
+        text.lose();
     }
-    push(text, b"\n")
+    text.put(b"\n");
 }
 
 // The source of these pieces, of which one read fails.
@@ -48,84 +52,74 @@ fn source_of(alloc: Global, (piece, failing): (u32, u32)) -> Result<MemorySource
     outside.source(alloc, BYTES)
 }
 
-fn write_reads(alloc: Global, text: &mut Vec<u8>, line: &[u8]) -> Result<(), OutOfMemory> {
+fn write_reads(alloc: Global, text: &mut Text, line: &[u8]) -> Result<(), OutOfMemory> {
     let mut source = source_of(alloc, two_of(line))?;
     let mut piece = *b"........";
-    write_four_reads(text, &mut source, &mut piece)?;
-    push(text, &piece)
+    for _ in 0..4 {
+        put_answer(text, source.read(&mut piece));
+        text.put(b" ");
+    }
+    text.put(&piece);
+    Ok(())
 }
 
-fn write_four_reads(
-    text: &mut Vec<u8>,
-    source: &mut MemorySource,
-    piece: &mut [u8],
-) -> Result<(), OutOfMemory> {
-    for _ in 0..4 {
-        let answer = source.read(piece);
-        push_answer(text, answer)?;
-        push(text, b" ")?;
+fn write_taken(alloc: Global, text: &mut Text, line: &[u8]) -> Result<(), OutOfMemory> {
+    let mut source = source_of(alloc, two_of(line))?;
+    match take_all(alloc, &mut source, small_number(word(line, 2)) as usize)? {
+        Ok(bytes) => text.put(bytes.slice()),
+        Err(Taken::TooLong) => text.put(b"too long"),
+        Err(Taken::Failed) => text.put(b"failed"),
     }
     Ok(())
 }
 
-fn write_taken(alloc: Global, text: &mut Vec<u8>, line: &[u8]) -> Result<(), OutOfMemory> {
-    let limit = number_of(parts_of(parts_of(line).1).1);
-    let mut source = source_of(alloc, two_of(line))?;
-    match take_all(alloc, &mut source, limit as usize)? {
-        Ok(bytes) => push(text, bytes.slice()),
-        Err(Taken::TooLong) => push(text, b"too long"),
-        Err(Taken::Failed) => push(text, b"failed"),
-    }
-}
-
-fn write_sent(alloc: Global, text: &mut Vec<u8>, line: &[u8]) -> Result<(), OutOfMemory> {
+fn write_sent(alloc: Global, text: &mut Text, line: &[u8]) -> Result<(), OutOfMemory> {
     let outside = Outside {
-        failing_write: number_of(line),
+        failing_write: small_number(line),
         room: TEXT.len(),
         ..WORKING
     };
     let mut sink = outside.sink(alloc)?;
-    let answer = send_all(&mut sink, TEXT).map(|_| -> usize { 0 });
-    push_answer(text, answer)?;
-    push(text, b" ")?;
-    push(text, sink.bytes())
-}
-
-fn write_full(alloc: Global, text: &mut Vec<u8>) -> Result<(), OutOfMemory> {
-    let mut sink = Outside { room: 3, ..WORKING }.sink(alloc)?;
-    write_full_sink(text, &mut sink)
-}
-
-fn write_full_sink(text: &mut Vec<u8>, sink: &mut MemorySink) -> Result<(), OutOfMemory> {
-    push_answer(text, sink.write(b"abc"))?;
-    push(text, b" ")?;
-    push_answer(text, sink.write(b"d"))?;
-    push(text, b" ")?;
-    push_answer(text, sink.flush().map(|_| -> usize { 0 }))
-}
-
-fn write_alone(alloc: Global, text: &mut Vec<u8>, line: &[u8]) -> Result<(), OutOfMemory> {
-    let words = words_of(alloc, line)?;
-    push(text, if alone(&words) { b"yes" } else { b"no" })
-}
-
-fn write_statuses(text: &mut Vec<u8>) -> Result<(), OutOfMemory> {
-    let refused = Status::Refused {
-        row: 7,
-        cause: Cause::TooLong,
-    };
-    for status in [
-        Status::Done,
-        refused,
-        Status::BadWords,
-        Status::ReadFault,
-        Status::WriteFault,
-        Status::OutOfMemory,
-    ] {
-        let said = format!(in *text.allocator(); "{status:?} ")?;
-        push(text, said.as_bytes())?;
-        push_status(text, status)?;
-        push(text, b"\n")?;
-    }
+    put_unit(text, send_all(&mut sink, TEXT));
+    text.put(b" ");
+    text.put(sink.bytes());
     Ok(())
+}
+
+fn write_full(alloc: Global, text: &mut Text) -> Result<(), OutOfMemory> {
+    let mut sink = Outside { room: 3, ..WORKING }.sink(alloc)?;
+    put_answer(text, sink.write(b"abc"));
+    text.put(b" ");
+    put_answer(text, sink.write(b"d"));
+    text.put(b" ");
+    put_unit(text, sink.flush());
+    Ok(())
+}
+
+fn put_unit(text: &mut Text, answer: Result<(), Failed>) {
+    match answer {
+        Ok(()) => text.put(b"0"),
+        Err(Failed) => text.put(b"failed"),
+    }
+}
+
+fn write_alone(alloc: Global, text: &mut Text, line: &[u8]) {
+    let words = words_of(alloc, text, line);
+    text.put(if alone(&words) { b"yes" } else { b"no" });
+}
+
+fn write_statuses(text: &mut Text) {
+    put_status(text, Status::Done);
+    let cause = Cause::TooLong;
+    put_status(text, Status::Refused { row: 7, cause });
+    put_status(text, Status::BadWords);
+    put_status(text, Status::ReadFault);
+    put_status(text, Status::WriteFault);
+    put_status(text, Status::OutOfMemory);
+}
+
+fn put_status(text: &mut Text, status: Status) {
+    text.show_all(b"", &status);
+    text.show(b" ", status.number());
+    text.put(b"\n");
 }

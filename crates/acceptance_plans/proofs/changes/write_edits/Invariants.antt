@@ -5,5 +5,5 @@ use Rattle.plan_model.specs.SectionCut.{cut_of}
 use Rattle.acceptance_plans.proofs.changes.write_edits.Given as goal
 
 -- the cut is that of the tables
-abbrev pub invariant-loop-row : goal.invariant-loop-row
-invariant-loop-row l = cut_of l.tables l.name ≡ option_map (stamped 0) l.cut
+abbrev pub invariant-loop-edit : goal.invariant-loop-edit
+invariant-loop-edit l = cut_of l.tables l.name ≡ option_map (stamped 0) l.cut

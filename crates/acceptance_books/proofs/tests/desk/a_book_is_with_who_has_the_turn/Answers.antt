@@ -1,8 +1,0 @@
-use Rattle.std.proofs.Common.{sym}
-use Rattle.turn_desk.proofs.Growing.{adds_nothing}
-use Rattle.plan_model.specs.declared.journal.Entry.{Entry}
-use Rattle.acceptance_books.proofs.tests.desk.a_book_is_with_who_has_the_turn.Goals as goal
-
-pub give-requires-clause-own : goal.give-requires-clause-own
-give-requires-clause-own g c =
-    adds_nothing (λ (e : Entry). e.pass) c.take-turn.new.pass.number c.take-turn.new.pass.seen c.take-turn.result (sym c.take-turn.ensures.seen)
