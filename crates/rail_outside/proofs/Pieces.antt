@@ -1,11 +1,12 @@
--- Pieces of a text that are written one after the other.
-use Rattle.std.proofs.Common.{◌≡◌, ℕ, ◌+◌, ◌-◌, ◌<◌, ◌≤◌, List, [], ◌∷◌, ◌++◌, length, take, drop, get_or, flat_map, Option, refl, sym, ap, ◌∙◌, subst, arith, append-nil, length-append, length-drop, take-append-drop}
+-- Pieces of a text that are written one after the other. A text is appended to what a sink holds and to what it took: for the
+-- latter, `Appends (Some a) (Some b) text` is `b ≡ a ++ text`.
+use Rattle.std.proofs.Common.{◌≡◌, ℕ, ◌+◌, ◌-◌, ◌<◌, ◌≤◌, List, [], ◌∷◌, ◌++◌, length, take, drop, get_or, flat_map, Option, Some, Result, Ok, Err, OnErr, refl, sym, ap, ◌∙◌, subst, arith, append-nil, length-append, length-drop, take-append-drop}
 use Rattle.std.specs.Global.{Vec}
 use Rattle.std.proofs.lemmas.List.{take_all, take_at, take_more, take-append-le, drop_at, drop_more}
 use Rattle.std.proofs.lemmas.List.Concat.{flat_map-append}
 use Rattle.std.proofs.Math.Seq.{take-add}
-use Rattle.std.specs.Io.KnownBytes.{Appends}
-use Rattle.std.proofs.KnownBytes.{Appends-trans}
+use Rattle.std.specs.Io.KnownBytes.{Appends, Keeps}
+use Rattle.std.proofs.KnownBytes.{Appends-kept, Appends-trans}
 
 -- what is left from m on is as long as that
 take_rest : (bytes : List ℕ) (m : ℕ) → take (length bytes - m) (drop m bytes) ≡ drop m bytes
@@ -20,23 +21,29 @@ Appends-more a b c text m n first second =
     subst (Appends a c) (sym (take-add m n text)) (Appends-trans a b c _ _ first next)
 
 -- a whole text is a prefix of itself
-pub Appends-whole : (a b : Option (List ℕ)) (text : List ℕ) → Appends a b text → (n : ℕ) × (n ≤ length text) × Appends a b (take n text)
-Appends-whole a b text all =
-    (length text, omega arith, subst (Appends a b) (sym (take_all (length text) text (omega arith))) all)
+pub Appends-whole : (a b : Option (List ℕ)) (t u text : List ℕ) → Appends a b text → u ≡ t ++ text
+    → (n : ℕ) × (n ≤ length text) × Appends a b (take n text) × (u ≡ t ++ take n text)
+Appends-whole a b t u text all took =
+    let is : text ≡ take (length text) text = sym (take_all (length text) text (omega arith)) in
+    (length text, omega arith, subst (Appends a b) is all, subst (λ l. u ≡ t ++ l) is took)
+
+-- what holds after an error
+pub after_error : {T E P : Type 0} (result : Result T E) → P → OnErr result P
+after_error (Ok x) p = tt
+after_error (Err e) p = p
 
 -- the bytes of pieces that are written one after the other
 abbrev bytes_of : List (Vec ℕ) → List ℕ
 bytes_of pieces = flat_map (λ piece. piece.items) pieces
 
 -- all are written, and nothing after them
-pub Appends-all : (a b c : Option (List ℕ)) (pieces : List (Vec ℕ)) (i : ℕ) → length pieces ≤ i → Appends a b (bytes_of (take i pieces)) → c ≡ b
+pub Appends-all : (a b c : Option (List ℕ)) (pieces : List (Vec ℕ)) (i : ℕ) → length pieces ≤ i → Appends a b (bytes_of (take i pieces)) → Keeps b c
     → Appends a c (bytes_of pieces)
-Appends-all a b c pieces i all before same =
-    subst (λ ps. Appends a c (bytes_of ps)) (take_all i pieces all) (rw same before)
+Appends-all a b c pieces i all before kept =
+    subst (λ ps. Appends a c (bytes_of ps)) (take_all i pieces all) (Appends-kept a b c _ before kept)
 
 -- the pieces before the i-th are written, which is this text
-module _ (a b c : Option (List ℕ)) (pieces : List (Vec ℕ)) (i : ℕ) (there : i < length pieces) (before : Appends a b (bytes_of (take i pieces)))
-    (d : Vec ℕ) (text : List ℕ) (is : text ≡ (get_or pieces i d).items) where
+module _ (pieces : List (Vec ℕ)) (i : ℕ) (there : i < length pieces) (d : Vec ℕ) (text : List ℕ) (is : text ≡ (get_or pieces i d).items) where
   abbrev front : List ℕ
   front = bytes_of (take i pieces)
 
@@ -54,19 +61,22 @@ module _ (a b c : Option (List ℕ)) (pieces : List (Vec ℕ)) (i : ℕ) (there 
       ∙ ap (λ bytes. front ++ bytes) (append-nil (get_or pieces i d).items ∙ sym is)
 
   -- and then all of it
-  pub Appends-piece : Appends b c text → Appends a c (bytes_of (take (i + 1) pieces))
-  Appends-piece next = subst (Appends a c) (sym one_more) (Appends-trans a b c _ _ before next)
+  pub Appends-piece : (a b c : Option (List ℕ)) → Appends a b front → Appends b c text → Appends a c (bytes_of (take (i + 1) pieces))
+  Appends-piece a b c before next = subst (Appends a c) (sym one_more) (Appends-trans a b c _ _ before next)
+
+  part : (n : ℕ) → n ≤ length text → take (length front + n) (bytes_of pieces) ≡ front ++ take n text
+  part n within =
+      ap (take (length front + n)) whole ∙ take-add (length front) n (front ++ (text ++ rest))
+      ∙ rw (take_at front (text ++ rest) (length front) refl, drop_at front (text ++ rest) (length front) refl)
+      (ap (λ bytes. front ++ bytes) (take-append-le n text rest within))
 
   -- and then n bytes of it
-  pub Appends-part : (n : ℕ) → n ≤ length text → Appends b c (take n text)
-      → (m : ℕ) × (m ≤ length (bytes_of pieces)) × Appends a c (take m (bytes_of pieces))
-  Appends-part n within next =
-      let size = length front in
-      let part : take (size + n) (bytes_of pieces) ≡ front ++ take n text =
-      ap (take (size + n)) whole ∙ take-add size n (front ++ (text ++ rest))
-      ∙ rw (take_at front (text ++ rest) size refl, drop_at front (text ++ rest) size refl)
-      (ap (λ bytes. front ++ bytes) (take-append-le n text rest within)) in (
-        size + n,
-        omega (arith, within, ap length whole, length-append front (text ++ rest), length-append text rest),
-        subst (Appends a c) (sym part) (Appends-trans a b c _ _ before next),
-      )
+  pub Appends-part : (a b c : Option (List ℕ)) (t u v : List ℕ) → Appends a b front → u ≡ t ++ front
+      → (n : ℕ) → n ≤ length text → Appends b c (take n text) → v ≡ u ++ take n text
+      → (m : ℕ) × (m ≤ length (bytes_of pieces)) × Appends a c (take m (bytes_of pieces)) × (v ≡ t ++ take m (bytes_of pieces))
+  Appends-part a b c t u v before took n within next takes = (
+    length front + n,
+    omega (arith, within, ap length whole, length-append front (text ++ rest), length-append text rest),
+    subst (Appends a c) (sym (part n within)) (Appends-trans a b c _ _ before next),
+    subst (λ bytes. v ≡ t ++ bytes) (sym (part n within)) (Appends-trans (Some t) (Some u) (Some v) front (take n text) took takes),
+  )

@@ -1,46 +1,58 @@
 -- A source and a sink in a call: what they tell of themselves, and their states before and after it.
-use Rattle.std.specs.Prelude.{◌≡◌, ℕ, ◌-◌, ◌^◌, ◌<◌, ◌≤◌, List, length, take, Option}
+use Rattle.std.specs.Prelude.{◌≡◌, ℕ, ◌-◌, ◌^◌, ◌<◌, ◌≤◌, ◌++◌, List, length, take, Option}
 use Rattle.std.specs.Io.KnownBytes.{Consumes, Appends, IsAtEnd}
 use Rattle.rail_outside.specs.Faults.{RoseByOne}
 use Rattle.rail_outside.specs.Sink.{IsFlushed}
 
--- a source: the bytes that it has left, its count of faults, and whether its last read failed, where it tells them
+-- a source: the bytes that it gave so far, those that it has left, where it tells them, whether its last read found the end,
+-- its count of faults, and whether its last read failed
 pub record SourceInCall (S : Type 0) : Type 1 where
+  pub given : S → List ℕ
   pub left : S → Option (List ℕ)
+  pub ended : S → Type 0
   pub faults : S → ℕ
   pub at_fault : S → Type 0
   pub before : S
   pub after : S
 
--- a sink: the bytes written to it, where it tells them, how many of them are flushed, and its count of faults
+-- a sink: the bytes that it took so far, those that it holds, where it tells them, how many of those taken are flushed, and its
+-- count of faults
 pub record SinkInCall (K : Type 0) : Type 0 where
+  pub taken : K → List ℕ
   pub written : K → Option (List ℕ)
   pub flushed : K → ℕ
   pub faults : K → ℕ
   pub before : K
   pub after : K
 
-abbrev pub source_call : {S : Type 0} → (S → Option (List ℕ)) → (S → ℕ) → (S → Type 0) → S → S → SourceInCall S
-source_call left faults at_fault before after =
-    record { left = left; faults = faults; at_fault = at_fault; before = before; after = after }
+abbrev pub source_call : {S : Type 0} → (S → List ℕ) → (S → Option (List ℕ)) → (S → Type 0) → (S → ℕ) → (S → Type 0) → S → S
+    → SourceInCall S
+source_call given left ended faults at_fault before after =
+    record { given = given; left = left; ended = ended; faults = faults; at_fault = at_fault; before = before; after = after }
 
-abbrev pub sink_call : {K : Type 0} → (K → Option (List ℕ)) → (K → ℕ) → (K → ℕ) → K → K → SinkInCall K
-sink_call written flushed faults before after =
-    record { written = written; flushed = flushed; faults = faults; before = before; after = after }
+abbrev pub sink_call : {K : Type 0} → (K → List ℕ) → (K → Option (List ℕ)) → (K → ℕ) → (K → ℕ) → K → K → SinkInCall K
+sink_call taken written flushed faults before after =
+    record { taken = taken; written = written; flushed = flushed; faults = faults; before = before; after = after }
 
 module _ {S : Type 0} (source : SourceInCall S) where
   -- nothing was read
   abbrev pub IsUnread : Type 0
   IsUnread = source.after ≡ source.before
 
-  -- exactly so many bytes were taken
-  abbrev pub HasGiven : ℕ → Type 0
-  HasGiven count =
-      (bytes : List ℕ) × (length bytes ≡ count) × Consumes (source.left source.before) (source.left source.after) bytes
+  -- these bytes were given in the call, and the source has lost them, where it tells what it has left
+  abbrev pub Gave : List ℕ → Type 0
+  Gave bytes =
+      Consumes (source.left source.before) (source.left source.after) bytes
+      × (source.given source.after ≡ source.given source.before ++ bytes)
 
-  -- the source was read to its end
-  abbrev pub IsReadToEnd : Type 0
-  IsReadToEnd = IsAtEnd (source.left source.after)
+  -- exactly so many bytes were given
+  abbrev pub HasGiven : ℕ → Type 0
+  HasGiven count = (bytes : List ℕ) × (length bytes ≡ count) × Gave bytes
+
+  -- the source was read to its end: the last read gave no byte for a piece with room, and none is left
+  pub record IsReadToEnd : Type 0 where
+    pub ended : source.ended source.after
+    pub left : IsAtEnd (source.left source.after)
 
   -- one read failed, and none came after it
   pub record ReadFailed : Type 0 where
@@ -60,15 +72,17 @@ module _ {K : Type 0} (sink : SinkInCall K) where
   abbrev pub IsUnwritten : Type 0
   IsUnwritten = sink.after ≡ sink.before
 
-  -- a whole text was written, and all bytes written are flushed
+  -- a whole text was written, and all bytes taken are flushed
   pub record IsWritten (text : List ℕ) : Type 0 where
+    pub taken : sink.taken sink.after ≡ sink.taken sink.before ++ text
     pub whole : Appends (sink.written sink.before) (sink.written sink.after) text
-    pub flushed : IsFlushed (sink.written sink.after) (sink.flushed sink.after)
+    pub flushed : IsFlushed (sink.taken sink.after) (sink.flushed sink.after)
 
   -- a prefix of a text was written
   abbrev pub IsBrokenOff : List ℕ → Type 0
   IsBrokenOff text =
       (n : ℕ) × (n ≤ length text) × Appends (sink.written sink.before) (sink.written sink.after) (take n text)
+      × (sink.taken sink.after ≡ sink.taken sink.before ++ take n text)
 
   -- one write or flush failed, and no other: the count of faults rose by one
   abbrev pub WriteFailed : Type 0

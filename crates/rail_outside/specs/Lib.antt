@@ -2,7 +2,9 @@ pub mod Faults
 pub mod Sink
 pub mod MemorySource
 pub mod MemorySink
-pub mod StdStreams
+pub mod FromReader
+pub mod ToWriter
 pub mod InCall
 pub mod Words
 pub mod MemoryWords
+pub mod StdWords

@@ -8,8 +8,10 @@
 //! - A source in memory fails at exactly the reads that it is told to.
 //! - A sink in memory fails at the writes and flushes that it is told to, and at a write for which
 //!   it has no room.
-//! - Words in memory tell what they are.
-//! - The words and streams of the process tell a contract nothing of their words and bytes.
+//! - Words tell what they are: those in memory always, those of the process where there are some.
+//! - A source over any reader and a sink over any writer have left and hold what these do, where
+//!   these tell it. Standard input and output are such streams, and don't tell it.
+//! - Each source tells the bytes that its reads gave, and each sink those that its writes took.
 //!
 //! ```text
 //! match take_all(alloc, &mut source, 16_777_216)? {
@@ -21,7 +23,9 @@
 #![tactic(auto)]
 
 mod faults;
+mod from_reader;
 mod gate;
+mod history;
 mod memory_sink;
 mod memory_source;
 mod memory_words;
@@ -31,10 +35,13 @@ mod source;
 mod std_streams;
 mod std_words;
 mod take;
+mod to_writer;
 mod words;
 
 pub use faults::Failed;
+pub use from_reader::FromReader;
 pub use gate::{Gate, OpenGate, Point};
+pub use history::History;
 pub use memory_sink::MemorySink;
 pub use memory_source::MemorySource;
 pub use memory_words::MemoryWords;
@@ -44,4 +51,5 @@ pub use source::Source;
 pub use std_streams::{StdSink, StdSource};
 pub use std_words::StdWords;
 pub use take::{Taken, take_all};
+pub use to_writer::ToWriter;
 pub use words::{NotText, Words};

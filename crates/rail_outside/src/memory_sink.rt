@@ -79,6 +79,8 @@ impl MemorySink {
 impl Sink for MemorySink {
     ghost use Rattle.rail_outside.specs.MemorySink.{sink_bytes, sink_faults, sink_flushed, IsWrite, IsFlush};
 
+    ghost taken = { λ s. sink_bytes s };
+
     ghost written = { λ s. Some (sink_bytes s) };
 
     ghost flushed = { λ s. sink_flushed s };

@@ -8,7 +8,7 @@ use rail_model::{List, OutOfMemory};
 use std::alloc::Global;
 
 /// Words in memory, of any bytes: for a call of the program without a process, as in a test. The
-/// words of the process are `StdWords`, of which a contract knows nothing.
+/// words of the process are `StdWords`.
 #[derive(Drop)]
 pub struct MemoryWords {
     words: List<List<u8>>,

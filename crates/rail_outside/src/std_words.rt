@@ -1,43 +1,68 @@
 //! The process's words.
-ghost use Rattle.std.specs.Prelude.{◌≡◌, ◌≢◌, None, IsOk, IsErr};
+ghost use Rattle.std.specs.Prelude.{◌≡◌, ◌≢◌, map, drop, IfOk, IsOk, IsErr};
+ghost use Rattle.std.specs.String.{string_bytes};
+ghost use Rattle.std.specs.Vec.Iter.{into_iter_items, into_iter_len};
 ghost use Rattle.std.specs.IoError.{error_kind};
 ghost use Rattle.std.specs.declared.io.ErrorKind.TheVariants as kind;
+ghost use Rattle.rail_outside.specs.StdWords.{AreAllOf};
 
 use crate::{NotText, Words};
 use rail_model::OutOfMemory;
 use std::alloc::Global;
 use std::env;
+use std::env::Args;
 use std::io::{Error, ErrorKind};
 use std::rt::Env;
 
-/// The process's words. They are not told.
+/// The words that the process had when this was made. They are told, unless one of them isn't UTF-8
+/// or there was no memory for them.
 #[derive(Drop)]
-pub struct StdWords<'a, R> {
-    rt: &'a R,
+pub struct StdWords {
+    // The program's name is the first.
+    words: Result<Result<Vec<String>, NotText>, OutOfMemory>,
 }
 
-impl<'a, R: AllocGlobal + Env> StdWords<'a, R> {
+impl StdWords {
     /// The words of the process that has this runtime.
-    pub fn of(rt: &'a R) -> Self {
-        StdWords { rt }
-    }
-}
-
-impl<R: AllocGlobal + Env> Words for StdWords<'_, R> {
-    ghost told = { λ w. None };
-
-    fn take(&self, alloc: Global) -> Result<Result<Vec<String>, NotText>, OutOfMemory> {
-        let mut words = Vec::new(alloc);
-        match env::args(self.rt) {
-            Ok(args) => {
-                for word in args.skip(1) {
-                    words.push(word)?;
-                }
-                Ok(Ok(words))
-            }
-            Err(error) => Ok(Err(why_not(&error)?)),
+    pub fn of<R: AllocGlobal + Env>(rt: &R) -> Self {
+        StdWords {
+            words: words_of(rt),
         }
     }
+}
+
+impl Words for StdWords {
+    ghost use Rattle.rail_outside.specs.StdWords.{std_words};
+
+    ghost told = { λ w. std_words w };
+
+    fn take(&self, alloc: Global) -> Result<Result<Vec<String>, NotText>, OutOfMemory> {
+        match &self.words {
+            Ok(Ok(words)) => Ok(Ok(after_name(alloc, words)?)),
+            Ok(Err(NotText)) => Ok(Err(NotText)),
+            Err(OutOfMemory) => Err(OutOfMemory),
+        }
+    }
+}
+
+// The process's words, of which the program's name is the first.
+fn words_of<R: AllocGlobal + Env>(rt: &R) -> Result<Result<Vec<String>, NotText>, OutOfMemory> {
+    match env::args(rt) {
+        Ok(args) => Ok(Ok(all_of(rt.alloc(), args)?)),
+        Err(error) => Ok(Err(why_not(&error)?)),
+    }
+}
+
+// All words that are still to come.
+fn all_of(alloc: Global, args: Args) -> Result<Vec<String>, OutOfMemory>
+    ensures { IfOk result (λ words. AreAllOf into_iter_items into_iter_len args words.items) }
+{
+    let mut rest = args;
+    let mut words = Vec::new(alloc);
+    while let Some(word) = rest.next() {
+        words.push(word)?;
+    }
+    Ok(words)
 }
 
 // Why there are no words.
@@ -50,4 +75,26 @@ fn why_not(error: &Error) -> Result<NotText, OutOfMemory>
     } else {
         Ok(NotText)
     }
+}
+
+// A copy of the words after the first.
+fn after_name(alloc: Global, words: &[String]) -> Result<Vec<String>, OutOfMemory>
+    ensures { IfOk result (λ copied.
+        map string_bytes copied.items ≡ map string_bytes (drop 1 words.now)) }
+{
+    let Some((_, rest)) = words.split_first() else {
+        return Ok(Vec::new(alloc));
+    };
+    copy_of(alloc, rest)
+}
+
+// A copy of words.
+fn copy_of(alloc: Global, words: &[String]) -> Result<Vec<String>, OutOfMemory>
+    ensures { IfOk result (λ copied. map string_bytes copied.items ≡ map string_bytes words.now) }
+{
+    let mut copied = Vec::new(alloc);
+    for word in words {
+        copied.push(String::from_str(alloc, word)?)?;
+    }
+    Ok(copied)
 }

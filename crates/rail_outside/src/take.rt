@@ -33,11 +33,15 @@ pub fn take_all<S: Source>(
     ensures within { IfOk result (λ taken. IfOk taken (λ bytes. length bytes ≤ limit)) }
     ensures whole { IfOk result (λ taken. IfOk taken (λ bytes.
         Consumes (S.left source.old) (S.left source.new) bytes)) }
+    ensures given { IfOk result (λ taken. IfOk taken (λ bytes.
+        S.given source.new ≡ S.given source.old ++ bytes)) }
     ensures end { IfOk result (λ taken. IfOk taken (λ bytes. IsAtEnd (S.left source.new))) }
+    ensures ended { IfOk result (λ taken. IfOk taken (λ bytes. S.ended source.new)) }
 
     ensures too_long { IfOk result (λ taken. IsErrOf taken Taken.TooLong →
         ((bytes : List ℕ) × (length bytes ≡ limit + 1)
-        × Consumes (S.left source.old) (S.left source.new) bytes)) }
+        × (Consumes (S.left source.old) (S.left source.new) bytes
+        × (S.given source.new ≡ S.given source.old ++ bytes)))) }
 
     // One read failed, and none came after it. Unless it says so, no read failed.
     ensures failed { IfOk result (λ taken. IsErrOf taken Taken.Failed →

@@ -1,5 +1,6 @@
-use Rattle.std.proofs.Common.{◌∙◌, arith, length-take, length-drop}
-use Rattle.rail_outside.proofs.Pieces.{Appends-more}
+use Rattle.std.proofs.Common.{Some, ◌∙◌, arith, length-take, length-drop}
+use Rattle.std.proofs.KnownBytes.{Appends-kept}
+use Rattle.rail_outside.proofs.Pieces.{after_error, Appends-more}
 use Rattle.rail_outside.proofs.send.write_all.Goals as goal
 
 pub loop-sent-preserved : goal.loop-sent-preserved
@@ -11,5 +12,13 @@ loop-sent-preserved g c =
     record {
       in_text = omega (arith, told.within, simp (length-take, length-drop) at told.within);
       prefix = Appends-more _ _ _ text sent c.in_ok-sent.field-0 past.prefix told.appended;
+      taken = Appends-more (Some _) (Some _) (Some _) text sent c.in_ok-sent.field-0 past.taken told.more;
       no_fault = told.no_fault ∙ past.no_fault;
     }
+
+pub returns-in_err-sent-clause-prefix : goal.returns-in_err-sent-clause-prefix
+returns-in_err-sent-clause-prefix g c =
+    let past = c.loop-sent.invariant in
+    let told = c.in_err-sent.ensures in
+    after_error c.from_residual.result
+    (c.loop-sent.sent, past.in_text, Appends-kept _ _ _ _ past.prefix told.nothing, told.none_taken ∙ past.taken)

@@ -1,0 +1,19 @@
+-- What the words of the process are.
+use Rattle.std.specs.Prelude.{◌≡◌, ◌++◌, ℕ, List, map, drop, Option, None, Some, Result, Ok, Err}
+use Rattle.std.specs.Global.{Vec}
+use Rattle.std.specs.String.{string_bytes}
+use Rattle.rail_outside.specs.declared.std_words.StdWords.{StdWords}
+
+-- all that an iterator gives until none is to come, in order
+abbrev pub AreAllOf : {I X : Type 0} → (I → List X) → (I → ℕ) → I → List X → Type 0
+AreAllOf items count iter all = (end : _) × (count end ≡ 0) × (items iter ≡ all ++ items end)
+
+-- the bytes of each word after the program's name, where there are words
+abbrev pub bytes_of_words : {X N M : Type 0} → (X → List ℕ) → Result (Result (Vec X) N) M → Option (List (List ℕ))
+bytes_of_words bytes (Ok (Ok words)) = Some (map bytes (drop 1 words.items))
+bytes_of_words bytes (Ok (Err why)) = None
+bytes_of_words bytes (Err why) = None
+
+-- the words
+abbrev pub std_words : StdWords → Option (List (List ℕ))
+std_words w = bytes_of_words string_bytes w.words
