@@ -92,7 +92,7 @@ fn columns_of(kind: Kind) -> &'static [Column] {
     }
 }
 
-// The same of a row that begins so.
+// What the field at a position of a row that begins so is to be.
 pub(crate) fn column_of(first: First, at: usize) -> Column {
     match first {
         First::Item(_, kind) => column_at(kind, at),
