@@ -1,5 +1,5 @@
 -- Entries and passes that are made one after the other.
-use Rattle.std.proofs.Common.{◌≡◌, ℕ, ◌+◌, ◌-◌, ◌≤◌, List, [], ◌∷◌, ◌++◌, get_or, drop, sym, refl, ap}
+use Rattle.std.proofs.Common.{◌≡◌, ℕ, ◌+◌, ◌-◌, ◌<◌, ◌≤◌, List, [], ◌∷◌, ◌++◌, get_or, drop, sym, refl, ap}
 use Rattle.std.proofs.Common.{◌∙◌, subst, append_assoc, append-nil, length-append, arith}
 use Rattle.std.specs.List.{range_with_len}
 use Rattle.std.specs.Prelude.{Option, All, Result, Ok, Err, OnErr}
@@ -60,10 +60,16 @@ module _ {E : Type 0} (pass_of : E → ℕ) (issued_by : List E → ℕ) where
       };
     }
 
-    pub enters_some : (count : ℕ) → ((made : ℕ) × (made ≤ count)
+    pub enters_some : (count : ℕ) → new.numbers ≡ taken.numbers → All (λ n. n < issued_by taken.seen) taken.numbers
+        → ((made : ℕ) × (made ≤ count)
         × Issues pass_of issued_by taken.number made taken.seen new.seen) → EntersSome pass_of issued_by old new count
-    enters_some count drew = let many = drew.2.many in let le = drew.1 in
-        record { call = call_of drew.2.adds_own; few = omega arith }
+    enters_some count numbers lesser drew = let many = drew.2.many in let le = drew.1 in let issued = drew.2.issued in
+        record {
+          call = call_of drew.2.adds_own;
+          few = omega arith;
+          issued = omega arith;
+          lesser = subst (All (λ n. n < issued_by taken.seen)) (sym numbers) lesser;
+        }
 
     pub enters_all : (count : ℕ) (given : List (Known E)) → issued_by log + count ≤ MOST_PASSES
         → Issues pass_of issued_by taken.number count taken.seen new.seen

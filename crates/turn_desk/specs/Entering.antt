@@ -1,5 +1,5 @@
 -- What `enter` does: one call by a pass, whose own entries stand side by side and issue one number each.
-use Rattle.std.specs.Prelude.{◌≡◌, ℕ, ◌+◌, ◌<◌, ◌≤◌, List, length, Result, MatchResult}
+use Rattle.std.specs.Prelude.{◌≡◌, ℕ, ◌+◌, ◌<◌, ◌≤◌, List, length, All, Result, MatchResult}
 use Rattle.rail_model.specs.declared.memory.OutOfMemory.{OutOfMemory}
 use Rattle.turn_desk.specs.declared.kept.TheConstants.{MOST_PASSES}
 use Rattle.turn_desk.specs.Journal.{GoesOn, AddsOwn, Calls}
@@ -33,7 +33,10 @@ module _ {E : Type 0} (pass_of : E → ℕ) (issued_by : List E → ℕ) where
     pub goes_on : GoesOn pass_of old.numbers old.seen new.seen
     pub full : MOST_PASSES < issued_by new.seen + count
 
-  -- the call made no more than so many entries
+  -- The call made no more than so many entries. Each issued one number more, and the numbers of the pass are
+  -- lesser ones. No pass is given, and a later call issues greater numbers: these go to no pass
   pub record EntersSome (old new : Known E) (count : ℕ) : Type 0 where
     pub call : Calls pass_of old.number old.numbers old.seen new.seen
     pub few : length call.adds_own.own ≤ count
+    pub issued : issued_by new.seen ≡ issued_by call.found + length call.adds_own.own
+    pub lesser : All (λ n. n < issued_by call.found) new.numbers

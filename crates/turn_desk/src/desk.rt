@@ -125,9 +125,9 @@ impl<V: Kept> Desk<V> {
 
     /// Draws `count` numbers in one turn, one after the other, and gives a new pass for each, in
     /// the order of the numbers. `Full` says that so many numbers are not left, and no entry is
-    /// made. Out of memory, at most `count` entries stand in the journal, and no pass is given. In
-    /// each case the pass has taken the turn, and given it back by one more step, and what it has
-    /// seen is legal.
+    /// made. Out of memory, at most `count` entries were made, and no pass has the numbers that
+    /// they issued. In each case the pass has taken the turn, and given it back by one more step,
+    /// and what it has seen is legal.
     ///
     /// No number goes to two passes of a desk. A caller learns this where one of the two leaves
     /// into the other: `leave` says that they have no number in common.

@@ -1,11 +1,16 @@
 //! Laws for those who keep facts about what passes have seen. That a fact of all entries of a
 //! number is kept as the journal goes on is the lemmas of `proofs/Facts.antt`.
-ghost use Rattle.std.specs.Prelude.{ℕ, List};
+ghost use Rattle.std.specs.Prelude.{◌≡◌, ℕ, List};
 ghost use Rattle.turn_desk.specs.Known.{TableId};
 ghost use Rattle.turn_desk.specs.Laws.{LeavingGoesOn, GoingOnAddsUp};
 ghost use Rattle.turn_desk.specs.Laws.{NewPassesStandInOrder, NumbersTellDesks};
 
-use crate::Kept;
+use crate::{Kept, MOST_PASSES};
+
+/// The most passes of a desk, by their number.
+pub fn limits()
+    ensures most_passes { MOST_PASSES ≡ 4294967295 }
+{}
 
 /// What is seen once a pass has left into another goes on from what either had seen.
 pub fn leaving_goes_on<V: Kept>()

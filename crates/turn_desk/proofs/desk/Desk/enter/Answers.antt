@@ -25,5 +25,5 @@ returns-in_err-draw_all-clause-err g c =
     let log = kept.entries took.result in
     on_err c.from_residual.result (enters_some kept.pass_of kept.issued_by c.args.pass.now took.new.pass
     (known c.pass.inside.seat) (known c.draw_all.new.seat) log did.pass did.goes_on did.seen c.pass.view_is
-    c.args.count
+    c.args.count (ap (λ k. k.numbers) c.in_err-draw_all.ensures.given) c.pass.invariant.issued
     c.in_err-draw_all.ensures.drawn)
