@@ -1,5 +1,5 @@
 -- One row more of a cut that is put together.
-use Rattle.std.proofs.Common.{◌≡◌, ℕ, ◌+◌, ◌<◌, List, [], ◌∷◌, ◌++◌, take, length, refl, sym, ap, ◌∙◌, subst, arith}
+use Rattle.std.proofs.Common.{◌≡◌, ℕ, ◌+◌, ◌<◌, ◌≤◌, List, [], ◌∷◌, ◌++◌, take, length, refl, sym, ap, ◌∙◌, subst, arith}
 use Rattle.std.specs.Prelude.{if◌then◌else◌, sum_by, None, find}
 use Rattle.std.proofs.lemmas.List.{take_more}
 use Rattle.std.proofs.lemmas.List.Sums.{sum_by_more, sum_by-take-le}
@@ -16,18 +16,18 @@ use Rattle.plan_repair.proofs.Leaving.{ends_through}
 
 -- what is taken of a row that isn't kept is all its uses
 pub taken_whole : (kept : List CutRow) (row : CutRow) (before : Shown)
-    → find (has row.name row.stamp) kept ≡ None
+    → find (has row.name row.stamp) kept ≡ None → before.taken ≤ (after_taking (length row.uses) before).taken
     → TakesAtMost (uses_to_take kept row) before (after_taking (length row.uses) before)
-taken_whole kept row before none =
+taken_whole kept row before none stays =
     rw (none_has (has row.name row.stamp) kept none)
-    (record { cut = refl; at = refl; taken = omega arith })
+    (record { cut = refl; at = refl; taken = omega arith; no_less = stays })
 
 -- at first all kept rows are left, and nothing is taken
 pub renewing_first : (kept : List CutRow) (before : Shown) → NamesRise (λ r. r.name) kept
     → IsRenewing kept before 0 kept before
 renewing_first kept before rise = record {
   left = record { rise = rise; ends = record { before = []; is = refl }; later = λ j from below. refl };
-  taken = record { cut = refl; at = refl; taken = omega arith };
+  taken = record { cut = refl; at = refl; taken = omega arith; no_less = omega arith };
 }
 
 module _ (kept : List CutRow) (before : Shown) where
@@ -53,6 +53,7 @@ module _ (kept : List CutRow) (before : Shown) where
             cut = one.cut ∙ so_far.taken.cut;
             at = one.at ∙ so_far.taken.at;
             taken = omega (arith, one.taken, so_far.taken.taken, same, uses, sum_by_more (uses_to_take kept) cut.rows i no_member below);
+            no_less = omega (arith, one.no_less, so_far.taken.no_less);
           }
 
       -- which is no more than is taken in all
@@ -64,6 +65,7 @@ module _ (kept : List CutRow) (before : Shown) where
             cut = some.cut;
             at = some.at;
             taken = omega (arith, some.taken, sum_by-take-le (uses_to_take kept) cut.rows (i + 1));
+            no_less = some.no_less;
           }
 
       pub renewing_more : (left_then : List CutRow) → IsSoundCut cut → IsLeft (member now.cut i).name left left_then

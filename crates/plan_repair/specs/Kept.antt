@@ -46,8 +46,9 @@ uses_to_take kept row = if is_kept kept row then 0 else length row.uses
 abbrev pub uses_not_kept : Kept → Cut → ℕ
 uses_not_kept keep cut = sum_by (uses_to_take keep.rows) cut.rows
 
--- a reading after at most so many uses were taken of it: its cut and its number stay
+-- a reading after at most so many uses were taken of it: its cut and its number stay, and its count never falls
 pub record TakesAtMost (most : ℕ) (before after : Shown) : Type 0 where
   pub cut : after.cut ≡ before.cut
   pub at : after.at ≡ before.at
   pub taken : after.taken ≤ before.taken + most
+  pub no_less : before.taken ≤ after.taken

@@ -1,5 +1,6 @@
 //! The net that is held beside kept rows, with the names of the places of which it speaks.
 ghost use Rattle.std.specs.Prelude.{◌≡◌, ◌≤◌, length, IfOk, IfSome, IsTrue, ◌↔◌, Ok};
+ghost use Rattle.std.specs.Prelude.{count_by, is_none};
 ghost use Rattle.plan_model.specs.declared.limits.TheConstants.{MEMBERS};
 ghost use Rattle.plan_model.specs.Cut.{IsSoundCut};
 ghost use Rattle.plan_model.specs.Members.{member_count};
@@ -108,7 +109,7 @@ fn mended(
 
 // How many rows are fresh.
 fn fresh_count(origin: &[Option<u32>]) -> usize
-    ensures { result ≤ length origin.now }
+    ensures { result ≡ count_by is_none origin.now }
 {
     origin.iter().filter(|one| one.is_none()).count()
 }

@@ -1,5 +1,5 @@
 //! A row that is taken of a reading.
-ghost use Rattle.std.specs.Prelude.{◌≡◌, ◌<◌, nat_lt, IfOk, filter, count_by, length};
+ghost use Rattle.std.specs.Prelude.{◌≡◌, ◌<◌, ◌≤◌, nat_lt, IfOk, filter, count_by, length};
 ghost use Rattle.plan_model.specs.Cut.{IsSoundCut, AreBlocksFirst};
 ghost use Rattle.plan_model.specs.Members.{member, member_count};
 ghost use Rattle.plan_model.specs.Reading.{after_taking, uses_of};
@@ -19,7 +19,10 @@ pub(crate) fn take_row<R: Rows>(
     ensures row { IfOk result (λ row. row ≡ member (R.shown reading.old).cut i) }
     ensures reading { R.shown reading.new
         ≡ after_taking (length (uses_of (R.shown reading.old) i)) (R.shown reading.old) }
+    ensures no_less { (R.shown reading.old).taken ≤ (R.shown reading.new).taken }
 {
+    // The count is a number of 64 bits: it doesn't fall where it can't rise.
+    let _taken = reading.taken();
     let name = reading.name(i);
     let stamp = reading.stamp(i);
     let blocks = reading.section().blocks.len();
