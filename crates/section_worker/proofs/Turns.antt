@@ -58,6 +58,11 @@ reads_here w a shown access next = record {
     at = next.at;
     untaken = refl;
   };
+  own = record {
+    number = next.number;
+    of_share = next.of_share;
+    name = reading_name a.seen _ shown.cut next.reading;
+  };
   since = omega (arith, next.at);
 }
 
@@ -73,6 +78,7 @@ module _ (w later : Working) (old mid new : Access) (g : GoesOn old.numbers old.
     cut = r.cut;
     at = r.at;
     next = r.next;
+    own = r.own;
     since = omega (
       arith,
       r.since,

@@ -13,7 +13,7 @@ use Rattle.plan_model.specs.Journal.{last_number, tasks_left}
 use Rattle.plan_model.specs.Touch.{IsUntouchedSince, IsLastTouching}
 use Rattle.plan_model.specs.Legal.{IsJournal, WasPublishedAt}
 use Rattle.plan_model.specs.Call.{GoesOn}
-use Rattle.plan_model.specs.Outcome.{AddsEntry, ShareIsCurrent, IsNextReading, PublishesTo}
+use Rattle.plan_model.specs.Outcome.{AddsEntry, IsOfShare, section_name, ShareIsCurrent, IsNextReading, PublishesTo}
 use Rattle.plan_model.specs.Board.{Access, IsAccess, KeepsCounts}
 use Rattle.section_worker.specs.declared.worker.Turned.{Turned}
 use Rattle.section_worker.specs.declared.worker.Turned.TheVariants as turned
@@ -26,8 +26,15 @@ pub record IsSameBoard (old new : Access) : Type 0 where
   pub pass : new.pass ≡ old.pass
   pub numbers : new.numbers ≡ old.numbers
 
--- what a turn reads: it finds the journal, which is what was seen and then entries of others, and reads the next
--- section of the worker's share. The last edit before the reading is none before the last that was seen
+-- a section is of a worker's share: its number in the journal leaves the worker's rest on division
+pub record IsOwn (w : Working) (journal : List Entry) (section : List ℕ) : Type 0 where
+  pub number : ℕ
+  pub of_share : IsOfShare w.share w.of journal number
+  pub name : section ≡ section_name journal number
+
+-- What a turn reads: it finds the journal, which is what was seen and then entries of others, and reads the next
+-- section of the worker's share. What it publishes is of this section. The last edit before the reading is none before
+-- the last that was seen
 pub record Reads (w : Working) (old : Access) : Type 0 where
   pub found : List Entry
   pub goes_on : GoesOn old.numbers old.seen found
@@ -35,6 +42,7 @@ pub record Reads (w : Working) (old : Access) : Type 0 where
   pub cut : Cut
   pub at : ℕ
   pub next : IsNextReading w.share w.of found (record { cut = cut; at = at; taken = 0 })
+  pub own : IsOwn w found cut.section.name
   pub since : last_number old.seen ≤ at
 
 -- the answer that a publication gives
