@@ -15,4 +15,5 @@ pub mod Sections
 pub mod Left
 pub mod Entering
 pub mod NextTasks
+pub mod Issuing
 pub mod ByOne

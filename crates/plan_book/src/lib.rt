@@ -26,6 +26,7 @@ mod book;
 mod changes;
 mod first;
 mod kept;
+mod laws;
 mod reading;
 mod shelf;
 mod stored;
@@ -34,3 +35,4 @@ mod twin;
 
 pub use alone::{Alone, counted};
 pub use book::{Book, FIRST_NUMBER, PLANNERS, TASKS};
+pub use laws::{limits, nobody_else_adds};
