@@ -9,9 +9,9 @@ use rail_model::{Edit, Name, OutOfMemory, Rule};
 use std::sync::Wait;
 
 /// The access of a pass to a book that nobody else adds to: what it has seen is the whole journal.
-/// It has the numbers of all passes that are issued, so what a call finds is what the call before
-/// it left (`nobody_else_adds`). It counts the readings that it was given, and notes how many uses were taken of the last that it
-/// handed back by a call that found memory.
+/// It has the numbers of all passes that are issued, so a call finds what the call before it left
+/// (`nobody_else_adds`). It counts the readings that it was given, and notes how many uses were
+/// taken of the last that it handed back by a call that found memory.
 ///
 /// For a worker or a planner's calls in one thread, without a desk: by it
 /// `section_worker::Worker::turn` runs over a book. `session_run::session_alone` makes calls of the

@@ -16,8 +16,10 @@
 
 mod actor;
 mod alone;
+mod laws;
 mod signals;
 mod threads;
 
 pub use alone::session_alone;
+pub use laws::limits;
 pub use threads::{WORKERS, session};
