@@ -1,9 +1,10 @@
 -- How many edits and tasks there are.
 use Rattle.std.proofs.Common.{◌≡◌, ℕ, length, sum_by, refl, length-append}
+use Rattle.std.specs.Prelude.{count_by}
 use Rattle.std.proofs.lemmas.List.{length-map}
 use Rattle.std.proofs.lemmas.List.FromFn.{length-map-range_with_len}
 use Rattle.made_line.specs.Base.{block_of, first_blocks, made_signal, first_signals, made_runs, made_section, first_sections, base_edits}
-use Rattle.made_line.specs.MadeScripts.{script_over, first_tasks, first_scripts, scripts_of_made}
+use Rattle.made_line.specs.MadeScripts.{script_over, first_tasks, first_scripts, scripts_of_made, is_edit}
 use Rattle.made_line.proofs.Images.{length-first_runs}
 
 length_blocks : (n count : ℕ) → length (first_blocks n count) ≡ count
@@ -30,3 +31,7 @@ length_scripts n = length-map-range_with_len (script_over (made_runs n)) 1 4
 pub all_tasks : (n : ℕ) → sum_by length (scripts_of_made n) ≡ 128
 unfolding first_scripts first_tasks
 all_tasks n = refl
+
+pub all_edits : (n : ℕ) → sum_by (count_by is_edit) (scripts_of_made n) ≡ 64
+unfolding first_scripts first_tasks
+all_edits n = refl

@@ -1,5 +1,5 @@
 -- The scripts of the made line's four planners: each changes 16 runs of its own, and asks for a section after each change.
-use Rattle.std.specs.Prelude.{ℕ, ◌+◌, ◌*◌, ◌%◌, List, [], ◌∷◌, map, slice_index_or}
+use Rattle.std.specs.Prelude.{ℕ, ◌+◌, ◌*◌, ◌%◌, Bool, true, false, List, [], ◌∷◌, map, slice_index_or}
 use Rattle.std.specs.List.{flat_map, range_with_len}
 use Rattle.rail_model.specs.declared.items.Run.{Run}
 use Rattle.rail_model.specs.Tables.{no_run}
@@ -38,3 +38,8 @@ first_scripts runs count = map (script_over runs) (range_with_len 1 count)
 
 abbrev pub scripts_of_made : ℕ → List (List Task)
 scripts_of_made n = first_scripts (made_runs n) 4
+
+-- a task is an edit, and no question
+abbrev pub is_edit : Task → Bool
+is_edit (task.Edit e) = true
+is_edit (task.Ask section) = false
