@@ -89,7 +89,9 @@ module _ (cut : Cut) where
   disjoint (b ∷ ends) [] a x y = λ i j d before below. absurd (omega (arith, below))
   disjoint (b ∷ ends) (s ∷ stretches) a x y =
       AllPairs-cons AreDisjoint s stretches
-      (later ends stretches b s.last (omega (arith, y.1.last)) x.3 y.2)
+      (λ k d l block in_s in_t.
+      let after = later ends stretches b s.last (omega (arith, y.1.last)) x.3 y.2 k d l in
+      omega (arith, after, in_s.to, in_t.from))
       (disjoint ends stretches b x.3 y.2)
 
   one_more : (ends : List ℕ) (stretches : List Stretch) (a : ℕ) → AreStretches cut a ends stretches

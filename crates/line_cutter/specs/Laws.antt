@@ -40,10 +40,14 @@ EachNeedsACut =
     (cut : Cut) (cutting : Cutting) (ends : List ℕ) → IsCutting cut cutting → AreOrderly cut 0 ends
     → All (IsCutAmong ends) cutting.stretches
 
--- no two neighbouring blocks lie in both of two stretches: the first ends with or before the block with which the other
--- begins
+-- the block at this position and the next one lie in a stretch
+pub record HasNeighbours (stretch : Stretch) (block : ℕ) : Type 0 where
+  pub from : stretch.first ≤ block
+  pub to : block + 1 ≤ stretch.last
+
+-- no two neighbouring blocks lie in both of two stretches
 abbrev pub AreDisjoint : Stretch → Stretch → Type 0
-AreDisjoint s t = s.last ≤ t.first
+AreDisjoint s t = (block : ℕ) → HasNeighbours s block → HasNeighbours t block → ⊥
 
 -- stretches are disjoint
 abbrev pub StretchesAreDisjoint : Type 0

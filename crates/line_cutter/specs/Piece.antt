@@ -7,6 +7,7 @@ use Rattle.plan_model.specs.declared.cut.CutRow.{CutRow}
 use Rattle.plan_model.specs.declared.cut.Cut.{Cut}
 use Rattle.plan_model.specs.Cut.{least}
 use Rattle.plan_model.specs.Disorder.{opposite, remaining}
+use Rattle.line_cutter.specs.declared.piece.TheConstants.{WINDOW_END_S}
 
 -- a use of one of the blocks from a to before b
 abbrev pub is_within : ℕ → ℕ → Use → Bool
@@ -30,7 +31,7 @@ piece_row a b row = record row { entry = least (map (λ u. u.start) (piece_uses 
 
 -- these blocks, with a window that ends after all moments: no train is left out for entering the piece late
 abbrev pub piece_section : Section → ℕ → ℕ → Section
-piece_section section a b = record section { to_s = 50000001; blocks = drop a (take b section.blocks) }
+piece_section section a b = record section { to_s = WINDOW_END_S; blocks = drop a (take b section.blocks) }
 
 -- the piece of a cut from block a to before block b: the members that use it, with no connections
 abbrev pub piece : Cut → ℕ → ℕ → Cut

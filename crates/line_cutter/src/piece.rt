@@ -9,12 +9,12 @@ ghost use Rattle.line_cutter.specs.Ways.{IsOneWay, AreOneWay, IsBeginning};
 
 use crate::line::Line;
 use plan_model::{Cut, CutRow, least_start};
-use rail_model::{List, OutOfMemory, Section, Use};
+use rail_model::{GREATEST_MOMENT_S, List, OutOfMemory, Section, Use};
 use std::alloc::Global;
 
 // Seconds: the end of a piece's window. It is one more than `GREATEST_MOMENT_S`, so every moment of
 // a train lies before it, and a piece has all trains that use its blocks.
-const WINDOW_END_S: u32 = 50_000_001;
+const WINDOW_END_S: u32 = GREATEST_MOMENT_S as u32 + 1;
 
 // The cut of the piece from block a to before block b.
 pub(crate) fn piece(alloc: Global, line: &Line, a: u32, b: u32) -> Result<Cut, OutOfMemory>

@@ -1,5 +1,6 @@
 use Rattle.std.proofs.Common.{◌≡◌, ◌+◌, ◌-◌, take, drop, sym, ap, ◌∙◌, arith}
 use Rattle.std.proofs.lemmas.List.{drop-take}
+use Rattle.line_cutter.specs.declared.piece.TheConstants.{WINDOW_END_S}
 use Rattle.line_cutter.proofs.piece.piece_section.Goals as goal
 
 pub returns : goal.returns
@@ -14,7 +15,7 @@ returns c =
     λ i. record {
       name = c.args.section.now.name;
       from_s = c.args.section.now.from_s;
-      to_s = 50000001;
+      to_s = WINDOW_END_S;
       add_percent = c.args.section.now.add_percent;
       blocks = same i;
     }
