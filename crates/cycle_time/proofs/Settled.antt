@@ -105,7 +105,7 @@ early_again cut sound few period before after causes top (stamp, clock, raised) 
           let root : entry_at after ends.root ≡ window_start cut =
           subst (IsWhy cut period after stamp ends.root) ends.never (raised.why ends.root lr) in
           let w = sound.window_start in
-          let n : length ends.trail ≤ 768 = omega (arith, ends.short, raised.causes_count, few) in
+          let n : length ends.trail ≤ MEMBERS = omega (arith, ends.short, raised.causes_count, few) in
           absurd (omega (arith, ints, past, reach, root, w, n))
     ]
 

@@ -1,5 +1,6 @@
 -- Rings of edges: they refuse a period.
 use Rattle.std.specs.Prelude.{◌≡◌, ℕ, ◌<◌, ◌≤◌, ℤ, pos, ◌+ℤ◌, ◌-ℤ◌, ◌*ℤ◌, ◌<ℤ◌, List, [], ◌∷◌, length, map, count_by, All, Option, None, Some, IfSome}
+use Rattle.plan_model.specs.declared.limits.TheConstants.{MEMBERS}
 use Rattle.plan_model.specs.declared.cut.Cut.{Cut}
 use Rattle.train_order.specs.Taking.{IsDistinct}
 use Rattle.cycle_time.specs.declared.edge.Edge.{Edge}
@@ -77,7 +78,7 @@ pub record IsLoop (cut : Cut) (ring : List Edge) : Type 0 where
   pub leads : Back at ring at
   pub once : IsDistinct (map to_of ring)
   pub some : 0 < laps ring
-  pub few : length ring ≤ 768
+  pub few : length ring ≤ MEMBERS
 
 -- a ring of edges refuses a period: it asks for more than its patterns take
 pub record IsRefusal (cut : Cut) (period : ℕ) (ring : List Edge) : Type 0 where

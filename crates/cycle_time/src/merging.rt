@@ -28,7 +28,8 @@ fn are_between_same(one: Edge, other: Edge) -> bool
         && one.step.next == other.step.next
 }
 
-// The heavier of two edges.
+// The heavier of two edges between the same trains. Of two that are equally heavy either may stay:
+// who keeps one keeps the other. Which of them a ring tells is free.
 fn heavier(one: Edge, other: Edge) -> Edge
     ensures either { (result ≡ one) ⊎ (result ≡ other) }
     ensures one { one.weight ≤ℤ result.weight }

@@ -1,5 +1,6 @@
 //! What a ring of edges allows.
 ghost use Rattle.std.specs.Prelude.{◌≡◌, ◌<◌, ◌≤◌, ◌+◌, ◌≤ℤ◌, ◌<ℤ◌, ◌*ℤ◌, ◌+ℤ◌, ◌-ℤ◌, pos, All, length, slice_index_or};
+ghost use Rattle.plan_model.specs.declared.limits.TheConstants.{MEMBERS};
 ghost use Rattle.cycle_time.specs.Edges.{IsLight};
 ghost use Rattle.cycle_time.specs.Rings as rings;
 
@@ -9,7 +10,7 @@ use crate::edge::Edge;
 // lead to the next pattern, rounded up.
 pub(crate) fn allowed(ring: &[Edge]) -> u64
     requires light { All (λ e. IsLight e.weight) ring.now }
-    requires few { length ring.now ≤ 768 }
+    requires few { length ring.now ≤ MEMBERS }
     requires some { 0 < rings.laps ring.now }
     requires positive { pos 0 <ℤ rings.weights ring.now }
     ensures more { (pos (rings.laps ring.now) *ℤ (pos result -ℤ pos 1))
@@ -24,7 +25,7 @@ pub(crate) fn allowed(ring: &[Edge]) -> u64
 // The sum of some weights.
 fn weights(edges: &[Edge]) -> i64
     requires light { All (λ e. IsLight e.weight) edges.now }
-    requires few { length edges.now ≤ 768 }
+    requires few { length edges.now ≤ MEMBERS }
     ensures is { result ≡ rings.weights edges.now }
     ensures small { result ≤ℤ pos 153600000000 }
 {
@@ -48,7 +49,7 @@ fn with_weight(sum: i64, edges: &[Edge], k: usize) -> i64
 
 // How many edges lead to the next pattern.
 fn laps(edges: &[Edge]) -> u64
-    requires few { length edges.now ≤ 768 }
+    requires few { length edges.now ≤ MEMBERS }
     ensures { result ≡ rings.laps edges.now }
 {
     let mut count = 0;

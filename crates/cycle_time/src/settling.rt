@@ -129,6 +129,8 @@ fn is_late(entries: &[i64], train: u32) -> bool
 }
 
 // Of the latest train so far, if there is one, and of one train more the one that enters later.
+// Any raised train would do: how soon a ring is found and which one is told depends on the choice,
+// and both are free.
 fn later(entries: &[i64], top: Option<u32>, train: u32) -> u32
     requires there { train < length entries.now }
     requires top { IfSome top (λ t. t < length entries.now) }
@@ -147,6 +149,7 @@ fn later(entries: &[i64], top: Option<u32>, train: u32) -> u32
 }
 
 // Seconds: 2^40. No train enters later unless the causes behind it come to a ring. Without a ring
-// it is raised along a path of at most 767 edges from a train at the window's start, and no edge
-// asks for more than 200,000,000 s: that is less than 2^38. Sums with 2^40 stay far within 64 bits.
+// it is raised along a path of fewer than `MEMBERS` edges from a train at the window's start, and no
+// edge asks for more than 200,000,000 s: that is less than 2^38. Sums with 2^40 stay far within 64
+// bits.
 const LATEST: i64 = 1_099_511_627_776;
