@@ -141,9 +141,7 @@ impl Answer {
     /// Where the trains have no order.
     pub fn disorder(&self) -> Option<Disorder> {
         let mut remaining = vec![true; self.cut.members.len()];
-        for &train in &self.order {
-            remaining[train as usize] = false;
-        }
+        self.order.iter().for_each(|&train| remaining[train as usize] = false);
         let least = remaining.iter().position(|&left| left)? as u32;
         let opposite = (least..remaining.len() as u32).find_map(|first| {
             let second = if remaining[first as usize] { self.opposite_of(first)? } else { return None };
@@ -179,9 +177,7 @@ impl Answer {
     fn first_place(&self, first: u32, second: u32) -> u32 {
         let uses = |train: u32| &self.cut.members[train as usize].uses;
         let mut starts = vec![i32::MIN; self.lists.len()];
-        for each in uses(second) {
-            starts[each.place as usize] = each.start;
-        }
+        uses(second).iter().for_each(|each| starts[each.place as usize] = each.start);
         let precedes = |each: &&Use| (each.start, first) < (starts[each.place as usize], second);
         let places = uses(first).iter().filter(precedes).map(|each| each.place);
         places.min_by_key(|&place| self.cut.place(place)).expect("the first precedes the second")
@@ -354,9 +350,7 @@ impl Cut {
 /// once.
 fn lay_out(cut: &Cut) -> Vec<Vec<Spot>> {
     let mut counts = vec![0; cut.places.len()];
-    for each in cut.members.iter().flat_map(|member| &member.uses) {
-        counts[each.place as usize] += 1;
-    }
+    cut.members.iter().flat_map(|member| &member.uses).for_each(|each| counts[each.place as usize] += 1);
     let mut lists: Vec<Vec<Spot>> = counts.into_iter().map(Vec::with_capacity).collect();
     let mut trains: Vec<u32> = (0..cut.members.len() as u32).collect();
     trains.sort_unstable_by_key(|&train| (cut.members[train as usize].entry, train));

@@ -7,7 +7,7 @@ use crate::stairs::Way;
 use crate::tables::Line;
 use crate::text::Text;
 
-const MOST_LISTED: u64 = 10_000;
+const MOST_LISTED: i64 = 10_000;
 
 pub fn check(line: &Line) -> Text {
     let runs = line.table(Kind::Run).by_name();
@@ -22,7 +22,7 @@ pub fn check(line: &Line) -> Text {
         }
     }
     let mut text = Text::default();
-    let (mut listed, mut more) = (0, 0);
+    let mut found = 0;
     for block in line.table(Kind::Block).by_name() {
         let blockings = &mut by_block[block as usize];
         if !blockings.is_sorted_by_key(Spot::key) {
@@ -30,11 +30,10 @@ pub fn check(line: &Line) -> Text {
         }
         for (at, one) in blockings.iter().enumerate() {
             for other in blockings[at + 1..].iter().take_while(|other| other.start < one.end) {
-                if listed == MOST_LISTED {
-                    more += 1;
+                found += 1;
+                if found > MOST_LISTED {
                     continue;
                 }
-                listed += 1;
                 text.row("conflict").name(line.table(Kind::Block).name(block));
                 for run in [one, other] {
                     text.name(line.table(Kind::Run).name(runs[run.train as usize]));
@@ -43,6 +42,6 @@ pub fn check(line: &Line) -> Text {
             }
         }
     }
-    text.row("conflicts").number(listed as i64).number(more).end();
+    text.row("conflicts").number(found.min(MOST_LISTED)).number((found - MOST_LISTED).max(0)).end();
     text
 }

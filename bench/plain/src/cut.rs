@@ -166,10 +166,8 @@ impl Cutter {
             return None;
         }
         let until = traffic.ways[connect.first as usize].arrival + connect.minimum as i32;
-        Some(match run == connect.first {
-            true => Use { place, start: entry, end: until },
-            false => Use { place, start, end: start + 1 },
-        })
+        let (start, end) = if run == connect.first { (entry, until) } else { (start, start + 1) };
+        Some(Use { place, start, end })
     }
 
     /// Whether the section has one of these blocks.

@@ -40,15 +40,11 @@ fn run() -> i32 {
     let Some(command) = words.as_deref().and_then(words::command) else { return end(2, USAGE) };
     let Ok(bytes) = read_input(&command) else { return end(3, "the input could not be read") };
     let (text, refusal) = match outcome(&command, &bytes) {
-        Ok(text) => (text, None),
-        Err(refusal) => {
-            let mut text = Text::default();
-            text.row("refused").number(refusal.row as i64).word(refusal.cause).end();
-            (text, Some(refusal))
-        }
+        Ok(text) => (text.bytes, None),
+        Err(refusal) => (format!("refused,{},{}\n", refusal.row, refusal.cause).into_bytes(), Some(refusal)),
     };
     let mut output = std::io::stdout().lock();
-    if output.write_all(&text.bytes).and_then(|()| output.flush()).is_err() {
+    if output.write_all(&text).and_then(|()| output.flush()).is_err() {
         return end(4, "the output could not be written");
     }
     refusal.map_or(0, |refusal| end(1, &format!("row {}: it is refused, {}", refusal.row, refusal.cause)))

@@ -162,9 +162,7 @@ impl Book {
         let mut row = Text::default();
         edit.write(&mut row);
         match self.line.apply(edit) {
-            Err(cause) => {
-                self.journal.row("rejected").number(planner).word(cause).append(&row);
-            }
+            Err(cause) => self.journal.row("rejected").number(planner).word(cause).append(&row),
             Ok(change) => {
                 self.at += 1;
                 self.journal.row("edited").number(planner).number(self.at as i64).append(&row);
@@ -204,12 +202,12 @@ impl Book {
         let mut differ = vec![false; self.line.table(Kind::Block).room()];
         for &run in runs {
             let new = Way::of(&self.line, run);
-            let old = std::mem::replace(&mut self.traffic.ways[run as usize], new);
-            let new = &self.traffic.ways[run as usize];
+            let old = &mut self.traffic.ways[run as usize];
             for (old, new) in old.uses.iter().zip(&new.uses).filter(|(old, new)| old != new) {
                 differ[(old.place - FIRST_BLOCK) as usize] = true;
                 differ[(new.place - FIRST_BLOCK) as usize] = true;
             }
+            *old = new;
         }
         differ
     }
@@ -272,8 +270,7 @@ impl Book {
     }
 
     fn publish_all(&mut self) {
-        let open: Vec<u32> = self.open_sections().collect();
-        for section in open {
+        for section in self.open_sections().collect::<Vec<u32>>() {
             let done = self.take_up(section).done();
             self.publish(done);
         }

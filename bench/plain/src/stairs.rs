@@ -113,11 +113,7 @@ impl Way {
 
 pub fn stairs(line: &Line) -> Text {
     let mut text = Text::default();
-    let field = |name: &[u8]| {
-        let mut text = Text::default();
-        text.name(name);
-        text
-    };
+    let field = |name: &[u8]| std::mem::take(Text::default().name(name));
     let fields: Vec<Text> = line.table(Kind::Block).names().iter().map(|name| field(name)).collect();
     for number in line.table(Kind::Run).by_name() {
         let name = field(line.table(Kind::Run).name(number));

@@ -20,6 +20,8 @@ pub struct Connect { pub first: u32, pub second: u32, pub minimum: u32 }
 
 /// How many items of each kind there may be, in the order of `Kind`.
 const MOST: [usize; 6] = [4096, 8192, 4096, 2048, 64, 1024];
+/// The kind of the items that one of each kind names; blocks name nothing.
+const NAMED: [Kind; 6] = [Kind::Block, Kind::Block, Kind::Signal, Kind::Route, Kind::Block, Kind::Run];
 
 /// What is known of an item of any kind.
 struct Entry {
@@ -130,6 +132,33 @@ fn set<T>(items: &mut Vec<T>, number: u32, item: T) {
 /// The item that an edit has put, changed or dropped, and what it names or named.
 pub struct Change { pub kind: Kind, pub number: u32, pub named: Vec<u32> }
 
+/// Of each signal and of each block the routes that pass it, with a bit for each of 4,096 routes.
+struct Passing { signals: Vec<[u64; 64]>, blocks: Vec<[u64; 64]> }
+
+impl Passing {
+    fn of(routes: &Table, signals: &[Signal]) -> Passing {
+        let none = |kind| vec![[0; 64]; MOST[kind as usize]];
+        let mut passing = Passing { signals: none(Kind::Signal), blocks: none(Kind::Block) };
+        routes.numbers().for_each(|route| passing.turn(Kind::Route, route, routes.named(route), signals));
+        passing
+    }
+
+    /// Turns the bit of a route, or those of a signal's routes, at what it names now and at what it named
+    /// before; where it names it still, they are turned twice and stay.
+    fn turn(&mut self, kind: Kind, number: u32, named: &[u32], signals: &[Signal]) {
+        let number = number as usize;
+        for named in named.iter().map(|&named| named as usize) {
+            if kind == Kind::Signal {
+                let pairs = self.blocks[named].iter_mut().zip(&self.signals[number]);
+                pairs.for_each(|(block, signal)| *block ^= signal);
+            } else if kind == Kind::Route {
+                self.signals[named][number / 64] ^= 1 << (number % 64);
+                self.blocks[signals[named].block as usize][number / 64] ^= 1 << (number % 64);
+            }
+        }
+    }
+}
+
 /// The tables; of each kind the items stand by their numbers.
 #[derive(Default)]
 pub struct Line {
@@ -142,6 +171,8 @@ pub struct Line {
     /// For each block the last look at a list of blocks that saw it.
     seen: Vec<u32>,
     looks: u32,
+    /// Made when a signal is to move to another block for the first time.
+    passing: Option<Passing>,
 }
 
 impl Line {
@@ -166,7 +197,7 @@ impl Line {
         if verb == Verb::Put && table.numbers.len() == MOST[kind as usize] {
             return Err("limit");
         }
-        let new = self.table(named_by(kind)).find_all(names)?;
+        let new = self.table(NAMED[kind as usize]).find_all(names)?;
         if verb != Verb::Drop {
             self.check(kind, found, &new, edit.legs.len())?;
         } else if found.is_some_and(|number| self.table(kind).is_used(number)) {
@@ -177,11 +208,8 @@ impl Line {
 
     /// Whether a block has the name of a connection, or the other way round.
     fn is_taken(&self, kind: Kind, name: &[u8]) -> bool {
-        match kind {
-            Kind::Block => self.table(Kind::Connect).find(name).is_some(),
-            Kind::Connect => self.table(Kind::Block).find(name).is_some(),
-            _ => false,
-        }
+        let has = |other| self.table(other).find(name).is_some();
+        kind == Kind::Block && has(Kind::Connect) || kind == Kind::Connect && has(Kind::Block)
     }
 
     /// The last rules of a put or a change, of what the item names.
@@ -212,11 +240,14 @@ impl Line {
     }
 
     /// Whether a route of the signal has another one at the block.
-    fn meets(&self, signal: u32, block: u32) -> bool {
-        let passes = |&other: &u32| other != signal && self.signals[other as usize].block == block;
-        let meets = |route: &[u32]| route.contains(&signal) && route.iter().any(passes);
-        let routes = self.table(Kind::Route);
-        self.signals[signal as usize].block != block && routes.numbers().any(|route| meets(routes.named(route)))
+    fn meets(&mut self, signal: u32, block: u32) -> bool {
+        if self.signals[signal as usize].block == block {
+            return false;
+        }
+        let (routes, signals) = (&self.tables[Kind::Route as usize], &self.signals);
+        let passing = self.passing.get_or_insert_with(|| Passing::of(routes, signals));
+        let mut pairs = passing.signals[signal as usize].iter().zip(&passing.blocks[block as usize]);
+        pairs.any(|(signal, block)| signal & block != 0)
     }
 
     /// Makes an edit that no rule refuses.
@@ -225,7 +256,7 @@ impl Line {
         let table = &mut self.tables[kind as usize];
         let number = found.unwrap_or_else(|| table.put(edit.name));
         let old = std::mem::replace(&mut table.entries[number as usize].named, new.clone());
-        let named_table = &mut self.tables[named_by(kind) as usize];
+        let named_table = &mut self.tables[NAMED[kind as usize] as usize];
         named_table.count(&new, 1);
         named_table.count(&old, -1);
         if edit.verb == Verb::Drop {
@@ -233,7 +264,9 @@ impl Line {
         } else {
             self.store(edit, number, &new);
         }
-        Change { kind, number, named: [old, new].concat() }
+        let named = [old, new].concat();
+        self.passing.iter_mut().for_each(|passing| passing.turn(kind, number, &named, &self.signals));
+        Change { kind, number, named }
     }
 
     fn store(&mut self, edit: Edit, number: u32, named: &[u32]) {
@@ -264,15 +297,5 @@ impl Line {
             Kind::Signal => signals.contains(&change.number),
             _ => change.number == route,
         }
-    }
-}
-
-/// The kind of the items that one of this kind names; blocks name nothing.
-fn named_by(kind: Kind) -> Kind {
-    match kind {
-        Kind::Block | Kind::Signal | Kind::Section => Kind::Block,
-        Kind::Route => Kind::Signal,
-        Kind::Run => Kind::Route,
-        Kind::Connect => Kind::Run,
     }
 }

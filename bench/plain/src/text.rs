@@ -18,8 +18,7 @@ impl Text {
     /// A field that needs no quotes.
     pub fn word(&mut self, word: &str) -> &mut Text {
         self.bytes.push(b',');
-        self.bytes.extend_from_slice(word.as_bytes());
-        self
+        self.row(word)
     }
 
     /// A field that is quoted where it has a comma or a quote; line ends are in no name.
@@ -67,8 +66,7 @@ impl Text {
         }
         let (over, under) = (over / common, under / common);
         let hundredths = (over as u128 * 10_000).div_ceil(under as u128);
-        let (whole, part) = (hundredths / 100, hundredths % 100);
-        self.word(&format!("{over}/{under},{whole}.{part:02}"))
+        self.word(&format!("{over}/{under},{}.{:02}", hundredths / 100, hundredths % 100))
     }
 
     pub fn append(&mut self, other: &Text) {

@@ -41,12 +41,11 @@ pub fn command(words: &[String]) -> Option<Command<'_>> {
 fn delays<'a>(name: &'a [u8], pairs: &[&'a [u8]]) -> Option<Command<'a>> {
     let (mut runs, mut seconds) = (Vec::new(), Vec::new());
     for pair in pairs.chunks(2) {
-        let delay = number(pair[1]).ok().filter(|&delay| delay <= 86_400 && pair[1].len() <= 5)?;
         if runs.contains(&pair[0]) {
             return None;
         }
         runs.push(pair[0]);
-        seconds.push(delay);
+        seconds.push(number(pair[1]).ok().filter(|&delay| delay <= 86_400 && pair[1].len() <= 5)?);
     }
     (1..=64).contains(&runs.len()).then_some(Command::Delays(name, runs, seconds))
 }
