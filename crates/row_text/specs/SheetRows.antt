@@ -1,5 +1,5 @@
 -- What a sheet is seen as.
-use Rattle.std.specs.Prelude.{ℕ, Bool, true, false, List, [], ◌∷◌, ◌++◌}
+use Rattle.std.specs.Prelude.{◌≡◌, ℕ, Bool, true, false, List, [], ◌∷◌, ◌++◌, take}
 use Rattle.std.specs.List.{flat_map}
 use Rattle.csv.specs.Writing.{default_writer, row_text}
 use Rattle.row_text.specs.Row.{Row}
@@ -18,6 +18,10 @@ with_fields sheet fields = record sheet { row = sheet.row ++ fields }
 
 abbrev pub with_row : SheetRows → Row → SheetRows
 with_row sheet row = record { rows = sheet.rows ++ row ∷ []; row = [] }
+
+-- a beginning of a row: its first fields, from none to all
+abbrev pub IsBeginningOf : Row → Row → Type 0
+IsBeginningOf row begun = (count : ℕ) × (begun ≡ take count row)
 
 -- the text of a row as CSV writes it: commas, quotes only where needed, and a line feed
 unfoldable pub text_of_row : Row → List ℕ

@@ -27,6 +27,7 @@
 
 mod fields;
 mod item_row;
+mod laws;
 mod leg_times;
 mod line;
 mod line_row;
@@ -46,6 +47,7 @@ mod write_field;
 mod written;
 
 pub use fields::{Fields, Row};
+pub use laws::limits;
 pub use line::{Line, read_line, read_row, read_row_in};
 pub use line_row::{has_times_in, spell, spell_in};
 pub use parts::rows_by_threads;

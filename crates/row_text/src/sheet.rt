@@ -4,6 +4,7 @@ ghost use Rattle.std.specs.Fmt.{signed_decimal};
 ghost use Rattle.csv.specs.Writing.{default_writer, needs_quotes};
 ghost use Rattle.row_text.specs.FieldText.{text_of};
 ghost use Rattle.row_text.specs.SheetRows.{with_field, with_fields, with_row, text_of_rows};
+ghost use Rattle.row_text.specs.SheetRows.{IsBeginningOf};
 
 use crate::fields::Fields;
 use crate::put::{make_room, put_bytes, put_end, put_numbers, put_signed, put_text, put_unsigned};
@@ -211,11 +212,13 @@ impl Sheet {
     }
 
     /// Writes a whole row of these fields. A row that is being written is dropped first; where
-    /// memory runs out, the rows stay as they were.
+    /// memory runs out, the rows stay as they were, and the row that is being written is a
+    /// beginning of this one.
     pub fn write(&mut self, fields: &[Field<'_>]) -> Result<(), OutOfMemory>
         requires { 0 < length fields.now }
         ensures ok { OnOk result (self.new ≡ with_row self.old (map text_of fields.now)) }
         ensures err { OnErr result (self.new.rows ≡ self.old.rows) }
+        ensures begun { OnErr result (IsBeginningOf (map text_of fields.now) self.new.row) }
     {
         self.drop_row();
         for field in fields {
@@ -225,11 +228,13 @@ impl Sheet {
     }
 
     /// Writes a whole row of fields that are kept. A row that is being written is dropped first;
-    /// where memory runs out, the rows stay as they were.
+    /// where memory runs out, the rows stay as they were, and the row that is being written is a
+    /// beginning of this one.
     pub fn write_row(&mut self, fields: &Fields) -> Result<(), OutOfMemory>
         requires { 0 < length fields.now }
         ensures ok { OnOk result (self.new ≡ with_row self.old fields.now) }
         ensures err { OnErr result (self.new.rows ≡ self.old.rows) }
+        ensures begun { OnErr result (IsBeginningOf fields.now self.new.row) }
     {
         self.drop_row();
         for i in 0..fields.len() {
