@@ -1,9 +1,13 @@
 -- By the journal that a call finds, it ends in one way.
-use Rattle.std.proofs.Common.{◌≡◌, ℕ, ◌<◌, ◌≤◌, List, Option, Some, None, Result, Ok, Err, inl, inr, refl, sym, ap, ◌∙◌, subst, arith}
+use Rattle.std.proofs.Common.{◌≡◌, ℕ, ◌<◌, ◌≤◌, List, [], ◌∷◌, map, Option, Some, None, Result, Ok, Err, inl, inr, refl, sym, ap, ◌∙◌, subst, arith}
+use Rattle.std.specs.Prelude.{All}
 use Rattle.std.proofs.lemmas.Bool.{cases_lt}
+use Rattle.std.proofs.lemmas.List.Elements.{All-head, All-tail}
 use Rattle.rail_model.specs.declared.edit.Edit.{Edit}
 use Rattle.rail_model.specs.declared.edit.Rule.{Rule}
 use Rattle.plan_model.specs.declared.answer.Done.{Done}
+use Rattle.plan_model.specs.declared.cut.CutRow.{CutRow}
+use Rattle.plan_model.specs.declared.cut.Cut.{Cut}
 use Rattle.plan_model.specs.declared.scripts.Task.{Task}
 use Rattle.plan_model.specs.declared.scripts.Task.TheVariants as task
 use Rattle.plan_model.specs.declared.journal.Entry.{Entry}
@@ -13,15 +17,20 @@ use Rattle.plan_model.specs.declared.outcome.Asked.{Asked}
 use Rattle.plan_model.specs.declared.outcome.Asked.TheVariants as asked
 use Rattle.plan_model.specs.declared.outcome.Stepped.{Stepped}
 use Rattle.plan_model.specs.declared.outcome.Stepped.TheVariants as stepped
+use Rattle.plan_model.specs.declared.outcome.Next.{Next}
+use Rattle.plan_model.specs.declared.outcome.Next.TheVariants as next
 use Rattle.plan_model.specs.declared.outcome.NotTaken.{NotTaken}
 use Rattle.plan_model.specs.declared.outcome.NotTaken.TheVariants as not_taken
 use Rattle.plan_model.specs.Journal.{Publication, opening, last_number}
 use Rattle.plan_model.specs.Changes.{Stays, IsLastChange}
-use Rattle.plan_model.specs.Touch.{cut_at, IsUntouchedSince, IsLastTouching, IsCurrent}
+use Rattle.plan_model.specs.Cut.{stamped_row, stamped}
+use Rattle.plan_model.specs.Reading.{Shown}
+use Rattle.plan_model.specs.Touch.{cut_at, row_at, IsUntouchedSince, IsLastTouching, IsCurrent, IsStamp, IsReading}
 use Rattle.plan_model.specs.Legal.{WasPublishedAt, IsReply, IsLegal}
-use Rattle.plan_model.specs.Outcome.{EditsTo, reply_of, GivesLast, AsksTo, next_task, StepsTo, IsDone, PublishesTo}
+use Rattle.plan_model.specs.Outcome.{EditsTo, reply_of, GivesLast, AsksTo, next_task, StepsTo, section_name, IsNextReading, ReadsTo, IsDone, PublishesTo}
 use Rattle.plan_model.specs.JournalLaws.{CallsEndInOneWay}
 use Rattle.plan_model.proofs.Touching.{same_one, last_is_right}
+use Rattle.plan_model.proofs.Stamps.{same_row}
 
 -- ---- options and results
 
@@ -136,6 +145,67 @@ edit_one found pass planner edit (Err rule) (Ok b) after later h k = absurd (som
 edit_one found pass planner edit (Err rule) (Err other) after later h k =
     ap (λ r. Err r) (same_one rule other (sym h.next.follows ∙ k.next.follows))
 
+-- ---- readings
+
+module _ (found : List Entry) (section : List ℕ) where
+  row_one : (row other : CutRow) → stamped_row 0 row ≡ stamped_row 0 other → IsStamp found section row
+      → IsStamp found section other → row ≡ other
+  row_one row other same h k =
+      let name : other.name ≡ row.name = ap (λ (r : CutRow). r.name) (sym same) in
+      let stamp = subst (λ n. IsLastChange (row_at found section n) (opening found).at (last_number found) other.stamp) name k in
+      same_row row other
+      (last_change_one (row_at found section row.name) (opening found).at (last_number found) row.stamp other.stamp h stamp)
+      same
+
+  rows_one : (rows others : List CutRow) → map (stamped_row 0) rows ≡ map (stamped_row 0) others
+      → All (IsStamp found section) rows → All (IsStamp found section) others → rows ≡ others
+  rows_one [] [] same h k = refl
+  rows_one [] (s ∷ others) same h k = absurd (cc)
+  rows_one (r ∷ rows) [] same h k = absurd (cc)
+  rows_one (r ∷ rows) (s ∷ others) same h k =
+      let first : stamped_row 0 r ≡ stamped_row 0 s = cc in
+      let rest : map (stamped_row 0) rows ≡ map (stamped_row 0) others = cc in
+      let row = row_one r s first (All-head (IsStamp found section) r rows h) (All-head (IsStamp found section) s others k) in
+      let more = rows_one rows others rest (All-tail (IsStamp found section) r rows h) (All-tail (IsStamp found section) s others k) in
+      λ i. row i ∷ more i
+
+  -- two readings of a section are equal, with their stamps
+  cut_one : (one other : Cut) → IsReading found section one → IsReading found section other → one ≡ other
+  cut_one one other h k =
+      let same = same_one (stamped 0 one) (stamped 0 other) (sym h.value ∙ k.value) in
+      let rows = rows_one one.rows other.rows (ap (λ (c : Cut). c.rows) same) h.stamps k.stamps in
+      λ i. record { section = (same i).section; connections = (same i).connections; rows = rows i }
+
+module _ (found : List Entry) (share of : ℕ) where
+  number_one : (one other : Shown) (h : IsNextReading share of found one) (k : IsNextReading share of found other)
+      → h.number ≡ k.number
+  number_one one other h k =
+      elim (cases_lt h.number k.number) [
+        | inl less ↦ absurd (h.wanted (k.first h.number less h.of_share))
+        | inr rest ↦ elim (cases_lt k.number h.number) [
+          | inl less ↦ absurd (k.wanted (h.first k.number less k.of_share))
+          | inr back ↦ omega arith
+        ]
+      ]
+
+  shown_one : (one other : Shown) → IsNextReading share of found one → IsNextReading share of found other → one ≡ other
+  shown_one one other h k =
+      let number = number_one one other h k in
+      let reading = subst (λ n. IsReading found (section_name found n) other.cut) (sym number) k.reading in
+      let cut = cut_one found (section_name found h.number) one.cut other.cut h.reading reading in
+      let at = h.at ∙ sym k.at in
+      let taken = h.untaken ∙ sym k.untaken in
+      λ i. record { cut = cut i; at = at i; taken = taken i }
+
+  read_one : (one other : Next Shown) (after later : List Entry)
+      → ReadsTo (λ shown. shown) share of found one after → ReadsTo (λ shown. shown) share of found other later
+      → one ≡ other
+  read_one (next.Reading one) (next.Reading other) after later h k =
+      ap (λ (s : Shown). next.Reading s) (shown_one one other h.1 k.1)
+  read_one (next.Reading one) (next.Idle left) after later h k = absurd (h.1.wanted (k.1 h.1.number h.1.of_share))
+  read_one (next.Idle left) (next.Reading other) after later h k = absurd (k.1.wanted (h.1 k.1.number k.1.of_share))
+  read_one (next.Idle left) (next.Idle other) after later h k = rw (h.2, k.2) refl
+
 -- ---- publications
 
 module _ (found : List Entry) (pass : ℕ) (done : Done) (is_done : IsDone found done) where
@@ -216,5 +286,6 @@ calls_end_in_one_way found legal = record {
   edit = edit_one found;
   ask = ask_one found legal;
   step = λ pass planner. step_one found pass planner legal;
+  read_next = read_one found;
   publish = λ pass done one other after later is_done. publish_one found pass done is_done one other after later;
 }

@@ -69,7 +69,7 @@ module _ (journal : List Entry) (section : List ℕ) (cut : Cut) (row : CutRow) 
   stamp_known = its_stamp.to_last
 
 -- two rows that are equal without their stamps, which are equal
-same_row : (row later : CutRow) → row.stamp ≡ later.stamp → stamped_row 0 row ≡ stamped_row 0 later → row ≡ later
+pub same_row : (row later : CutRow) → row.stamp ≡ later.stamp → stamped_row 0 row ≡ stamped_row 0 later → row ≡ later
 same_row row later stamps same =
     ap (λ r. stamped_row row.stamp r) same ∙ ap (λ s. stamped_row s later) stamps
 

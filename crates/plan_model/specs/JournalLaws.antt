@@ -10,6 +10,7 @@ use Rattle.plan_model.specs.declared.journal.Act.TheVariants as act
 use Rattle.plan_model.specs.declared.journal.Entry.{Entry}
 use Rattle.plan_model.specs.declared.outcome.Asked.{Asked}
 use Rattle.plan_model.specs.declared.outcome.Stepped.{Stepped}
+use Rattle.plan_model.specs.declared.outcome.Next.{Next}
 use Rattle.plan_model.specs.declared.outcome.NotTaken.{NotTaken}
 use Rattle.plan_model.specs.Answer.{IsAnswer}
 use Rattle.plan_model.specs.Journal.{edits, last_number, tables_at, tables_of, issued, done_by, script_of, tasks_left}
@@ -17,7 +18,7 @@ use Rattle.plan_model.specs.Changes.{Stays}
 use Rattle.plan_model.specs.Touch.{cut_at, cut_now, IsCurrent, IsReading}
 use Rattle.plan_model.specs.Legal.{IsNext, IsLegal, IsJournal}
 use Rattle.plan_model.specs.Reading.{Shown}
-use Rattle.plan_model.specs.Outcome.{AddsEntry, EditsTo, AsksTo, IsPlanner, StepsTo, IsNextReading, IsAnswerOf, IsDone, PublishesTo}
+use Rattle.plan_model.specs.Outcome.{AddsEntry, EditsTo, AsksTo, IsPlanner, StepsTo, IsNextReading, ReadsTo, IsAnswerOf, IsDone, PublishesTo}
 
 -- ---- beginnings of journals
 
@@ -112,8 +113,9 @@ NoneIsLeft =
 
 -- ---- answers of calls
 
--- an edit, a question of a section, a step and a publication each end in one way, by the journal that the call finds: a
--- refusal comes where it may come, and nowhere else
+-- an edit, a question of a section, a step, a reading and a publication each end in one way, by the journal that the call
+-- finds: a refusal comes where it may come, and nowhere else. A reading is told by what it shows: the cut with its stamps,
+-- and the number of the last edit
 pub record EndsInOneWay (found : List Entry) : Type 0 where
   pub edit : (pass planner : ℕ) (edit : Edit) (one other : Result ℕ Rule) (after later : List Entry)
       → EditsTo pass planner edit found one after → EditsTo pass planner edit found other later → one ≡ other
@@ -121,6 +123,9 @@ pub record EndsInOneWay (found : List Entry) : Type 0 where
       → AsksTo pass planner section found one after → AsksTo pass planner section found other later → one ≡ other
   pub step : (pass planner : ℕ) (one other : Stepped) (after later : List Entry)
       → StepsTo pass planner found one after → StepsTo pass planner found other later → one ≡ other
+  pub read_next : (share of : ℕ) (one other : Next Shown) (after later : List Entry)
+      → ReadsTo (λ shown. shown) share of found one after → ReadsTo (λ shown. shown) share of found other later
+      → one ≡ other
   pub publish : (pass : ℕ) (done : Done) (one other : Result (Unit {0}) NotTaken) (after later : List Entry)
       → IsDone found done → PublishesTo pass done found one after → PublishesTo pass done found other later
       → one ≡ other

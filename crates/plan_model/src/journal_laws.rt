@@ -67,8 +67,8 @@ pub fn none_is_left()
     ensures { NoneIsLeft }
 {}
 
-/// An edit, a question of a section, a step and a publication each end in one way, by the journal
-/// that the call finds: a refusal comes where it may come, and nowhere else.
+/// An edit, a question of a section, a step, a reading and a publication each end in one way, by the
+/// journal that the call finds: a refusal comes where it may come, and nowhere else.
 pub fn calls_end_in_one_way()
     ensures { CallsEndInOneWay }
 {}
