@@ -1,19 +1,16 @@
 -- A reading of a journal: the name of its section, and that its answer may be published.
-use Rattle.std.proofs.Common.{◌≡◌, ℕ, cond, ◌<◌, ◌≤◌, List, [], ◌∷◌, ◌++◌, length, Option, None, Some, refl, sym, ap, ◌∙◌, subst, arith}
-use Rattle.std.specs.Prelude.{Bool, true, false, find, unwrap_or, option_map, Contains, All}
+use Rattle.std.proofs.Common.{◌≡◌, ℕ, cond, ◌≤◌, List, [], ◌∷◌, Option, None, Some, refl, sym, ap, ◌∙◌, arith}
+use Rattle.std.specs.Prelude.{Bool, true, false, find, unwrap_or, option_map}
 use Rattle.rail_model.specs.declared.items.Section.{Section}
 use Rattle.rail_model.specs.declared.tables.Tables.{Tables}
 use Rattle.rail_model.specs.Name.{is_same}
 use Rattle.rail_model.proofs.NameOrder.{same_name}
-use Rattle.plan_model.specs.declared.answer.Answer.{Answer}
 use Rattle.plan_model.specs.declared.cut.Cut.{Cut}
-use Rattle.plan_model.specs.declared.cut.CutRow.{CutRow}
 use Rattle.plan_model.specs.declared.journal.Entry.{Entry}
-use Rattle.plan_model.specs.Answer.{IsAnswer}
 use Rattle.plan_model.specs.Cut.{stamped}
 use Rattle.plan_model.specs.SectionCut.{section_cut}
 use Rattle.plan_model.specs.Reading.{Shown}
-use Rattle.plan_model.specs.Journal.{opening, edits, last_number, tables_at}
+use Rattle.plan_model.specs.Journal.{opening, last_number, tables_at}
 use Rattle.plan_model.specs.Touch.{cut_at, IsReading}
 use Rattle.plan_model.specs.Outcome.{section_name, IsNextReading, IsAnswerOf, IsDone}
 use Rattle.plan_model.specs.declared.answer.Done.{Done}

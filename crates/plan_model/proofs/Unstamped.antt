@@ -1,6 +1,6 @@
 -- Stamps are no part of what an answer says: the answer of a cut is that of the cut without its stamps.
-use Rattle.std.proofs.Common.{◌≡◌, ℕ, zero, suc, ◌+◌, ◌<◌, ◌≤◌, List, [], ◌∷◌, ◌++◌, length, map, get_or, refl, sym, ap, ◌∙◌, subst}
-use Rattle.std.specs.Prelude.{ℤ, ◌≤ℤ◌, Bool, ◌&&◌, IsTrue, ◌==◌, ◌-ℤ◌, nat_abs, max, filter, find, fold, take, drop, reverse, zip, Option, option_map, option_and_then, unwrap_or, slice_index, if◌then◌else◌}
+use Rattle.std.proofs.Common.{◌≡◌, ℕ, zero, suc, ◌+◌, ◌<◌, ◌≤◌, List, [], ◌∷◌, ◌++◌, map, get_or, refl, sym, ap, ◌∙◌, subst}
+use Rattle.std.specs.Prelude.{ℤ, ◌≤ℤ◌, ◌&&◌, IsTrue, ◌==◌, ◌-ℤ◌, nat_abs, max, filter, find, fold, take, drop, reverse, zip, option_map, option_and_then, unwrap_or, slice_index, if◌then◌else◌}
 use Rattle.std.specs.List.{list_any, range_with_len, position_or_len}
 use Rattle.std.specs.Ordering.{int_eq}
 use Rattle.std.proofs.lemmas.List.{length-map}
@@ -8,17 +8,15 @@ use Rattle.plan_model.specs.declared.cut.CutRow.{CutRow}
 use Rattle.plan_model.specs.declared.cut.Cut.{Cut}
 use Rattle.plan_model.specs.declared.answer.Answer.{Answer}
 use Rattle.plan_model.specs.declared.answer.Answer.TheVariants as answer
-use Rattle.plan_model.specs.declared.answer.Link.{Link}
-use Rattle.plan_model.specs.declared.answer.Tie.{Tie}
 use Rattle.plan_model.specs.declared.answer.Tie.TheVariants.{Start, After}
-use Rattle.plan_model.specs.Answer.{plan_of, IsCompressed, IsAnswer}
+use Rattle.plan_model.specs.Answer.{plan_of, IsAnswer}
 use Rattle.plan_model.specs.Cut.{stamped_row, stamped, least}
-use Rattle.plan_model.specs.Disorder.{link_place, are_opposite, pairs, opposite_pair, opposite, preceded, after_rounds, remaining, predecessor, circuit, from_least, ring_members, ring}
+use Rattle.plan_model.specs.Disorder.{link_place, pairs, opposite_pair, opposite, preceded, after_rounds, remaining, predecessor, circuit, from_least, ring}
 use Rattle.plan_model.specs.Members.{no_member, member, member_count, members, uses_place}
-use Rattle.plan_model.specs.Occupancy.{greatest, occupancy, busiest, critical}
+use Rattle.plan_model.specs.Occupancy.{greatest}
 use Rattle.plan_model.specs.Places.{is_among, place_name, place_count, first_by_name, blocks, places}
 use Rattle.plan_model.specs.Precedence.{precedes, precedes_somewhere}
-use Rattle.plan_model.specs.Schedule.{start_at, end_at, entry_at, window_floor, IsScheduleFrom, IsLeastFrom, IsLeast}
+use Rattle.plan_model.specs.Schedule.{start_at, end_at, entry_at, window_floor, IsScheduleFrom, IsLeast}
 
 row_unstamped : (rows : List CutRow) (i : ℕ) → get_or (map (stamped_row 0) rows) i no_member ≡ stamped_row 0 (get_or rows i no_member)
 row_unstamped [] i = refl
