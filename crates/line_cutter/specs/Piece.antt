@@ -1,13 +1,13 @@
 -- Pieces of a line: what a cut holds of its blocks from one to before another.
-use Rattle.std.specs.Prelude.{◌≡◌, ℕ, ◌-◌, Bool, ◌&&◌, nat_le, nat_lt, List, [], map, filter, take, drop, None}
+use Rattle.std.specs.Prelude.{◌≡◌, ℕ, ◌+◌, ◌-◌, nat_abs, Bool, ◌&&◌, nat_le, nat_lt, List, [], map, filter, take, drop, None}
 use Rattle.std.specs.List.{list_any}
 use Rattle.rail_model.specs.declared.items.Section.{Section}
 use Rattle.rail_model.specs.declared.stair.Use.{Use}
+use Rattle.rail_model.specs.declared.limits.TheConstants.{GREATEST_MOMENT_S}
 use Rattle.plan_model.specs.declared.cut.CutRow.{CutRow}
 use Rattle.plan_model.specs.declared.cut.Cut.{Cut}
 use Rattle.plan_model.specs.Cut.{least}
 use Rattle.plan_model.specs.Disorder.{opposite, remaining}
-use Rattle.line_cutter.specs.declared.piece.TheConstants.{WINDOW_END_S}
 
 -- a use of one of the blocks from a to before b
 abbrev pub is_within : ℕ → ℕ → Use → Bool
@@ -29,9 +29,10 @@ uses_piece a b row = list_any (is_within a b) row.uses
 abbrev pub piece_row : ℕ → ℕ → CutRow → CutRow
 piece_row a b row = record row { entry = least (map (λ u. u.start) (piece_uses a b row)); uses = piece_uses a b row }
 
--- these blocks, with a window that ends after all moments: no train is left out for entering the piece late
+-- these blocks, with a window that ends a second after the greatest moment: no train is left out for entering the piece
+-- late
 abbrev pub piece_section : Section → ℕ → ℕ → Section
-piece_section section a b = record section { to_s = WINDOW_END_S; blocks = drop a (take b section.blocks) }
+piece_section section a b = record section { to_s = nat_abs GREATEST_MOMENT_S + 1; blocks = drop a (take b section.blocks) }
 
 -- the piece of a cut from block a to before block b: the members that use it, with no connections
 abbrev pub piece : Cut → ℕ → ℕ → Cut

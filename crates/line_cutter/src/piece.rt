@@ -12,8 +12,8 @@ use plan_model::{Cut, CutRow, least_start};
 use rail_model::{GREATEST_MOMENT_S, List, OutOfMemory, Section, Use};
 use std::alloc::Global;
 
-// Seconds: the end of a piece's window. It is one more than `GREATEST_MOMENT_S`, so every moment of
-// a train lies before it, and a piece has all trains that use its blocks.
+// Seconds: the end of a piece's window. Every moment of a train lies before it, so a piece has all
+// trains that use its blocks.
 const WINDOW_END_S: u32 = GREATEST_MOMENT_S as u32 + 1;
 
 // The cut of the piece from block a to before block b.
