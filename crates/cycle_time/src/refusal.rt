@@ -1,5 +1,5 @@
 //! What a ring of edges allows.
-ghost use Rattle.std.specs.Prelude.{◌≡◌, ◌<◌, ◌≤◌, ◌+◌, ◌≤ℤ◌, ◌<ℤ◌, ◌*ℤ◌, ◌+ℤ◌, ◌-ℤ◌, pos, All, length, slice_index_or};
+ghost use Rattle.std.specs.Prelude.{◌≡◌, ◌<◌, ◌≤◌, ◌+◌, ◌*◌, ◌≤ℤ◌, ◌<ℤ◌, ◌*ℤ◌, ◌+ℤ◌, ◌-ℤ◌, pos, All, length, slice_index_or};
 ghost use Rattle.plan_model.specs.declared.limits.TheConstants.{MEMBERS};
 ghost use Rattle.cycle_time.specs.Edges.{IsLight};
 ghost use Rattle.cycle_time.specs.Rings as rings;
@@ -27,7 +27,7 @@ fn weights(edges: &[Edge]) -> i64
     requires light { All (λ e. IsLight e.weight) edges.now }
     requires few { length edges.now ≤ MEMBERS }
     ensures is { result ≡ rings.weights edges.now }
-    ensures small { result ≤ℤ pos 153600000000 }
+    ensures small { result ≤ℤ pos (MEMBERS * 200000000) }
 {
     let mut sum = 0;
     for k in 0..edges.len() {
