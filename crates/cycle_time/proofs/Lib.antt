@@ -11,6 +11,7 @@ pub mod Turned
 pub mod Allowed
 pub mod Limits
 pub mod Answered
+pub mod Repeated
 pub mod Told
 pub mod Kept
 pub mod Led

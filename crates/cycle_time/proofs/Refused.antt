@@ -1,5 +1,5 @@
 -- A ring alone refuses each lesser period.
-use Rattle.std.proofs.Common.{◌≡◌, ℕ, zero, suc, ◌+◌, ◌-◌, ◌*◌, ◌<◌, ◌≤◌, List, [], ◌∷◌, inl, inr, refl, sym, ap, subst, ◌∙◌, arith}
+use Rattle.std.proofs.Common.{◌≡◌, ℕ, zero, suc, ◌+◌, ◌*◌, ◌≤◌, List, [], ◌∷◌, inl, inr, refl, ap, subst, ◌∙◌, arith}
 use Rattle.std.specs.Prelude.{ℤ, pos, ◌+ℤ◌, ◌-ℤ◌, ◌*ℤ◌, ◌≤ℤ◌, if◌then◌else◌, cond}
 use Rattle.std.proofs.lemmas.Bool.{cases_Bool, cases_lt}
 use Rattle.std.proofs.lemmas.Int.{ints}
@@ -10,7 +10,7 @@ use Rattle.plan_model.specs.Schedule.{entry_at}
 use Rattle.cycle_time.specs.declared.found.Step.{Step}
 use Rattle.cycle_time.specs.Repeating.{IsRepeating}
 use Rattle.cycle_time.specs.Ring.{IsStep, weight, total, patterns, Leads, first_train}
-use Rattle.cycle_time.specs.Laws.{NoLesserPeriod}
+use Rattle.cycle_time.specs.Laws.{NoLesserPeriod, ShorterIsRefused}
 
 -- how much a step asks for in a period
 abbrev pub step_asks : Cut → ℕ → Step → ℤ
@@ -77,12 +77,10 @@ module _ (cut : Cut) (period : ℕ) (entries : List ℤ) (repeats : IsRepeating 
             (omega (arith, ints, here, rest, same))
       ]
 
--- a lesser period takes less
-less : (m other period : ℕ) → other < period → (pos m *ℤ pos other) ≤ℤ (pos m *ℤ (pos period -ℤ pos 1))
-less m other period l =
-    let e : pos period -ℤ pos 1 ≡ pos (period - 1) = omega (arith, ints) in
-    subst (λ k. (pos m *ℤ pos other) ≤ℤ (pos m *ℤ k)) (sym e)
-    (let h : m * other ≤ m * (period - 1) = mono m other (period - 1) (omega arith) in omega (arith, ints, h, nat_times m other, nat_times m (period - 1)))
+-- what is less takes less
+less : (m : ℕ) (a b : ℤ) → a ≤ℤ b → (pos m *ℤ a) ≤ℤ (pos m *ℤ b)
+less zero a b l = omega (arith, ints)
+less (suc m) a b l = omega (arith, ints, l, less m a b l)
 
 pub no_lesser_period : NoLesserPeriod
 no_lesser_period cut period other ring entries refuses repeats =
@@ -90,5 +88,12 @@ no_lesser_period cut period other ring entries refuses repeats =
       | inr le ↦ omega (arith, le)
       | inl l ↦
           let round = keeps_steps cut other entries repeats (first_train ring) ring (first_train ring) refuses.is_ring.leads in
-          absurd (omega (arith, ints, round, refuses.more, less (patterns ring) other period l))
+          absurd (omega (arith, ints, round, refuses.more, less (patterns ring) (pos other) (pos period -ℤ pos 1) (omega (arith, ints, l))))
     ]
+
+pub shorter_is_refused : ShorterIsRefused
+shorter_is_refused cut period shorter ring l refuses = record {
+  is_ring = refuses.is_ring;
+  some = refuses.some;
+  more = omega (arith, ints, refuses.more, less (patterns ring) (pos shorter -ℤ pos 1) (pos period -ℤ pos 1) (omega (arith, ints, l)));
+}

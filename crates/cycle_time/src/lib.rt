@@ -48,6 +48,9 @@ mod turning;
 
 pub use checking::shows;
 pub use found::{Cycle, Step};
-pub use laws::no_lesser_period;
+pub use laws::{
+    cycles_are_alike, longer_repeats, no_lesser_period, period_is_within_occupancy,
+    schedule_repeats, shorter_is_refused,
+};
 pub use repetition::cycle;
 pub use rows::cycle_rows;
