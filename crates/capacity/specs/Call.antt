@@ -1,6 +1,7 @@
 -- A call of the program, and how the process ends after it.
-use Rattle.std.specs.Prelude.{◌≡◌, ◌⊎◌, ℕ, List, Option}
+use Rattle.std.specs.Prelude.{◌≡◌, ◌⊎◌, ℕ, List, All, Option}
 use Rattle.std.specs.Process.{exit_status}
+use Rattle.std.specs.Str.{IsUtf8}
 use Rattle.rail_outside.specs.InCall.{SourceInCall, SinkInCall, IsUnread, IsUnwritten}
 use Rattle.rail_outside.specs.Words.{AreWords, AreNotText}
 use Rattle.capacity_cmd.specs.declared.status.Status.{Status}
@@ -17,9 +18,15 @@ module _ {S K : Type 0} (status : Status) (told : Option (List (List ℕ)))
     pub unread : IsUnread source
     pub unwritten : IsUnwritten sink
 
-  -- the program's promise is kept for the words, where they are told, or no words can be had
+  -- the program's promise is kept for the words, where they are told; each of them is UTF-8
+  pub record HasWords : Type 0 where
+    pub words : List (List ℕ)
+    pub told_are : AreWords told words
+    pub text : All IsUtf8 words
+    pub answers : Answers words status source sink
+
   abbrev pub IsCall : Type 0
-  IsCall = ((words : List (List ℕ)) × AreWords told words × Answers words status source sink) ⊎ HasNoWords
+  IsCall = HasWords ⊎ HasNoWords
 
 -- the process ends with the number of a call's status
 abbrev pub EndsAsCall : {S K : Type 0} → Ended → Option (List (List ℕ)) → SourceInCall S → SinkInCall K → Type 0

@@ -36,8 +36,8 @@ pub(crate) fn end_of_call<
     ensures { EndsAsCall
         result
         (W.told words.now)
-        (source_call S.left S.faults S.at_fault source.old source.new)
-        (sink_call K.written K.flushed K.faults sink.old sink.new) }
+        (source_call S.given S.left S.ended S.faults S.at_fault source.old source.new)
+        (sink_call K.taken K.written K.flushed K.faults sink.old sink.new) }
 {
     let mut told = Told::nothing();
     let status = call(rt, words, source, sink, &mut told);
@@ -60,8 +60,8 @@ fn call<R: AllocGlobal + Threads + Wait + Sync, W: Words, S: Source, K: Sink>(
     ensures { IsCall
         result
         (W.told words.now)
-        (source_call S.left S.faults S.at_fault source.old source.new)
-        (sink_call K.written K.flushed K.faults sink.old sink.new) }
+        (source_call S.given S.left S.ended S.faults S.at_fault source.old source.new)
+        (sink_call K.taken K.written K.flushed K.faults sink.old sink.new) }
 {
     match words.take(rt.alloc()) {
         Ok(Ok(words)) if alone(&words) => run_alone_telling(rt, &words, source, sink, told),

@@ -11,3 +11,5 @@ pub mod Reports
 pub mod SideBySide
 pub mod Pieces
 pub mod Counted
+pub mod SessionCalls
+pub mod AllLeft

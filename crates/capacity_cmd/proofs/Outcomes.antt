@@ -1,11 +1,9 @@
 -- The outcome of a command on an input, by the input's length and by what a source gave of it.
-use Rattle.std.proofs.Common.{◌≡◌, ℕ, ◌+◌, ◌<◌, ◌≤◌, true, false, List, ◌++◌, length, Option, Some, None, Result, Ok, Err, refl, sym, ap, ◌∙◌, subst, arith, nat_lt, length-append}
+use Rattle.std.proofs.Common.{◌≡◌, ℕ, ◌+◌, ◌<◌, ◌≤◌, true, false, List, length, Result, Ok, Err, refl, sym, ap, subst, arith, nat_lt}
 use Rattle.std.specs.Prelude.{MatchResult}
-use Rattle.std.specs.Io.KnownBytes.{Consumes, IsAtEnd}
-use Rattle.std.proofs.lemmas.List.{append-nil}
 use Rattle.std.proofs.lemmas.Bool.{lt-ltb}
 use Rattle.std.proofs.lemmas.Bool.Decides.{nat_tests}
-use Rattle.rail_outside.specs.InCall.{SourceInCall, HasGiven, IsReadToEnd}
+use Rattle.rail_outside.specs.InCall.{SourceInCall, Gave, HasGiven, IsReadToEnd}
 use Rattle.row_text.specs.Rows.{rows_of}
 use Rattle.row_text.specs.Row.{Row}
 use Rattle.plan_book.specs.declared.book.TheConstants.{PLANNERS}
@@ -21,7 +19,7 @@ use Rattle.capacity_cmd.specs.Input.{Content, accepted_of, refused, content_of_r
 use Rattle.capacity_cmd.specs.InputSoFar.{accepted_in, IsWithin}
 use Rattle.capacity_cmd.specs.Command.{planners_of}
 use Rattle.capacity_cmd.specs.Outcome.{Outcome, Refuses}
-use Rattle.capacity_cmd.specs.Ends.{EndsOnAccepted, Ends, EndsOn, IsOutcome}
+use Rattle.capacity_cmd.specs.Ends.{EndsOnAccepted, Ends, EndsOn}
 use Rattle.capacity_cmd.specs.Promise.{IsEnd}
 use Rattle.capacity_cmd.specs.Reply.{IsReply}
 use Rattle.capacity_cmd.specs.Given.{GivesOrRefuses}
@@ -36,14 +34,14 @@ content_of_short planners input short =
     let test : nat_lt INPUT_BYTES (length input) ≡ false = grind (arith, nat_tests) in
     rw test refl
 
-content_of_long : (planners : ℕ) (input : List ℕ) → INPUT_BYTES < length input
+pub content_of_long : (planners : ℕ) (input : List ℕ) → INPUT_BYTES < length input
     → content_of_input planners input ≡ refused 0 cause.TooLong
 unfolding content_of_input
 content_of_long planners input long =
     let test : nat_lt INPUT_BYTES (length input) ≡ true = lt-ltb _ _ long in
     rw test refl
 
-ends_too_long : (c : Command) (input : List ℕ) → INPUT_BYTES < length input → EndsOn c input (Refuses 0 cause.TooLong)
+pub ends_too_long : (c : Command) (input : List ℕ) → INPUT_BYTES < length input → EndsOn c input (Refuses 0 cause.TooLong)
 ends_too_long c input long =
     subst (λ content. Ends c content (Refuses 0 cause.TooLong)) (sym (content_of_long (planners_of c) input long)) refl
 
@@ -73,20 +71,13 @@ ends_refused c input refusal short made =
     subst (λ content. Ends c content (Refuses refusal.row refusal.cause)) (sym (content_of_short (planners_of c) input short))
     (by_refusal c (content_of_rows (planners_of c) (rows_of input)) refusal made)
 
--- the outcome is that of the bytes that a source gave, where it gave all that it had
-all_given : (c : Command) (told left : Option (List ℕ)) (input : List ℕ) (outcome : Outcome) → Consumes told left input
-    → IsAtEnd left → EndsOn c input outcome → IsOutcome c told outcome
-all_given c None left input outcome gave end ends = (input, ends)
-all_given c (Some xs) None input outcome gave end ends = absurd gave
-all_given c (Some xs) (Some ys) input outcome gave end ends =
-    let same = gave ∙ ap (λ rest. input ++ rest) end ∙ append-nil input in
-    subst (λ bytes. EndsOn c bytes outcome) (sym same) ends
-
+-- the outcome on the bytes that a source gave, where it was read to its end
 pub IsEnd-all : {S : Type 0} (c : Command) (source : SourceInCall S) (input : List ℕ) (outcome : Outcome)
-    → length input ≤ INPUT_BYTES → Consumes (source.left source.before) (source.left source.after) input
-    → IsReadToEnd source → EndsOn c input outcome → IsEnd c source outcome
+    → length input ≤ INPUT_BYTES → Gave source input → IsReadToEnd source → EndsOn c input outcome → IsEnd c source outcome
 IsEnd-all c source input outcome short gave end ends = record {
-  is = all_given c (source.left source.before) (source.left source.after) input outcome gave end ends;
+  input = input;
+  gave = gave;
+  on = ends;
   read = read_for source outcome
       (ends_not_too_long c (rows_of input) outcome
       (subst (λ content. Ends c content outcome) (content_of_short (planners_of c) input short) ends))
@@ -94,17 +85,12 @@ IsEnd-all c source input outcome short gave end ends = record {
 }
 
 -- and where it gave more than is read
-more_given : (c : Command) (told left : Option (List ℕ)) (input : List ℕ) → Consumes told left input
-    → length input ≡ INPUT_BYTES + 1 → IsOutcome c told (Refuses 0 cause.TooLong)
-more_given c None left input gave long = (input, ends_too_long c input (omega arith))
-more_given c (Some xs) None input gave long = absurd gave
-more_given c (Some xs) (Some ys) input gave long =
-    ends_too_long c xs (omega (arith, ap length gave, length-append {A = ℕ}))
-
 pub IsEnd-too_long : {S : Type 0} (c : Command) (source : SourceInCall S) → HasGiven source (INPUT_BYTES + 1)
     → IsEnd c source (Refuses 0 cause.TooLong)
 IsEnd-too_long c source given = record {
-  is = more_given c (source.left source.before) (source.left source.after) given.0 given.2 given.1;
+  input = given.0;
+  gave = given.2;
+  on = ends_too_long c given.0 (omega (arith, given.1));
   read = given;
 }
 

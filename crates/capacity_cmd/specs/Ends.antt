@@ -1,5 +1,5 @@
 -- What each command ends with, by its input.
-use Rattle.std.specs.Prelude.{◌≡◌, ℕ, List, Option, Some, None, Result, Ok, Err}
+use Rattle.std.specs.Prelude.{◌≡◌, ℕ, List, Result, Ok, Err}
 use Rattle.capacity_cmd.specs.declared.command.Command.{Command}
 use Rattle.capacity_cmd.specs.declared.command.Command.TheVariants as command
 use Rattle.capacity_cmd.specs.declared.refusal.Refusal.{Refusal}
@@ -42,8 +42,3 @@ Ends command (Err refusal) outcome = outcome ≡ Refuses refusal.row refusal.cau
 -- the outcome of a command on an input
 abbrev pub EndsOn : Command → List ℕ → Outcome → Type 0
 EndsOn command input outcome = Ends command (content_of_input (planners_of command) input) outcome
-
--- the outcome of a command on the bytes of a source; where it doesn't tell them, on some bytes
-abbrev pub IsOutcome : Command → Option (List ℕ) → Outcome → Type 0
-IsOutcome command None outcome = (input : List ℕ) × EndsOn command input outcome
-IsOutcome command (Some input) outcome = EndsOn command input outcome

@@ -23,3 +23,5 @@ pub mod ReadAhead
 pub mod Reply
 pub mod Given
 pub mod Promise
+pub mod SessionCall
+pub mod Laws

@@ -37,7 +37,7 @@ counted_by total occupancy = record { total = total; occupancy = occupancy }
 abbrev pub counted_of : List Answer → Counted
 counted_of answers = counted_by (total_of answers) (sum_by occupancy_of answers)
 
--- the same with one answer more
+-- what is counted of some answers and of one more
 abbrev pub with_one : Counted → Answer → Counted
 with_one counted a = record {
   total = with_answer counted.total a;

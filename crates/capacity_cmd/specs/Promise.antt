@@ -1,6 +1,6 @@
 -- What a call of the program promises: by its words and its status, and by its source and its sink.
 use Rattle.std.specs.Prelude.{◌≡◌, ◌≢◌, ◌⊎◌, ℕ, ◌+◌, List, MatchOption}
-use Rattle.rail_outside.specs.InCall.{SourceInCall, SinkInCall, IsUnread, HasGiven, IsReadToEnd, ReadFailed, NoReadFailed, ShowsNoReadFailed, IsUnwritten, IsWritten, IsBrokenOff, WriteFailed, NoWriteFailed, ShowsNoWriteFailed}
+use Rattle.rail_outside.specs.InCall.{SourceInCall, SinkInCall, IsUnread, Gave, HasGiven, IsReadToEnd, ReadFailed, NoReadFailed, ShowsNoReadFailed, IsUnwritten, IsWritten, IsBrokenOff, WriteFailed, NoWriteFailed, ShowsNoWriteFailed}
 use Rattle.capacity_cmd.specs.declared.command.Command.{Command}
 use Rattle.capacity_cmd.specs.declared.limit.TheConstants.{INPUT_BYTES}
 use Rattle.capacity_cmd.specs.declared.status.Cause.{Cause}
@@ -10,7 +10,7 @@ use Rattle.capacity_cmd.specs.declared.status.Status.TheVariants.{Done, Refused,
 use Rattle.capacity_cmd.specs.Command.{command_of, made_of}
 use Rattle.capacity_cmd.specs.Outcome.{Outcome, Writes, Refuses, EndsInText, outcome_text, outcome_status}
 use Rattle.capacity_cmd.specs.Made.{IsMadeText}
-use Rattle.capacity_cmd.specs.Ends.{IsOutcome}
+use Rattle.capacity_cmd.specs.Ends.{EndsOn}
 
 module _ {S K : Type 0} (status : Status) (source : SourceInCall S) (sink : SinkInCall K) where
   -- `BadWords`: nothing is read, and nothing is written
@@ -46,9 +46,11 @@ abbrev pub IsReadFor : {S : Type 0} → SourceInCall S → Outcome → Type 0
 IsReadFor source (Refuses row TooLong) = HasGiven source (INPUT_BYTES + 1)
 IsReadFor source outcome = IsReadToEnd source
 
--- the outcome of a command on the bytes of a source that was read for it
+-- the outcome of a command on the bytes that reads gave in the call, by a source that was read for it
 pub record IsEnd {S : Type 0} (command : Command) (source : SourceInCall S) (outcome : Outcome) : Type 0 where
-  pub is : IsOutcome command (source.left source.before) outcome
+  pub input : List ℕ
+  pub gave : Gave source input
+  pub on : EndsOn command input outcome
   pub read : IsReadFor source outcome
 
 module _ {S K : Type 0} (command : Command) (status : Status)

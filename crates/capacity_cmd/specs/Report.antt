@@ -18,7 +18,7 @@ IsReportText tables text =
     (answers : List Answer) × AreAnswers tables tables.sections answers
     × (text ≡ text_of_rows (report_rows tables.sections answers))
 
--- the same after other rows
+-- after some rows come the heads of the answers of all sections, and their total
 abbrev pub AddsReport : Tables → List Row → List Row → Type 0
 AddsReport tables rows more =
     (answers : List Answer) × AreAnswers tables tables.sections answers

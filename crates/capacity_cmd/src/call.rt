@@ -1,8 +1,7 @@
 //! A call of the program: its words, its source and its sink.
 ghost use Rattle.std.specs.Prelude.{◌≡◌, ◌≢◌, ◌≤◌, ◌⊎◌, ◌↔◌, map, IsTrue, IfOk, IfErr, MatchResult};
 ghost use Rattle.std.specs.String.{string_bytes};
-ghost use Rattle.std.specs.Io.KnownBytes.{IsAtEnd};
-ghost use Rattle.rail_outside.specs.InCall.{source_call, sink_call, ReadFailed, NoReadFailed, ShowsNoWriteFailed};
+ghost use Rattle.rail_outside.specs.InCall.{source_call, sink_call, IsReadToEnd, ReadFailed, NoReadFailed, ShowsNoWriteFailed};
 ghost use Rattle.session_run.specs.declared.threads.TheConstants.{WORKERS};
 ghost use Rattle.capacity_cmd.specs.declared.command.Command.TheVariants as command;
 ghost use Rattle.capacity_cmd.specs.declared.status.Status.TheVariants as status;
@@ -46,8 +45,8 @@ pub fn run<R: AllocGlobal + Threads + Wait + Sync, S: Source, K: Sink, G: Gate>(
     ensures { Answers
         (map string_bytes words.now)
         result
-        (source_call S.left S.faults S.at_fault source.old source.new)
-        (sink_call K.written K.flushed K.faults sink.old sink.new) }
+        (source_call S.given S.left S.ended S.faults S.at_fault source.old source.new)
+        (sink_call K.taken K.written K.flushed K.faults sink.old sink.new) }
 {
     run_telling(rt, words, source, sink, gate, &mut Told::nothing())
 }
@@ -66,8 +65,8 @@ pub fn run_telling<R: AllocGlobal + Threads + Wait + Sync, S: Source, K: Sink, G
     ensures { Answers
         (map string_bytes words.now)
         result
-        (source_call S.left S.faults S.at_fault source.old source.new)
-        (sink_call K.written K.flushed K.faults sink.old sink.new) }
+        (source_call S.given S.left S.ended S.faults S.at_fault source.old source.new)
+        (sink_call K.taken K.written K.flushed K.faults sink.old sink.new) }
 {
     match made_of(words) {
         Some(n) => run_made(rt, n, sink, gate),
@@ -87,8 +86,8 @@ fn run_spelled<R: AllocGlobal + Threads + Wait + Sync, S: Source, K: Sink, G: Ga
     ensures { AnswersSpelled
         (map string_bytes words.now)
         result
-        (source_call S.left S.faults S.at_fault source.old source.new)
-        (sink_call K.written K.flushed K.faults sink.old sink.new) }
+        (source_call S.given S.left S.ended S.faults S.at_fault source.old source.new)
+        (sink_call K.taken K.written K.flushed K.faults sink.old sink.new) }
 {
     let workers = workers_asked(words);
     if workers == 0 {
@@ -111,8 +110,9 @@ fn run_made<R: AllocGlobal + Threads + Wait + Sync, K: Sink, G: Gate>(
     ensures writes { WritesOutcome
         (EndsInText (IsMadeText n))
         result
-        (sink_call K.written K.flushed K.faults sink.old sink.new) }
-    ensures complete { ShowsNoWriteFailed (sink_call K.written K.flushed K.faults sink.old sink.new)
+        (sink_call K.taken K.written K.flushed K.faults sink.old sink.new) }
+    ensures complete { ShowsNoWriteFailed
+        (sink_call K.taken K.written K.flushed K.faults sink.old sink.new)
         → (result ≡ status.Done) ⊎ (result ≡ status.OutOfMemory) }
 {
     match made_reply(rt, n, gate) {
@@ -133,8 +133,8 @@ pub fn run_alone<R: AllocGlobal + Threads + Sync, S: Source, K: Sink>(
     ensures { Answers
         (map string_bytes words.now)
         result
-        (source_call S.left S.faults S.at_fault source.old source.new)
-        (sink_call K.written K.flushed K.faults sink.old sink.new) }
+        (source_call S.given S.left S.ended S.faults S.at_fault source.old source.new)
+        (sink_call K.taken K.written K.flushed K.faults sink.old sink.new) }
 {
     run_alone_telling(rt, words, source, sink, &mut Told::nothing())
 }
@@ -152,8 +152,8 @@ pub fn run_alone_telling<R: AllocGlobal + Threads + Sync, S: Source, K: Sink>(
     ensures { Answers
         (map string_bytes words.now)
         result
-        (source_call S.left S.faults S.at_fault source.old source.new)
-        (sink_call K.written K.flushed K.faults sink.old sink.new) }
+        (source_call S.given S.left S.ended S.faults S.at_fault source.old source.new)
+        (sink_call K.taken K.written K.flushed K.faults sink.old sink.new) }
 {
     run_spelled_alone(rt, words, source, sink, told)
 }
@@ -170,8 +170,8 @@ fn run_spelled_alone<R: AllocGlobal + Threads + Sync, S: Source, K: Sink>(
     ensures { AnswersSpelled
         (map string_bytes words.now)
         result
-        (source_call S.left S.faults S.at_fault source.old source.new)
-        (sink_call K.written K.flushed K.faults sink.old sink.new) }
+        (source_call S.given S.left S.ended S.faults S.at_fault source.old source.new)
+        (sink_call K.taken K.written K.flushed K.faults sink.old sink.new) }
 {
     match command_of(rt.alloc(), words) {
         None => Status::BadWords,
@@ -192,8 +192,8 @@ fn run_command<R: AllocGlobal + Threads + Sync, S: Source, K: Sink>(
     ensures { RunsCommand
         command.now
         result
-        (source_call S.left S.faults S.at_fault source.old source.new)
-        (sink_call K.written K.flushed K.faults sink.old sink.new) }
+        (source_call S.given S.left S.ended S.faults S.at_fault source.old source.new)
+        (sink_call K.taken K.written K.flushed K.faults sink.old sink.new) }
 {
     match reply_from(rt, command, source, told) {
         Ok(reply) => send(sink, reply),
@@ -209,15 +209,15 @@ fn reply_from<R: AllocGlobal + Threads + Sync, S: Source>(
     told: &mut Told,
 ) -> Result<Reply, Status>
     requires { workers_of command.now ≡ 0 }
-    ensures replies { IfOk result (IsReply
-        (IsEnd command.now (source_call S.left S.faults S.at_fault source.old source.new))) }
-    ensures whole_input { IfOk result (λ reply.
-        reply.status ≡ status.Done → IsAtEnd (S.left source.new)) }
+    ensures replies { IfOk result (IsReply (IsEnd command.now
+        (source_call S.given S.left S.ended S.faults S.at_fault source.old source.new))) }
+    ensures whole_input { IfOk result (λ reply. reply.status ≡ status.Done → IsReadToEnd
+        (source_call S.given S.left S.ended S.faults S.at_fault source.old source.new)) }
     ensures why { IfErr result (λ why. (why ≡ status.ReadFault) ⊎ (why ≡ status.OutOfMemory)) }
-    ensures fault { result ≡ Err status.ReadFault →
-        ReadFailed (source_call S.left S.faults S.at_fault source.old source.new) }
-    ensures no_fault { result ≢ Err status.ReadFault →
-        NoReadFailed (source_call S.left S.faults S.at_fault source.old source.new) }
+    ensures fault { result ≡ Err status.ReadFault → ReadFailed
+        (source_call S.given S.left S.ended S.faults S.at_fault source.old source.new) }
+    ensures no_fault { result ≢ Err status.ReadFault → NoReadFailed
+        (source_call S.given S.left S.ended S.faults S.at_fault source.old source.new) }
 {
     match input_from(rt, command, source, told)? {
         Ok(given) => Ok(reply_alone(rt, rt.alloc(), command, given, told)?),
@@ -236,14 +236,14 @@ fn session_reply<R: AllocGlobal + Threads + Wait + Sync, S: Source, G: Gate>(
     requires some { 1 ≤ workers }
     requires most { workers ≤ WORKERS }
     ensures replies { IfOk result (IsReply (IsEnd (command.Session workers)
-        (source_call S.left S.faults S.at_fault source.old source.new))) }
-    ensures whole_input { IfOk result (λ reply.
-        reply.status ≡ status.Done → IsAtEnd (S.left source.new)) }
+        (source_call S.given S.left S.ended S.faults S.at_fault source.old source.new))) }
+    ensures whole_input { IfOk result (λ reply. reply.status ≡ status.Done → IsReadToEnd
+        (source_call S.given S.left S.ended S.faults S.at_fault source.old source.new)) }
     ensures why { IfErr result (λ why. (why ≡ status.ReadFault) ⊎ (why ≡ status.OutOfMemory)) }
-    ensures fault { result ≡ Err status.ReadFault →
-        ReadFailed (source_call S.left S.faults S.at_fault source.old source.new) }
-    ensures no_fault { result ≢ Err status.ReadFault →
-        NoReadFailed (source_call S.left S.faults S.at_fault source.old source.new) }
+    ensures fault { result ≡ Err status.ReadFault → ReadFailed
+        (source_call S.given S.left S.ended S.faults S.at_fault source.old source.new) }
+    ensures no_fault { result ≢ Err status.ReadFault → NoReadFailed
+        (source_call S.given S.left S.ended S.faults S.at_fault source.old source.new) }
 {
     let command = Command::Session(workers);
     match input_from(rt, &command, source, told)? {
@@ -260,16 +260,18 @@ fn input_from<R: AllocGlobal + Threads + Sync, S: Source>(
     source: &mut S,
     told: &mut Told,
 ) -> Result<Result<Accepted, Reply>, Status>
-    ensures found { IfOk result (GivesOrRefuses command.now
-        (IsEnd command.now (source_call S.left S.faults S.at_fault source.old source.new))) }
+    ensures found { IfOk result (GivesOrRefuses command.now (IsEnd command.now
+        (source_call S.given S.left S.ended S.faults S.at_fault source.old source.new))) }
     ensures whole_input { IfOk result (λ found. MatchResult found
-        (λ _. IsAtEnd (S.left source.new))
-        (λ reply. reply.status ≡ status.Done → IsAtEnd (S.left source.new))) }
+        (λ _. IsReadToEnd
+        (source_call S.given S.left S.ended S.faults S.at_fault source.old source.new))
+        (λ reply. reply.status ≡ status.Done → IsReadToEnd
+        (source_call S.given S.left S.ended S.faults S.at_fault source.old source.new))) }
     ensures why { IfErr result (λ why. (why ≡ status.ReadFault) ⊎ (why ≡ status.OutOfMemory)) }
-    ensures fault { result ≡ Err status.ReadFault →
-        ReadFailed (source_call S.left S.faults S.at_fault source.old source.new) }
-    ensures no_fault { result ≢ Err status.ReadFault →
-        NoReadFailed (source_call S.left S.faults S.at_fault source.old source.new) }
+    ensures fault { result ≡ Err status.ReadFault → ReadFailed
+        (source_call S.given S.left S.ended S.faults S.at_fault source.old source.new) }
+    ensures no_fault { result ≢ Err status.ReadFault → NoReadFailed
+        (source_call S.given S.left S.ended S.faults S.at_fault source.old source.new) }
 {
     let alloc = rt.alloc();
     match take_all(alloc, source, INPUT_BYTES)? {

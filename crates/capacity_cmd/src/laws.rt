@@ -1,21 +1,54 @@
 //! Laws of the definitions: each function does nothing, and its contract is the law.
 ghost use Rattle.std.specs.Prelude.{◌≡◌};
+ghost use Rattle.rail_outside.specs.InCall.{source_call, sink_call};
+ghost use Rattle.made_line.specs.declared.counts.TheConstants as made;
+ghost use Rattle.capacity_cmd.specs.SessionCall.{SessionWritesJournal};
+ghost use Rattle.capacity_cmd.specs.Laws.{EndsOnAllLeft};
 
 use crate::{DELAY_DIGITS, GIVEN_DELAYS, INPUT_BYTES};
 use conflict_finder::LISTED;
 use delay_spread::GREATEST_DELAY_S;
-use plan_book::{PLANNERS, TASKS};
+use plan_book::{FIRST_NUMBER, PLANNERS, TASKS};
 use plan_model::MEMBERS;
-use row_text::{HOUR_DIGITS, NUMBER_DIGITS};
+use rail_outside::{Sink, Source};
+use row_text::{GREATEST_CLOCK_S, HOUR_DIGITS, NUMBER_DIGITS};
+use session_run::WORKERS;
+
+/// The promise of a session, in one place: a call with the words `session W` that ends with status
+/// 0 has written a journal of the session and the report of the tables at its end, and flushed
+/// them.
+///
+/// - The journal opens with the tables, the number of the last edit and the scripts that the input
+///   says. The input is all that reads gave in the call, up to the end.
+/// - Each entry is legal after those before it.
+/// - The tasks of each planner are done, each once and in order, by the planner's own pass.
+/// - Each answer is published by the pass of a worker. Where there are no workers, there is pass 0
+///   alone.
+/// - In the end every section is current.
+pub fn session_writes_journal<S: Source, K: Sink>()
+    ensures { SessionWritesJournal
+        (source_call S.given S.left S.ended S.faults S.at_fault)
+        (sink_call K.taken K.written K.flushed K.faults) }
+{}
+
+/// Where a source tells the bytes that it has left, the outcome of a call is that of the command on
+/// all of them.
+pub fn ends_on_all_left<S: Source>()
+    ensures { EndsOnAllLeft (source_call S.given S.left S.ended S.faults S.at_fault) }
+{}
 
 /// The limits of an input and of what is answered, by their numbers; those of a line's items are a
 /// law of `rail_model`.
 pub fn limits()
     ensures input_bytes { INPUT_BYTES ≡ 16777216 }
     ensures planners { PLANNERS ≡ 16 }
+    ensures workers { WORKERS ≡ 16 }
+    ensures workers_of_made { made.WORKERS ≡ 4 }
     ensures tasks { TASKS ≡ 256 }
+    ensures first_number { FIRST_NUMBER ≡ 16777216 }
     ensures number_digits { NUMBER_DIGITS ≡ 9 }
     ensures hour_digits { HOUR_DIGITS ≡ 5 }
+    ensures greatest_clock { GREATEST_CLOCK_S ≡ 359999999 }
     ensures given_delays { GIVEN_DELAYS ≡ 64 }
     ensures delay_digits { DELAY_DIGITS ≡ 5 }
     ensures greatest_delay { GREATEST_DELAY_S ≡ 86400 }

@@ -9,7 +9,7 @@ use rail_outside::{Sink, send_each};
 // Writes the whole text of a reply and flushes it, and says its status, unless a write fails.
 pub(crate) fn send<K: Sink>(sink: &mut K, reply: Reply) -> Status
     ensures { IsSent
-        (sink_call K.written K.flushed K.faults sink.old sink.new)
+        (sink_call K.taken K.written K.flushed K.faults sink.old sink.new)
         reply
         result }
 {

@@ -10,13 +10,16 @@ returns-in_ok-given_or_reply-in-Ok-clause-found g c =
     let taken = c.in_ok-input.ensures in
     found_more c.args.command.now _ _ c.in_ok-given_or_reply-in-Ok.field-0
     (λ outcome ends. IsEnd-all c.args.command.now _ c.in-Ok.input outcome (rw c.in-Ok.is at taken.within)
-    (rw c.in-Ok.is at taken.whole) (rw c.in-Ok.is at taken.end)
+    (rw c.in-Ok.is at taken.whole, rw c.in-Ok.is at taken.given)
+    (record { ended = rw c.in-Ok.is at taken.ended; left = rw c.in-Ok.is at taken.end })
     (subst (λ input. EndsOn c.args.command.now input outcome) c.slice.ensures ends))
     c.in_ok-given_or_reply-in-Ok.ensures
 
 pub returns-in_ok-given_or_reply-in-Ok-clause-whole_input : goal.returns-in_ok-given_or_reply-in-Ok-clause-whole_input
 returns-in_ok-given_or_reply-in-Ok-clause-whole_input g c =
-    found_at_end _ c.in_ok-given_or_reply-in-Ok.field-0 (rw c.in-Ok.is at c.in_ok-input.ensures.end)
+    let taken = c.in_ok-input.ensures in
+    found_at_end _ c.in_ok-given_or_reply-in-Ok.field-0
+    (record { ended = rw c.in-Ok.is at taken.ended; left = rw c.in-Ok.is at taken.end })
 
 pub returns-in_ok-refusal-in-Err-TooLong-clause-found :
     goal.returns-in_ok-refusal-in-Err-TooLong-clause-found
