@@ -24,19 +24,19 @@ names_stay b (y ∷ items) zero =
     ]
 names_stay b (y ∷ items) (suc k) = names_stay b items k
 
-module _ (tables : Tables) (none : tables.connections ≡ []) where
+module _ (tables : Tables) where
   by_put : (x : Item) → PutKeepsBlocks x → IsSameTraffic tables (after_put tables x)
   by_put (item.Block b) not_one = absurd not_one
-  by_put (item.Signal s) _ = record { earlier_none = none; later_none = none; runs = refl; sections = refl; names = λ k. refl }
-  by_put (item.Route r) _ = record { earlier_none = none; later_none = none; runs = refl; sections = refl; names = λ k. refl }
+  by_put (item.Signal s) _ = record { runs = refl; sections = refl; connections = refl; names = λ k. refl }
+  by_put (item.Route r) _ = record { runs = refl; sections = refl; connections = refl; names = λ k. refl }
   by_put (item.Run r) not_one = absurd not_one
   by_put (item.Section s) not_one = absurd not_one
   by_put (item.Connection c) not_one = absurd not_one
 
   by_change : (x : Item) → ChangeKeepsBlocks x → IsSameTraffic tables (after_change tables x)
-  by_change (item.Block b) _ = record { earlier_none = none; later_none = none; runs = refl; sections = refl; names = names_stay b tables.blocks }
-  by_change (item.Signal s) _ = record { earlier_none = none; later_none = none; runs = refl; sections = refl; names = λ k. refl }
-  by_change (item.Route r) _ = record { earlier_none = none; later_none = none; runs = refl; sections = refl; names = λ k. refl }
+  by_change (item.Block b) _ = record { runs = refl; sections = refl; connections = refl; names = names_stay b tables.blocks }
+  by_change (item.Signal s) _ = record { runs = refl; sections = refl; connections = refl; names = λ k. refl }
+  by_change (item.Route r) _ = record { runs = refl; sections = refl; connections = refl; names = λ k. refl }
   by_change (item.Run r) not_one = absurd not_one
   by_change (item.Section s) not_one = absurd not_one
   by_change (item.Connection c) not_one = absurd not_one
@@ -46,6 +46,6 @@ module _ (tables : Tables) (none : tables.connections ≡ []) where
   kept_after (edit.Change x) one = by_change x one
   kept_after (edit.Drop k n) not_one = absurd not_one
 
-pub same_traffic : (earlier later : Tables) (x : Edit) → later ≡ after earlier x → earlier.connections ≡ [] → KeepsBlocks x
+pub same_traffic : (earlier later : Tables) (x : Edit) → later ≡ after earlier x → KeepsBlocks x
     → IsSameTraffic earlier later
-same_traffic earlier later x is none keeps = subst (IsSameTraffic earlier) (sym is) (kept_after earlier none x keeps)
+same_traffic earlier later x is keeps = subst (IsSameTraffic earlier) (sym is) (kept_after earlier x keeps)

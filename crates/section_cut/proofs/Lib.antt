@@ -26,10 +26,16 @@ pub mod Restamped
 pub mod SameValue
 pub mod Anew
 pub mod Around
+pub mod BindsBy
+pub mod Listed
 pub mod Numberless
 pub mod Placed
+pub mod OldRows
+pub mod BlockPart
 pub mod OneRun
+pub mod SameRuns
 pub mod Standing
+pub mod JoinedRun
 pub mod Reached
 pub mod NoRun
 pub mod ReachedRuns

@@ -83,22 +83,20 @@ module _ (earlier later : Tables) (earlier_sound : IsSound earlier) (later_sound
             record { signal = same; there = block; still = block_still; block = blocks (signal_named earlier n).block block block_still };
       }
 
-module _ (tables : Tables) (sound : IsSound tables) (none : tables.connections ≡ []) where
+module _ (tables : Tables) (sound : IsSound tables) where
   put_still : (x : Item) → IsSound (after_put tables x) → PutReachesNoRun tables x → IsSameLine tables (after_put tables x)
   put_still (item.Block b) later new = record {
-    earlier_none = none;
-    later_none = none;
     runs = refl;
     sections = refl;
+    connections = refl;
     ways = ways tables (after_put tables (item.Block b)) sound later refl
         (by_put (λ (x : Block). x.name) no_block tables.blocks b new) (λ n known still. refl) (λ k d l. refl);
   }
   put_still (item.Signal s) later not_one = absurd not_one
   put_still (item.Route r) later apart = record {
-    earlier_none = none;
-    later_none = none;
     runs = refl;
     sections = refl;
+    connections = refl;
     ways = ways tables (after_put tables (item.Route r)) sound later refl
         (λ n known still. refl) (λ n known still. refl)
         (λ k d l. named_still (λ (x : Route). x.name) r.name tables.routes (with_item (λ (x : Route). x.name) tables.routes r)
@@ -111,26 +109,23 @@ module _ (tables : Tables) (sound : IsSound tables) (none : tables.connections �
 
   drop_still : (k : Kind) (n : List ℕ) → IsSound (after_drop tables k n) → DropReachesNoRun k → IsSameLine tables (after_drop tables k n)
   drop_still kind.Block n later _ = record {
-    earlier_none = none;
-    later_none = none;
     runs = refl;
     sections = refl;
+    connections = refl;
     ways = ways tables (after_drop tables kind.Block n) sound later refl
         (by_drop (λ (x : Block). x.name) no_block tables.blocks n) (λ n known still. refl) (λ k d l. refl);
   }
   drop_still kind.Signal n later _ = record {
-    earlier_none = none;
-    later_none = none;
     runs = refl;
     sections = refl;
+    connections = refl;
     ways = ways tables (after_drop tables kind.Signal n) sound later refl
         (λ n known still. refl) (by_drop (λ (x : Signal). x.name) no_signal tables.signals n) (λ k d l. refl);
   }
   drop_still kind.Route n later _ = record {
-    earlier_none = none;
-    later_none = none;
     runs = refl;
     sections = refl;
+    connections = refl;
     ways = ways tables (after_drop tables kind.Route n) sound later refl
         (λ n known still. refl) (λ n known still. refl)
         (λ k d l. by_drop (λ (x : Route). x.name) no_route tables.routes n (get_or tables.runs k d).route
@@ -147,8 +142,9 @@ module _ (tables : Tables) (sound : IsSound tables) (none : tables.connections �
   still_after (edit.Drop k n) later one = drop_still k n later one
 
 -- such an edit leaves all cuts
-pub cuts_stay : (earlier later : Tables) (x : Edit) → later ≡ after earlier x → IsSound earlier → IsSound later → earlier.connections ≡ []
+pub cuts_stay : (earlier later : Tables) (x : Edit) → later ≡ after earlier x → IsSound earlier → IsSound later
     → ReachesNoRun earlier x → (section : List ℕ) → cut_of later section ≡ cut_of earlier section
-cuts_stay earlier later x is sound later_sound none reaches section =
+cuts_stay earlier later x is sound later_sound reaches section =
+    let after_sound = subst IsSound is later_sound in
     subst (λ (t : Tables). cut_of t section ≡ cut_of earlier section) (sym is)
-    (cuts_still earlier (after earlier x) (still_after earlier sound none x (subst IsSound is later_sound) reaches) section)
+    (cuts_still earlier (after earlier x) (still_after earlier sound x after_sound reaches) sound after_sound section)

@@ -1,5 +1,5 @@
--- The cut of a section by tables that differ in one run and have no connections: its row alone differs.
-use Rattle.std.proofs.Common.{◌≡◌, ℕ, ◌<◌, Bool, true, false, List, [], ◌∷◌, ◌++◌, map, get_or, Option, Some, None, refl, sym, ap, ◌∙◌, subst, inl, inr, arith}
+-- The cut of a section by tables that differ in one run, where the same connections bind: its row alone differs.
+use Rattle.std.proofs.Common.{◌≡◌, ℕ, ◌<◌, Bool, true, false, cond, List, [], ◌∷◌, ◌++◌, map, get_or, Option, Some, None, refl, sym, ap, ◌∙◌, subst, inl, inr, arith}
 use Rattle.std.specs.Prelude.{find, filter, option_map, option_and_then, length, All, IfSome, slice_get}
 use Rattle.std.specs.List.{filter_map, enumerate_from}
 use Rattle.std.specs.Option.{option_to_list}
@@ -15,13 +15,16 @@ use Rattle.rail_model.specs.Name.{is_same, is_before, NamesRise}
 use Rattle.plan_model.specs.declared.cut.CutRow.{CutRow}
 use Rattle.plan_model.specs.declared.cut.Cut.{Cut}
 use Rattle.plan_model.specs.Cut.{stamped_row, stamped}
-use Rattle.plan_model.specs.SectionCut.{section_uses, entry_of, is_member, binds, connection_use, row_of, section_cut}
+use Rattle.plan_model.specs.SectionCut.{section_uses, entry_of, is_member, binds, binding_connections, connection_use, row_of, section_cut}
 use Rattle.rail_model.proofs.Lists.{map_same}
 use Rattle.section_cut.specs.Members.{enters, member_row, row_on_blocks, rows_on_blocks}
 use Rattle.line_tables.proofs.Found.{find_some}
 use Rattle.rail_model.specs.Sound.{IsSound}
 use Rattle.rail_model.specs.Blocking.{stairway, stair_of}
-use Rattle.rail_model.specs.Tables.{no_run, number_of, run_at, path_in}
+use Rattle.rail_model.specs.Tables.{no_run, number_of, run_at, run_named, path_in, last_arrival}
+use Rattle.std.proofs.lemmas.Option.{get_or_from_slice_get}
+use Rattle.section_cut.specs.Connected.{with_bound, row_in}
+use Rattle.section_cut.proofs.BindsBy.{row_by}
 use Rattle.rail_model.proofs.NameOrder.{same_name}
 use Rattle.rail_model.proofs.Timetables.{used_there}
 use Rattle.plan_model.specs.Cut.{IsSoundCut}
@@ -72,27 +75,52 @@ bare_row_for tables s stamp None = refl
 bare_row_for tables s stamp (Some run) =
     bare_member s run.name stamp (section_uses tables s run) (enters s (section_uses tables s run)) refl
 
+-- the row with its uses of connections
 rows_for : (tables : Tables) (s : Section) (found : Option Run)
-    → map (row_on_blocks tables s 0) (filter (is_member tables s) (option_to_list found)) ≡ option_to_list (row_for tables s 0 found)
+    → map (row_of tables s) (filter (is_member tables s) (option_to_list found)) ≡ option_to_list (row_in tables s 0 found)
 rows_for tables s None = refl
-rows_for tables s (Some run) = row_listed tables s 0 run (is_member tables s run) refl
+rows_for tables s (Some run) = listed (is_member tables s run) refl
+  where
+    listed : (b : Bool) → b ≡ is_member tables s run → map (row_of tables s) (cond b (run ∷ []) [])
+        ≡ option_to_list (option_map (with_bound tables s run) (member_row s run.name 0 (section_uses tables s run)))
+    listed true e = rw (sym e) refl
+    listed false e = rw (sym e) refl
 
-module _ (earlier later : Tables) (s : Section) (name : List ℕ) (its : Option Stair) (one : IsOneRun earlier later name its) (rise : NamesRise (λ (r : Run). r.name) later.runs) where
+pub bare_row_in : (tables : Tables) (s : Section) (stamp : ℕ) (found : Option Run)
+    → option_map (stamped_row 0) (row_in tables s stamp found) ≡ row_in tables s 0 found
+bare_row_in tables s stamp None = refl
+bare_row_in tables s stamp (Some run) = bare (is_member tables s run) refl
+  where
+    bare : (b : Bool) → b ≡ is_member tables s run
+        → option_map (stamped_row 0) (option_map (with_bound tables s run) (member_row s run.name stamp (section_uses tables s run)))
+        ≡ option_map (with_bound tables s run) (member_row s run.name 0 (section_uses tables s run))
+    bare true e = rw (sym e) refl
+    bare false e = rw (sym e) refl
+
+module _ (earlier later : Tables) (s : Section) (name : List ℕ) (its : Option Stair) (one : IsOneRun earlier later name its) (rise : NamesRise (λ (r : Run). r.name) later.runs) (binding : binding_connections later s ≡ binding_connections earlier s) where
   abbrev found : Option Run
   found = find (λ (r : Run). is_same r.name name) later.runs
 
-  -- the rows of runs whose names pass a test
-  kept_rows : (q : List ℕ → Bool) → filter (λ (r : Run). q r.name) later.runs ≡ filter (λ (r : Run). q r.name) earlier.runs
-      → map (row_on_blocks later s 0) (filter (is_member later s) (filter (λ (r : Run). q r.name) later.runs))
-      ≡ filter (λ (r : CutRow). q r.name) (rows_on_blocks earlier s 0)
-  kept_rows q same =
-      ap (λ rs. map (row_on_blocks later s 0) (filter (is_member later s) rs)) same
-      ∙ sym (filter_rows (row_on_blocks later s 0) (is_member later s) (λ (r : Run). q r.name) (λ (r : CutRow). q r.name) (λ r. refl) earlier.runs)
-      ∙ ap (λ (t : Tables). filter (λ (r : CutRow). q r.name) (map (row_on_blocks t s 0) (filter (is_member t s) earlier.runs))) one.others
+  -- the rows of some runs where some connections bind
+  abbrev rows_by : Tables → List Connection → List Run → List CutRow
+  rows_by t bs rs = map (λ run. row_by s run (section_uses t s run) (last_arrival t run) bs) (filter (is_member t s) rs)
 
-  rows_later : rows_on_blocks later s 0 ≡ with_one (λ (r : CutRow). r.name) name (row_for later s 0 found) (rows_on_blocks earlier s 0)
+  abbrev old_rows : List CutRow
+  old_rows = map (row_of earlier s) (filter (is_member earlier s) earlier.runs)
+
+  -- those of runs whose names pass a test
+  kept_rows : (q : List ℕ → Bool) → filter (λ (r : Run). q r.name) later.runs ≡ filter (λ (r : Run). q r.name) earlier.runs
+      → map (row_of later s) (filter (is_member later s) (filter (λ (r : Run). q r.name) later.runs)) ≡ filter (λ (r : CutRow). q r.name) old_rows
+  kept_rows q same =
+      let kept = filter (λ (r : Run). q r.name) earlier.runs in
+      ap (rows_by later (binding_connections later s)) same
+      ∙ ap (λ bs. rows_by later bs kept) binding
+      ∙ ap (λ (t : Tables). rows_by t (binding_connections earlier s) kept) one.others
+      ∙ sym (filter_rows (row_of earlier s) (is_member earlier s) (λ (r : Run). q r.name) (λ (r : CutRow). q r.name) (λ r. refl) earlier.runs)
+
+  rows_later : map (row_of later s) (filter (is_member later s) later.runs) ≡ with_one (λ (r : CutRow). r.name) name (row_in later s 0 found) old_rows
   rows_later =
-      let f = row_on_blocks later s 0 in
+      let f = row_of later s in
       let p = is_member later s in
       let front = before (λ (r : Run). r.name) name later.runs in
       let back = behind (λ (r : Run). r.name) name later.runs in
@@ -101,15 +129,13 @@ module _ (earlier later : Tables) (s : Section) (name : List ℕ) (its : Option 
       ∙ ap (map f) (filter-append p front (middle ++ back)) ∙ map-append f (filter p front) (filter p (middle ++ back))
       ∙ ap (λ rs. map f (filter p front) ++ rs) (ap (map f) (filter-append p middle back) ∙ map-append f (filter p middle) (filter p back))
       ∙ ap (λ rs. rs ++ (map f (filter p middle) ++ map f (filter p back))) (kept_rows (λ m. is_before m name) one.front)
-      ∙ ap (λ rs. before (λ (r : CutRow). r.name) name (rows_on_blocks earlier s 0) ++ (map f (filter p middle) ++ rs)) (kept_rows (λ m. is_before name m) one.back)
-      ∙ ap (λ rs. before (λ (r : CutRow). r.name) name (rows_on_blocks earlier s 0) ++ (rs ++ behind (λ (r : CutRow). r.name) name (rows_on_blocks earlier s 0))) (rows_for later s found)
+      ∙ ap (λ rs. before (λ (r : CutRow). r.name) name old_rows ++ (map f (filter p middle) ++ rs)) (kept_rows (λ m. is_before name m) one.back)
+      ∙ ap (λ rs. before (λ (r : CutRow). r.name) name old_rows ++ (rs ++ behind (λ (r : CutRow). r.name) name old_rows)) (rows_for later s found)
 
-  pub cut_later : section_cut later s ≡ cut_with name (row_for later s 0 found) (section_cut earlier s)
+  pub cut_later : section_cut later s ≡ cut_with name (row_in later s 0 found) (section_cut earlier s)
   cut_later =
-      let none : later.connections ≡ [] = ap (λ (t : Tables). t.connections) one.others ∙ one.none in
-      bare_cut later s none
-      ∙ ap (λ rows. record { section = s; connections = []; rows = rows }) rows_later
-      ∙ sym (ap (cut_with name (row_for later s 0 found)) (bare_cut earlier s one.none))
+      ap (λ (bs : List Connection). record { section = s; connections = map (λ (c : Connection). c.name) bs; rows = map (row_of later s) (filter (is_member later s) later.runs) }) binding
+      ∙ ap (λ rows. record { section = s; connections = map (λ (c : Connection). c.name) (binding_connections earlier s); rows = rows }) rows_later
 
 -- the run of a name that is there, and of one that isn't
 module _ (tables : Tables) (name : List ℕ) where
@@ -161,22 +187,37 @@ located tables name old (Some s) e is =
     let own : s ≡ old.section = ap (λ (c : Cut). c.section) same in
     (e ∙ ap Some own, subst (λ t. section_cut tables t ≡ stamped 0 old) own same)
 
-by_stair : (tables : Tables) (s : Section) (stamp : ℕ) (found : Option Run)
+pub cut_is : (tables : Tables) (name : List ℕ) (old : Cut) → cut_of tables name ≡ Some (stamped 0 old) → section_cut tables old.section ≡ stamped 0 old
+cut_is tables name old is = (located tables name old (find (λ (s : Section). is_same s.name name) tables.sections) refl is).1
+
+pub by_stair : (tables : Tables) (s : Section) (stamp : ℕ) (found : Option Run)
     → row_of_stair tables s stamp (option_map (λ run. stair_of (path_in tables run)) found) ≡ row_for tables s stamp found
 by_stair tables s stamp None = refl
 by_stair tables s stamp (Some run) = refl
 
 name_found : (tables : Tables) (name : List ℕ) (found : Option Run) → find (λ (r : Run). is_same r.name name) tables.runs ≡ found
-    → (s : Section) (stamp : ℕ) → IfSome (row_for tables s stamp found) (λ r. (r.name ≡ name) × (r.stamp ≡ stamp))
+    → (s : Section) (stamp : ℕ) → IfSome (row_in tables s stamp found) (λ r. (r.name ≡ name) × (r.stamp ≡ stamp))
 name_found tables name None e s stamp = tt
 name_found tables name (Some run) e s stamp =
     let named = same_name run.name name (find_some (λ (r : Run). is_same r.name name) tables.runs run e).0 in
-    by_test (enters s (section_uses tables s run)) refl named
+    by_test (is_member tables s run) refl named
   where
-    by_test : (b : Bool) → b ≡ enters s (section_uses tables s run) → run.name ≡ name
-        → IfSome (member_row s run.name stamp (section_uses tables s run)) (λ (r : CutRow). (r.name ≡ name) × (r.stamp ≡ stamp))
+    by_test : (b : Bool) → b ≡ is_member tables s run → run.name ≡ name
+        → IfSome (option_map (with_bound tables s run) (member_row s run.name stamp (section_uses tables s run))) (λ (r : CutRow). (r.name ≡ name) × (r.stamp ≡ stamp))
     by_test true h named = rw (sym h) (named, refl)
     by_test false h named = rw (sym h) tt
+
+-- the run of a name, if it is found
+pub named_is : (tables : Tables) (name : List ℕ) (run : Run) → find (λ (r : Run). is_same r.name name) tables.runs ≡ Some run → run_named tables name ≡ run
+named_is tables name run e =
+    get_or_from_slice_get tables.runs (number_of (λ (r : Run). r.name) tables.runs name) run no_run
+    (sym (find_at (λ (r : Run). is_same r.name name) tables.runs) ∙ e)
+
+joined_in : (tables : Tables) (name : List ℕ) (found : Option Run) → find (λ (r : Run). is_same r.name name) tables.runs ≡ found → (s : Section) (stamp : ℕ)
+    → option_map (with_bound tables s (run_named tables name)) (row_for tables s stamp found) ≡ row_in tables s stamp found
+joined_in tables name None e s stamp = refl
+joined_in tables name (Some run) e s stamp =
+    ap (λ r. option_map (with_bound tables s r) (member_row s run.name stamp (section_uses tables s run))) (named_is tables name run e)
 
 pub uses_found : (tables : Tables) → IsSound tables → (name : List ℕ) (found : Option Run) → find (λ (r : Run). is_same r.name name) tables.runs ≡ found
     → IfSome (option_map (λ run. stair_of (path_in tables run)) found) (λ (s : Stair). All (λ (u : Use). u.block < length tables.blocks) s.uses)
@@ -190,25 +231,33 @@ module _ (earlier later : Tables) (name section : List ℕ) (its : Option Stair)
   pub old_sound : IsSoundCut old
   old_sound = sound_cut_of earlier earlier_sound section old is
 
-  module _ (number : ℕ) (row : Option CutRow) (row_is : row ≡ row_of_stair later old.section number its) where
-    row_is_for : row ≡ row_for later old.section number (find (λ (r : Run). is_same r.name name) later.runs)
-    row_is_for = row_is ∙ ap (row_of_stair later old.section number) one.stair ∙ by_stair later old.section number (find (λ (r : Run). is_same r.name name) later.runs)
+  abbrev here : (find (λ (s : Section). is_same s.name section) earlier.sections ≡ Some old.section) × (section_cut earlier old.section ≡ stamped 0 old)
+  here = located earlier section old (find (λ (s : Section). is_same s.name section) earlier.sections) refl is
+
+  abbrev found_run : Option Run
+  found_run = find (λ (r : Run). is_same r.name name) later.runs
+
+  module _ (number : ℕ) (bare row : Option CutRow) (bare_is : bare ≡ row_of_stair later old.section number its) (row_is : row ≡ option_map (with_bound later old.section (run_named later name)) bare) (binding : binding_connections later old.section ≡ binding_connections earlier old.section) where
+    row_is_in : row ≡ row_in later old.section number found_run
+    row_is_in =
+        row_is
+        ∙ ap (option_map (with_bound later old.section (run_named later name)))
+        (bare_is ∙ ap (row_of_stair later old.section number) one.stair ∙ by_stair later old.section number found_run)
+        ∙ joined_in later name found_run refl old.section number
 
     row_named : IfSome row (λ r. (r.name ≡ name) × (r.stamp ≡ number))
-    row_named = subst (λ o. IfSome o (λ (r : CutRow). (r.name ≡ name) × (r.stamp ≡ number))) (sym row_is_for)
-        (name_found later name (find (λ (r : Run). is_same r.name name) later.runs) refl old.section number)
+    row_named = subst (λ o. IfSome o (λ (r : CutRow). (r.name ≡ name) × (r.stamp ≡ number))) (sym row_is_in)
+        (name_found later name found_run refl old.section number)
 
-    cut_is : cut_of later section ≡ Some (stamped 0 (cut_with name row old))
-    cut_is =
-        let found = find (λ (r : Run). is_same r.name name) later.runs in
-        let here = located earlier section old (find (λ (s : Section). is_same s.name section) earlier.sections) refl is in
+    cut_later_is : cut_of later section ≡ Some (stamped 0 (cut_with name row old))
+    cut_later_is =
         let there : find (λ (s : Section). is_same s.name section) later.sections ≡ Some old.section =
         ap (λ (t : Tables). find (λ (s : Section). is_same s.name section) t.sections) one.others ∙ here.0 in
         ap (option_map (section_cut later)) there
         ∙ ap Some
-        (cut_later earlier later old.section name its one later_sound.runs.names
-        ∙ ap (cut_with name (row_for later old.section 0 found)) here.1
-        ∙ ap (λ r. cut_with name r (stamped 0 old)) (sym (ap (option_map (stamped_row 0)) row_is_for ∙ bare_row_for later old.section number found))
+        (cut_later earlier later old.section name its one later_sound.runs.names binding
+        ∙ ap (cut_with name (row_in later old.section 0 found_run)) here.1
+        ∙ ap (λ r. cut_with name r (stamped 0 old)) (sym (ap (option_map (stamped_row 0)) row_is_in ∙ bare_row_in later old.section number found_run))
         ∙ sym (bare_with name row old))
 
     -- what becomes of the cut by the edit, where this row is put
@@ -216,6 +265,6 @@ module _ (earlier later : Tables) (name section : List ℕ) (its : Option Stair)
         → IsPut old at own row result → IsChange (cut_of earlier section) (cut_of later section) number (Some old) result
     run_changes own at result reached own_is put =
         subst (λ v. IsChange v (cut_of later section) number (Some old) result) (sym is)
-        (subst (λ v. IsChange (Some (stamped 0 old)) v number (Some old) result) (sym cut_is)
+        (subst (λ v. IsChange (Some (stamped 0 old)) v number (Some old) result) (sym cut_later_is)
         (put_is old name at number old_sound reached own row result own_is row_named
-        (sound_cut_of later later_sound section (cut_with name row old) cut_is) put))
+        (sound_cut_of later later_sound section (cut_with name row old) cut_later_is) put))

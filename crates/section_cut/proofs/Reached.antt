@@ -65,14 +65,13 @@ module _ (tables : Tables) (name : List ℕ) where
   others_stay (edit.Change x) e = by_change x e
   others_stay (edit.Drop k n) e = by_drop k n e
 
--- an edit of a run, without connections, is one of this run alone
+-- an edit of a run is one of this run alone
 pub one_run : (earlier later : Tables) (x : Edit) (name : List ℕ) (its : Option Stair) → later ≡ after earlier x → run_edited x ≡ Some name
-    → earlier.connections ≡ []
     → its ≡ option_map (λ run. stair_of (path_in later run)) (find (λ r. is_same r.name name) later.runs)
     → IsOneRun earlier later name its
-one_run earlier later x name its is edited none stair =
+one_run earlier later x name its is edited stair =
     let stay = subst (λ (t : Tables). OthersStay earlier t name) (sym is) (others_stay earlier name x edited) in
-    record { none = none; others = stay.same; front = stay.front; back = stay.back; stair = stair }
+    record { others = stay.same; front = stay.front; back = stay.back; stair = stair }
 
 -- ---- an edit of a section
 

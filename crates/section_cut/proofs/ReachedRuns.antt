@@ -33,6 +33,7 @@ use Rattle.section_cut.proofs.BlockUses.{uses_inside}
 use Rattle.section_cut.proofs.MemberRows.{rows_more, uses_by_table}
 use Rattle.section_cut.proofs.OneRun.{bare_cut, located, map_one}
 use Rattle.section_cut.proofs.Rows.{before_later, found_passing}
+use Rattle.section_cut.proofs.SameRuns.{cuts_same}
 use Rattle.section_cut.proofs.SameValue.{sound_cut_of}
 
 -- a run of the same path has the same uses, where the blocks have the same names
@@ -252,7 +253,7 @@ module _ (earlier later : Tables) (stairs : List (Option Stair)) (reached : AreR
   here = located earlier name old (find (λ (s : Section). is_same s.name name) earlier.sections) refl is
 
   pub old_rows : map (stamped_row 0) old.rows ≡ rows_on_blocks earlier old.section 0
-  old_rows = ap (λ (c : Cut). c.rows) (sym here.1 ∙ bare_cut earlier old.section reached.same.earlier_none)
+  old_rows = ap (λ (c : Cut). c.rows) (sym here.1 ∙ bare_cut earlier old.section reached.none)
 
   pub cut_made : (made : Cut) → made.section ≡ old.section → made.connections ≡ []
       → map (stamped_row 0) made.rows ≡ rows_on_blocks later old.section 0 → cut_of later name ≡ Some (stamped 0 made)
@@ -261,14 +262,14 @@ module _ (earlier later : Tables) (stairs : List (Option Stair)) (reached : AreR
       ap (λ sections. option_map (section_cut later) (find (λ (s : Section). is_same s.name name) sections)) reached.same.sections
       ∙ ap (option_map (section_cut later)) here.0
       ∙ ap Some
-      (bare_cut later old.section reached.same.later_none
+      (bare_cut later old.section (reached.same.connections ∙ reached.none)
       ∙ ap (form old.section []) (sym rows)
       ∙ ap (λ cs. form old.section cs (map (stamped_row 0) made.rows)) (sym connections)
       ∙ ap (λ s. form s made.connections (map (stamped_row 0) made.rows)) (sym section))
 
   -- where the rows are the same, so is the cut
   pub cut_same : rows_on_blocks later old.section 0 ≡ rows_on_blocks earlier old.section 0 → cut_of later name ≡ cut_of earlier name
-  cut_same rows = cut_made old refl (ap (λ (c : Cut). c.connections) (sym here.1 ∙ bare_cut earlier old.section reached.same.earlier_none)) (old_rows ∙ sym rows) ∙ sym is
+  cut_same rows = cut_made old refl (ap (λ (c : Cut). c.connections) (sym here.1 ∙ bare_cut earlier old.section reached.none)) (old_rows ∙ sym rows) ∙ sym is
 
   -- a cut of other rows, and what becomes of the earlier one by it
   pub cut_changes : (made : Cut) → made.section ≡ old.section → made.connections ≡ [] → (number : ℕ)
@@ -289,22 +290,10 @@ module _ (earlier later : Tables) (stairs : List (Option Stair)) (reached : AreR
   same_path n below =
       subst (IsStairIfReached earlier later (run_at later n)) (none n None (omega (arith, below, reached.count))) (reached.each n None below)
 
-  row_as_before : (s : Section) (n : ℕ) → n < length later.runs → IsSameRow earlier later s n
-  row_as_before s n below =
-      ap (member_row s (run_at later n).name 0) (uses_by_path earlier later s (run_at later n) reached.same.names (same_path n below))
-      ∙ ap (λ (r : Run). member_row s r.name 0 (section_uses earlier s r)) (ap (λ runs. get_or runs n no_run) reached.same.runs)
-
-  cut_as_before : (s : Section) → section_cut later s ≡ section_cut earlier s
-  cut_as_before s =
-      bare_cut later s reached.same.later_none
-      ∙ ap (λ rows. record { section = s; connections = []; rows = rows }) (rows_stay earlier later s reached.same.runs (row_as_before s))
-      ∙ sym (bare_cut earlier s reached.same.earlier_none)
-
-  found_as_before : (found : Option Section) → option_map (section_cut later) found ≡ option_map (section_cut earlier) found
-  found_as_before None = refl
-  found_as_before (Some s) = ap Some (cut_as_before s)
-
-  pub cuts_as_before : (name : List ℕ) → cut_of later name ≡ cut_of earlier name
-  cuts_as_before name =
-      ap (λ sections. option_map (section_cut later) (find (λ (s : Section). is_same s.name name) sections)) reached.same.sections
-      ∙ found_as_before (find (λ (s : Section). is_same s.name name) earlier.sections)
+  pub cuts_as_before : IsSound earlier → IsSound later → (name : List ℕ) → cut_of later name ≡ cut_of earlier name
+  cuts_as_before earlier_sound later_sound =
+      cuts_same earlier later earlier_sound later_sound reached.same.runs reached.same.connections reached.same.sections
+      (λ s n below.
+      let same = ap (λ (rs : List Run). get_or rs n no_run) reached.same.runs in
+      subst (λ (r : Run). section_uses later s r ≡ section_uses earlier s r) same
+      (uses_by_path earlier later s (run_at later n) reached.same.names (same_path n (omega (arith, below, ap length reached.same.runs)))))

@@ -18,18 +18,16 @@ use Rattle.rail_model.specs.declared.path.Path.{Path}
 use Rattle.rail_model.specs.declared.stair.Use.{Use}
 use Rattle.rail_model.specs.Name.{is_same}
 use Rattle.rail_model.specs.Rules.{has_block}
+use Rattle.rail_model.specs.Sound.{IsSound}
 use Rattle.rail_model.specs.Blocking.{stairway}
-use Rattle.rail_model.specs.Tables.{no_block, number_of, block_name, block_number, block_named, signal_named, route_named, hop_beyond, path_in}
+use Rattle.rail_model.specs.Tables.{no_block, no_run, run_at, number_of, block_name, block_number, block_named, signal_named, route_named, hop_beyond, path_in}
 use Rattle.rail_model.specs.Within.{no_leg}
 use Rattle.rail_model.proofs.Lists.{map_same}
 use Rattle.rail_model.proofs.NameOrder.{same_name}
 use Rattle.rail_model.proofs.Paths.{place_within}
-use Rattle.plan_model.specs.declared.cut.CutRow.{CutRow}
-use Rattle.plan_model.specs.declared.cut.Cut.{Cut}
-use Rattle.plan_model.specs.SectionCut.{position_in_section, section_uses, is_member, section_cut, cut_of}
-use Rattle.section_cut.specs.Members.{row_on_blocks, enters, row_with}
+use Rattle.plan_model.specs.SectionCut.{position_in_section, section_uses, cut_of}
 use Rattle.section_cut.proofs.Numberless.{renumbered_hop, renumbered, uses_renumbered}
-use Rattle.section_cut.proofs.OneRun.{bare_cut}
+use Rattle.section_cut.proofs.SameRuns.{cuts_same}
 
 -- a signal, its block's name, and the block's length stand as they stood
 pub record IsSameBeyond (earlier later : Tables) (name : List ℕ) : Type 0 where
@@ -88,49 +86,15 @@ module _ (earlier later : Tables) (s : Section) where
       ∙ ap stairway (path_still run same)
       ∙ sym (uses_renumbered (position_in_section earlier s) (path_in earlier run)))
 
-  -- and so are its row and whether it is a member
-  pub member_still : (run : Run) → section_uses later s run ≡ section_uses earlier s run → is_member later s run ≡ is_member earlier s run
-  member_still run same = ap (enters s) same
-
-  pub row_still : (stamp : ℕ) (run : Run) → section_uses later s run ≡ section_uses earlier s run → row_on_blocks later s stamp run ≡ row_on_blocks earlier s stamp run
-  row_still stamp run same = ap (row_with run.name stamp) same
-
-rows_same : (f g : Run → CutRow) (p q : Run → Bool) (runs : List Run) → All (λ r. (p r ≡ q r) × (f r ≡ g r)) runs → map f (filter p runs) ≡ map g (filter q runs)
-rows_same f g p q [] same = refl
-rows_same f g p q (r ∷ runs) same =
-    let here = All-head (λ r. (p r ≡ q r) × (f r ≡ g r)) r runs same in
-    let rest = rows_same f g p q runs (All-tail (λ r. (p r ≡ q r) × (f r ≡ g r)) r runs same) in
-    elim (cases_Bool (q r)) [
-      | inl e ↦ rw (here.0, e) (ap (λ y. y ∷ map f (filter p runs)) here.1 ∙ ap (λ ys. g r ∷ ys) rest)
-      | inr e ↦ rw (here.0, e) rest
-    ]
-
--- the tables have the same runs and sections, none has connections, and each run's way is the same
+-- the tables have the same runs, sections and connections, and each run's way is the same
 pub record IsSameLine (earlier later : Tables) : Type 0 where
-  pub earlier_none : earlier.connections ≡ []
-  pub later_none : later.connections ≡ []
   pub runs : later.runs ≡ earlier.runs
   pub sections : later.sections ≡ earlier.sections
+  pub connections : later.connections ≡ earlier.connections
   pub ways : All (IsSameWay earlier later) earlier.runs
 
-module _ (earlier later : Tables) (same : IsSameLine earlier later) where
-  cut_still : (s : Section) → section_cut later s ≡ section_cut earlier s
-  cut_still s =
-      let bare : List CutRow → Cut = λ rows. record { section = s; connections = []; rows = rows } in
-      bare_cut later s same.later_none
-      ∙ ap (λ runs. bare (map (row_on_blocks later s 0) (filter (is_member later s) runs))) same.runs
-      ∙ ap bare (rows_same (row_on_blocks later s 0) (row_on_blocks earlier s 0) (is_member later s) (is_member earlier s) earlier.runs
-      (λ k d l.
-      let uses = uses_still earlier later s (get_or earlier.runs k d) (same.ways k d l) in
-      (member_still earlier later s (get_or earlier.runs k d) uses, row_still earlier later s 0 (get_or earlier.runs k d) uses)))
-      ∙ sym (bare_cut earlier s same.earlier_none)
-
-  found_still : (found : Option Section) → option_map (section_cut later) found ≡ option_map (section_cut earlier) found
-  found_still None = refl
-  found_still (Some s) = ap Some (cut_still s)
-
-  -- no cut changes
-  pub cuts_still : (name : List ℕ) → cut_of later name ≡ cut_of earlier name
-  cuts_still name =
-      ap (λ sections. option_map (section_cut later) (find (λ (s : Section). is_same s.name name) sections)) same.sections
-      ∙ found_still (find (λ (s : Section). is_same s.name name) earlier.sections)
+-- no cut changes
+pub cuts_still : (earlier later : Tables) → IsSameLine earlier later → IsSound earlier → IsSound later → (name : List ℕ) → cut_of later name ≡ cut_of earlier name
+cuts_still earlier later same earlier_sound later_sound name =
+    cuts_same earlier later earlier_sound later_sound same.runs same.connections same.sections
+    (λ s n l. uses_still earlier later s (run_at earlier n) (same.ways n no_run l)) name

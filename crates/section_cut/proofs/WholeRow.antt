@@ -18,11 +18,11 @@ use Rattle.plan_model.specs.Cut.{stamped_row, stamped}
 use Rattle.plan_model.specs.SectionCut.{section_uses, cut_of}
 use Rattle.section_cut.specs.declared.one_run.EditedRun.{EditedRun}
 use Rattle.section_cut.specs.Times.{with_times}
-use Rattle.section_cut.specs.Members.{enters, member_row, rows_on_blocks}
 use Rattle.section_cut.specs.OneRun.{uses_of_section}
 use Rattle.section_cut.specs.EditedRun.{KeepsRoute, IsEditedRun, KeepsPlaces}
-use Rattle.section_cut.proofs.OneRun.{bare_cut, located, run_found}
-use Rattle.section_cut.proofs.ReachedRuns.{old_found, uses_of_row}
+use Rattle.section_cut.specs.Connected.{block_part}
+use Rattle.section_cut.proofs.OldRows.{old_blocks}
+use Rattle.section_cut.proofs.OneRun.{located, run_found}
 use Rattle.section_cut.proofs.Whole.{whole, one_route}
 
 module _ (earlier later : Tables) (run : EditedRun) (edited : IsEditedRun earlier later run) (earlier_sound : IsSound earlier) (later_sound : IsSound later) (section : List ℕ) (old : Cut) (is : cut_of earlier section ≡ Some (stamped 0 old)) (route : run.keeps_route ≡ true) where
@@ -44,36 +44,29 @@ module _ (earlier later : Tables) (run : EditedRun) (edited : IsEditedRun earlie
   named : (run_at earlier n).name ≡ run.name
   named = same_name (run_at earlier n).name run.name (passes_at_first (λ (r : Run). is_same r.name run.name) earlier.runs no_run below)
 
-  old_rows : map (stamped_row 0) old.rows ≡ rows_on_blocks earlier old.section 0
-  old_rows =
-      ap (λ (c : Cut). c.rows)
-      (sym (located earlier section old (find (λ (s : Section). is_same s.name section) earlier.sections) refl is).1
-      ∙ bare_cut earlier old.section edited.one.none)
-
-  -- its row before the edit has its uses
-  uses_are : (own : CutRow) → Some own ≡ find (λ r. is_same r.name run.name) old.rows → own.uses ≡ section_uses earlier old.section (run_at earlier n)
+  -- the uses of blocks of its row before the edit are its own
+  uses_are : (own : CutRow) → Some own ≡ find (λ r. is_same r.name run.name) old.rows → block_part old.section own.uses ≡ section_uses earlier old.section (run_at earlier n)
   uses_are own found =
-      let uses = section_uses earlier old.section (run_at earlier n) in
-      uses_of_row old.section run.name uses own (enters old.section uses) refl
-      (ap (option_map (stamped_row 0)) found
-      ∙ subst (λ name. option_map (stamped_row 0) (find (λ (r : CutRow). is_same r.name name) old.rows) ≡ member_row old.section name 0 uses)
-      named (old_found earlier old.section earlier_sound.runs.names old.rows old_rows n below))
+      old_blocks earlier old.section earlier_sound.runs.names old.rows
+      (ap (λ (c : Cut). c.rows) (sym (located earlier section old (find (λ (s : Section). is_same s.name section) earlier.sections) refl is).1))
+      earlier_sound n below own (found ∙ ap (λ m. find (λ (r : CutRow). is_same r.name m) old.rows) (sym named))
 
   block_names : (block : ℕ) → block_name later block ≡ block_name earlier block
   block_names block = ap (λ (t : Tables). block_name t block) edited.one.others
 
   -- and after it they stand where they stood
   times_are : (own : CutRow) (stair : Option Stair) → stair ≡ Some (stair_of (path_in later (run_at later m)))
-      → Some own ≡ find (λ r. is_same r.name run.name) old.rows → KeepsPlaces later old.section stair own
+      → Some own ≡ find (λ r. is_same r.name run.name) old.rows → KeepsPlaces later old.section stair (block_part old.section own.uses)
   times_are own None its found = tt
   times_are own (Some stair) its found = λ long.
       let is : stair ≡ stair_of (path_in later (run_at later m)) = cc in
       let same = one_route earlier later edited.one.others (run_at earlier n) (run_at later m) keeps.route
       (run_stands earlier earlier_sound n below) (run_stands later later_sound m below_later) in
-      subst (λ (t : Stair). length own.uses ≡ length t.uses → with_times own.uses t.uses ≡ uses_of_section later old.section t.uses) (sym is)
-      (whole earlier later old.section (run_at earlier n) (run_at later m) block_names same own.uses (uses_are own found)) long
+      subst (λ (t : Stair). length (block_part old.section own.uses) ≡ length t.uses → with_times (block_part old.section own.uses) t.uses ≡ uses_of_section later old.section t.uses) (sym is)
+      (whole earlier later old.section (run_at earlier n) (run_at later m) block_names same (block_part old.section own.uses) (uses_are own found)) long
 
-  pub keeps_places : (own : Option CutRow) → own ≡ find (λ r. is_same r.name run.name) old.rows → IfSome own (KeepsPlaces later old.section run.stair)
+  pub keeps_places : (own : Option CutRow) → own ≡ find (λ r. is_same r.name run.name) old.rows
+      → IfSome (option_map (λ (r : CutRow). block_part old.section r.uses) own) (KeepsPlaces later old.section run.stair)
   keeps_places None found = tt
   keeps_places (Some own) found =
       times_are own run.stair

@@ -1,7 +1,8 @@
--- What is known of the run that an edit puts, changes or drops, without connections, and what becomes of a cut by it.
-use Rattle.std.specs.Prelude.{◌≡◌, ◌≢◌, ◌⊎◌, ◌<◌, ◌≤◌, true, List, ℕ, length, insert, remove, slice_index_or, Option, Some, None, IfSome}
+-- What is known of the run that an edit puts, changes or drops, and what becomes of a cut by it.
+use Rattle.std.specs.Prelude.{◌≡◌, ◌≢◌, ◌⊎◌, ◌<◌, ◌≤◌, true, List, ℕ, length, filter, insert, remove, slice_index_or, Option, Some, None, IfSome}
 use Rattle.rail_model.specs.declared.items.Section.{Section}
 use Rattle.rail_model.specs.declared.stair.Stair.{Stair}
+use Rattle.rail_model.specs.declared.stair.Use.{Use}
 use Rattle.rail_model.specs.declared.tables.Tables.{Tables}
 use Rattle.rail_model.specs.Rules.{has_run}
 use Rattle.rail_model.specs.Tables.{run_named}
@@ -12,6 +13,7 @@ use Rattle.plan_model.specs.Members.{no_member}
 use Rattle.section_cut.specs.declared.cut_changes.CutChange.{CutChange}
 use Rattle.section_cut.specs.declared.cut_changes.CutChange.TheVariants as change
 use Rattle.section_cut.specs.declared.one_run.EditedRun.{EditedRun}
+use Rattle.section_cut.specs.Connected.{joins}
 use Rattle.section_cut.specs.OneRun.{IsOneRun, uses_of_section}
 use Rattle.section_cut.specs.Times.{with_times}
 
@@ -21,16 +23,17 @@ pub record KeepsRoute (earlier later : Tables) (name : List ℕ) : Type 0 where
   pub after : has_run later name ≡ true
   pub route : (run_named later name).route ≡ (run_named earlier name).route
 
--- the tables differ in this run alone, the stair is its own, and where it says so, its route is
--- kept
+-- the tables differ in this run alone, the stair is its own, where it says so, its route is kept, and
+-- these are its connections
 pub record IsEditedRun (earlier later : Tables) (run : EditedRun) : Type 0 where
   pub one : IsOneRun earlier later run.name run.stair
   pub route : run.keeps_route ≡ true → KeepsRoute earlier later run.name
+  pub joined : run.joined ≡ filter (joins run.name) later.connections
 
--- a row's uses, with the times of a stair of as many, are the stair's uses of a section
-abbrev pub KeepsPlaces : Tables → Section → Option Stair → CutRow → Type 0
-KeepsPlaces tables section stair row =
-    IfSome stair (λ s. length row.uses ≡ length s.uses → with_times row.uses s.uses ≡ uses_of_section tables section s.uses)
+-- these uses, with the times of a stair of as many, are the stair's uses of a section
+abbrev pub KeepsPlaces : Tables → Section → Option Stair → List Use → Type 0
+KeepsPlaces tables section stair uses =
+    IfSome stair (λ s. length uses ≡ length s.uses → with_times uses s.uses ≡ uses_of_section tables section s.uses)
 
 -- this is the row at a place of these rows, or the place is one of theirs or behind them
 abbrev pub StandsAt : List CutRow → ℕ → Option CutRow → Type 0

@@ -3,6 +3,7 @@ pub mod Late
 pub mod Positions
 pub mod Members
 pub mod Bound
+pub mod Connected
 pub mod Change
 pub mod Stamps
 pub mod OneRun

@@ -1,5 +1,4 @@
--- An edit of one run, without connections: what it leaves of the tables, and the row that it
--- reaches.
+-- An edit of one run: what it leaves of the tables, and the row that it reaches.
 use Rattle.std.specs.Prelude.{◌≡◌, ℕ, List, [], ◌++◌, filter, find, map, length, nat_lt, Option, Some, None, option_map, option_and_then, IfSome, false}
 use Rattle.std.specs.Option.{option_to_list}
 use Rattle.rail_model.specs.declared.items.Item.{Item}
@@ -59,10 +58,8 @@ with_one name n one items = before name n items ++ (option_to_list one ++ behind
 abbrev pub cut_with : List ℕ → Option CutRow → Cut → Cut
 cut_with n row cut = record cut { rows = with_one (λ r. r.name) n row cut.rows }
 
--- the tables differ in the run of a name alone, and have no connections; and the run's stair by the
--- later ones, if it is there
+-- the tables differ in the run of a name alone; and the run's stair by the later ones, if it is there
 pub record IsOneRun (earlier later : Tables) (name : List ℕ) (its : Option Stair) : Type 0 where
-  pub none : earlier.connections ≡ []
   pub others : later ≡ record earlier { runs = later.runs }
   pub front : before (λ r. r.name) name later.runs ≡ before (λ r. r.name) name earlier.runs
   pub back : behind (λ r. r.name) name later.runs ≡ behind (λ r. r.name) name earlier.runs

@@ -41,12 +41,11 @@ KeepsBlocks (edit.Put x) = PutKeepsBlocks x
 KeepsBlocks (edit.Change x) = ChangeKeepsBlocks x
 KeepsBlocks (edit.Drop k n) = ⊥
 
--- the tables have the same runs, the same sections and blocks of the same names, and no connections
+-- the tables have the same runs, the same sections, the same connections and blocks of the same names
 pub record IsSameTraffic (earlier later : Tables) : Type 0 where
-  pub earlier_none : earlier.connections ≡ []
-  pub later_none : later.connections ≡ []
   pub runs : later.runs ≡ earlier.runs
   pub sections : later.sections ≡ earlier.sections
+  pub connections : later.connections ≡ earlier.connections
   pub names : (block : ℕ) → block_name later block ≡ block_name earlier block
 
 -- a run's stair by the later tables, or none where its path is the same by both
@@ -54,8 +53,9 @@ abbrev pub IsStairIfReached : Tables → Tables → Run → Option Stair → Typ
 IsStairIfReached earlier later run (Some stair) = stair ≡ stair_of (path_in later run)
 IsStairIfReached earlier later run None = path_in later run ≡ path_in earlier run
 
--- this for each run, in the order of the runs' names
+-- this for each run, in the order of the runs' names, without connections
 pub record AreReachedRuns (earlier later : Tables) (stairs : List (Option Stair)) : Type 0 where
+  pub none : earlier.connections ≡ []
   pub same : IsSameTraffic earlier later
   pub count : length stairs ≡ length later.runs
   pub each : (n : ℕ) (d : Option Stair) → n < length later.runs

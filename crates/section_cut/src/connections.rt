@@ -125,7 +125,7 @@ fn member(
 
 // Whether the first run's entry comes before the second run's start: of two at one moment, the
 // lesser name does.
-fn comes_before(entry: i64, first: &Name, start: i64, second: &Name) -> bool
+pub(crate) fn comes_before(entry: i64, first: &Name, start: i64, second: &Name) -> bool
     ensures { result ≡ comes_before entry first.now start second.now }
 {
     entry < start || (entry == start && first < second)
@@ -133,7 +133,7 @@ fn comes_before(entry: i64, first: &Name, start: i64, second: &Name) -> bool
 
 // When the run of a number comes to the end of its path: its start, and its running and dwell
 // times.
-fn last_arrival(tables: &LineTables, number: u32) -> u64
+pub(crate) fn last_arrival(tables: &LineTables, number: u32) -> u64
     requires { number < length tables.now.runs }
     ensures same { result ≡ cuts.last_arrival tables.now (run_at tables.now number) }
     ensures bounded { result ≤ GREATEST_DEPARTURE_S }

@@ -148,6 +148,21 @@ fn cut_after_section(
     if !same_name(edited, section) {
         return Ok(CutChange::Untouched);
     }
+    cut_made_anew(alloc, both, cut, section, number)
+}
+
+// What the edit of a number makes of the cut of the section of a name, where that is made anew.
+pub(crate) fn cut_made_anew(
+    alloc: Global,
+    both: BothTables<'_>,
+    cut: Option<&Cut>,
+    section: &Name,
+    number: u64,
+) -> Result<CutChange, OutOfMemory>
+    requires { cut_of both.before.now section.now ≡ option_map (stamped 0) (option_copied cut) }
+    ensures { IfOk result (IsChange (cut_of both.entry.before.now section.now)
+        (cut_of both.entry.after.now section.now) number (option_copied cut.entry)) }
+{
     both.before.learn_sound();
     let later = cut_of(alloc, both.after, section, number)?;
     Ok(changed(cut, later, number))

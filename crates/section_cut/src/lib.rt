@@ -27,6 +27,7 @@
 #![tactic(auto)]
 
 mod all_stairways;
+mod connected;
 mod connections;
 mod cut_changes;
 mod cuts;

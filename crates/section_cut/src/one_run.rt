@@ -1,11 +1,13 @@
-//! What an edit of one run makes of a section's cut, where there are no connections: it reaches the
-//! run's own row alone.
-ghost use Rattle.std.specs.Prelude.{◌≡◌, ◌<◌, ◌≤◌, true, false, All, length, IfOk, IfSome, Some, find, option_map, insert, remove};
+//! What an edit of one run makes of a section's cut. It reaches the run's own row alone, where each of
+//! the run's connections binds after the edit exactly where it does before; else the cut is made
+//! anew.
+ghost use Rattle.std.specs.Prelude.{◌≡◌, ◌<◌, ◌≤◌, true, false, All, length, IfOk, IfSome, Some, filter, find, option_map, insert, remove};
 ghost use Rattle.std.specs.Option.{option_copied};
 ghost use Rattle.plan_model.specs.Cut.{stamped};
 ghost use Rattle.section_cut.specs.Change.{IsChange};
 ghost use Rattle.section_cut.specs.Members.{member_row};
 ghost use Rattle.section_cut.specs.OneRun.{run_edited, uses_of_section, PassesBy};
+ghost use Rattle.section_cut.specs.Connected.{joins};
 ghost use Rattle.section_cut.specs.EditedRun.{KeepsRoute, IsEditedRun, KeepsPlaces, StandsAt, IsPut};
 ghost use Rattle.section_cut.specs.OneRun as one;
 ghost use Rattle.section_cut.specs.Times.{with_times};
@@ -15,7 +17,8 @@ ghost use Rattle.rail_model.specs.Tables.{number_of, path_in, section_at};
 ghost use Rattle.rail_model.specs.Name.{is_same};
 ghost use Rattle.section_cut.specs.Starts.{EntersEarly};
 
-use crate::cut_changes::{BothTables, CutChange};
+use crate::connected::{bind_as_before, joined_by, uses_of_blocks, with_joined};
+use crate::cut_changes::{BothTables, CutChange, cut_made_anew};
 use crate::members::{member_row, row_with};
 use crate::positions::{SectionTable, gather, positions};
 use crate::same_value::{same_name, same_row};
@@ -25,16 +28,17 @@ use crate::times::with_times;
 use blocking_time::stairs;
 use line_tables::LineTables;
 use plan_model::{Cut, CutRow};
-use rail_model::{Edit, Item, Kind, Name, OutOfMemory, PATH_HOPS, Section};
+use rail_model::{Connection, Edit, Item, Kind, List, Name, OutOfMemory, PATH_HOPS, Section, Use};
 use std::alloc::Global;
 
 // The run that an edit puts, changes or drops: its name; its stair after the edit, if it is there;
-// and whether it is known to be on one route before and after the edit.
+// whether it is known to be on one route before and after the edit; and its connections after it.
 #[derive(Drop)]
 pub(crate) struct EditedRun {
     pub(crate) name: Name,
     pub(crate) stair: Option<TimedStair>,
     pub(crate) keeps_route: bool,
+    pub(crate) joined: List<Connection>,
 }
 
 // The run of this name by the tables before an edit of it and after it.
@@ -50,13 +54,16 @@ pub(crate) fn edited_run(
         (find (λ r. is_same r.name name) after.now.runs)) }
     ensures route { IfOk result (λ run. run.keeps_route ≡ true
         → KeepsRoute before.now after.now name) }
+    ensures joined { IfOk result (λ run. run.joined ≡ filter (joins name) after.now.connections) }
 {
     let stair = stair_named(alloc, after, &name)?;
     let keeps_route = keeps_route(before, after, &name);
+    let joined = joined_by(alloc, after, &name)?;
     Ok(EditedRun {
         name,
         stair,
         keeps_route,
+        joined,
     })
 }
 
@@ -72,14 +79,14 @@ pub(crate) fn run_edited(edit: &Edit) -> Option<Name>
 }
 
 // The row that the edited run has in a section after the edit of a number, if it is there and a
-// member. Where it keeps its route, and its own row before the edit has a use for each block of its
-// path, the positions of these blocks stay: only times change.
+// member, without its uses of connections. Where it keeps its route, and its own row before the edit
+// has a use for each block of its path, the positions of these blocks stay: only times change.
 fn row_after_run(
     alloc: Global,
     tables: &LineTables,
     section: &Section,
     run: &EditedRun,
-    own: Option<&CutRow>,
+    own: Option<&[Use]>,
     number: u64,
 ) -> Result<Option<CutRow>, OutOfMemory>
     requires section { find (λ s. is_same s.name section.now.name) tables.now.sections
@@ -96,30 +103,30 @@ fn row_after_run(
         return Ok(None);
     };
     if run.keeps_route {
-        if let Some(row) = own {
-            if row.uses.len() == stair.stair().uses.len() {
-                return row_with_times(alloc, section, row, stair, number);
+        if let Some(uses) = own {
+            if uses.len() == stair.stair().uses.len() {
+                return row_with_times(alloc, section, uses, stair, number);
             }
         }
     }
     row_by_stair(alloc, tables, section, &run.name, stair, number)
 }
 
-// The row of the run of a stair, if it is a member, where it has the places of the uses of a row of
-// as many, and only times change.
+// The row of the run of a stair, if it is a member, where it has the places of as many uses, and only
+// times change.
 fn row_with_times(
     alloc: Global,
     section: &Section,
-    row: &CutRow,
+    places: &[Use],
     stair: &TimedStair,
     stamp: u64,
 ) -> Result<Option<CutRow>, OutOfMemory>
-    requires { length row.now.uses ≡ length stair.now.uses }
+    requires { length places.now ≡ length stair.now.uses }
     ensures { IfOk result (λ made. made ≡ member_row section.now stair.now.run stamp
-        (with_times row.now.uses stair.now.uses)) }
+        (with_times places.now stair.now.uses)) }
 {
     let own = stair.stair();
-    let uses = with_times(alloc, row.uses.slice(), own.uses.slice())?;
+    let uses = with_times(alloc, places, own.uses.slice())?;
     Ok(row_with(section, own.run, stamp, stair.entry(), uses))
 }
 
@@ -268,7 +275,13 @@ pub(crate) fn cut_after_run(
     let rows = old.rows.slice();
     let at = place_of(rows, &run.name);
     let own = own_row(rows, &run.name, at);
-    let row = row_after_run(alloc, both.after, &old.section, run, own, number)?;
+    let places = uses_of_blocks(&old.section, own);
+    let row = row_after_run(alloc, both.after, &old.section, run, places, number)?;
+    let joined = run.joined.slice();
+    if !bind_as_before(both.after, old, &run.name, row.as_ref(), joined) {
+        return cut_made_anew(alloc, both, Some(old), section, number);
+    }
+    let row = with_joined(both.after, old, &run.name, joined, row)?;
     with_row(alloc, old, at, own, row)
 }
 

@@ -1,13 +1,14 @@
 //! Which rows of cuts an edit can reach, and the stairways that they are made of, once for all
 //! sections.
 //!
-//! An edit of a section reaches its own rows. Where there are connections, any other edit may reach
-//! any row. Where there are none, an edit of a run reaches its row, a put or drop of a block, a
-//! signal or a route reaches none, and a change of one reaches the rows of the runs that pass it.
+//! An edit of a section reaches its own rows, and an edit of a run its row, and those that its
+//! connections join. A put or drop of a block, a signal or a route reaches none. Where there are no
+//! connections, a change of one reaches the rows of the runs that pass it.
 ghost use Rattle.std.specs.Prelude.{◌≡◌, ◌≢◌, true, false, All, IfOk, None};
 ghost use Rattle.rail_model.specs.Edits as edits;
 ghost use Rattle.section_cut.specs.ReachedRuns.{KeepsBlocks, AreReachedRuns};
 ghost use Rattle.section_cut.specs.Reach.{IsReach, ReachesNoRun, section_edited};
+ghost use Rattle.rail_model.specs.Sound.{IsSound};
 ghost use Rattle.rail_model.specs.Timetable.{timetable};
 
 use crate::all_stairways::{AllStairways, stairways};
@@ -47,17 +48,15 @@ pub(crate) fn reach_of(
     if let Some(name) = section_edited(edit) {
         return Ok(Reach::Section(name));
     }
-    if before.connections() > 0 {
-        return Ok(Reach::All(stairs_of_all(alloc, after)?));
-    }
     if let Some(name) = run_edited(edit) {
         return Ok(Reach::Run(edited_run(alloc, before, after, name)?));
     }
+    before.learn_sound();
     after.learn_sound();
     if reaches_no_run(before, edit) {
         return Ok(Reach::Nothing);
     }
-    if keeps_blocks(edit) {
+    if before.connections() == 0 && keeps_blocks(edit) {
         let stairs = reached_runs(alloc, before, after, edit)?;
         return Ok(reach_of_runs(before, after, stairs));
     }
@@ -123,7 +122,9 @@ fn keeps_blocks(edit: &Edit) -> bool
 // What rows an edit can reach by the stairs of the runs that it reaches: none, where no run is
 // reached.
 fn reach_of_runs(before: &LineTables, after: &LineTables, stairs: Vec<Option<TimedStair>>) -> Reach
-    requires { AreReachedRuns before.now after.now stairs.items }
+    requires before { IsSound before.now }
+    requires after { IsSound after.now }
+    requires reached { AreReachedRuns before.now after.now stairs.items }
     ensures { IsReach before.now after.now result }
 {
     if reaches_some(&stairs) {

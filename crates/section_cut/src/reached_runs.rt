@@ -1,6 +1,6 @@
 //! What a change of a block, a signal or a route makes of a section's cut, where there are no
 //! connections: it reaches the rows of the runs that pass what is edited, and no other.
-ghost use Rattle.std.specs.Prelude.{◌≡◌, ◌↔◌, ◌<◌, ◌++◌, IsTrue, Bool, if◌then◌else◌, All, length, map, IfOk, IfSome, IfNone, OnOk, Some, None};
+ghost use Rattle.std.specs.Prelude.{◌≡◌, ◌↔◌, ◌<◌, ◌++◌, IsTrue, Bool, if◌then◌else◌, [], All, length, map, IfOk, IfSome, IfNone, OnOk, Some, None};
 ghost use Rattle.std.specs.Option.{option_to_list, option_copied};
 ghost use Rattle.line_tables.specs.Paths.{paths_of};
 ghost use Rattle.plan_model.specs.Cut.{stamped, stamped_row};
@@ -44,6 +44,7 @@ pub(crate) fn reached_runs(
 ) -> Result<Vec<Option<TimedStair>>, OutOfMemory>
     requires after { after.now ≡ edits.after before.now edit.now }
     requires keeps { KeepsBlocks edit.now }
+    requires none { before.now.connections ≡ [] }
     requires same { IsSameTraffic before.now after.now }
     ensures { IfOk result (λ stairs. AreReachedRuns before.now after.now stairs.items) }
 {

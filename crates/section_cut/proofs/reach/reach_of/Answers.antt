@@ -1,4 +1,6 @@
-use Rattle.std.proofs.Common.{◌≡◌, [], sym, ◌∙◌, subst, arith}
+use Rattle.std.proofs.Common.{◌≡◌, [], sym, ap, ◌∙◌, subst, arith}
+use Rattle.std.specs.Prelude.{filter}
+use Rattle.section_cut.specs.Connected.{joins}
 use Rattle.section_cut.specs.OneRun.{IsOneRun}
 use Rattle.section_cut.specs.EditedRun.{KeepsRoute}
 use Rattle.std.proofs.lemmas.List.{nil_from_length}
@@ -14,26 +16,23 @@ returns-in-Some c =
 pub returns-in-Some-run_edited : goal.returns-in-Some-run_edited
 returns-in-Some-run_edited c =
     let before = c.args.before.now in
-    let none : before.connections ≡ [] = nil_from_length before.connections (omega (arith, c.connections.ensures.count)) in
+    let after = c.args.after.now in
     let name = c.in-Some-run_edited.name in
     let run = c.in_ok-edited_run.field-0 in
     let named = c.in_ok-edited_run.ensures.name in
     record {
-      one = subst (λ n. IsOneRun before c.args.after.now n run.stair) (sym named)
-          (one_run before c.args.after.now c.args.edit.now name run.stair c.requires
-          (sym c.run_edited.ensures ∙ c.in-Some-run_edited.is) none c.in_ok-edited_run.ensures.stair);
-      route = λ e. subst (KeepsRoute before c.args.after.now) (sym named) (c.in_ok-edited_run.ensures.route e);
+      one = subst (λ n. IsOneRun before after n run.stair) (sym named)
+          (one_run before after c.args.edit.now name run.stair c.requires
+          (sym c.run_edited.ensures ∙ c.in-Some-run_edited.is) c.in_ok-edited_run.ensures.stair);
+      route = λ e. subst (KeepsRoute before after) (sym named) (c.in_ok-edited_run.ensures.route e);
+      joined = c.in_ok-edited_run.ensures.joined ∙ ap (λ n. filter (joins n) after.connections) (sym named);
     }
 
 pub returns-then-reaches_no_run : goal.returns-then-reaches_no_run
 returns-then-reaches_no_run c =
-    let before = c.args.before.now in
-    let none : before.connections ≡ [] = nil_from_length before.connections (omega (arith, c.connections.ensures.count)) in
-    cuts_stay before c.args.after.now c.args.edit.now c.requires c.connections.ensures.sound c.learn_sound.ensures none
+    cuts_stay c.args.before.now c.args.after.now c.args.edit.now c.requires c.learn_sound.ensures c.learn_sound-2.ensures
     (c.reaches_no_run.ensures c.if-reaches_no_run.true)
 
 pub reached_runs-requires-clause-same : goal.reached_runs-requires-clause-same
 reached_runs-requires-clause-same c =
-    let before = c.args.before.now in
-    let none : before.connections ≡ [] = nil_from_length before.connections (omega (arith, c.connections.ensures.count)) in
-    same_traffic before c.args.after.now c.args.edit.now c.requires none (c.keeps_blocks.ensures c.if-keeps_blocks.true)
+    same_traffic c.args.before.now c.args.after.now c.args.edit.now c.requires (c.keeps_blocks.ensures c.if-keeps_blocks.true)

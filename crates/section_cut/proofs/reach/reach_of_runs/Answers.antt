@@ -5,5 +5,5 @@ use Rattle.section_cut.proofs.reach.reach_of_runs.Goals as goal
 
 pub returns : goal.returns
 returns c =
-    cuts_as_before c.args.before.now c.args.after.now c.args.stairs.items c.requires
-    (subst (All (λ s. s ≡ None)) c.deref.ensures.value (c.reaches_some.ensures c.if-reaches_some.false))
+    cuts_as_before c.args.before.now c.args.after.now c.args.stairs.items c.requires.reached
+    (subst (All (λ s. s ≡ None)) c.deref.ensures.value (c.reaches_some.ensures c.if-reaches_some.false)) c.requires.before c.requires.after
