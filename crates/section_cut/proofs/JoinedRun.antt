@@ -25,8 +25,8 @@ use Rattle.section_cut.specs.Connected.{joins, entry_in, IsOfRuns, HasEntryOf, T
 use Rattle.section_cut.proofs.Around.{found_still, named_still}
 use Rattle.section_cut.proofs.BindsBy.{filter_parted, binds_same}
 use Rattle.section_cut.proofs.Known.{connection_known, run_there, run_named_name}
-use Rattle.section_cut.proofs.Listed.{listed_is, names_rise}
-use Rattle.section_cut.proofs.OldRows.{old_entry}
+use Rattle.section_cut.proofs.Listed.{listed_is}
+use Rattle.section_cut.proofs.OldRows.{cut_rows, cut_names, old_entry}
 use Rattle.section_cut.proofs.OneRun.{row_for, by_stair, run_found, run_missing, named_is}
 
 -- a member's row has its entry
@@ -70,17 +70,6 @@ module _ (earlier later : Tables) (earlier_sound : IsSound earlier) (later_sound
       own
 
   module _ (s : Section) (old : Cut) (cut : section_cut earlier s ≡ stamped 0 old) where
-    old_rows : map (stamped_row 0) old.rows ≡ map (row_of earlier s) (filter (is_member earlier s) earlier.runs)
-    old_rows = ap (λ (c : Cut). c.rows) (sym cut)
-
-    pub old_names : old.connections ≡ map (λ (c : Connection). c.name) (binding_connections earlier s)
-    old_names = ap (λ (c : Cut). c.connections) (sym cut)
-
-    pub old_names_rise : NamesRise (λ n. n) old.connections
-    old_names_rise =
-        subst (NamesRise (λ n. n)) (sym old_names)
-        (names_rise (λ (c : Connection). c.name) (binds earlier s) earlier.connections earlier_sound.connections.names)
-
     -- where each binds exactly where it is listed in the cut before it
     pub binding_as_listed : All (λ c. binds later s c ≡ is_named (λ n. n) old.connections c.name) (filter (joins name) later.connections)
         → binding_connections later s ≡ binding_connections earlier s
@@ -91,7 +80,7 @@ module _ (earlier later : Tables) (earlier_sound : IsSound earlier) (later_sound
         let told = subst (λ (xs : List Connection). All (λ c. binds later s c ≡ is_named (λ n. n) old.connections c.name) (filter (joins name) xs)) cs own in
         binding_stays s
         (λ k d l.
-        told k d l ∙ ap (λ (ns : List (List ℕ)). is_named (λ n. n) ns (get_or (filter (joins name) earlier.connections) k d).name) old_names ∙ mine k d l)
+        told k d l ∙ ap (λ (ns : List (List ℕ)). is_named (λ n. n) ns (get_or (filter (joins name) earlier.connections) k d).name) (cut_names earlier s old cut) ∙ mine k d l)
 
     module _ (number : ℕ) (bare : Option CutRow) (bare_is : bare ≡ row_of_stair later s number its) where
       -- the run's own row has its entry
@@ -124,7 +113,7 @@ module _ (earlier later : Tables) (earlier_sound : IsSound earlier) (later_sound
                 let n = number_of (λ (r : Run). r.name) earlier.runs m in
                 rw e (subst (λ k. option_map (λ (r : CutRow). r.entry) (find (λ (r : CutRow). is_same r.name k) old.rows) ≡ entry_in earlier s (run_at earlier n))
                 (run_named_name earlier earlier_sound m before)
-                (old_entry earlier s earlier_sound.runs.names old.rows old_rows n (run_there earlier earlier_sound m before))
+                (old_entry earlier s earlier_sound.runs.names old.rows (cut_rows earlier s old cut) n (run_there earlier earlier_sound m before))
                 ∙ sym (other_entry s m other))
           ]
 

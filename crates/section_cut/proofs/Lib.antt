@@ -36,6 +36,8 @@ pub mod OneRun
 pub mod SameRuns
 pub mod Standing
 pub mod JoinedRun
+pub mod OneConnection
+pub mod AnotherMinimum
 pub mod Reached
 pub mod NoRun
 pub mod ReachedRuns

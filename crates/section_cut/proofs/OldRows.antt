@@ -3,21 +3,36 @@ use Rattle.std.proofs.Common.{◌≡◌, ℕ, ◌<◌, Bool, true, false, cond, 
 use Rattle.std.specs.Prelude.{filter, find, option_map}
 use Rattle.rail_model.specs.declared.items.Run.{Run}
 use Rattle.rail_model.specs.declared.items.Section.{Section}
+use Rattle.rail_model.specs.declared.items.Connection.{Connection}
 use Rattle.rail_model.specs.declared.tables.Tables.{Tables}
 use Rattle.rail_model.specs.Name.{NamesRise, is_same}
 use Rattle.rail_model.specs.Sound.{IsSound}
 use Rattle.rail_model.specs.Tables.{no_run, run_at}
 use Rattle.rail_model.proofs.Lists.{find-map}
 use Rattle.plan_model.specs.declared.cut.CutRow.{CutRow}
-use Rattle.plan_model.specs.Cut.{stamped_row}
-use Rattle.plan_model.specs.SectionCut.{section_uses, entry_of, is_member, row_of, section_cut}
+use Rattle.plan_model.specs.declared.cut.Cut.{Cut}
+use Rattle.plan_model.specs.Cut.{stamped_row, stamped}
+use Rattle.plan_model.specs.SectionCut.{section_uses, entry_of, is_member, binds, binding_connections, row_of, section_cut}
 use Rattle.section_cut.specs.Connected.{entry_in, block_part}
+use Rattle.section_cut.proofs.Listed.{names_rise}
 use Rattle.section_cut.proofs.Rows.{found_passing}
 use Rattle.section_cut.proofs.SoundRow.{blocks_are}
 
 -- the row of a run, if it is a member
 abbrev pub row_if : Tables → Section → Run → Option CutRow
 row_if tables s run = cond (is_member tables s run) (Some (row_of tables s run)) None
+
+-- the connections that bind, by their names in a cut
+module _ (tables : Tables) (s : Section) (old : Cut) (cut : section_cut tables s ≡ stamped 0 old) where
+  pub cut_rows : map (stamped_row 0) old.rows ≡ map (row_of tables s) (filter (is_member tables s) tables.runs)
+  cut_rows = ap (λ (c : Cut). c.rows) (sym cut)
+
+  pub cut_names : old.connections ≡ map (λ (c : Connection). c.name) (binding_connections tables s)
+  cut_names = ap (λ (c : Cut). c.connections) (sym cut)
+
+  pub cut_names_rise : IsSound tables → NamesRise (λ n. n) old.connections
+  cut_names_rise sound =
+      subst (NamesRise (λ n. n)) (sym cut_names) (names_rise (λ (c : Connection). c.name) (binds tables s) tables.connections sound.connections.names)
 
 module _ (tables : Tables) (s : Section) (rise : NamesRise (λ (r : Run). r.name) tables.runs) where
   -- it is found by the run's name among the rows

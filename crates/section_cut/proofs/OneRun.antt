@@ -97,45 +97,56 @@ bare_row_in tables s stamp (Some run) = bare (is_member tables s run) refl
     bare true e = rw (sym e) refl
     bare false e = rw (sym e) refl
 
-module _ (earlier later : Tables) (s : Section) (name : List ℕ) (its : Option Stair) (one : IsOneRun earlier later name its) (rise : NamesRise (λ (r : Run). r.name) later.runs) (binding : binding_connections later s ≡ binding_connections earlier s) where
+-- cuts whose rows of other names are the same differ in the row of one name
+module _ (earlier later : Tables) (s : Section) (name : List ℕ) (rise : NamesRise (λ (r : Run). r.name) later.runs) where
   abbrev found : Option Run
   found = find (λ (r : Run). is_same r.name name) later.runs
-
-  -- the rows of some runs where some connections bind
-  abbrev rows_by : Tables → List Connection → List Run → List CutRow
-  rows_by t bs rs = map (λ run. row_by s run (section_uses t s run) (last_arrival t run) bs) (filter (is_member t s) rs)
 
   abbrev old_rows : List CutRow
   old_rows = map (row_of earlier s) (filter (is_member earlier s) earlier.runs)
 
-  -- those of runs whose names pass a test
-  kept_rows : (q : List ℕ → Bool) → filter (λ (r : Run). q r.name) later.runs ≡ filter (λ (r : Run). q r.name) earlier.runs
-      → map (row_of later s) (filter (is_member later s) (filter (λ (r : Run). q r.name) later.runs)) ≡ filter (λ (r : CutRow). q r.name) old_rows
-  kept_rows q same =
-      let kept = filter (λ (r : Run). q r.name) earlier.runs in
-      ap (rows_by later (binding_connections later s)) same
-      ∙ ap (λ bs. rows_by later bs kept) binding
-      ∙ ap (λ (t : Tables). rows_by t (binding_connections earlier s) kept) one.others
-      ∙ sym (filter_rows (row_of earlier s) (is_member earlier s) (λ (r : Run). q r.name) (λ (r : CutRow). q r.name) (λ r. refl) earlier.runs)
+  -- the rows of runs whose names pass a test are the same
+  abbrev pub RowsStay : (List ℕ → Bool) → Type 0
+  RowsStay q =
+      map (row_of later s) (filter (is_member later s) (filter (λ (r : Run). q r.name) later.runs)) ≡ filter (λ (r : CutRow). q r.name) old_rows
 
-  rows_later : map (row_of later s) (filter (is_member later s) later.runs) ≡ with_one (λ (r : CutRow). r.name) name (row_in later s 0 found) old_rows
-  rows_later =
+  pub one_row : RowsStay (λ m. is_before m name) → RowsStay (λ m. is_before name m)
+      → map (λ (c : Connection). c.name) (binding_connections later s) ≡ map (λ (c : Connection). c.name) (binding_connections earlier s)
+      → section_cut later s ≡ cut_with name (row_in later s 0 found) (section_cut earlier s)
+  one_row front_stays back_stays names =
       let f = row_of later s in
       let p = is_member later s in
       let front = before (λ (r : Run). r.name) name later.runs in
       let back = behind (λ (r : Run). r.name) name later.runs in
       let middle = option_to_list found in
-      ap (λ rs. map f (filter p rs)) (split (λ (r : Run). r.name) name later.runs rise)
+      let form : List (List ℕ) → List CutRow → Cut = λ cs rows. record { section = s; connections = cs; rows = rows } in
+      ap (λ cs. form cs (map f (filter p later.runs))) names
+      ∙ ap (form (map (λ (c : Connection). c.name) (binding_connections earlier s)))
+      (ap (λ rs. map f (filter p rs)) (split (λ (r : Run). r.name) name later.runs rise)
       ∙ ap (map f) (filter-append p front (middle ++ back)) ∙ map-append f (filter p front) (filter p (middle ++ back))
       ∙ ap (λ rs. map f (filter p front) ++ rs) (ap (map f) (filter-append p middle back) ∙ map-append f (filter p middle) (filter p back))
-      ∙ ap (λ rs. rs ++ (map f (filter p middle) ++ map f (filter p back))) (kept_rows (λ m. is_before m name) one.front)
-      ∙ ap (λ rs. before (λ (r : CutRow). r.name) name old_rows ++ (map f (filter p middle) ++ rs)) (kept_rows (λ m. is_before name m) one.back)
-      ∙ ap (λ rs. before (λ (r : CutRow). r.name) name old_rows ++ (rs ++ behind (λ (r : CutRow). r.name) name old_rows)) (rows_for later s found)
+      ∙ ap (λ rs. rs ++ (map f (filter p middle) ++ map f (filter p back))) front_stays
+      ∙ ap (λ rs. before (λ (r : CutRow). r.name) name old_rows ++ (map f (filter p middle) ++ rs)) back_stays
+      ∙ ap (λ rs. before (λ (r : CutRow). r.name) name old_rows ++ (rs ++ behind (λ (r : CutRow). r.name) name old_rows)) (rows_for later s found))
 
-  pub cut_later : section_cut later s ≡ cut_with name (row_in later s 0 found) (section_cut earlier s)
-  cut_later =
-      ap (λ (bs : List Connection). record { section = s; connections = map (λ (c : Connection). c.name) bs; rows = map (row_of later s) (filter (is_member later s) later.runs) }) binding
-      ∙ ap (λ rows. record { section = s; connections = map (λ (c : Connection). c.name) (binding_connections earlier s); rows = rows }) rows_later
+-- so do those by tables that differ in one run, where the same connections bind
+pub cut_later : (earlier later : Tables) (s : Section) (name : List ℕ) (its : Option Stair) → IsOneRun earlier later name its → NamesRise (λ (r : Run). r.name) later.runs
+    → binding_connections later s ≡ binding_connections earlier s
+    → section_cut later s ≡ cut_with name (row_in later s 0 (find (λ (r : Run). is_same r.name name) later.runs)) (section_cut earlier s)
+cut_later earlier later s name its one rise binding =
+    one_row earlier later s name rise (kept (λ m. is_before m name) one.front) (kept (λ m. is_before name m) one.back)
+    (ap (map (λ (c : Connection). c.name)) binding)
+  where
+    rows_by : Tables → List Connection → List Run → List CutRow
+    rows_by t bs rs = map (λ run. row_by s run (section_uses t s run) (last_arrival t run) bs) (filter (is_member t s) rs)
+
+    kept : (q : List ℕ → Bool) → filter (λ (r : Run). q r.name) later.runs ≡ filter (λ (r : Run). q r.name) earlier.runs → RowsStay earlier later s name rise q
+    kept q same =
+        let kept_runs = filter (λ (r : Run). q r.name) earlier.runs in
+        ap (rows_by later (binding_connections later s)) same
+        ∙ ap (λ bs. rows_by later bs kept_runs) binding
+        ∙ ap (λ (t : Tables). rows_by t (binding_connections earlier s) kept_runs) one.others
+        ∙ sym (filter_rows (row_of earlier s) (is_member earlier s) (λ (r : Run). q r.name) (λ (r : CutRow). q r.name) (λ r. refl) earlier.runs)
 
 -- the run of a name that is there, and of one that isn't
 module _ (tables : Tables) (name : List ℕ) where
@@ -227,44 +238,45 @@ uses_found tables sound name (Some run) e =
     (λ (r : Run). All (λ (u : Use). u.block < length tables.blocks) (stairway (path_in tables r)))
     (λ k d l. subst (λ (r : Run). All (λ (u : Use). u.block < length tables.blocks) (stairway (path_in tables r))) (get_or_default tables.runs k no_run d l) (used_there tables sound k l))
 
-module _ (earlier later : Tables) (name section : List ℕ) (its : Option Stair) (old : Cut) (one : IsOneRun earlier later name its) (earlier_sound : IsSound earlier) (later_sound : IsSound later) (is : cut_of earlier section ≡ Some (stamped 0 old)) where
-  pub old_sound : IsSoundCut old
-  old_sound = sound_cut_of earlier earlier_sound section old is
-
-  abbrev here : (find (λ (s : Section). is_same s.name section) earlier.sections ≡ Some old.section) × (section_cut earlier old.section ≡ stamped 0 old)
-  here = located earlier section old (find (λ (s : Section). is_same s.name section) earlier.sections) refl is
-
+-- what becomes of the cut by an edit that changes the row of one name
+module _ (earlier later : Tables) (name section : List ℕ) (old : Cut) (earlier_sound : IsSound earlier) (later_sound : IsSound later) (is : cut_of earlier section ≡ Some (stamped 0 old)) (sections : later.sections ≡ earlier.sections) where
   abbrev found_run : Option Run
   found_run = find (λ (r : Run). is_same r.name name) later.runs
 
-  module _ (number : ℕ) (bare row : Option CutRow) (bare_is : bare ≡ row_of_stair later old.section number its) (row_is : row ≡ option_map (with_bound later old.section (run_named later name)) bare) (binding : binding_connections later old.section ≡ binding_connections earlier old.section) where
-    row_is_in : row ≡ row_in later old.section number found_run
-    row_is_in =
-        row_is
-        ∙ ap (option_map (with_bound later old.section (run_named later name)))
-        (bare_is ∙ ap (row_of_stair later old.section number) one.stair ∙ by_stair later old.section number found_run)
-        ∙ joined_in later name found_run refl old.section number
-
+  module _ (number : ℕ) (row : Option CutRow) (row_is : row ≡ row_in later old.section number found_run) (later_is : section_cut later old.section ≡ cut_with name (row_in later old.section 0 found_run) (section_cut earlier old.section)) where
     row_named : IfSome row (λ r. (r.name ≡ name) × (r.stamp ≡ number))
-    row_named = subst (λ o. IfSome o (λ (r : CutRow). (r.name ≡ name) × (r.stamp ≡ number))) (sym row_is_in)
+    row_named = subst (λ o. IfSome o (λ (r : CutRow). (r.name ≡ name) × (r.stamp ≡ number))) (sym row_is)
         (name_found later name found_run refl old.section number)
 
     cut_later_is : cut_of later section ≡ Some (stamped 0 (cut_with name row old))
     cut_later_is =
-        let there : find (λ (s : Section). is_same s.name section) later.sections ≡ Some old.section =
-        ap (λ (t : Tables). find (λ (s : Section). is_same s.name section) t.sections) one.others ∙ here.0 in
-        ap (option_map (section_cut later)) there
+        let here = located earlier section old (find (λ (s : Section). is_same s.name section) earlier.sections) refl is in
+        ap (λ ss. option_map (section_cut later) (find (λ (s : Section). is_same s.name section) ss)) sections
+        ∙ ap (option_map (section_cut later)) here.0
         ∙ ap Some
-        (cut_later earlier later old.section name its one later_sound.runs.names binding
+        (later_is
         ∙ ap (cut_with name (row_in later old.section 0 found_run)) here.1
-        ∙ ap (λ r. cut_with name r (stamped 0 old)) (sym (ap (option_map (stamped_row 0)) row_is_in ∙ bare_row_in later old.section number found_run))
+        ∙ ap (λ r. cut_with name r (stamped 0 old)) (sym (ap (option_map (stamped_row 0)) row_is ∙ bare_row_in later old.section number found_run))
         ∙ sym (bare_with name row old))
 
-    -- what becomes of the cut by the edit, where this row is put
-    pub run_changes : (own : Option CutRow) (at : ℕ) (result : CutChange) → IsReached old.rows name at → IsOwn old.rows name at own
+    pub row_changes : (own : Option CutRow) (at : ℕ) (result : CutChange) → IsReached old.rows name at → IsOwn old.rows name at own
         → IsPut old at own row result → IsChange (cut_of earlier section) (cut_of later section) number (Some old) result
-    run_changes own at result reached own_is put =
+    row_changes own at result reached own_is put =
         subst (λ v. IsChange v (cut_of later section) number (Some old) result) (sym is)
         (subst (λ v. IsChange (Some (stamped 0 old)) v number (Some old) result) (sym cut_later_is)
-        (put_is old name at number old_sound reached own row result own_is row_named
+        (put_is old name at number (sound_cut_of earlier earlier_sound section old is) reached own row result own_is row_named
         (sound_cut_of later later_sound section (cut_with name row old) cut_later_is) put))
+
+-- by an edit of one run, where the same connections bind
+module _ (earlier later : Tables) (name section : List ℕ) (its : Option Stair) (old : Cut) (one : IsOneRun earlier later name its) (earlier_sound : IsSound earlier) (later_sound : IsSound later) (is : cut_of earlier section ≡ Some (stamped 0 old)) where
+  module _ (number : ℕ) (bare row : Option CutRow) (bare_is : bare ≡ row_of_stair later old.section number its) (row_is : row ≡ option_map (with_bound later old.section (run_named later name)) bare) (binding : binding_connections later old.section ≡ binding_connections earlier old.section) where
+    pub run_changes : (own : Option CutRow) (at : ℕ) (result : CutChange) → IsReached old.rows name at → IsOwn old.rows name at own
+        → IsPut old at own row result → IsChange (cut_of earlier section) (cut_of later section) number (Some old) result
+    run_changes =
+        let found = find (λ (r : Run). is_same r.name name) later.runs in
+        row_changes earlier later name section old earlier_sound later_sound is (ap (λ (t : Tables). t.sections) one.others) number row
+        (row_is
+        ∙ ap (option_map (with_bound later old.section (run_named later name)))
+        (bare_is ∙ ap (row_of_stair later old.section number) one.stair ∙ by_stair later old.section number found)
+        ∙ joined_in later name found refl old.section number)
+        (cut_later earlier later old.section name its one later_sound.runs.names binding)

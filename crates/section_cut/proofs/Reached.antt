@@ -16,6 +16,9 @@ use Rattle.rail_model.specs.Name.{is_same}
 use Rattle.rail_model.specs.Blocking.{stair_of}
 use Rattle.rail_model.specs.Tables.{path_in}
 use Rattle.rail_model.specs.Edits.{after_put, after_change, after_drop, after}
+use Rattle.rail_model.specs.declared.items.Connection.{Connection}
+use Rattle.section_cut.specs.declared.one_connection.EditedConnection.{EditedConnection}
+use Rattle.section_cut.specs.EditedConnection.{connection_of_item, connection_of_kind, connection_edited, IsEditedConnection}
 use Rattle.section_cut.specs.OneRun.{run_of_item, run_of_kind, run_edited, before, behind, IsOneRun}
 use Rattle.section_cut.specs.Reach.{section_of_item, section_of_kind, section_edited, IsOneSection}
 use Rattle.section_cut.proofs.Around.{found_still, put_front, put_back, change_front, change_back, drop_front, drop_back}
@@ -125,3 +128,56 @@ pub others_untouched : (earlier later : Tables) (edited name : List ℕ) → IsO
 others_untouched earlier later edited name one other =
     ap (λ (t : Tables). option_map (section_cut t) (find (λ (s : Section). is_same s.name name) later.sections)) one.others
     ∙ ap (option_map (section_cut earlier)) (found_still (λ (s : Section). s.name) edited earlier.sections later.sections one.front one.back name other)
+
+-- ---- an edit of a connection
+
+-- all but the connection of a name stays
+record OtherConnectionsStay (earlier later : Tables) (name : List ℕ) : Type 0 where
+  same : later ≡ record earlier { connections = later.connections }
+  front : before (λ c. c.name) name later.connections ≡ before (λ c. c.name) name earlier.connections
+  back : behind (λ c. c.name) name later.connections ≡ behind (λ c. c.name) name earlier.connections
+
+module _ (tables : Tables) (name : List ℕ) where
+  connection_put : (x : Item) → connection_of_item x ≡ Some name → OtherConnectionsStay tables (after_put tables x) name
+  connection_put (item.Block b) e = absurd (cc)
+  connection_put (item.Signal s) e = absurd (cc)
+  connection_put (item.Route r) e = absurd (cc)
+  connection_put (item.Run r) e = absurd (cc)
+  connection_put (item.Section s) e = absurd (cc)
+  connection_put (item.Connection c) e =
+      let named : c.name ≡ name = cc in
+      subst (OtherConnectionsStay tables (after_put tables (item.Connection c))) named
+      (record { same = refl; front = put_front (λ (x : Connection). x.name) c tables.connections; back = put_back (λ (x : Connection). x.name) c tables.connections })
+
+  connection_changed : (x : Item) → connection_of_item x ≡ Some name → OtherConnectionsStay tables (after_change tables x) name
+  connection_changed (item.Block b) e = absurd (cc)
+  connection_changed (item.Signal s) e = absurd (cc)
+  connection_changed (item.Route r) e = absurd (cc)
+  connection_changed (item.Run r) e = absurd (cc)
+  connection_changed (item.Section s) e = absurd (cc)
+  connection_changed (item.Connection c) e =
+      let named : c.name ≡ name = cc in
+      subst (OtherConnectionsStay tables (after_change tables (item.Connection c))) named
+      (record { same = refl; front = change_front (λ (x : Connection). x.name) c tables.connections; back = change_back (λ (x : Connection). x.name) c tables.connections })
+
+  connection_dropped : (k : Kind) (n : List ℕ) → connection_of_kind k n ≡ Some name → OtherConnectionsStay tables (after_drop tables k n) name
+  connection_dropped kind.Block n e = absurd (cc)
+  connection_dropped kind.Signal n e = absurd (cc)
+  connection_dropped kind.Route n e = absurd (cc)
+  connection_dropped kind.Run n e = absurd (cc)
+  connection_dropped kind.Section n e = absurd (cc)
+  connection_dropped kind.Connection n e =
+      let named : n ≡ name = cc in
+      subst (OtherConnectionsStay tables (after_drop tables kind.Connection n)) named
+      (record { same = refl; front = drop_front (λ (x : Connection). x.name) n tables.connections; back = drop_back (λ (x : Connection). x.name) n tables.connections })
+
+  connection_after : (x : Edit) → connection_edited x ≡ Some name → OtherConnectionsStay tables (after tables x) name
+  connection_after (edit.Put x) e = connection_put x e
+  connection_after (edit.Change x) e = connection_changed x e
+  connection_after (edit.Drop k n) e = connection_dropped k n e
+
+pub one_connection : (earlier later : Tables) (x : Edit) (edited : EditedConnection) → later ≡ after earlier x → connection_edited x ≡ Some edited.name
+    → edited.after ≡ find (λ c. is_same c.name edited.name) later.connections → IsEditedConnection earlier later edited
+one_connection earlier later x edited is named found =
+    let stay = subst (λ (t : Tables). OtherConnectionsStay earlier t edited.name) (sym is) (connection_after earlier edited.name x named) in
+    record { others = stay.same; front = stay.front; back = stay.back; after = found }

@@ -8,6 +8,7 @@ pub mod Change
 pub mod Stamps
 pub mod OneRun
 pub mod EditedRun
+pub mod EditedConnection
 pub mod Times
 pub mod ReachedRuns
 pub mod RowsAfter

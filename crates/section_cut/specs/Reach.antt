@@ -15,6 +15,7 @@ use Rattle.section_cut.specs.declared.reach.Reach.TheVariants as reach
 use Rattle.section_cut.specs.ReachedRuns.{AreReachedRuns}
 use Rattle.section_cut.specs.OneRun.{before, behind}
 use Rattle.section_cut.specs.EditedRun.{IsEditedRun}
+use Rattle.section_cut.specs.EditedConnection.{IsEditedConnection, IsMinimumChanged}
 
 -- the section that an item is, and that items of a kind are, by its name
 abbrev pub section_of_item : Item → Option (List ℕ)
@@ -78,5 +79,7 @@ abbrev pub IsReach : Tables → Tables → Reach → Type 0
 IsReach earlier later reach.Nothing = AreSameCuts earlier later
 IsReach earlier later (reach.All stairs) = stairs ≡ timetable later
 IsReach earlier later (reach.Run run) = IsEditedRun earlier later run
+IsReach earlier later (reach.Connection edited) = IsEditedConnection earlier later edited
+IsReach earlier later (reach.Minimum c) = IsMinimumChanged earlier later c
 IsReach earlier later (reach.Runs stairs) = AreReachedRuns earlier later stairs.items
 IsReach earlier later (reach.Section name) = IsOneSection earlier later name

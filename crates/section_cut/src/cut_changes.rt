@@ -10,6 +10,7 @@ ghost use Rattle.section_cut.specs.Reach.{IsOneSection};
 
 use crate::all_stairways::AllStairways;
 use crate::cuts::{cut_among, cut_of};
+use crate::one_connection::{cut_after_connection, cut_after_minimum};
 use crate::one_run::cut_after_run;
 use crate::reach::{Reach, reach_of};
 use crate::reached_runs::cut_after_runs;
@@ -98,6 +99,18 @@ impl<'a> CutChanges<'a> {
             Reach::All(stairs) => { cut_after_all(alloc, self.both, stairs, cut, section, number) }
             Reach::Run(run) => match cut {
                 Some(old) => cut_after_run(alloc, self.both, run, old, section, number),
+                None => Ok(CutChange::Untouched),
+            },
+            Reach::Connection(edited) => match cut {
+                Some(old) => {
+                    cut_after_connection(alloc, self.both, edited, old, section, number)
+                }
+                None => Ok(CutChange::Untouched),
+            },
+            Reach::Minimum(connection) => match cut {
+                Some(old) => {
+                    cut_after_minimum(alloc, self.both, connection, old, section, number)
+                }
                 None => Ok(CutChange::Untouched),
             },
             Reach::Nothing => Ok(CutChange::Untouched),

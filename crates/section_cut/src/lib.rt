@@ -34,6 +34,7 @@ mod cuts;
 mod late;
 mod laws;
 mod members;
+mod one_connection;
 mod one_run;
 mod positions;
 mod reach;

@@ -287,7 +287,7 @@ pub(crate) fn cut_after_run(
 
 // What becomes of a cut whose row at a place, if it is there, is another, or is to stand there, or
 // goes.
-fn with_row(
+pub(crate) fn with_row(
     alloc: Global,
     old: &Cut,
     at: usize,

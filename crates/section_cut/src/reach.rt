@@ -2,22 +2,25 @@
 //! sections.
 //!
 //! An edit of a section reaches its own rows, and an edit of a run its row, and those that its
-//! connections join. A put or drop of a block, a signal or a route reaches none. Where there are no
+//! connections join. An edit of a connection reaches the rows of its two runs, or that of the first
+//! where only the minimum changes. A put or drop of a block, a signal or a route reaches none. Where there are no
 //! connections, a change of one reaches the rows of the runs that pass it.
-ghost use Rattle.std.specs.Prelude.{◌≡◌, ◌≢◌, true, false, All, IfOk, None};
+ghost use Rattle.std.specs.Prelude.{◌≡◌, ◌≢◌, true, false, All, IfOk, Some, None};
 ghost use Rattle.rail_model.specs.Edits as edits;
+ghost use Rattle.section_cut.specs.EditedConnection.{connection_edited};
 ghost use Rattle.section_cut.specs.ReachedRuns.{KeepsBlocks, AreReachedRuns};
 ghost use Rattle.section_cut.specs.Reach.{IsReach, ReachesNoRun, section_edited};
 ghost use Rattle.rail_model.specs.Sound.{IsSound};
 ghost use Rattle.rail_model.specs.Timetable.{timetable};
 
 use crate::all_stairways::{AllStairways, stairways};
+use crate::one_connection::{EditedConnection, connection_edited, connection_named, keeps_runs};
 use crate::one_run::{EditedRun, edited_run, run_edited};
 use crate::reached_runs::reached_runs;
 use crate::same_value::same_name;
 use crate::timed_stair::TimedStair;
 use line_tables::LineTables;
-use rail_model::{Edit, Item, Kind, Name, OutOfMemory};
+use rail_model::{Connection, Edit, Item, Kind, Name, OutOfMemory};
 use std::alloc::Global;
 
 // What rows an edit can reach, by the tables after it.
@@ -29,6 +32,10 @@ pub(crate) enum Reach {
     Section(Name),
     // That of one run.
     Run(EditedRun),
+    // Those of the two runs of a connection.
+    Connection(EditedConnection),
+    // That of the first run of a connection, of which only the minimum changes.
+    Minimum(Connection),
     // Those of some runs: for each run its stair, if it is one of them.
     Runs(Vec<Option<TimedStair>>),
     // Any row: the stairways of all runs.
@@ -51,6 +58,9 @@ pub(crate) fn reach_of(
     if let Some(name) = run_edited(edit) {
         return Ok(Reach::Run(edited_run(alloc, before, after, name)?));
     }
+    if let Some(name) = connection_edited(edit) {
+        return Ok(reach_of_connection(before, after, edit, name));
+    }
     before.learn_sound();
     after.learn_sound();
     if reaches_no_run(before, edit) {
@@ -61,6 +71,23 @@ pub(crate) fn reach_of(
         return Ok(reach_of_runs(before, after, stairs));
     }
     Ok(Reach::All(stairs_of_all(alloc, after)?))
+}
+
+// What rows the edit of the connection of a name can reach.
+fn reach_of_connection(before: &LineTables, after: &LineTables, edit: &Edit, name: Name) -> Reach
+    requires after { after.now ≡ edits.after before.now edit.now }
+    requires name { connection_edited edit.now ≡ Some name }
+    ensures { IsReach before.now after.now result }
+{
+    if let Edit::Change(Item::Connection(connection)) = edit {
+        if keeps_runs(before, connection) {
+            return Reach::Minimum(*connection);
+        }
+    }
+    Reach::Connection(EditedConnection {
+        name,
+        after: connection_named(after, &name),
+    })
 }
 
 // The stairways of all runs.

@@ -16,7 +16,8 @@ use Rattle.section_cut.specs.Connected.{joins, IsOfRuns, HasEntryOf, TellsEntrie
 use Rattle.section_cut.specs.EditedRun.{IsPut, KeepsPlaces}
 use Rattle.section_cut.specs.Stamps.{IsReached, IsOwn}
 use Rattle.section_cut.proofs.BlockPart.{own_blocks_first}
-use Rattle.section_cut.proofs.JoinedRun.{old_names_rise, binding_as_listed, old_names, entries_told, bare_entry, bare_there, joined_there}
+use Rattle.section_cut.proofs.JoinedRun.{binding_as_listed, entries_told, bare_entry, bare_there, joined_there}
+use Rattle.section_cut.proofs.OldRows.{cut_names, cut_names_rise}
 use Rattle.section_cut.proofs.OneRun.{cut_is, run_changes}
 use Rattle.section_cut.proofs.PassedBy.{section_of_cut}
 use Rattle.section_cut.proofs.Rows.{own_found, own_stands}
@@ -72,8 +73,7 @@ pub bind_as_before-requires-clause-names : goal.bind_as_before-requires-clause-n
 bind_as_before-requires-clause-names c =
     let earlier = c.args.both.before.now in
     let old = c.args.old.now in
-    old_names_rise earlier c.args.both.after.now c.learn_sound.ensures c.learn_sound-2.ensures c.args.run.now.name c.args.run.now.stair c.requires.edited.one old.section old
-    (cut_is earlier c.args.section.now old c.requires.cut)
+    cut_names_rise earlier old.section old (cut_is earlier c.args.section.now old c.requires.cut) c.learn_sound.ensures
 
 pub bind_as_before-requires-clause-entries : goal.bind_as_before-requires-clause-entries
 bind_as_before-requires-clause-entries c =
@@ -106,9 +106,7 @@ pub with_joined-requires-clause-names : goal.with_joined-requires-clause-names
 with_joined-requires-clause-names c =
     let earlier = c.args.both.before.now in
     let old = c.args.old.now in
-    old_names earlier c.args.both.after.now c.learn_sound.ensures c.learn_sound-2.ensures c.args.run.now.name c.args.run.now.stair c.requires.edited.one old.section old
-    (cut_is earlier c.args.section.now old c.requires.cut)
-    ∙ ap (map (λ (x : Connection). x.name)) (sym (binding c))
+    cut_names earlier old.section old (cut_is earlier c.args.section.now old c.requires.cut) ∙ ap (map (λ (x : Connection). x.name)) (sym (binding c))
 
 pub with_joined-requires-clause-joined : goal.with_joined-requires-clause-joined
 with_joined-requires-clause-joined c = c.slice-joined.ensures ∙ c.requires.edited.joined
