@@ -3,10 +3,10 @@ use Rattle.std.proofs.Common.{◌≡◌, ℕ, ◌+◌, ◌-◌, ◌<◌, ◌≤�
 use Rattle.std.specs.Prelude.{filter, IfSome}
 use Rattle.std.specs.List.Sorted.{IsPartitionedBy, IsPartitionPoint}
 use Rattle.std.proofs.lemmas.Bool.{cases_lt, both_ways, not-true}
-use Rattle.std.proofs.lemmas.List.{take-append-drop, get_or-take, get_or-drop, length-take-le, length-drop, append-nil, length-append}
+use Rattle.std.proofs.lemmas.List.{take-append-drop, get_or-take, get_or-drop, length-take-le, length-drop, append-nil, length-append, take_all}
 use Rattle.std.proofs.lemmas.List.Elements.{filter-append, filter_passes}
 use Rattle.std.proofs.Math.ListN.{get_or-append}
-use Rattle.std.proofs.Math.Seq.{get_or-append-add}
+use Rattle.std.proofs.Math.Seq.{get_or-append-add, drop-append-add}
 use Rattle.rail_model.proofs.Places.{filter_all, filter_none}
 use Rattle.rail_model.specs.declared.stair.Use.{Use}
 use Rattle.plan_model.specs.declared.cut.Cut.{Cut}
@@ -49,6 +49,20 @@ module _ (blocks : ℕ) (uses : List Use) where
             (λ i d l. rw (get_or-drop k uses i d) (point.1 (k + i) d (omega arith) (omega (arith, l, length-drop k uses)))),
       )
       (append-nil (take k uses)))
+
+-- and those of connections behind them
+pub rest_taken : (blocks : ℕ) (uses : List Use) → AreBlocksFirst blocks uses
+    → take (length uses - length (filter (λ u. ltb u.block blocks) uses)) (drop (length (filter (λ u. ltb u.block blocks) uses)) uses)
+    ≡ filter (λ u. not (ltb u.block blocks)) uses
+rest_taken blocks uses first =
+    let some = filter (λ (u : Use). ltb u.block blocks) uses in
+    let others = filter (λ (u : Use). not (ltb u.block blocks)) uses in
+    let long : length uses ≡ length some + length others = ap length first ∙ length-append some others in
+    let at : length some + 0 ≡ length some = omega arith in
+    ap (λ us. take (length uses - length some) (drop (length some) us)) first
+    ∙ ap (λ m. take (length uses - length some) (drop m (some ++ others))) (sym at)
+    ∙ ap (take (length uses - length some)) (drop-append-add some others 0)
+    ∙ take_all (length uses - length some) others (omega (arith, long))
 
 -- a row of a sound cut has those of blocks first
 pub own_blocks_first : (old : Cut) → IsSoundCut old → (name : List ℕ) (at : ℕ) (own : Option CutRow) → IsOwn old.rows name at own

@@ -1,40 +1,45 @@
 -- The rows of a section's cut after an edit that changes the paths of some runs.
-use Rattle.std.proofs.Common.{◌≡◌, ℕ, zero, suc, ◌+◌, ◌<◌, ◌≤◌, Bool, true, false, cond, ltb, List, [], ◌∷◌, ◌++◌, length, map, get_or, take, Option, Some, None, refl, sym, ap, ◌∙◌, subst, inl, inr, arith}
+use Rattle.std.proofs.Common.{◌≡◌, ℕ, ℤ, zero, suc, ◌+◌, ◌<◌, ◌≤◌, Bool, true, false, cond, ltb, List, [], ◌∷◌, ◌++◌, length, map, get_or, take, Option, Some, None, refl, sym, ap, ◌∙◌, subst, inl, inr, arith}
 use Rattle.std.specs.Prelude.{All, filter, find, option_map, IfSome}
+use Rattle.std.specs.List.{filter_map, enumerate_from, list_any}
 use Rattle.std.specs.Option.{option_to_list}
-use Rattle.std.proofs.lemmas.Bool.{cases_lt, ltb-true}
+use Rattle.std.proofs.lemmas.Bool.{cases_lt}
 use Rattle.std.proofs.Math.ListN.{get_or-append}
-use Rattle.std.proofs.lemmas.List.{append-nil, map-append, get_or_push, length-append, take_all}
-use Rattle.std.proofs.lemmas.List.Elements.{All-push}
+use Rattle.std.proofs.lemmas.List.{append-nil, map-append, get_or_push, length-append, take_all, get_or_default}
+use Rattle.std.proofs.lemmas.List.Elements.{All-push, filter_more}
 use Rattle.rail_model.specs.declared.items.Run.{Run}
 use Rattle.rail_model.specs.declared.items.Section.{Section}
+use Rattle.rail_model.specs.declared.items.Connection.{Connection}
 use Rattle.rail_model.specs.declared.stair.Stair.{Stair}
 use Rattle.rail_model.specs.declared.stair.Use.{Use}
 use Rattle.rail_model.specs.declared.path.Path.{Path}
 use Rattle.rail_model.specs.declared.tables.Tables.{Tables}
-use Rattle.rail_model.specs.Name.{NamesRise, is_same}
-use Rattle.rail_model.specs.Blocking.{stairway}
-use Rattle.rail_model.specs.Tables.{no_run, number_of, run_at, block_name, path_in}
+use Rattle.rail_model.specs.Name.{is_same}
+use Rattle.rail_model.specs.Blocking.{stairway, stair_of}
+use Rattle.rail_model.specs.Tables.{no_run, number_of, run_at, block_name, path_in, last_arrival}
 use Rattle.rail_model.specs.Sound.{IsSound}
-use Rattle.rail_model.proofs.Lists.{map_same, find-map}
+use Rattle.rail_model.proofs.Lists.{map_same}
 use Rattle.rail_model.proofs.Timetables.{used_there}
 use Rattle.plan_model.specs.declared.cut.CutRow.{CutRow}
 use Rattle.plan_model.specs.declared.cut.Cut.{Cut}
-use Rattle.plan_model.specs.Cut.{stamped_row, stamped}
-use Rattle.plan_model.specs.SectionCut.{use_in_section, section_uses, is_member, section_cut, cut_of}
-use Rattle.section_cut.specs.Members.{enters, member_row, row_with, row_on_blocks, rows_on_blocks}
+use Rattle.plan_model.specs.Cut.{least, stamped_row, stamped, AreBlocksFirst}
+use Rattle.plan_model.specs.SectionCut.{use_in_section, section_uses, entry_of, is_member, binds, binding_connections, connection_use, uses_of_connections, row_of, section_cut, cut_of}
+use Rattle.section_cut.specs.Connected.{joins, entry_in, block_part, with_rest}
+use Rattle.section_cut.specs.Members.{enters, member_row, row_with}
 use Rattle.section_cut.specs.Positions.{uses_in}
 use Rattle.section_cut.specs.declared.cut_changes.CutChange.TheVariants as change
 use Rattle.section_cut.specs.Change.{IsChange}
-use Rattle.section_cut.specs.RowsAfter.{AreBeside, AreRowsAfter, IsOwnOf}
+use Rattle.section_cut.specs.RowsAfter.{AreBeside, AllStay, IsKept, AreRowsAfter, IsOwnOf}
 use Rattle.section_cut.specs.Stamps.{AreBefore, IsReached, IsStamped, IsStampedBy}
-use Rattle.section_cut.specs.ReachedRuns.{IsStairIfReached, AreReachedRuns, IsBareRow, IsRowAfter, StaysRow, row_after}
-use Rattle.section_cut.proofs.BlockUses.{uses_inside}
-use Rattle.section_cut.proofs.MemberRows.{rows_more, uses_by_table}
-use Rattle.section_cut.proofs.OneRun.{bare_cut, located, map_one}
-use Rattle.section_cut.proofs.Rows.{before_later, found_passing}
-use Rattle.section_cut.proofs.SameRuns.{cuts_same}
+use Rattle.section_cut.specs.ReachedRuns.{IsStairIfReached, AreReachedRuns, IsOwnRow, IsRowAfter, row_after}
+use Rattle.section_cut.proofs.BindsBy.{use_by, entry_same}
+use Rattle.section_cut.proofs.MemberRows.{uses_by_table}
+use Rattle.section_cut.proofs.OldRows.{row_if, cut_rows, cut_names, row_at_name, old_row}
+use Rattle.section_cut.proofs.OneRun.{located, map_one}
+use Rattle.section_cut.proofs.Rows.{before_later}
+use Rattle.section_cut.proofs.SameRuns.{arrival_same, binding_same, row_same, cuts_same}
 use Rattle.section_cut.proofs.SameValue.{sound_cut_of}
+use Rattle.section_cut.proofs.SoundRow.{blocks_are, others_are, sound_row}
 
 -- a run of the same path has the same uses, where the blocks have the same names
 pub uses_by_path : (earlier later : Tables) (s : Section) (run : Run) → ((block : ℕ) → block_name later block ≡ block_name earlier block)
@@ -45,65 +50,6 @@ uses_by_path earlier later s run names same =
     (map_same (use_in_section later s) (use_in_section earlier s) (stairway (path_in later run))
     (λ k d l. let u = get_or (stairway (path_in later run)) k d in ap (placed u) (names u.block))
     ∙ ap (λ (p : Path). map (use_in_section earlier s) (stairway p)) same)
-
--- ---- the row of a run among those of a cut
-
-listed : (tables : Tables) (s : Section) (run : Run) (b : Bool) → b ≡ is_member tables s run
-    → option_map (row_on_blocks tables s 0) (cond b (Some run) None) ≡ member_row s run.name 0 (section_uses tables s run)
-listed tables s run true e = rw (sym e) refl
-listed tables s run false e = rw (sym e) refl
-
--- by the tables
-pub row_found : (tables : Tables) (s : Section) → NamesRise (λ (r : Run). r.name) tables.runs → (n : ℕ) → n < length tables.runs
-    → find (λ r. is_same r.name (run_at tables n).name) (rows_on_blocks tables s 0)
-    ≡ member_row s (run_at tables n).name 0 (section_uses tables s (run_at tables n))
-row_found tables s rise n below =
-    let run = run_at tables n in
-    find-map (row_on_blocks tables s 0) (λ (r : CutRow). is_same r.name run.name) (filter (is_member tables s) tables.runs)
-    ∙ ap (option_map (row_on_blocks tables s 0)) (found_passing (λ (r : Run). r.name) (is_member tables s) tables.runs n no_run rise below)
-    ∙ listed tables s run (is_member tables s run) refl
-
--- by rows of the values that the tables give
-pub old_found : (tables : Tables) (s : Section) → NamesRise (λ (r : Run). r.name) tables.runs → (old : List CutRow)
-    → map (stamped_row 0) old ≡ rows_on_blocks tables s 0 → (n : ℕ) → n < length tables.runs
-    → option_map (stamped_row 0) (find (λ r. is_same r.name (run_at tables n).name) old)
-    ≡ member_row s (run_at tables n).name 0 (section_uses tables s (run_at tables n))
-old_found tables s rise old is n below =
-    sym (find-map (stamped_row 0) (λ (r : CutRow). is_same r.name (run_at tables n).name) old)
-    ∙ ap (find (λ (r : CutRow). is_same r.name (run_at tables n).name)) is
-    ∙ row_found tables s rise n below
-
--- a row of the value of a member's has its uses
-pub uses_of_row : (s : Section) (name : List ℕ) (uses : List Use) (row : CutRow) (b : Bool) → b ≡ enters s uses
-    → Some (stamped_row 0 row) ≡ member_row s name 0 uses → row.uses ≡ uses
-uses_of_row s name uses row true e is =
-    let same : Some (stamped_row 0 row) ≡ Some (row_with name 0 uses) = rw (sym e) at is in
-    let value : stamped_row 0 row ≡ row_with name 0 uses = cc in
-    ap (λ (r : CutRow). r.uses) value
-uses_of_row s name uses row false e is = let gone : Some (stamped_row 0 row) ≡ None = rw (sym e) at is in absurd (cc)
-
--- and its name
-name_of_row : (s : Section) (name : List ℕ) (uses : List Use) (row : CutRow) (b : Bool) → b ≡ enters s uses
-    → Some (stamped_row 0 row) ≡ member_row s name 0 uses → row.name ≡ name
-name_of_row s name uses row true e is =
-    let same : Some (stamped_row 0 row) ≡ Some (row_with name 0 uses) = rw (sym e) at is in
-    let value : stamped_row 0 row ≡ row_with name 0 uses = cc in
-    ap (λ (r : CutRow). r.name) value
-name_of_row s name uses row false e is = let gone : Some (stamped_row 0 row) ≡ None = rw (sym e) at is in absurd (cc)
-
--- and is bare
-bare_of : (tables : Tables) (s : Section) → IsSound tables → (n : ℕ) → n < length tables.runs → (name : List ℕ) (own : Option CutRow)
-    → option_map (stamped_row 0) own ≡ member_row s name 0 (section_uses tables s (run_at tables n)) → IfSome own (IsBareRow s name)
-bare_of tables s sound n below name None is = tt
-bare_of tables s sound n below name (Some row) is =
-    let uses = section_uses tables s (run_at tables n) in
-    let same = uses_of_row s name uses row (enters s uses) refl is in
-    record {
-      member = ap (member_row s name 0) same ∙ sym is;
-      inside = λ k d l.
-          ltb-true (get_or row.uses k d).block (length s.blocks)
-          (subst (All (λ (u : Use). ltb u.block (length s.blocks) ≡ true)) (sym same) (uses_inside tables sound s n below) k d l);
-    }
 
 -- ---- the rows with the next run's
 
@@ -133,35 +79,59 @@ stairs_more earlier later stairs more run stair is so_far own =
           ]),
     )
 
--- the row of the run of a number is the same by both tables
-abbrev pub IsSameRow : Tables → Tables → Section → ℕ → Type 0
-IsSameRow earlier later s n =
-    member_row s (run_at later n).name 0 (section_uses later s (run_at later n))
-    ≡ member_row s (run_at earlier n).name 0 (section_uses earlier s (run_at earlier n))
+-- a member's row has its entry
+entered : (s : Section) (name : List ℕ) (uses : List Use) (own : Option CutRow) (b : Bool) → b ≡ enters s uses
+    → option_map (λ (r : CutRow). r.entry) (option_map (with_rest s own) (member_row s name 0 uses)) ≡ cond b (Some (least (map (λ (u : Use). u.start) uses))) None
+entered s name uses None true e = rw (sym e) refl
+entered s name uses (Some row) true e = rw (sym e) refl
+entered s name uses own false e = rw (sym e) refl
 
--- where this holds of the first runs, their rows are the same
-rows_so_far : (earlier later : Tables) (s : Section) → length later.runs ≡ length earlier.runs
-    → (k : ℕ) → k ≤ length later.runs → ((n : ℕ) → n < k → IsSameRow earlier later s n)
-    → map (row_on_blocks later s 0) (filter (is_member later s) (take k later.runs))
-    ≡ map (row_on_blocks earlier s 0) (filter (is_member earlier s) (take k earlier.runs))
-rows_so_far earlier later s long zero le each = refl
-rows_so_far earlier later s long (suc k) le each =
+unmarked : (o : Option CutRow) → option_map (λ (r : CutRow). r.entry) (option_map (stamped_row 0) o) ≡ option_map (λ (r : CutRow). r.entry) o
+unmarked None = refl
+unmarked (Some r) = refl
+
+-- without connections none bind
+none_bind : (tables : Tables) (s : Section) → tables.connections ≡ [] → binding_connections tables s ≡ []
+none_bind tables s none = ap (filter (binds tables s)) none
+
+-- the rows with the next run's
+rows_next : (tables : Tables) (s : Section) (runs : List Run) (n : ℕ) → n < length runs
+    → map (row_of tables s) (filter (is_member tables s) (take (n + 1) runs))
+    ≡ map (row_of tables s) (filter (is_member tables s) (take n runs)) ++ option_to_list (row_if tables s (get_or runs n no_run))
+rows_next tables s runs n l =
+    let run = get_or runs n no_run in
+    ap (map (row_of tables s)) (filter_more (is_member tables s) runs n no_run l)
+    ∙ map-append (row_of tables s) (filter (is_member tables s) (take n runs)) (cond (is_member tables s run) (run ∷ []) [])
+    ∙ ap (λ t. map (row_of tables s) (filter (is_member tables s) (take n runs)) ++ t) (one (is_member tables s run) run)
+  where
+    one : (b : Bool) (run : Run) → map (row_of tables s) (cond b (run ∷ []) []) ≡ option_to_list (cond b (Some (row_of tables s run)) None)
+    one true run = refl
+    one false run = refl
+
+-- the first rows are the same, where those of the first runs are
+rows_so_far : (s : Section) (later earlier : Tables) (runs : List Run) → ((n : ℕ) → n < length runs → row_if later s (get_or runs n no_run) ≡ row_if earlier s (get_or runs n no_run))
+    → (k : ℕ) → k ≤ length runs → map (row_of later s) (filter (is_member later s) (take k runs)) ≡ map (row_of earlier s) (filter (is_member earlier s) (take k runs))
+rows_so_far s later earlier runs each zero le = refl
+rows_so_far s later earlier runs each (suc k) le =
     let e : suc k ≡ k + 1 = omega arith in
     rw e
-    (rows_more later s 0 k (omega (arith, le))
-    ∙ ap (λ rs. rs ++ option_to_list (member_row s (run_at later k).name 0 (section_uses later s (run_at later k)))) (rows_so_far earlier later s long k (omega (arith, le)) (λ n l. each n (omega (arith, l))))
-    ∙ ap (λ o. map (row_on_blocks earlier s 0) (filter (is_member earlier s) (take k earlier.runs)) ++ option_to_list o) (each k (omega arith))
-    ∙ sym (rows_more earlier s 0 k (omega (arith, le, long))))
-
-pub rows_stay : (earlier later : Tables) (s : Section) → later.runs ≡ earlier.runs → ((n : ℕ) → n < length later.runs → IsSameRow earlier later s n)
-    → rows_on_blocks later s 0 ≡ rows_on_blocks earlier s 0
-rows_stay earlier later s runs each =
-    let count = ap length runs in
-    ap (λ rs. map (row_on_blocks later s 0) (filter (is_member later s) rs)) (sym (take_all (length later.runs) later.runs (omega arith)))
-    ∙ rows_so_far earlier later s count (length later.runs) (omega arith) each
-    ∙ ap (λ rs. map (row_on_blocks earlier s 0) (filter (is_member earlier s) rs)) (take_all (length later.runs) earlier.runs (omega (arith, count)))
+    (rows_next later s runs k (omega (arith, le))
+    ∙ ap (λ rs. rs ++ option_to_list (row_if later s (get_or runs k no_run))) (rows_so_far s later earlier runs each k (omega (arith, le)))
+    ∙ ap (λ o. map (row_of earlier s) (filter (is_member earlier s) (take k runs)) ++ option_to_list o) (each k (omega (arith, le)))
+    ∙ sym (rows_next earlier s runs k (omega (arith, le))))
 
 module _ {earlier later : Tables} {stairs : List (Option Stair)} {s : Section} {positions : List ℕ} {old : List CutRow} (beside : AreBeside earlier later stairs s positions old) where
+  -- where all runs are kept, the same connections bind
+  pub kept_binding : ((n : ℕ) → n < length earlier.runs → IsKept earlier later s n) → binding_connections later s ≡ binding_connections earlier s
+  kept_binding kept =
+      binding_same earlier later beside.earlier_sound beside.later_sound beside.reached.same.runs beside.reached.same.connections s
+      (λ n l joined. elim (kept n l) [
+        | inl none ↦
+            let gone : true ≡ false = sym joined ∙ ap (list_any (joins (run_at earlier n).name)) none in
+            absurd (cc)
+        | inr entries ↦ entries
+      ])
+
   pub before_next : (n at : ℕ) → IsReached old (run_at later n).name at → n + 1 < length later.runs → AreBefore old (run_at later (n + 1)).name at
   before_next n at reached below =
       before_later old (run_at later n).name at beside.rise reached (run_at later (n + 1)).name
@@ -175,113 +145,271 @@ module _ {earlier later : Tables} {stairs : List (Option Stair)} {s : Section} {
     stair_uses = subst (λ k. IfSome stair (λ (t : Stair). All (λ (u : Use). u.block < k) t.uses)) (sym beside.table.count)
         (reached_uses earlier later beside.later_sound n below stair reached_is)
 
+    abbrev run : Run
+    run = run_at earlier n
+
+    same_run : run_at later n ≡ run
+    same_run = ap (λ runs. get_or runs n no_run) beside.reached.same.runs
+
+    below_earlier : n < length earlier.runs
+    below_earlier = omega (arith, below, ap length beside.reached.same.runs)
+
+    -- the run's uses of blocks by its stair, or as before where that isn't reached
+    by_table : uses_in positions (length s.blocks) (stairway (path_in later run)) ≡ section_uses later s run
+    by_table = subst (λ (r : Run). uses_in positions (length s.blocks) (stairway (path_in later r)) ≡ section_uses later s r) same_run
+        (uses_by_table later s beside.later_sound positions beside.table n below)
+
+    unreached : path_in later (run_at later n) ≡ path_in earlier (run_at later n) → section_uses later s run ≡ section_uses earlier s run
+    unreached is =
+        subst (λ (r : Run). section_uses later s r ≡ section_uses earlier s r) same_run
+        (uses_by_path earlier later s (run_at later n) beside.reached.same.names is)
+
     module _ (own : Option CutRow) (found : IsOwnOf later n old own) where
-      same_run : run_at later n ≡ run_at earlier n
-      same_run = ap (λ runs. get_or runs n no_run) beside.reached.same.runs
-
-      below_earlier : n < length earlier.runs
-      below_earlier = omega (arith, below, ap length beside.reached.same.runs)
-
-      abbrev name : List ℕ
-      name = (run_at later n).name
-
-      own_is : option_map (stamped_row 0) own ≡ member_row s name 0 (section_uses earlier s (run_at earlier n))
+      own_is : option_map (stamped_row 0) own ≡ row_if earlier s run
       own_is =
-          ap (option_map (stamped_row 0)) found
-          ∙ subst (λ (r : Run). option_map (stamped_row 0) (find (λ (o : CutRow). is_same o.name r.name) old) ≡ member_row s r.name 0 (section_uses earlier s (run_at earlier n)))
-          (sym same_run) (old_found earlier s beside.earlier_sound.runs.names old beside.rows n below_earlier)
+          ap (option_map (stamped_row 0)) (found ∙ ap (λ (r : Run). find (λ (o : CutRow). is_same o.name r.name) old) same_run)
+          ∙ old_row earlier s beside.earlier_sound.runs.names old beside.rows n below_earlier
+
+      own_row : (o : Option CutRow) (b : Bool) → b ≡ is_member earlier s run → option_map (stamped_row 0) o ≡ cond b (Some (row_of earlier s run)) None → IfSome o (IsOwnRow s run.name)
+      own_row None b e is = tt
+      own_row (Some row) false e is = absurd (cc)
+      own_row (Some row) true e is =
+          let same : stamped_row 0 row ≡ row_of earlier s run = cc in
+          let blocks : block_part s row.uses ≡ section_uses earlier s run =
+          ap (λ (r : CutRow). block_part s r.uses) same ∙ blocks_are earlier beside.earlier_sound s n below_earlier (sym e) in
+          let member : member_row s run.name 0 (section_uses earlier s run)
+          ≡ Some (record (row_of earlier s run) { uses = section_uses earlier s run }) = rw (sym e) refl in
+          record {
+            member = ap (member_row s run.name 0) blocks ∙ member
+                ∙ ap (λ (r : CutRow). Some (record r { uses = section_uses earlier s run })) (sym same)
+                ∙ ap (λ us. Some (record row { stamp = 0; uses = us })) (sym blocks);
+            first = subst (λ (r : CutRow). AreBlocksFirst (length s.blocks) r.uses) (sym same) (sound_row earlier beside.earlier_sound s n below_earlier (sym e)).blocks_first;
+          }
 
       -- the row before the edit is the stair's run's
-      pub own_bare : IfSome stair (λ t. IfSome own (IsBareRow s t.run))
-      own_bare = by_stair stair reached_is (bare_of earlier s beside.earlier_sound n below_earlier name own own_is)
+      pub own_bare : IfSome stair (λ t. IfSome own (IsOwnRow s t.run))
+      own_bare = by_stair stair reached_is (subst (λ (r : Run). IfSome own (IsOwnRow s r.name)) (sym same_run) (own_row own (is_member earlier s run) refl own_is))
         where
-          by_stair : (o : Option Stair) → IsStairIfReached earlier later (run_at later n) o → IfSome own (IsBareRow s name)
-              → IfSome o (λ t. IfSome own (IsBareRow s t.run))
+          by_stair : (o : Option Stair) → IsStairIfReached earlier later (run_at later n) o → IfSome own (IsOwnRow s (run_at later n).name)
+              → IfSome o (λ t. IfSome own (IsOwnRow s t.run))
           by_stair None is bare = tt
-          by_stair (Some t) is bare = subst (λ (u : Stair). IfSome own (IsBareRow s u.run)) (sym is) bare
+          by_stair (Some t) is bare = subst (λ (u : Stair). IfSome own (IsOwnRow s u.run)) (sym is) bare
 
-      -- the row after it is the run's
-      after_is : row_after s positions stair (option_map (stamped_row 0) own) ≡ member_row s name 0 (section_uses later s (run_at later n))
-      after_is = by_stair stair reached_is
+      -- the row after it has the run's entry
+      pub after_entry : option_map (λ (r : CutRow). r.entry) (row_after s positions stair (option_map (stamped_row 0) own)) ≡ entry_in later s run
+      after_entry = by_stair stair reached_is
         where
           by_stair : (o : Option Stair) → IsStairIfReached earlier later (run_at later n) o
-              → row_after s positions o (option_map (stamped_row 0) own) ≡ member_row s name 0 (section_uses later s (run_at later n))
+              → option_map (λ (r : CutRow). r.entry) (row_after s positions o (option_map (stamped_row 0) own)) ≡ entry_in later s run
           by_stair None is =
-              own_is ∙ ap (λ (r : Run). member_row s name 0 (section_uses earlier s r)) (sym same_run)
-              ∙ ap (member_row s name 0) (sym (uses_by_path earlier later s (run_at later n) beside.reached.same.names is))
+              ap (option_map (λ (r : CutRow). r.entry)) own_is ∙ entry_if (is_member earlier s run) ∙ sym (entry_same earlier later s run (unreached is))
+            where
+              entry_if : (b : Bool) → option_map (λ (r : CutRow). r.entry) (cond b (Some (row_of earlier s run)) None) ≡ cond b (Some (entry_of earlier s run)) None
+              entry_if true = refl
+              entry_if false = refl
           by_stair (Some t) is =
-              ap (λ (u : Stair). member_row s u.run 0 (uses_in positions (length s.blocks) u.uses)) is
-              ∙ ap (member_row s name 0) (uses_by_table later s beside.later_sound positions beside.table n below)
+              ap (λ (u : Stair). option_map (λ (r : CutRow). r.entry) (option_map (with_rest s (option_map (stamped_row 0) own)) (member_row s u.run 0 (uses_in positions (length s.blocks) u.uses)))) (is ∙ ap (λ (r : Run). stair_of (path_in later r)) same_run)
+              ∙ ap (λ us. option_map (λ (r : CutRow). r.entry) (option_map (with_rest s (option_map (stamped_row 0) own)) (member_row s run.name 0 us))) by_table
+              ∙ entered s run.name (section_uses later s run) (option_map (stamped_row 0) own) (is_member later s run) refl
 
-      -- it stays exactly where the row by the tables does
-      pub row_same : StaysRow s positions stair own → IsSameRow earlier later s n
-      row_same stays =
-          sym after_is ∙ stays ∙ own_is ∙ ap (λ (r : Run). member_row s r.name 0 (section_uses earlier s (run_at earlier n))) same_run
+      -- and its name
+      after_named : IfSome (row_after s positions stair (option_map (stamped_row 0) own)) (λ r. r.name ≡ run.name)
+      after_named = by_stair stair reached_is
+        where
+          named_if : (b : Bool) → IfSome (cond b (Some (row_of earlier s run)) None) (λ (r : CutRow). r.name ≡ run.name)
+          named_if true = refl
+          named_if false = tt
 
-      pub rows_differ : (StaysRow s positions stair own → ⊥) → rows_on_blocks later s 0 ≡ rows_on_blocks earlier s 0 → ⊥
-      rows_differ changes same =
-          changes
-          (after_is ∙ sym (row_found later s beside.later_sound.runs.names n below)
-          ∙ ap (find (λ (r : CutRow). is_same r.name name)) (same ∙ sym beside.rows)
-          ∙ find-map (stamped_row 0) (λ (r : CutRow). is_same r.name name) old ∙ ap (option_map (stamped_row 0)) (sym found))
+          named_member : (uses : List Use) (o : Option CutRow) (b : Bool) → b ≡ enters s uses
+              → IfSome (option_map (with_rest s o) (member_row s run.name 0 uses)) (λ (r : CutRow). r.name ≡ run.name)
+          named_member uses None true e = rw (sym e) refl
+          named_member uses (Some m) true e = rw (sym e) refl
+          named_member uses o false e = rw (sym e) tt
+
+          by_stair : (o : Option Stair) → IsStairIfReached earlier later (run_at later n) o
+              → IfSome (row_after s positions o (option_map (stamped_row 0) own)) (λ r. r.name ≡ run.name)
+          by_stair None is = subst (λ o. IfSome o (λ (r : CutRow). r.name ≡ run.name)) (sym own_is) (named_if (is_member earlier s run))
+          by_stair (Some t) is =
+              let uses = λ (u : Stair). uses_in positions (length s.blocks) u.uses in
+              subst (λ (u : Stair). IfSome (option_map (with_rest s (option_map (stamped_row 0) own)) (member_row s u.run 0 (uses u))) (λ (r : CutRow). r.name ≡ run.name))
+              (sym (is ∙ ap (λ (r : Run). stair_of (path_in later r)) same_run))
+              (named_member (uses (stair_of (path_in later run))) (option_map (stamped_row 0) own) (enters s (uses (stair_of (path_in later run)))) refl)
+
+      -- where that is the entry of the row before it, the run enters as before
+      pub kept_by : option_map (λ (r : CutRow). r.entry) (row_after s positions stair (option_map (stamped_row 0) own)) ≡ option_map (λ (r : CutRow). r.entry) own
+          → entry_in later s run ≡ entry_in earlier s run
+      kept_by same =
+          sym after_entry ∙ same ∙ sym (unmarked own) ∙ ap (option_map (λ (r : CutRow). r.entry)) own_is ∙ entry_if (is_member earlier s run)
+        where
+          entry_if : (b : Bool) → option_map (λ (r : CutRow). r.entry) (cond b (Some (row_of earlier s run)) None) ≡ cond b (Some (entry_of earlier s run)) None
+          entry_if true = refl
+          entry_if false = refl
+
+      -- where it is kept, and the same connections bind, it is the run's
+      module _ (kept : IsKept earlier later s n) (binding : binding_connections later s ≡ binding_connections earlier s) where
+        -- uses of connections
+        joined_same : entry_of later s run ≡ entry_of earlier s run → uses_of_connections later s run ≡ uses_of_connections earlier s run
+        joined_same entry =
+            let uses : ℤ → ℕ → List Connection → List Use = λ e last bs. filter_map (use_by run e last) (enumerate_from (length s.blocks) bs) in
+            ap (λ e. uses e (last_arrival later run) (binding_connections later s)) entry
+            ∙ ap (λ last. uses (entry_of earlier s run) last (binding_connections later s))
+            (arrival_same earlier later beside.earlier_sound beside.later_sound beside.reached.same.runs beside.reached.same.connections n below_earlier)
+            ∙ ap (uses (entry_of earlier s run) (last_arrival earlier run)) binding
+
+        none_joined : (tables : Tables) → tables.connections ≡ [] → uses_of_connections tables s run ≡ []
+        none_joined tables none = ap (λ bs. filter_map (connection_use tables s run) (enumerate_from (length s.blocks) bs)) (none_bind tables s none)
+
+        rest_is : (b : Bool) → b ≡ is_member earlier s run → is_member later s run ≡ true → (bare : CutRow)
+            → with_rest s (cond b (Some (row_of earlier s run)) None) bare ≡ record bare { uses = bare.uses ++ uses_of_connections later s run }
+        rest_is b e member bare = elim kept [
+          | inl none ↦
+              let after_none = none_joined later (beside.reached.same.connections ∙ none) in
+              rw after_none (by_member b e none)
+          | inr entries ↦ by_entry b e entries
+        ]
+          where
+            by_member : (b : Bool) → b ≡ is_member earlier s run → earlier.connections ≡ []
+                → with_rest s (cond b (Some (row_of earlier s run)) None) bare ≡ record bare { uses = bare.uses ++ [] }
+            by_member true e none =
+                ap (λ us. record bare { uses = bare.uses ++ us }) (others_are earlier beside.earlier_sound s n below_earlier (sym e) ∙ none_joined earlier none)
+            by_member false e none = ap (λ us. record bare { uses = us }) (sym (append-nil bare.uses))
+
+            by_entry : (b : Bool) → b ≡ is_member earlier s run → entry_in later s run ≡ entry_in earlier s run
+                → with_rest s (cond b (Some (row_of earlier s run)) None) bare ≡ record bare { uses = bare.uses ++ uses_of_connections later s run }
+            by_entry true e entries =
+                let both : Some (entry_of later s run) ≡ Some (entry_of earlier s run) = rw (member, sym e) at entries in
+                let entry : entry_of later s run ≡ entry_of earlier s run = cc in
+                ap (λ us. record bare { uses = bare.uses ++ us }) (others_are earlier beside.earlier_sound s n below_earlier (sym e) ∙ sym (joined_same entry))
+            by_entry false e entries =
+                let both : Some (entry_of later s run) ≡ None = rw (member, sym e) at entries in
+                absurd (cc)
+
+        pub after_is : row_after s positions stair (option_map (stamped_row 0) own) ≡ row_if later s run
+        after_is = by_stair stair reached_is
+          where
+            joined : (b : Bool) → b ≡ is_member later s run
+                → option_map (with_rest s (row_if earlier s run)) (member_row s run.name 0 (section_uses later s run)) ≡ cond b (Some (row_of later s run)) None
+            joined true e = rw (sym e) (ap Some (rest_is (is_member earlier s run) refl (sym e) (row_with run.name 0 (section_uses later s run))))
+            joined false e = rw (sym e) refl
+
+            by_stair : (o : Option Stair) → IsStairIfReached earlier later (run_at later n) o → row_after s positions o (option_map (stamped_row 0) own) ≡ row_if later s run
+            by_stair None is =
+                let same = unreached is in
+                own_is
+                ∙ ap (λ b. cond b (Some (row_of earlier s run)) None) (sym (ap (enters s) same))
+                ∙ ap (λ r. cond (is_member later s run) (Some r) None)
+                (sym (row_same earlier later beside.earlier_sound beside.later_sound beside.reached.same.runs beside.reached.same.connections s binding n below_earlier same))
+            by_stair (Some t) is =
+                ap (λ (u : Stair). option_map (with_rest s (option_map (stamped_row 0) own)) (member_row s u.run 0 (uses_in positions (length s.blocks) u.uses)))
+                (is ∙ ap (λ (r : Run). stair_of (path_in later r)) same_run)
+                ∙ ap (λ us. option_map (with_rest s (option_map (stamped_row 0) own)) (member_row s run.name 0 us)) by_table
+                ∙ ap (λ o. option_map (with_rest s o) (member_row s run.name 0 (section_uses later s run))) own_is
+                ∙ joined (is_member later s run) refl
 
       -- the rows with the run's
       module _ (number : ℕ) (row : Option CutRow) (is : IsRowAfter (row_after s positions stair (option_map (stamped_row 0) own)) number own row) (rows : List CutRow) where
-        pub rows_with : map (stamped_row 0) rows ≡ map (row_on_blocks later s 0) (filter (is_member later s) (take n later.runs))
-            → map (stamped_row 0) (rows ++ option_to_list row) ≡ map (row_on_blocks later s 0) (filter (is_member later s) (take (n + 1) later.runs))
-        rows_with so_far =
+        pub rows_with : IsKept earlier later s n → binding_connections later s ≡ binding_connections earlier s
+            → map (stamped_row 0) rows ≡ map (row_of later s) (filter (is_member later s) (take n earlier.runs))
+            → map (stamped_row 0) (rows ++ option_to_list row) ≡ map (row_of later s) (filter (is_member later s) (take (n + 1) earlier.runs))
+        rows_with kept binding so_far =
             map-append (stamped_row 0) rows (option_to_list row)
             ∙ ap (λ rs. rs ++ map (stamped_row 0) (option_to_list row)) so_far
-            ∙ ap (λ rs. map (row_on_blocks later s 0) (filter (is_member later s) (take n later.runs)) ++ rs)
-            (map_one row ∙ ap option_to_list (is.value ∙ after_is))
-            ∙ sym (rows_more later s 0 n below)
+            ∙ ap (λ rs. map (row_of later s) (filter (is_member later s) (take n earlier.runs)) ++ rs)
+            (map_one row ∙ ap option_to_list (is.value ∙ after_is kept binding))
+            ∙ sym (rows_next later s earlier.runs n below_earlier)
+
+        pub kept_with : option_map (λ (r : CutRow). r.entry) row ≡ option_map (λ (r : CutRow). r.entry) own → entry_in later s run ≡ entry_in earlier s run
+        kept_with same = kept_by (ap (option_map (λ (r : CutRow). r.entry)) (sym is.value) ∙ unmarked row ∙ same)
 
         pub stamps_with : All (IsStampedBy number old) rows → All (IsStampedBy number old) (rows ++ option_to_list row)
-        stamps_with so_far = by_row row (is.value ∙ after_is) is.stamp
+        stamps_with so_far = by_row row (subst (λ o. IfSome o (λ (r : CutRow). r.name ≡ run.name)) (sym is.value) after_named) is.stamp
           where
-            by_row : (o : Option CutRow) → option_map (stamped_row 0) o ≡ member_row s name 0 (section_uses later s (run_at later n))
+            by_row : (o : Option CutRow) → IfSome (option_map (stamped_row 0) o) (λ r. r.name ≡ run.name)
                 → IfSome o (IsStamped number own) → All (IsStampedBy number old) (rows ++ option_to_list o)
-            by_row None value stamp = rw (append-nil rows) so_far
-            by_row (Some r) value stamp =
+            by_row None named stamp = rw (append-nil rows) so_far
+            by_row (Some r) named stamp =
                 All-push (IsStampedBy number old) rows r so_far
-                (subst (λ o. IsStamped number o r) (found ∙ ap (λ m. find (λ (x : CutRow). is_same x.name m) old) (sym (name_of_row s name (section_uses later s (run_at later n)) r (enters s (section_uses later s (run_at later n))) refl value))) stamp)
+                (subst (λ o. IsStamped number o r) (found ∙ ap (λ m. find (λ (x : CutRow). is_same x.name m) old) (ap (λ (r : Run). r.name) same_run ∙ sym named)) stamp)
 
 -- ---- the cut after the edit
 
-module _ (earlier later : Tables) (stairs : List (Option Stair)) (reached : AreReachedRuns earlier later stairs) (name : List ℕ) (old : Cut) (is : cut_of earlier name ≡ Some (stamped 0 old)) where
+module _ (earlier later : Tables) (stairs : List (Option Stair)) (name : List ℕ) (old : Cut) (is : cut_of earlier name ≡ Some (stamped 0 old)) (positions : List ℕ) (beside : AreBeside earlier later stairs old.section positions old.rows) where
+  abbrev s : Section
+  s = old.section
+
   abbrev here : (find (λ (s : Section). is_same s.name name) earlier.sections ≡ Some old.section) × (section_cut earlier old.section ≡ stamped 0 old)
   here = located earlier name old (find (λ (s : Section). is_same s.name name) earlier.sections) refl is
 
-  pub old_rows : map (stamped_row 0) old.rows ≡ rows_on_blocks earlier old.section 0
-  old_rows = ap (λ (c : Cut). c.rows) (sym here.1 ∙ bare_cut earlier old.section reached.none)
-
-  pub cut_made : (made : Cut) → made.section ≡ old.section → made.connections ≡ []
-      → map (stamped_row 0) made.rows ≡ rows_on_blocks later old.section 0 → cut_of later name ≡ Some (stamped 0 made)
-  cut_made made section connections rows =
+  cut_made : (made : Cut) → made.section ≡ s → made.connections ≡ old.connections → binding_connections later s ≡ binding_connections earlier s
+      → map (stamped_row 0) made.rows ≡ map (row_of later s) (filter (is_member later s) earlier.runs) → cut_of later name ≡ Some (stamped 0 made)
+  cut_made made section connections binding rows =
       let form : Section → List (List ℕ) → List CutRow → Cut = λ s cs rs. record { section = s; connections = cs; rows = rs } in
-      ap (λ sections. option_map (section_cut later) (find (λ (s : Section). is_same s.name name) sections)) reached.same.sections
+      let by_runs : List Run → List CutRow = λ rs. map (row_of later s) (filter (is_member later s) rs) in
+      ap (λ sections. option_map (section_cut later) (find (λ (s : Section). is_same s.name name) sections)) beside.reached.same.sections
       ∙ ap (option_map (section_cut later)) here.0
       ∙ ap Some
-      (bare_cut later old.section (reached.same.connections ∙ reached.none)
-      ∙ ap (form old.section []) (sym rows)
-      ∙ ap (λ cs. form old.section cs (map (stamped_row 0) made.rows)) (sym connections)
+      (ap (λ cs. form s cs (by_runs later.runs)) (ap (map (λ (c : Connection). c.name)) binding ∙ sym (cut_names earlier s old here.1) ∙ sym connections)
+      ∙ ap (λ rs. form s made.connections (by_runs rs)) beside.reached.same.runs
+      ∙ ap (form s made.connections) (sym rows)
       ∙ ap (λ s. form s made.connections (map (stamped_row 0) made.rows)) (sym section))
 
-  -- where the rows are the same, so is the cut
-  pub cut_same : rows_on_blocks later old.section 0 ≡ rows_on_blocks earlier old.section 0 → cut_of later name ≡ cut_of earlier name
-  cut_same rows = cut_made old refl (ap (λ (c : Cut). c.connections) (sym here.1 ∙ bare_cut earlier old.section reached.none)) (old_rows ∙ sym rows) ∙ sym is
+  abbrev own_at : ℕ → Option CutRow
+  own_at n = find (λ (r : CutRow). is_same r.name (run_at later n).name) old.rows
 
-  -- a cut of other rows, and what becomes of the earlier one by it
-  pub cut_changes : (made : Cut) → made.section ≡ old.section → made.connections ≡ [] → (number : ℕ)
-      → AreRowsAfter earlier later old.section number old.rows made.rows → IsSound later
+  abbrev stair_at : ℕ → Option Stair
+  stair_at n = get_or stairs n None
+
+  its : (n : ℕ) → n < length later.runs → stair_at n ≡ get_or stairs n (stair_at n)
+  its n l = get_or_default stairs n None (stair_at n) (omega (arith, l, beside.reached.count))
+
+  count : length later.runs ≡ length earlier.runs
+  count = ap length beside.reached.same.runs
+
+  -- ---- where all rows stay, so does the cut
+  pub cut_same : AllStay later stairs s positions old.rows → cut_of later name ≡ cut_of earlier name
+  cut_same stay =
+      let entry : (n : ℕ) → n < length earlier.runs → IsKept earlier later s n = λ n l.
+      let below : n < length later.runs = omega (arith, l, count) in
+      inr (kept_by beside n below (stair_at n) (its n below) (own_at n) refl (ap (option_map (λ (r : CutRow). r.entry)) (stay n below) ∙ unmarked (own_at n))) in
+      let binding = kept_binding beside entry in
+      let rows : (k : ℕ) → k ≤ length earlier.runs
+      → map (row_of later s) (filter (is_member later s) (take k earlier.runs)) ≡ map (row_of earlier s) (filter (is_member earlier s) (take k earlier.runs)) =
+      rows_so_far s later earlier earlier.runs
+      (λ n l.
+      let below : n < length later.runs = omega (arith, l, count) in
+      sym (after_is beside n below (stair_at n) (its n below) (own_at n) refl (entry n l) binding) ∙ stay n below
+      ∙ own_is beside n below (stair_at n) (its n below) (own_at n) refl) in
+      let all = take_all (length earlier.runs) earlier.runs (omega arith) in
+      cut_made old refl refl binding
+      (cut_rows earlier s old here.1 ∙ ap (λ rs. map (row_of earlier s) (filter (is_member earlier s) rs)) (sym all)
+      ∙ sym (rows (length earlier.runs) (omega arith)) ∙ ap (λ rs. map (row_of later s) (filter (is_member later s) rs)) all)
+      ∙ sym is
+
+  -- ---- a cut of other rows, and what becomes of the earlier one by it
+  pub cut_changes : (made : Cut) → made.section ≡ s → made.connections ≡ old.connections → (number : ℕ)
+      → AreRowsAfter earlier later s number old.rows made.rows → (AllStay later stairs s positions old.rows → ⊥)
       → IsChange (cut_of earlier name) (cut_of later name) number (Some old) (change.Touched (Some made))
-  cut_changes made section connections number after sound =
-      let now = cut_made made section connections after.value in (
+  cut_changes made section connections number after changes =
+      let binding = kept_binding beside after.kept in
+      let now = cut_made made section connections binding after.value in (
         λ same.
             let both : Some (stamped 0 made) ≡ Some (stamped 0 old) = sym now ∙ same ∙ is in
             let values : stamped 0 made ≡ stamped 0 old = cc in
-            after.differ (sym after.value ∙ ap (λ (c : Cut). c.rows) values ∙ old_rows),
-        record { same = now; stamps = after.stamps; sound = sound_cut_of later sound name made now },
+            let rows : map (row_of later s) (filter (is_member later s) later.runs) ≡ map (row_of earlier s) (filter (is_member earlier s) earlier.runs) =
+            ap (λ rs. map (row_of later s) (filter (is_member later s) rs)) beside.reached.same.runs
+            ∙ sym after.value ∙ ap (λ (c : Cut). c.rows) values ∙ cut_rows earlier s old here.1 in
+            changes
+            (λ n below.
+            let l : n < length earlier.runs = omega (arith, below, count) in
+            let run = same_run beside n below (stair_at n) (its n below) in
+            let one : (t : Tables) → Run → Option CutRow = λ t r. find (λ (x : CutRow). is_same x.name r.name) (map (row_of t s) (filter (is_member t s) t.runs)) in
+            after_is beside n below (stair_at n) (its n below) (own_at n) refl (after.kept n l) binding
+            ∙ ap (row_if later s) (sym run) ∙ sym (row_at_name later s beside.later_sound.runs.names n below)
+            ∙ ap (one later) run
+            ∙ ap (find (λ (x : CutRow). is_same x.name (run_at earlier n).name)) rows
+            ∙ row_at_name earlier s beside.earlier_sound.runs.names n l
+            ∙ sym (own_is beside n below (stair_at n) (its n below) (own_at n) refl)),
+        record { same = now; stamps = after.stamps; sound = sound_cut_of later beside.later_sound name made now },
       )
 
 -- where no run is reached, no cut differs

@@ -89,7 +89,7 @@ module _ (tables : Tables) (sound : IsSound tables) (section : Section) where
         ∙ ap (λ us. us ++ filter test others) (filter_all test blocks (uses_inside tables sound section n l))
         ∙ ap (λ us. blocks ++ us) (filter_none test others connections_beyond) ∙ append-nil blocks
 
-    others_are : connection_uses (section_cut tables section) (row_of tables section (run_at tables n)) ≡ uses_of_connections tables section (run_at tables n)
+    pub others_are : connection_uses (section_cut tables section) (row_of tables section (run_at tables n)) ≡ uses_of_connections tables section (run_at tables n)
     others_are =
         let run = run_at tables n in
         let test = λ (u : Use). not (ltb u.block (length section.blocks)) in

@@ -1,5 +1,5 @@
 -- The connections of a run, and the entries of runs, by which connections bind.
-use Rattle.std.specs.Prelude.{◌≡◌, ℕ, ◌+◌, ◌≤◌, ℤ, Bool, true, ◌||◌, if◌then◌else◌, nat_lt, List, ◌++◌, length, filter, find, Option, Some, None, option_map, option_and_then}
+use Rattle.std.specs.Prelude.{◌≡◌, ℕ, ◌+◌, ◌≤◌, ℤ, Bool, true, not, ◌||◌, if◌then◌else◌, nat_lt, List, ◌++◌, length, filter, find, Option, Some, None, option_map, option_and_then}
 use Rattle.rail_model.specs.declared.items.Run.{Run}
 use Rattle.rail_model.specs.declared.items.Section.{Section}
 use Rattle.rail_model.specs.declared.items.Connection.{Connection}
@@ -30,6 +30,15 @@ pub record IsOfRuns (tables : Tables) (c : Connection) : Type 0 where
 -- of uses those of a section's blocks
 abbrev pub block_part : Section → List Use → List Use
 block_part section uses = filter (λ u. nat_lt u.block (length section.blocks)) uses
+
+-- and those of connections
+abbrev pub rest_part : Section → List Use → List Use
+rest_part section uses = filter (λ u. not (nat_lt u.block (length section.blocks))) uses
+
+-- a row with the uses of connections of another, if that is there
+abbrev pub with_rest : Section → Option CutRow → CutRow → CutRow
+with_rest section None row = row
+with_rest section (Some own) row = record row { uses = row.uses ++ rest_part section own.uses }
 
 module _ (tables : Tables) (section : Section) where
   -- a run's entry to a section, if it is a member

@@ -1,5 +1,4 @@
--- Changes of blocks, signals and routes, without connections: the runs whose paths they change, and
--- these runs' rows.
+-- Changes of blocks, signals and routes: the runs whose paths they change, and these runs' rows.
 use Rattle.std.specs.Prelude.{◌≡◌, ℕ, ◌<◌, ⊤, Bool, true, false, List, [], length, slice_index_or, Option, Some, None, option_map, All, IfSome}
 use Rattle.rail_model.specs.declared.items.Run.{Run}
 use Rattle.rail_model.specs.declared.items.Section.{Section}
@@ -14,7 +13,8 @@ use Rattle.rail_model.specs.Name.{is_same}
 use Rattle.rail_model.specs.Tables.{no_run, run_at, block_name, path_in}
 use Rattle.line_tables.specs.Passing.{passes_block, passes_signal}
 use Rattle.plan_model.specs.declared.cut.CutRow.{CutRow}
-use Rattle.plan_model.specs.Cut.{stamped_row}
+use Rattle.plan_model.specs.Cut.{stamped_row, AreBlocksFirst}
+use Rattle.section_cut.specs.Connected.{block_part, with_rest}
 use Rattle.section_cut.specs.Members.{member_row}
 use Rattle.section_cut.specs.Stamps.{IsStamped}
 use Rattle.section_cut.specs.Positions.{uses_in}
@@ -53,25 +53,24 @@ abbrev pub IsStairIfReached : Tables → Tables → Run → Option Stair → Typ
 IsStairIfReached earlier later run (Some stair) = stair ≡ stair_of (path_in later run)
 IsStairIfReached earlier later run None = path_in later run ≡ path_in earlier run
 
--- this for each run, in the order of the runs' names, without connections
+-- this for each run, in the order of the runs' names
 pub record AreReachedRuns (earlier later : Tables) (stairs : List (Option Stair)) : Type 0 where
-  pub none : earlier.connections ≡ []
   pub same : IsSameTraffic earlier later
   pub count : length stairs ≡ length later.runs
   pub each : (n : ℕ) (d : Option Stair) → n < length later.runs
       → IsStairIfReached earlier later (run_at later n) (slice_index_or stairs n d)
 
--- a run's row in a section: by its stair, if that is reached, and otherwise the row that it had, if
--- it had one
+-- a run's row in a section: by its stair, if that is reached, with the uses of connections that it
+-- had; and otherwise the row that it had, if it had one
 abbrev pub row_after : Section → List ℕ → Option Stair → Option CutRow → Option CutRow
 row_after section positions (Some stair) old =
-    member_row section stair.run 0 (uses_in positions (length section.blocks) stair.uses)
+    option_map (with_rest section old) (member_row section stair.run 0 (uses_in positions (length section.blocks) stair.uses))
 row_after section positions None old = old
 
--- a row has the value of a member of this name, all of whose uses are of the section's blocks
-pub record IsBareRow (section : Section) (name : List ℕ) (row : CutRow) : Type 0 where
-  pub member : member_row section name 0 row.uses ≡ Some (stamped_row 0 row)
-  pub inside : All (λ u. u.block < length section.blocks) row.uses
+-- a row has the value of a member of this name with its uses of blocks, and these stand first
+pub record IsOwnRow (section : Section) (name : List ℕ) (row : CutRow) : Type 0 where
+  pub member : member_row section name 0 (block_part section row.uses) ≡ Some (record row { stamp = 0; uses = block_part section row.uses })
+  pub first : AreBlocksFirst (length section.blocks) row.uses
 
 -- a row has its value, if it is there, by the stair of its run
 abbrev pub StaysRow : Section → List ℕ → Option Stair → Option CutRow → Type 0

@@ -1,5 +1,5 @@
 -- The rows of a section's cut before and after an edit that changes the paths of some runs.
-use Rattle.std.specs.Prelude.{◌≡◌, ◌≢◌, ℕ, List, map, find, All, Option}
+use Rattle.std.specs.Prelude.{◌≡◌, ◌⊎◌, ℕ, ◌<◌, List, [], length, map, filter, find, slice_index_or, All, Option, None}
 use Rattle.rail_model.specs.declared.items.Section.{Section}
 use Rattle.rail_model.specs.declared.stair.Stair.{Stair}
 use Rattle.rail_model.specs.declared.tables.Tables.{Tables}
@@ -8,9 +8,10 @@ use Rattle.rail_model.specs.Sound.{IsSound}
 use Rattle.rail_model.specs.Tables.{run_at}
 use Rattle.plan_model.specs.declared.cut.CutRow.{CutRow}
 use Rattle.plan_model.specs.Cut.{stamped_row}
-use Rattle.section_cut.specs.Members.{rows_on_blocks}
+use Rattle.plan_model.specs.SectionCut.{is_member, row_of}
+use Rattle.section_cut.specs.Connected.{entry_in}
 use Rattle.section_cut.specs.Positions.{IsPositions}
-use Rattle.section_cut.specs.ReachedRuns.{AreReachedRuns}
+use Rattle.section_cut.specs.ReachedRuns.{AreReachedRuns, StaysRow}
 use Rattle.section_cut.specs.Stamps.{IsStampedBy}
 
 -- both tables with the stairs of the runs that the edit reaches, and a section with its rows by the earlier tables and
@@ -20,15 +21,26 @@ pub record AreBeside (earlier later : Tables) (stairs : List (Option Stair)) (se
   pub later_sound : IsSound later
   pub reached : AreReachedRuns earlier later stairs
   pub table : IsPositions later section positions
-  pub rows : map (stamped_row 0) old ≡ rows_on_blocks earlier section 0
+  pub rows : map (stamped_row 0) old ≡ map (row_of earlier section) (filter (is_member earlier section) earlier.runs)
   pub rise : NamesRise (λ r. r.name) old
 
 -- the row of the run of a number, if it has one
 abbrev pub IsOwnOf : Tables → ℕ → List CutRow → Option CutRow → Type 0
 IsOwnOf tables run rows own = own ≡ find (λ r. is_same r.name (run_at tables run).name) rows
 
--- the rows after the edit of a number: other values than before it, and their stamps
+-- all rows have the values after an edit that they had before it
+abbrev pub AllStay : Tables → List (Option Stair) → Section → List ℕ → List CutRow → Type 0
+AllStay later stairs section positions old =
+    (n : ℕ) → n < length later.runs
+    → StaysRow section positions (slice_index_or stairs n None) (find (λ r. is_same r.name (run_at later n).name) old)
+
+-- there are no connections, or the run of a number enters a section as before, if it is a member
+abbrev pub IsKept : Tables → Tables → Section → ℕ → Type 0
+IsKept earlier later section n =
+    (earlier.connections ≡ []) ⊎ (entry_in later section (run_at earlier n) ≡ entry_in earlier section (run_at earlier n))
+
+-- where all runs do, the rows after the edit of a number: their values and their stamps
 pub record AreRowsAfter (earlier later : Tables) (section : Section) (number : ℕ) (old rows : List CutRow) : Type 0 where
-  pub differ : rows_on_blocks later section 0 ≢ rows_on_blocks earlier section 0
-  pub value : map (stamped_row 0) rows ≡ rows_on_blocks later section 0
+  pub kept : (n : ℕ) → n < length earlier.runs → IsKept earlier later section n
+  pub value : map (stamped_row 0) rows ≡ map (row_of later section) (filter (is_member later section) earlier.runs)
   pub stamps : All (IsStampedBy number old) rows

@@ -12,10 +12,14 @@
 //!
 //! - An edit of a run makes that run's stairway once, for all sections. Where its row has a use for
 //!   each block of its path, the positions stay, and only times are written. One row is put in place
-//!   of the old one, or the cut is made anew with the run or without it.
+//!   of the old one, or the cut is copied with the row or without it. All other rows stay where each
+//!   of the run's connections binds after the edit exactly where it does before it.
+//! - An edit of a connection touches the sections in which it binds before or after it. Another
+//!   minimum changes one use of the first run's row.
 //! - An edit of a block, a signal or a route compares the row of each run that passes it with the
 //!   run's new stairway. A row that differs is copied, and its uses that differ are written anew.
-//! - With connections all rows are made anew, but for an edit of a section.
+//!   Its uses of connections stay, where each such run enters the section as before.
+//! - Where other connections bind, the section's cut is made anew.
 //! - Rows that stand as before keep their stamps.
 //!
 //! ```text

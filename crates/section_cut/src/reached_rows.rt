@@ -1,13 +1,15 @@
-//! The row of one run in a section's cut after an edit that changes paths, where there are no
-//! connections. A row of the same uses as before is kept with its stamp.
+//! The row of one run in a section's cut after an edit that changes paths, with the uses of
+//! connections that it had. A row of the same uses as before is kept with its stamp.
 ghost use Rattle.std.specs.Prelude.{◌≡◌, ◌↔◌, ◌<◌, ℕ, true, IsTrue, option_map, All, length, IfOk, IfSome, Some, slice_index};
 ghost use Rattle.std.specs.Option.{option_copied};
-ghost use Rattle.plan_model.specs.Cut.{stamped_row};
+ghost use Rattle.plan_model.specs.Cut.{stamped_row, AreBlocksFirst};
+ghost use Rattle.section_cut.specs.Connected.{with_rest};
 ghost use Rattle.section_cut.specs.Members.{member_row};
 ghost use Rattle.section_cut.specs.Positions.{uses_in};
-ghost use Rattle.section_cut.specs.ReachedRuns.{IsBareRow, IsRowAfter, StaysRow, row_after};
+ghost use Rattle.section_cut.specs.ReachedRuns.{IsOwnRow, IsRowAfter, StaysRow, row_after};
 ghost use Rattle.section_cut.specs.Starts.{EntersEarly};
 
+use crate::connected::block_part;
 use crate::members::{member_row, row_with};
 use crate::positions::{SectionTable, gather, placed, same_first, same_placed};
 use crate::same_value::same_row;
@@ -28,7 +30,7 @@ pub(crate) fn row_stays(
 ) -> Result<bool, OutOfMemory>
     requires uses { IfSome stair.now (λ s. All (λ u. u.block < length table.positions.now) s.uses) }
     requires own { IfSome stair.now
-        (λ s. IfSome (option_copied own) (IsBareRow table.section.now s.run)) }
+        (λ s. IfSome (option_copied own) (IsOwnRow table.section.now s.run)) }
     ensures { IfOk result (λ stays. IsTrue stays
         ↔ StaysRow table.entry.section.now table.entry.positions.now stair.now (option_copied own.entry)) }
 {
@@ -38,21 +40,21 @@ pub(crate) fn row_stays(
     if has_uses(own, table, stair) {
         return Ok(true);
     }
-    let row = row_made(alloc, table, stair, 0, found)?;
+    let row = joined_to(table, row_made(alloc, table, stair, 0, found)?, own)?;
     Ok(is_same(&row, own))
 }
 
 // Whether a row is there, and has a stair's uses, all of them.
 fn has_uses(own: Option<&CutRow>, table: SectionTable<'_>, stair: &TimedStair) -> bool
     requires uses { All (λ u. u.block < length table.positions.now) stair.now.uses }
-    requires own { IfSome (option_copied own) (IsBareRow table.section.now stair.now.run) }
+    requires own { IfSome (option_copied own) (IsOwnRow table.section.now stair.now.run) }
     ensures { result ≡ true → StaysRow table.entry.section.now table.entry.positions.now (Some stair.now)
         (option_copied own.entry) }
 {
     match own {
         Some(row) => {
             same_placed(
-                row.uses.slice(),
+                block_part(table.section, row.uses.slice()),
                 table.positions,
                 stair.stair().uses.slice(),
             )
@@ -90,7 +92,7 @@ pub(crate) fn row_anew(
 ) -> Result<Option<CutRow>, OutOfMemory>
     requires uses { IfSome stair.now (λ s. All (λ u. u.block < length table.positions.now) s.uses) }
     requires own { IfSome stair.now
-        (λ s. IfSome (option_copied own) (IsBareRow table.section.now s.run)) }
+        (λ s. IfSome (option_copied own) (IsOwnRow table.section.now s.run)) }
     ensures { IfOk result (IsRowAfter (row_after table.entry.section.now table.entry.positions.now stair.now
         (option_map (stamped_row 0) (option_copied own.entry))) number (option_copied own.entry)) }
 {
@@ -123,22 +125,21 @@ fn row_by_stair(
     found: &mut Vec<Use>,
 ) -> Result<Option<CutRow>, OutOfMemory>
     requires uses { All (λ u. u.block < length table.positions.now) stair.now.uses }
-    requires own { IfSome (option_copied own) (IsBareRow table.section.now stair.now.run) }
-    ensures { IfOk result (IsRowAfter (member_row table.entry.section.now stair.now.run 0
-        (uses_in table.entry.positions.now (length table.entry.section.now.blocks) stair.now.uses)) number
-        (option_copied own.entry)) }
+    requires own { IfSome (option_copied own) (IsOwnRow table.section.now stair.now.run) }
+    ensures { IfOk result (IsRowAfter (row_after table.entry.section.now table.entry.positions.now
+        (Some stair.now) (option_map (stamped_row 0) (option_copied own.entry))) number (option_copied own.entry)) }
 {
     if let Some(row) = own {
         if let Some(made) = whole_row(alloc, table, stair, row, number)? {
             return Ok(made);
         }
     }
-    let row = row_made(alloc, table, stair, number, found)?;
+    let row = joined_to(table, row_made(alloc, table, stair, number, found)?, own)?;
     Ok(with_own_stamp(row, own, number))
 }
 
-// This row, where the one before the edit has as many uses as the stair: it is copied where it has
-// the same, and otherwise those that differ are written in a copy of its uses. `None` where it
+// This row, where the one before the edit has as many uses of blocks as the stair: it is copied where
+// it has the same, and otherwise those that differ are written in a copy of them. `None` where it
 // hasn't as many, or a block isn't in the section.
 fn whole_row(
     alloc: Global,
@@ -148,12 +149,11 @@ fn whole_row(
     number: u64,
 ) -> Result<Option<Option<CutRow>>, OutOfMemory>
     requires uses { All (λ u. u.block < length table.positions.now) stair.now.uses }
-    requires own { IsBareRow table.section.now stair.now.run own.now }
-    ensures { IfOk result (λ made. IfSome made (IsRowAfter (member_row table.entry.section.now
-        stair.now.run 0 (uses_in table.entry.positions.now (length table.entry.section.now.blocks)
-        stair.now.uses)) number (Some own.now))) }
+    requires own { IsOwnRow table.section.now stair.now.run own.now }
+    ensures { IfOk result (λ made. IfSome made (IsRowAfter (row_after table.entry.section.now
+        table.entry.positions.now (Some stair.now) (Some (stamped_row 0 own.now))) number (Some own.now))) }
 {
-    let uses = own.uses.slice();
+    let uses = block_part(table.section, own.uses.slice());
     let its = stair.stair();
     let stairway = its.uses.slice();
     if uses.len() != stairway.len() {
@@ -166,7 +166,34 @@ fn whole_row(
     let Some(uses) = placed(alloc, table, uses, same, stairway)? else {
         return Ok(None);
     };
-    Ok(Some(row_with(table.section, its.run, number, stair.entry(), uses)))
+    let row = row_with(table.section, its.run, number, stair.entry(), uses);
+    let row = joined_to(table, row, Some(own))?;
+    Ok(Some(with_own_stamp(row, Some(own), number)))
+}
+
+// A row, if it is there, with the uses of connections of another, if that is there.
+fn joined_to(
+    table: SectionTable<'_>,
+    row: Option<CutRow>,
+    own: Option<&CutRow>,
+) -> Result<Option<CutRow>, OutOfMemory>
+    requires { IfSome (option_copied own)
+        (λ r. AreBlocksFirst (length table.section.now.blocks) r.uses) }
+    ensures { IfOk result (λ made. made
+        ≡ option_map (with_rest table.entry.section.now (option_copied own.entry)) row) }
+{
+    let Some(mut row) = row else {
+        return Ok(None);
+    };
+    let Some(own) = own else {
+        return Ok(Some(row));
+    };
+    let uses = own.uses.slice();
+    let from = block_part(table.section, uses).len();
+    for one in &uses[from..] {
+        row.uses.push(*one)?;
+    }
+    Ok(Some(row))
 }
 
 // A row with its stamp after the edit of a number, by the row of its name before it.

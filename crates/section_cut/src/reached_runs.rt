@@ -1,16 +1,16 @@
-//! What a change of a block, a signal or a route makes of a section's cut, where there are no
-//! connections: it reaches the rows of the runs that pass what is edited, and no other.
-ghost use Rattle.std.specs.Prelude.{◌≡◌, ◌↔◌, ◌<◌, ◌++◌, IsTrue, Bool, if◌then◌else◌, [], All, length, map, IfOk, IfSome, IfNone, OnOk, Some, None};
+//! What a change of a block, a signal or a route makes of a section's cut. It reaches the rows of the
+//! runs that pass what is edited, and no other. Where there are connections, these runs are to enter
+//! the section as before, so that the same connections bind; else its cut is made anew.
+ghost use Rattle.std.specs.Prelude.{◌≡◌, ◌↔◌, ◌<◌, ◌++◌, IsTrue, Bool, if◌then◌else◌, true, All, length, IfOk, IfSome, OnOk, Some, None, option_map};
 ghost use Rattle.std.specs.Option.{option_to_list, option_copied};
 ghost use Rattle.line_tables.specs.Paths.{paths_of};
-ghost use Rattle.plan_model.specs.Cut.{stamped, stamped_row};
+ghost use Rattle.plan_model.specs.Cut.{stamped};
 ghost use Rattle.plan_model.specs.SectionCut.{cut_of};
 ghost use Rattle.rail_model.specs.Tables.{run_at, path_in};
 ghost use Rattle.section_cut.specs.Change.{IsChange};
-ghost use Rattle.section_cut.specs.Members.{rows_on_blocks};
 ghost use Rattle.section_cut.specs.ReachedRuns.{IsSameTraffic, KeepsBlocks, IsTold, AreReachedRuns};
-ghost use Rattle.section_cut.specs.RowsAfter.{AreBeside, AreRowsAfter, IsOwnOf};
-ghost use Rattle.section_cut.specs.Stamps.{AreBefore, IsReached, IsStampedBy};
+ghost use Rattle.section_cut.specs.RowsAfter.{AreBeside, AllStay, AreRowsAfter, IsOwnOf};
+ghost use Rattle.section_cut.specs.Stamps.{AreBefore, IsReached};
 ghost use Rattle.line_tables.specs.Passing.{passes_block, passes_signal};
 ghost use Rattle.rail_model.specs.declared.items.Run.{Run};
 ghost use Rattle.rail_model.specs.Edits as edits;
@@ -19,7 +19,7 @@ ghost use Rattle.rail_model.specs.Path.{Fits};
 ghost use Rattle.rail_model.specs.Blocking.{stair_of};
 ghost use Rattle.section_cut.specs.ReachedRuns as reached;
 
-use crate::cut_changes::{BothTables, CutChange};
+use crate::cut_changes::{BothTables, CutChange, cut_made_anew};
 use crate::positions::{SectionTable, positions};
 use crate::reached_rows::{row_anew, row_stays};
 use crate::same_value::same_name;
@@ -44,7 +44,6 @@ pub(crate) fn reached_runs(
 ) -> Result<Vec<Option<TimedStair>>, OutOfMemory>
     requires after { after.now ≡ edits.after before.now edit.now }
     requires keeps { KeepsBlocks edit.now }
-    requires none { before.now.connections ≡ [] }
     requires same { IsSameTraffic before.now after.now }
     ensures { IfOk result (λ stairs. AreReachedRuns before.now after.now stairs.items) }
 {
@@ -206,38 +205,18 @@ pub(crate) fn cut_after_runs(
         section: &old.section,
         positions: &positions,
     };
-    let Some(rows) = rows_changed(alloc, both, reached, table, old.rows.slice(), number)? else {
+    let rows = old.rows.slice();
+    if rows_stay(alloc, both, reached, table, rows)? {
         return Ok(CutChange::Untouched);
+    }
+    let Some(rows) = rows_after(alloc, both, reached, table, rows, number)? else {
+        return cut_made_anew(alloc, both, Some(old), section, number);
     };
     Ok(CutChange::Touched(Some(Cut {
         section: old.section.copy(alloc)?,
-        connections: List::new(alloc),
+        connections: old.connections.copy(alloc)?,
         rows,
     })))
-}
-
-// The rows of a section's cut after the edit of a number, where the cut before it has these; `None`
-// exactly where their values stay.
-fn rows_changed(
-    alloc: Global,
-    both: BothTables<'_>,
-    reached: &[Option<TimedStair>],
-    table: SectionTable<'_>,
-    old: &[CutRow],
-    number: u64,
-) -> Result<Option<List<CutRow>>, OutOfMemory>
-    requires { AreBeside both.before.now both.after.now reached.now table.section.now
-        table.positions.now old.now }
-    ensures stay { IfOk result (λ rows. IfNone rows
-        (rows_on_blocks both.entry.after.now table.entry.section.now 0
-        ≡ rows_on_blocks both.entry.before.now table.entry.section.now 0)) }
-    ensures change { IfOk result (λ rows. IfSome rows (AreRowsAfter both.entry.before.now both.entry.after.now
-        table.entry.section.now number old.now)) }
-{
-    if rows_stay(alloc, both, reached, table, old)? {
-        return Ok(None);
-    }
-    Ok(Some(rows_after(alloc, both, reached, table, old, number)?))
 }
 
 // Whether all rows have the values after an edit that they had before it.
@@ -250,9 +229,8 @@ fn rows_stay(
 ) -> Result<bool, OutOfMemory>
     requires { AreBeside both.before.now both.after.now reached.now table.section.now
         table.positions.now old.now }
-    ensures { IfOk result (λ stay. IsTrue stay
-        ↔ (rows_on_blocks both.entry.after.now table.entry.section.now 0
-        ≡ rows_on_blocks both.entry.before.now table.entry.section.now 0)) }
+    ensures { IfOk result (λ stay. IsTrue stay ↔ AllStay both.entry.after.now reached.now
+        table.entry.section.now table.entry.positions.now old.now) }
 {
     let mut found = Vec::new(alloc);
     let mut at = 0;
@@ -265,7 +243,8 @@ fn rows_stay(
     Ok(true)
 }
 
-// The rows after the edit of a number: their values and their stamps.
+// The rows after the edit of a number: their values and their stamps. `None` where there are
+// connections, and a run doesn't enter as before.
 fn rows_after(
     alloc: Global,
     both: BothTables<'_>,
@@ -273,22 +252,39 @@ fn rows_after(
     table: SectionTable<'_>,
     old: &[CutRow],
     number: u64,
-) -> Result<List<CutRow>, OutOfMemory>
+) -> Result<Option<List<CutRow>>, OutOfMemory>
     requires { AreBeside both.before.now both.after.now reached.now table.section.now
         table.positions.now old.now }
-    ensures value { IfOk result (λ rows. map (stamped_row 0) rows
-        ≡ rows_on_blocks both.entry.after.now table.entry.section.now 0) }
-    ensures stamps { IfOk result (All (IsStampedBy number old.now)) }
+    ensures { IfOk result (λ rows. IfSome rows (AreRowsAfter both.entry.before.now
+        both.entry.after.now table.entry.section.now number old.now)) }
 {
+    let joined = both.before.connections() > 0;
     let mut found = Vec::new(alloc);
     let mut rows = List::new(alloc);
     let mut at = 0;
     for n in 0..both.after.runs() {
         let own = row_of(both.after, n, old, &mut at);
         let row = row_anew(alloc, table, &reached[n as usize], own, number, &mut found)?;
+        if joined && !enters_as(&row, own) {
+            return Ok(None);
+        }
         push_row(&mut rows, row)?;
     }
-    Ok(rows)
+    Ok(Some(rows))
+}
+
+// Whether a row has the entry of another, or neither is there.
+fn enters_as(row: &Option<CutRow>, own: Option<&CutRow>) -> bool
+    ensures { result ≡ true → option_map (λ r. r.entry) row.now
+        ≡ option_map (λ r. r.entry) (option_copied own.entry) }
+{
+    match row {
+        Some(row) => match own {
+            Some(own) => row.entry == own.entry,
+            None => false,
+        },
+        None => own.is_none(),
+    }
 }
 
 // The row of the run of a number, if it has one, where all rows below a place have names before the

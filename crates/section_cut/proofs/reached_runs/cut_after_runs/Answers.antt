@@ -1,15 +1,18 @@
 use Rattle.std.proofs.Common.{◌≡◌, List, map, sym, subst}
-use Rattle.std.specs.Prelude.{IfSome, IfNone}
+use Rattle.std.specs.Prelude.{IfSome}
+use Rattle.std.proofs.lemmas.Bool.{both_ways}
 use Rattle.rail_model.specs.Name.{NamesRise}
 use Rattle.plan_model.specs.declared.cut.CutRow.{CutRow}
 use Rattle.plan_model.specs.Cut.{stamped_row}
-use Rattle.section_cut.specs.Members.{rows_on_blocks}
 use Rattle.section_cut.specs.Positions.{IsPositions}
-use Rattle.section_cut.specs.RowsAfter.{AreRowsAfter}
+use Rattle.section_cut.specs.RowsAfter.{AreBeside, AreRowsAfter}
+use Rattle.section_cut.proofs.OldRows.{cut_rows}
+use Rattle.section_cut.proofs.OneRun.{cut_is}
 use Rattle.section_cut.proofs.PassedBy.{section_there, section_is, section_of_cut}
-use Rattle.section_cut.proofs.ReachedRuns.{old_rows, cut_same, cut_changes}
+use Rattle.section_cut.proofs.ReachedRuns.{cut_same, cut_changes}
 use Rattle.section_cut.proofs.SameValue.{sound_cut_of}
 use Rattle.section_cut.proofs.reached_runs.cut_after_runs.Goals as goal
+use Rattle.section_cut.proofs.reached_runs.cut_after_runs.Goals.{After-slice-rows}
 
 pub unreachable-requires : goal.unreachable-requires
 unreachable-requires c =
@@ -22,8 +25,9 @@ invariant_of-table c = record {
   most = (sound_cut_of c.args.both.before.now c.learn_sound.ensures c.args.section.now c.args.old.now c.requires.cut).most_blocks;
 }
 
-pub rows_changed-requires : goal.rows_changed-requires
-rows_changed-requires c =
+-- both tables with the stairs, and the section with its rows
+beside : (c : After-slice-rows) → AreBeside c.args.both.before.now c.args.both.after.now c.args.reached.now c.args.old.now.section c.in_ok-positions.positions.items c.args.old.now.rows
+beside c =
     let earlier = c.args.both.before.now in
     let later = c.args.both.after.now in
     let old = c.args.old.now in
@@ -34,20 +38,24 @@ rows_changed-requires c =
       earlier_sound = c.learn_sound.ensures;
       later_sound = c.learn_sound-2.ensures;
       reached = c.requires.reached;
-      table = rw c.deref.ensures.value (subst (λ s. IsPositions later s c.in_ok-positions.positions.items) section c.in_ok-positions.ensures);
-      rows = subst (λ (rs : List CutRow). map (stamped_row 0) rs ≡ rows_on_blocks earlier old.section 0) (sym c.slice.ensures)
-          (old_rows earlier later c.args.reached.now c.requires.reached c.args.section.now old c.requires.cut);
-      rise = subst (NamesRise (λ (r : CutRow). r.name)) (sym c.slice.ensures)
-          (sound_cut_of earlier c.learn_sound.ensures c.args.section.now old c.requires.cut).names_rise;
+      table = subst (λ s. IsPositions later s c.in_ok-positions.positions.items) section c.in_ok-positions.ensures;
+      rows = cut_rows earlier old.section old (cut_is earlier c.args.section.now old c.requires.cut);
+      rise = (sound_cut_of earlier c.learn_sound.ensures c.args.section.now old c.requires.cut).names_rise;
     }
 
-pub returns-in_default-2 : goal.returns-in_default-2
-returns-in_default-2 c =
-    let earlier = c.args.both.before.now in
+pub rows_stay-requires : goal.rows_stay-requires
+rows_stay-requires c = rw (c.deref.ensures.value, c.slice-rows.ensures) (beside (goal.at.rows_stay-requires c).After-slice-rows)
+
+pub rows_after-requires : goal.rows_after-requires
+rows_after-requires c = rw (c.deref.ensures.value, c.slice-rows.ensures) (beside (goal.at.rows_after-requires c).After-slice-rows)
+
+pub returns-then-branch : goal.returns-then-branch
+returns-then-branch c =
     let later = c.args.both.after.now in
-    let section = c.args.old.now.section in
-    cut_same earlier later c.args.reached.now c.requires.reached c.args.section.now c.args.old.now c.requires.cut
-    (subst (λ o. IfNone o (rows_on_blocks later section 0 ≡ rows_on_blocks earlier section 0)) c.in_default-2.is c.in_ok-rows.ensures.stay)
+    let old = c.args.old.now in
+    cut_same c.args.both.before.now later c.args.reached.now c.args.section.now old c.requires.cut c.in_ok-positions.positions.items
+    (beside (goal.at.returns-then-branch c).After-slice-rows)
+    (rw (c.deref.ensures.value, c.slice-rows.ensures) at (c.in_ok-rows_stay.ensures.0 c.if-branch.true))
 
 pub returns : goal.returns
 returns c =
@@ -55,8 +63,10 @@ returns c =
     let later = c.args.both.after.now in
     let old = c.args.old.now in
     let rows = c.in-Some-2.rows in
-    cut_changes earlier later c.args.reached.now c.requires.reached c.args.section.now old c.requires.cut
-    (record { section = c.in_ok-copy.field-0; connections = c.new.result; rows = rows }) c.in_ok-copy.ensures c.new.ensures c.args.number
-    (subst (λ rs. AreRowsAfter earlier later old.section c.args.number rs rows) c.slice.ensures
-    (subst (λ o. IfSome o (AreRowsAfter earlier later old.section c.args.number c.slice.result.now)) c.in-Some-2.is c.in_ok-rows.ensures.change))
-    c.learn_sound-2.ensures
+    let after : AreRowsAfter earlier later old.section c.args.number old.rows rows =
+    subst (λ rs. AreRowsAfter earlier later old.section c.args.number rs rows) c.slice-rows.ensures
+    (subst (λ o. IfSome o (AreRowsAfter earlier later old.section c.args.number c.slice-rows.result.now)) c.in-Some-2.is c.in_ok-rows.ensures) in
+    cut_changes earlier later c.args.reached.now c.args.section.now old c.requires.cut c.in_ok-positions.positions.items
+    (beside (goal.at.returns c).After-slice-rows)
+    (record { section = c.in_ok-copy.field-0; connections = c.in_ok-copy-2.field-0; rows = rows }) c.in_ok-copy.ensures c.in_ok-copy-2.ensures c.args.number after
+    (λ all. both_ways c.in_ok-rows_stay.field-0 c.if-branch.false (c.in_ok-rows_stay.ensures.1 (rw (← c.deref.ensures.value, ← c.slice-rows.ensures) at all)))

@@ -1,10 +1,15 @@
-use Rattle.std.proofs.Common.{◌<◌, length, map, sym, ap, ◌∙◌, subst, arith}
-use Rattle.std.specs.Prelude.{All}
+use Rattle.std.proofs.Common.{◌≡◌, ℕ, ◌<◌, length, map, sym, ap, ◌∙◌, subst, inl, inr, arith}
+use Rattle.std.proofs.lemmas.Bool.{cases_lt}
+use Rattle.std.proofs.lemmas.List.{nil_from_length, take_all}
+use Rattle.std.specs.Prelude.{All, filter}
 use Rattle.std.specs.Option.{option_copied}
 use Rattle.plan_model.specs.Cut.{stamped_row}
+use Rattle.plan_model.specs.SectionCut.{is_member, row_of}
+use Rattle.section_cut.specs.RowsAfter.{IsKept}
 use Rattle.section_cut.specs.Stamps.{IsStampedBy}
-use Rattle.section_cut.proofs.ReachedRuns.{before_next, stair_uses, own_bare, rows_with, stamps_with}
+use Rattle.section_cut.proofs.ReachedRuns.{kept_binding, before_next, stair_uses, own_bare, kept_with, rows_with, stamps_with}
 use Rattle.section_cut.proofs.reached_runs.rows_after.Goals as goal
+use Rattle.section_cut.proofs.reached_runs.rows_after.Goals.{else-joined-via-then-joined+else-not-enters_as, else-joined-via-else-joined}
 
 pub row_of-own-requires-clause-before : goal.row_of-own-requires-clause-before
 row_of-own-requires-clause-before c = c.loop-n.invariant.before (omega (arith, c.loop-n-test.true, c.runs-n-end.ensures.count))
@@ -20,16 +25,46 @@ row_anew-requires-clause-own c =
 
 pub loop-n-preserved : goal.loop-n-preserved
 loop-n-preserved c =
+    let earlier = c.args.both.before.now in
+    let later = c.args.both.after.now in
+    let s = c.args.table.section.now in
     let n = c.loop-n.n in
     let stair = c.index-reached-n.result in
     let its = c.index-reached-n.is in
     let own = option_copied c.row_of-own.result in
     let found = c.row_of-own.ensures.own in
-    let below : n < length c.args.both.after.now.runs = omega (arith, c.loop-n-test.true, c.runs-n-end.ensures.count) in
+    let row = c.in_ok-row.row in
+    let below : n < length later.runs = omega (arith, c.loop-n-test.true, c.runs-n-end.ensures.count) in
+    let kept : IsKept earlier later s n =
+    elim c.else-joined.branch [
+      | else-joined-via-then-joined+else-not-enters_as w ↦
+          inr (kept_with c.requires n below stair its own found c.args.number row c.in_ok-row.ensures c.loop-n.rows (w.enters_as.ensures w.if-not-enters_as.false))
+      | else-joined-via-else-joined w ↦ inl (nil_from_length earlier.connections (omega (arith, w.if-joined.false, c.connections-joined.ensures.count)))
+    ] in
     record {
-      value = ap (map (stamped_row 0)) c.in_ok-push_row.ensures
-          ∙ rows_with c.requires n below stair its own found c.args.number c.in_ok-row.row c.in_ok-row.ensures c.loop-n.rows c.loop-n.invariant.value;
+      kept = λ k l. elim (cases_lt k n) [
+        | inl lt ↦ c.loop-n.invariant.kept k lt
+        | inr ge ↦ let last : n ≡ k = omega (arith, ge, l) in subst (IsKept earlier later s) last kept
+      ];
+      value = λ binding. ap (map (stamped_row 0)) c.in_ok-push_row.ensures
+          ∙ rows_with c.requires n below stair its own found c.args.number row c.in_ok-row.ensures c.loop-n.rows kept binding (c.loop-n.invariant.value binding);
       stamps = subst (All (IsStampedBy c.args.number c.args.old.now)) (sym c.in_ok-push_row.ensures)
-          (stamps_with c.requires n below stair its own found c.args.number c.in_ok-row.row c.in_ok-row.ensures c.loop-n.rows c.loop-n.invariant.stamps);
+          (stamps_with c.requires n below stair its own found c.args.number row c.in_ok-row.ensures c.loop-n.rows c.loop-n.invariant.stamps);
       before = λ next. before_next c.requires n c.row_of-own.new.at c.row_of-own.ensures.at next;
+    }
+
+pub returns : goal.returns
+returns c =
+    let earlier = c.args.both.before.now in
+    let later = c.args.both.after.now in
+    let s = c.args.table.section.now in
+    let count = ap length c.requires.reached.same.runs in
+    let kept : (n : ℕ) → n < length earlier.runs → IsKept earlier later s n =
+    λ n l. c.loop-n.invariant.kept n (omega (arith, l, count, c.loop-n-test.false, c.runs-n-end.ensures.count)) in
+    record {
+      kept = kept;
+      value = c.loop-n.invariant.value (kept_binding c.requires kept)
+          ∙ ap (λ rs. map (row_of later s) (filter (is_member later s) rs))
+          (take_all c.loop-n.n earlier.runs (omega (arith, count, c.loop-n-test.false, c.runs-n-end.ensures.count)));
+      stamps = c.loop-n.invariant.stamps;
     }
