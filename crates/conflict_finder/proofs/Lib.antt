@@ -8,3 +8,4 @@ pub mod Joins
 pub mod BlockByBlock
 pub mod Moves
 pub mod InParts
+pub mod Unique

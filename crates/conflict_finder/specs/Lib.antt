@@ -2,3 +2,4 @@ pub mod Found
 pub mod Runs
 pub mod ByBlock
 pub mod Sweep
+pub mod Laws

@@ -21,6 +21,7 @@
 mod by_block;
 mod found;
 mod in_order;
+mod laws;
 mod parts;
 mod ranked;
 mod run_starts;
@@ -28,4 +29,5 @@ mod sweep;
 mod visits;
 
 pub use found::{Conflict, Conflicts, LISTED};
+pub use laws::{conflicts_are_unique, found_is_unique};
 pub use sweep::conflicts;
