@@ -8,3 +8,4 @@ pub mod Plans
 pub mod Reports
 pub mod Published
 pub mod Pairs
+pub mod Totals

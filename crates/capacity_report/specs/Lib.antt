@@ -10,3 +10,4 @@ pub mod Report
 pub mod Journal
 pub mod Published
 pub mod Shown
+pub mod Laws

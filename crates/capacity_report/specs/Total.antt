@@ -1,5 +1,5 @@
 -- The total of a report.
-use Rattle.std.specs.Prelude.{ℕ, ◌+◌, ◌≤◌, Bool, true, false, not, cond, List, [], ◌∷◌, length, count_by, codes, decimal}
+use Rattle.std.specs.Prelude.{◌≡◌, ℕ, ◌+◌, ◌≤◌, Bool, true, false, not, cond, List, [], ◌∷◌, length, count_by, codes, decimal}
 use Rattle.plan_model.specs.declared.cut.Cut.{Cut}
 use Rattle.plan_model.specs.declared.answer.Answer.{Answer}
 use Rattle.plan_model.specs.declared.answer.Answer.TheVariants as answer
@@ -85,13 +85,20 @@ joined first second = record {
   crowded = first.crowded + second.crowded;
 }
 
--- no count is more than that of the sections
+-- no count is more than that of the sections; each section is ordered, in disorder or crowded, and each ordered one is
+-- within or over its capacity
 pub record IsTally (sections ordered within over disordered crowded : ℕ) : Type 0 where
   pub few_ordered : ordered ≤ sections
   pub few_within : within ≤ sections
   pub few_over : over ≤ sections
   pub few_disordered : disordered ≤ sections
   pub few_crowded : crowded ≤ sections
+  pub each_kind : sections ≡ ordered + disordered + crowded
+  pub each_rate : ordered ≡ within + over
+
+-- the counts of a total add up
+abbrev pub AddsUp : Total → Type 0
+AddsUp total = IsTally total.sections total.ordered total.within total.over total.disordered total.crowded
 
 -- total,SECTIONS,ORDERED,WITHIN,OVER,DISORDERED,CROWDED
 abbrev pub total_row : Total → Row
