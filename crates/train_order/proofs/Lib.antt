@@ -24,3 +24,4 @@ pub mod Opposed
 pub mod InOrder
 pub mod Answered
 pub mod Next
+pub mod Unique

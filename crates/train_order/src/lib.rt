@@ -34,7 +34,7 @@ mod visits;
 
 pub use disorder::disorder_of;
 pub use found::{Disordered, Order, RingMembers};
-pub use laws::each_comes_next;
+pub use laws::{disorder_is_unique, each_comes_next, ordered_has_no_disorder};
 pub use link_place::place_of_link;
 pub use ordering::order;
 pub use plan_model::Disorder;
