@@ -9,3 +9,4 @@ pub mod InSection
 pub mod Paired
 pub mod Ways
 pub mod Apart
+pub mod Unique

@@ -58,3 +58,8 @@ StretchesAreDisjoint =
 -- there is one piece more than stretches
 abbrev pub OnePieceMore : Type 0
 OnePieceMore = (cut : Cut) (cutting : Cutting) → IsCutting cut cutting → length cutting.ends ≡ length cutting.stretches + 1
+
+-- a cut has at most one cutting: one list of ends, and one stretch with one disorder for each piece but the last
+abbrev pub CuttingIsUnique : Type 0
+CuttingIsUnique =
+    (cut : Cut) (cutting other : Cutting) → IsCutting cut cutting → IsCutting cut other → cutting ≡ other

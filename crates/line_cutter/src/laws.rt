@@ -1,5 +1,5 @@
 //! Laws of the definitions: each function does nothing, and its contract is the law.
-ghost use Rattle.line_cutter.specs.Laws.{PartIsOrderly, NoFewerPieces, EachIsLongest, EachNeedsACut, StretchesAreDisjoint, OnePieceMore};
+ghost use Rattle.line_cutter.specs.Laws.{PartIsOrderly, NoFewerPieces, EachIsLongest, EachNeedsACut, StretchesAreDisjoint, OnePieceMore, CuttingIsUnique};
 
 /// A part of an orderly piece is orderly.
 pub fn part_is_orderly()
@@ -31,4 +31,10 @@ pub fn stretches_are_disjoint()
 /// There is one piece more than stretches.
 pub fn one_piece_more()
     ensures { OnePieceMore }
+{}
+
+/// A cut has at most one cutting: one list of ends, and one stretch with one disorder for each
+/// piece but the last.
+pub fn cutting_is_unique()
+    ensures { CuttingIsUnique }
 {}
