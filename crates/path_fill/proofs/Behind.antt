@@ -25,7 +25,7 @@ use Rattle.path_fill.proofs.Least.{IsOwnHeadway, copy_entry, copy_entries, at}
 
 -- ---- moments
 
-abs_is : (z : ℤ) → pos 0 ≤ℤ z → pos (nat_abs z) ≡ z
+pub abs_is : (z : ℤ) → pos 0 ≤ℤ z → pos (nat_abs z) ≡ z
 abs_is (pos n) h = refl
 abs_is (negsuc n) h = absurd (omega (arith, ints, h))
 

@@ -50,7 +50,7 @@ module _ (cut : Cut) (sound : IsSoundCut cut) (r : ℕ) (there : r < member_coun
         ∙ ap (occupancy (with_copies cut r 0)) (sym (append-nil entries))
     time_is (suc more) = sym (occupancy_is cut sound r there entries least entry headway first own more time kept)
 
-    filled_is : (count : ℕ) → IsFilledOccupancy cut r count (filled_time (occupancy cut entries) time headway count)
+    pub filled_is : (count : ℕ) → IsFilledOccupancy cut r count (filled_time (occupancy cut entries) time headway count)
     filled_is count = (
       entries,
       copy_entries entry headway count,

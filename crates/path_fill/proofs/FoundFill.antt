@@ -1,6 +1,6 @@
 -- What is found of trains that are placed.
-use Rattle.std.proofs.Common.{◌≡◌, ℕ, ◌<◌, ◌≤◌, List, [], refl, sym, subst, arith}
-use Rattle.std.specs.Prelude.{ℤ, pos, negsuc, ◌≤ℤ◌, nat_abs, All, Option}
+use Rattle.std.proofs.Common.{◌≡◌, ℕ, ◌<◌, ◌≤◌, List, [], sym, subst, arith}
+use Rattle.std.specs.Prelude.{ℤ, pos, nat_abs, All, Option}
 use Rattle.std.proofs.lemmas.Int.{ints}
 use Rattle.plan_model.specs.declared.limits.TheConstants.{MEMBERS}
 use Rattle.plan_model.specs.declared.cut.Cut.{Cut}
@@ -22,12 +22,9 @@ use Rattle.train_placing.proofs.Whole.{least}
 use Rattle.path_fill.specs.declared.found.Fill.{Fill}
 use Rattle.path_fill.specs.Filling.{IsFill}
 use Rattle.path_fill.specs.Search.{asked, kept_to, time_at, IsGreatest, IsFillBy}
+use Rattle.path_fill.proofs.Behind.{abs_is}
 use Rattle.path_fill.proofs.FirstCopy.{first_copy_is}
 use Rattle.path_fill.proofs.Filled.{own_is, fill_is}
-
-abs_is : (z : ℤ) → pos 0 ≤ℤ z → pos (nat_abs z) ≡ z
-abs_is (pos n) h = refl
-abs_is (negsuc n) h = absurd (omega (arith, ints, h))
 
 pub own_some : (cut : Cut) → IsSoundCut cut → (r : ℕ) → r < member_count cut → (headway : ℤ)
     → IsGreatest (uses_place (member cut r)) (time_at cut r) (block_count cut) (pos 0) headway → 0 < nat_abs headway

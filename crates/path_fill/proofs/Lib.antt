@@ -8,3 +8,6 @@ pub mod SpanStarts
 pub mod Filled
 pub mod FoundFill
 pub mod Unique
+pub mod Merged
+pub mod SomeFill
+pub mod Falls

@@ -1,7 +1,22 @@
 //! Laws of the definitions: each function does nothing, and its contract is the law.
-ghost use Rattle.path_fill.specs.Laws.{FilledOccupancyIsUnique};
+ghost use Rattle.path_fill.specs.Laws.{FilledOccupancyIsUnique, MembersEnterAsCompressed, OccupancyNeverFalls, ConsumptionNeverFalls};
 
 /// With so many copies there is at most one filled occupancy.
 pub fn filled_occupancy_is_unique()
     ensures { FilledOccupancyIsUnique }
+{}
+
+/// However many copies follow them, the trains of a section enter as in the compressed timetable.
+pub fn members_enter_as_compressed()
+    ensures { MembersEnterAsCompressed }
+{}
+
+/// With more copies of a train of a sound cut, the filled occupancy is no less.
+pub fn occupancy_never_falls()
+    ensures { OccupancyNeverFalls }
+{}
+
+/// With more copies of a train of a sound cut, the capacity consumption is no less.
+pub fn consumption_never_falls()
+    ensures { ConsumptionNeverFalls }
 {}
