@@ -1,4 +1,5 @@
 pub mod Floors
 pub mod Later
+pub mod Greater
 pub mod Tied
 pub mod Tally

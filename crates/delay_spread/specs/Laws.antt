@@ -1,10 +1,10 @@
 -- Laws of delayed schedules.
-use Rattle.std.specs.Prelude.{◌≡◌, ℕ, ◌<◌, ℤ, ◌+ℤ◌, pos, List, All}
+use Rattle.std.specs.Prelude.{◌≡◌, ℕ, ◌<◌, ◌≤◌, ℤ, ◌+ℤ◌, ◌≤ℤ◌, pos, List, All}
 use Rattle.plan_model.specs.declared.cut.Cut.{Cut}
 use Rattle.plan_model.specs.Members.{member_count}
 use Rattle.plan_model.specs.Schedule.{entry_at, IsSchedule}
 use Rattle.plan_model.specs.Planned.{planned_entries}
-use Rattle.delay_spread.specs.Delayed.{delayed_floor, knock_on, IsDelayedSchedule, IsLeastDelayed}
+use Rattle.delay_spread.specs.Delayed.{delay_at, delayed_floor, knock_on, IsDelayedSchedule, IsLeastDelayed}
 
 -- where no train is delayed and the planned entries are a schedule, no train has a knock-on delay
 abbrev pub NoneIsKnockedOn : Type 0
@@ -18,3 +18,11 @@ EntersByItsKnockOn =
     (cut : Cut) (delays : List ℕ) (entries : List ℤ) → IsDelayedSchedule cut delays entries
     → (i : ℕ) → i < member_count cut
     → entry_at entries i ≡ delayed_floor cut delays i +ℤ pos (knock_on cut delays entries i)
+
+-- where each train's own delay is at least as great, no train enters earlier
+abbrev pub NoneIsEarlier : Type 0
+NoneIsEarlier =
+    (cut : Cut) (delays greater : List ℕ) (entries others : List ℤ) → IsLeastDelayed cut delays entries
+    → IsLeastDelayed cut greater others
+    → ((i : ℕ) → i < member_count cut → delay_at delays i ≤ delay_at greater i)
+    → (i : ℕ) → i < member_count cut → entry_at entries i ≤ℤ entry_at others i
