@@ -1,2 +1,6 @@
-mod Laws
+mod Compressed
 pub mod Taken
+mod Fewer
+mod Rounds
+pub mod SomeLeast
+mod SomeAnswer

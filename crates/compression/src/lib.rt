@@ -17,5 +17,7 @@
 #![tactic(auto)]
 
 mod answering;
+mod laws;
 
 pub use answering::{answer, answer_of_cut};
+pub use laws::{answer_is_there, least_is_there, none_is_later_without};

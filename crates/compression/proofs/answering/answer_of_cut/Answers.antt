@@ -1,6 +1,6 @@
 use Rattle.std.proofs.Common.{subst}
 use Rattle.plan_model.specs.Answer.{IsCompressed}
-use Rattle.compression.proofs.Laws.{none_later, reaches_to_closing, reaches_each_closing}
+use Rattle.compression.proofs.Compressed.{none_later, reaches_to_closing, reaches_each_closing}
 use Rattle.compression.proofs.answering.answer_of_cut.Goals as goal
 
 pub returns-in_ok-plan-in-Ok-clause-not_later : goal.returns-in_ok-plan-in-Ok-clause-not_later
