@@ -5,19 +5,19 @@ use Rattle.std.specs.List.{range_with_len}
 use Rattle.std.specs.Prelude.{Option, All, Result, Ok, Err, OnErr}
 use Rattle.std.proofs.lemmas.List.Elements.{All-nil, All-push, All-map}
 use Rattle.std.proofs.lemmas.List.FromFn.{map-range_with_len_more, length-map-range_with_len}
-use Rattle.std.proofs.lemmas.List.FromFn.{get_or-map-range_with_len}
+use Rattle.std.proofs.lemmas.List.FromFn.{get_or-map-range_with_len, length-range_with_len, get_or-range_with_len}
 use Rattle.atomic_table.specs.Seated.{TableId}
 use Rattle.atomic_table.specs.declared.shared.Seat.{Seat}
 use Rattle.turn_desk.specs.declared.rule.View.{View}
 use Rattle.turn_desk.specs.declared.kept.TheConstants.{MOST_PASSES}
-use Rattle.turn_desk.specs.Entering.{Issues, EntersSome, EntersAll}
+use Rattle.turn_desk.specs.Entering.{Issues, EntersSome, EntersAll, LaterNumbersAreGreater}
 use Rattle.turn_desk.specs.Journal.{GoesOn, AddsOwn, Calls}
 use Rattle.turn_desk.specs.Known.{Known, IsSamePass, new_pass, new_passes}
 use Rattle.turn_desk.specs.Laws.{NewPassesStandInOrder, NumbersTellDesks}
 use Rattle.turn_desk.specs.Seats.{known, known_of}
 use Rattle.turn_desk.specs.Views.{newcomer, one_fewer, with_drawn}
 use Rattle.turn_desk.specs.Steps.{Mine}
-use Rattle.turn_desk.proofs.Fitting.{all_of}
+use Rattle.turn_desk.proofs.Fitting.{all_of, grown}
 
 module _ {E : Type 0} (pass_of : E → ℕ) (issued_by : List E → ℕ) where
   pub issues_none : (number : ℕ) (xs : List E) → Issues pass_of issued_by number 0 xs xs
@@ -84,6 +84,23 @@ module _ {E : Type 0} (pass_of : E → ℕ) (issued_by : List E → ℕ) where
           issued = drew.0.issued;
           passes = drew.1 ∙ ap (λ d. new_passes d new.seen (issued_by taken.seen) count) desk;
         }
+
+  pub later_greater : ((xs ys : List E) → issued_by xs ≤ issued_by (xs ++ ys))
+      → LaterNumbersAreGreater pass_of issued_by
+  later_greater grows entries more old new count given goes enters =
+      let found = enters.call.found in
+      let first = issued_by found in
+      let least : issued_by entries ≤ first =
+      omega (
+        arith,
+        grown pass_of issued_by grows entries old.seen more goes,
+        grown pass_of issued_by grows old.seen found enters.call.goes_on.more enters.call.goes_on.is,
+      ) in
+      let from : All (λ n. issued_by entries ≤ n) (range_with_len first count) = λ i d l.
+      let lt : i < count = omega (arith, l, length-range_with_len first count) in
+      omega (arith, least, get_or-range_with_len first count i d lt) in
+      subst (All (λ k. issued_by entries ≤ k.number)) (sym enters.passes)
+      (All-map (λ k. issued_by entries ≤ k.number) (λ n. new_pass old.desk n new.seen) (range_with_len first count) from)
 
 -- a fact that holds anyway
 pub on_err : {T E P : Type 0} (r : Result T E) → P → OnErr r P

@@ -1,5 +1,5 @@
 -- What `enter` does: one call by a pass, whose own entries stand side by side and issue one number each.
-use Rattle.std.specs.Prelude.{◌≡◌, ℕ, ◌+◌, ◌<◌, ◌≤◌, List, length, All, Result, MatchResult}
+use Rattle.std.specs.Prelude.{◌≡◌, ℕ, ◌+◌, ◌<◌, ◌≤◌, List, ◌++◌, length, All, Result, MatchResult}
 use Rattle.rail_model.specs.declared.memory.OutOfMemory.{OutOfMemory}
 use Rattle.turn_desk.specs.declared.kept.TheConstants.{MOST_PASSES}
 use Rattle.turn_desk.specs.Journal.{GoesOn, AddsOwn, Calls}
@@ -40,3 +40,8 @@ module _ {E : Type 0} (pass_of : E → ℕ) (issued_by : List E → ℕ) where
     pub few : length call.adds_own.own ≤ count
     pub issued : issued_by new.seen ≡ issued_by call.found + length call.adds_own.own
     pub lesser : All (λ n. n < issued_by call.found) new.numbers
+
+  -- who has seen these entries draws numbers that they haven't issued
+  abbrev pub LaterNumbersAreGreater : Type 0
+  LaterNumbersAreGreater = (entries more : List E) (old new : Known E) (count : ℕ) (given : List (Known E))
+      → old.seen ≡ entries ++ more → EntersAll old new count given → All (λ k. issued_by entries ≤ k.number) given

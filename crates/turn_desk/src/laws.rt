@@ -1,6 +1,7 @@
 //! Laws for those who keep facts about what passes have seen. That a fact of all entries of a
 //! number is kept as the journal goes on is the lemmas of `proofs/Facts.antt`.
 ghost use Rattle.std.specs.Prelude.{◌≡◌, ℕ, List};
+ghost use Rattle.turn_desk.specs.Entering.{LaterNumbersAreGreater};
 ghost use Rattle.turn_desk.specs.Known.{TableId};
 ghost use Rattle.turn_desk.specs.Laws.{LeavingGoesOn, GoingOnAddsUp};
 ghost use Rattle.turn_desk.specs.Laws.{NewPassesStandInOrder, NumbersTellDesks};
@@ -26,6 +27,12 @@ pub fn going_on_adds_up<V: Kept>()
 pub fn new_passes_stand_in_order<V: Kept>()
     ensures { (desk : TableId) (seen : List V.Entry) (first count : ℕ)
         → NewPassesStandInOrder desk seen first count }
+{}
+
+/// A pass that has seen some entries draws numbers that these haven't issued. So numbers that were
+/// issued where memory ran out go to no pass later.
+pub fn later_numbers_are_greater<V: Kept>()
+    ensures { LaterNumbersAreGreater V.pass_of V.issued_by }
 {}
 
 /// Two desks of the same numbers are one.

@@ -39,7 +39,8 @@ mod turn;
 pub use desk::{Busy, Desk, Full};
 pub use kept::{Kept, MOST_PASSES};
 pub use laws::{
-    going_on_adds_up, leaving_goes_on, limits, new_passes_stand_in_order, numbers_tell_desks,
+    going_on_adds_up, later_numbers_are_greater, leaving_goes_on, limits,
+    new_passes_stand_in_order, numbers_tell_desks,
 };
 pub use pass::Pass;
 pub use turn::Turn;
