@@ -25,7 +25,8 @@ pub(crate) fn write_answer(alloc: Global, text: &mut Text, reading: &mut Reading
     text.put(b"\n");
 }
 
-fn put_kind(text: &mut Text, answer: &Answer) {
+/// The kind of an answer, with its occupancy time or its number of trains.
+pub(crate) fn put_kind(text: &mut Text, answer: &Answer) {
     match answer {
         Answer::Ordered(plan) => text.show(b"occupancy ", plan.occupancy),
         Answer::Crowded { count } => text.show(b"crowded ", *count),

@@ -6,7 +6,7 @@ ghost use Rattle.plan_model.specs.SectionCut.{cut_of};
 use crate::cuts::put_cut;
 use line_tables::LineTables;
 use plan_model::Cut;
-use rail_model::{Name, OutOfMemory};
+use rail_model::{Edit, Name, OutOfMemory};
 use section_cut::{cut_change, cut_of};
 use small_lines::{Text, edit_of, parts_of};
 use std::alloc::Global;
@@ -64,14 +64,45 @@ fn edited(
     requires { cut_of tables.old name.now ≡ option_map (stamped 0) cut.old }
     ensures { IfOk result (λ _. cut_of tables.new name.now ≡ option_map (stamped 0) cut.new) }
 {
-    let Some(edit) = edit_of(alloc, text, row) else {
-        return Ok(None);
-    };
+    match edit_of(alloc, text, row) {
+        Some(edit) => made(alloc, tables, cut, name, &edit, number),
+        None => Ok(None),
+    }
+}
+
+fn made(
+    alloc: Global,
+    tables: &mut LineTables,
+    cut: &mut Option<Cut>,
+    name: &Name,
+    edit: &Edit,
+    number: u64,
+) -> Result<Option<bool>, OutOfMemory>
+    requires { cut_of tables.old name.now ≡ option_map (stamped 0) cut.old }
+    ensures { IfOk result (λ _. cut_of tables.new name.now ≡ option_map (stamped 0) cut.new) }
+{
     let before = tables.copy()?;
-    if tables.apply(&edit)?.is_err() {
+    made_from(alloc, &before, tables, cut, name, edit, number)
+}
+
+// Where the tables are these before the edit.
+fn made_from(
+    alloc: Global,
+    before: &LineTables,
+    tables: &mut LineTables,
+    cut: &mut Option<Cut>,
+    name: &Name,
+    edit: &Edit,
+    number: u64,
+) -> Result<Option<bool>, OutOfMemory>
+    requires before { before.now ≡ tables.old }
+    requires cut { cut_of tables.old name.now ≡ option_map (stamped 0) cut.old }
+    ensures { IfOk result (λ _. cut_of tables.new name.now ≡ option_map (stamped 0) cut.new) }
+{
+    if tables.apply(edit)?.is_err() {
         return Ok(None);
     }
-    Ok(Some(cut_change(alloc, cut, name, &before, tables, &edit, number)?))
+    Ok(Some(cut_change(alloc, cut, name, before, tables, edit, number)?))
 }
 
 fn write_change(text: &mut Text, row: &[u8], number: u64, touched: Option<bool>) {

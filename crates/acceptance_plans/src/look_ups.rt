@@ -4,16 +4,17 @@ ghost use Rattle.std.specs.Prelude.{◌<◌, length};
 use line_tables::LineTables;
 use rail_model::{Name, OutOfMemory, Path};
 use small_lines::{Text, word};
+use std::alloc::Global;
 
 /// What is looked up by the names of a block and of a run, the second hop of the second run, and
-/// how many runs and connections a copy's plain tables have.
-pub(crate) fn write_look_ups(text: &mut Text, tables: &LineTables, line: &[u8]) {
+/// how many runs and connections a copy of a copy's plain tables has.
+pub(crate) fn write_look_ups(alloc: Global, text: &mut Text, tables: &LineTables, line: &[u8]) {
     match (Name::read(word(line, 1)), Name::read(word(line, 2))) {
         (Ok(block), Ok(run)) => write_numbers(text, tables, &block, &run),
         _ => text.put_line(b"no names"),
     }
     write_second_hop(text, tables);
-    write_plain(text, tables);
+    write_plain(alloc, text, tables);
 }
 
 fn write_numbers(text: &mut Text, tables: &LineTables, block: &Name, run: &Name) {
@@ -65,8 +66,8 @@ fn second_hop(path: &Path) -> Option<(u32, u32, u32)> {
     }
 }
 
-fn write_plain(text: &mut Text, tables: &LineTables) {
-    match plain_counts(tables) {
+fn write_plain(alloc: Global, text: &mut Text, tables: &LineTables) {
+    match plain_counts(alloc, tables) {
         Ok((runs, connections)) => {
             text.show(b"plain tables: runs ", runs);
             text.show(b", connections ", connections);
@@ -76,8 +77,8 @@ fn write_plain(text: &mut Text, tables: &LineTables) {
     }
 }
 
-fn plain_counts(tables: &LineTables) -> Result<(usize, usize), OutOfMemory> {
+fn plain_counts(alloc: Global, tables: &LineTables) -> Result<(usize, usize), OutOfMemory> {
     let copy = tables.copy()?;
-    let plain = copy.plain()?;
+    let plain = copy.plain()?.copy(alloc)?;
     Ok((plain.runs.len(), plain.connections.len()))
 }

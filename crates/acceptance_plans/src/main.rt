@@ -1,6 +1,6 @@
 //! Rows, lines, and what the sections of lines are answered: names, lists and rows of text; edits
 //! and blocking times; cuts and what edits make of them; orders, occupancy, the compressed timetable
-//! and its checker; cycles, and what shows one.
+//! and its checker; copies that fill a section; cycles, and what shows one.
 //!
 //! Standard input has the cases, in the form that `small_lines` reads; standard output repeats the
 //! line of each case, and what comes of it. In the bytes of a case, `\\n`, `\\r` and `\\x00` stand for
@@ -15,6 +15,7 @@ mod cuts;
 mod cycles;
 mod escapes;
 mod faults;
+mod fillings;
 mod line_edits;
 mod look_ups;
 mod names;

@@ -3,6 +3,7 @@ use crate::books::write_book;
 use crate::drawn_edits::write_drawn;
 use crate::races::write_race;
 use crate::repairs::write_repairs;
+use crate::scripts::write_script;
 use crate::takings::write_takings;
 use crate::turns::write_turns;
 use small_lines::{Text, number_of, parts_of};
@@ -34,6 +35,7 @@ fn write_case<R: AllocGlobal + Threads + Wait + Sync>(rt: &R, text: &mut Text, l
         b"takings" => write_takings(rt, alloc, text, rest),
         b"drawn" => write_drawn(alloc, text, number_of(rest)),
         b"book" => write_book(alloc, text, rest),
+        b"script" => write_script(rt, alloc, text, rest),
         b"turns" => write_turns(rt, alloc, text),
         b"race" => write_race(rt, alloc, text, rest),
         _ => text.put(b"unknown"),

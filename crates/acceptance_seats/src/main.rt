@@ -9,6 +9,7 @@
 //! takings 4 2 ROW         how many uses a worker takes before and after an edit: `takings.rt`
 //! drawn 1                 many drawn edits, drawn from a number: `drawn_edits.rt`
 //! book read;publish;ROW   calls of a book: `books.rt`
+//! script ROW              the script of a planner, step by step: `scripts.rt`
 //! turns                   who has the turn at a desk over a book: `turns.rt`
 //! race after-reading ROW  a worker beside a planner: `races.rt`
 //! ```
@@ -22,6 +23,7 @@ mod cases;
 mod drawn_edits;
 mod races;
 mod repairs;
+mod scripts;
 mod takings;
 mod telling;
 mod turns;
