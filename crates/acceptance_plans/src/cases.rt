@@ -53,7 +53,7 @@ enum Case {
 }
 
 // Each case, by the first word of its line.
-const CASES: [(&str, Case); 29] = [
+const CASES: &[(&str, Case)] = &[
     ("?again", Case::Again),
     ("?blockings", Case::Blockings),
     ("?changes", Case::Changes),

@@ -2,7 +2,7 @@
 ghost use Rattle.std.specs.Prelude.{◌<◌, length};
 
 use line_tables::LineTables;
-use rail_model::{Name, OutOfMemory, Path};
+use rail_model::{Name, OutOfMemory, Path, Tables};
 use small_lines::{Text, word};
 use std::alloc::Global;
 
@@ -79,6 +79,11 @@ fn write_plain(alloc: Global, text: &mut Text, tables: &LineTables) {
 
 fn plain_counts(alloc: Global, tables: &LineTables) -> Result<(usize, usize), OutOfMemory> {
     let copy = tables.copy()?;
-    let plain = copy.plain()?.copy(alloc)?;
-    Ok((plain.runs.len(), plain.connections.len()))
+    let plain = copy.plain()?;
+    counts_of_copy(alloc, &plain)
+}
+
+fn counts_of_copy(alloc: Global, plain: &Tables) -> Result<(usize, usize), OutOfMemory> {
+    let copy = plain.copy(alloc)?;
+    Ok((copy.runs.len(), copy.connections.len()))
 }

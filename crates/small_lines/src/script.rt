@@ -139,7 +139,7 @@ pub fn halves(rows: &[u8]) -> (&[u8], &[u8]) {
     (rows, b"")
 }
 
-/// The number that digits spell, as far as it has its place in 64 bits.
+/// The number that digits spell; 2^64 - 1 where it is greater.
 pub fn number_of(digits: &[u8]) -> u64 {
     let mut number = 0u64;
     for digit in digits {
@@ -150,12 +150,13 @@ pub fn number_of(digits: &[u8]) -> u64 {
     number
 }
 
-/// The same in 32 bits.
+/// The number that digits spell; 2^32 - 1 where it is greater.
 pub fn small_number(digits: &[u8]) -> u32 {
     number_of(digits).min(u64::from(u32::MAX)) as u32
 }
 
-/// The same in 63 bits, with a sign before it.
+/// The number that digits spell, below 0 where a minus stands before them; its size is at most
+/// 2^63 - 1.
 pub fn signed_number(digits: &[u8]) -> i64 {
     match digits {
         [b'-', rest @ ..] => -(number_of(rest).min(i64::MAX as u64) as i64),

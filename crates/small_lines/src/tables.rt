@@ -5,8 +5,7 @@ use rail_model::Edit;
 use row_text::{Line, RowList, rows};
 use std::alloc::Global;
 
-/// The edit that the first row of a text spells, if it spells one. Here and below, `text` notes
-/// where memory runs out.
+/// The edit that the first row of bytes spells, if it spells one. `text` notes where memory runs out.
 pub fn edit_of(alloc: Global, text: &mut Text, row: &[u8]) -> Option<Edit> {
     match rows(alloc, row) {
         Ok(rows) => edit_at(alloc, text, &rows, 0),
@@ -31,7 +30,8 @@ fn edit_at(alloc: Global, text: &mut Text, rows: &RowList<'_>, i: usize) -> Opti
     }
 }
 
-/// The tables that rows make; none where one of them spells no edit or is refused.
+/// The tables that rows make; none where one of them spells no edit or is refused. `text` notes where
+/// memory runs out.
 pub fn tables_of(alloc: Global, text: &mut Text, bytes: &[u8]) -> Option<LineTables> {
     let mut tables = LineTables::new(alloc);
     if are_applied(alloc, text, &mut tables, bytes) {

@@ -1,6 +1,6 @@
 //! One call of the program over bytes in memory.
 use crate::outside::Outside;
-use crate::printing::{put_answer, put_whole_status, put_written};
+use crate::printing::{put_answer, put_ends, put_whole_status, put_written};
 use crate::words::words_of;
 use capacity_cmd::{Status, run};
 use rail_model::OutOfMemory;
@@ -57,19 +57,23 @@ pub(crate) fn write_call<R: AllocGlobal + Threads + Wait + Sync>(
         outside,
     };
     match made(rt, call, &OpenGate) {
-        Ok(mut ended) => write_end(text, outside.is_set, &mut ended),
+        Ok(mut ended) => write_end(text, outside, &mut ended),
         Err(_) => text.lose(),
     }
 }
 
-fn write_end(text: &mut Text, is_set: bool, ended: &mut Ended) {
-    if !is_set {
+fn write_end(text: &mut Text, outside: Outside, ended: &mut Ended) {
+    if !outside.is_set {
         text.show(b"=", ended.status.number());
         text.put(b"\n");
         return put_written(text, ended.sink.bytes());
     }
     put_whole_status(text, ended.status);
-    put_written(text, ended.sink.bytes());
+    if outside.last_lines > 0 {
+        put_ends(text, ended.sink.bytes(), outside.last_lines);
+    } else {
+        put_written(text, ended.sink.bytes());
+    }
     write_reads(text, &mut ended.source);
 }
 

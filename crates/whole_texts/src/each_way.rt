@@ -10,8 +10,8 @@
 //! pieces 0/183 ..   in reads of a byte, in writes of a byte, and with room for all but one byte
 //! reads 3/0 ..      with the first read failing, the second .., up to one that is not made
 //! writes 4/0 ..     with the first write failing .., up to one that is not made
-//! worn reads ..     the same where the counts of faults stand at their last value
-//! worn writes ..
+//! worn reads ..     reads that fail while the counts of faults stand at their last value
+//! worn writes ..    writes that fail while they stand there
 //! ```
 //!
 //! A mark `!` after an end says that its bytes don't begin the text, or that a refusal is another.

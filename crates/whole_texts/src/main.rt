@@ -7,8 +7,8 @@
 //! # a remark
 //! =line             from here on, up to a `=` or a `?`, the plain rows of a piece named `line`
 //! ?compress S       from here on, the rows of a call with these words
-//! %compress S       the same, of a call that is made in all ways: `each_way.rt`
-//! >compress S       the same, of a call of which it is written what people are told: `telling.rt`
+//! %compress S       the rows of a call that is made in all ways: `each_way.rt`
+//! >compress S       the rows of a call of which it is written what people are told: `telling.rt`
 //! |                 from here on, the rows of a text that the call above may write: `times.rt`
 //! ~reads 16         how the outside of the next call behaves: `outside.rt`
 //! :take 1 0 5       a call of another kind: `tries.rt`
@@ -18,7 +18,8 @@
 //!
 //! ```text
 //! <line             the rows of that piece
-//! *3 run,t@,R,..    three rows, with the numbers 1000, 1001 and 1002 in the place of each @
+//! *3 run,t@,R,@5+2  three rows: t1000 and 5, t1001 and 7, t1002 and 9
+//! &1 437            the first 437 rows of the line that is made from 1
 //! ^3                three line ends
 //! +3 \ff,           bytes three times, without a line end; \ff is the byte of that number
 //! !block,A          bytes without a line end
@@ -29,6 +30,7 @@
 //! standard streams.
 #![tactic(auto)]
 
+mod by_bytes;
 mod call;
 mod calls;
 mod each_way;

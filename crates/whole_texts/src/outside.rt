@@ -22,6 +22,8 @@ pub(crate) struct Outside {
     pub(crate) failing_reads: (u32, u32),
     /// The number of the write or flush that fails. 0 for none.
     pub(crate) failing_write: u32,
+    /// Of how many last lines of its text, after the first, a call tells alone. 0 for all.
+    pub(crate) last_lines: usize,
     /// How often the call is made.
     pub(crate) times: u32,
     /// How often worker 1 reads before planner 1 makes its first task, and how often planner 1
@@ -37,6 +39,7 @@ pub(crate) const WORKING: Outside = Outside {
     room: 4_096,
     failing_reads: (0, 0),
     failing_write: 0,
+    last_lines: 0,
     times: 1,
     race: None,
 };
@@ -62,6 +65,7 @@ impl Outside {
             b"room" => outside.room = number as usize,
             b"failing-reads" => outside.failing_reads = two_of(numbers),
             b"failing-write" => outside.failing_write = number,
+            b"last" => outside.last_lines = number as usize,
             b"times" => outside.times = number,
             b"race" => outside.race = Some(two_of(numbers)),
             _ => outside.is_set = false,

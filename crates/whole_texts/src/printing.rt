@@ -37,7 +37,8 @@ pub(crate) fn put_written(text: &mut Text, written: &[u8]) {
     }
 }
 
-fn lines_of(written: &[u8]) -> usize {
+/// How many lines end in a text.
+pub(crate) fn lines_of(written: &[u8]) -> usize {
     let mut lines = 0usize;
     for byte in written {
         lines = lines.saturating_add(usize::from(*byte == b'\n'));
@@ -46,9 +47,25 @@ fn lines_of(written: &[u8]) -> usize {
 }
 
 fn put_long(text: &mut Text, written: &[u8], lines: usize) {
-    let after_first = after_pieces(written, b'\n', 1).len();
-    text.put(&written[..written.len().saturating_sub(after_first)]);
+    text.put(first_lines(written, 1));
     text.show(b".. ", lines);
     text.put(b" lines ..\n");
-    text.put(after_pieces(written, b'\n', lines.saturating_sub(2)));
+    text.put(last_lines(written, 2));
+}
+
+/// Adds of what a call wrote the first line and so many of the last.
+pub(crate) fn put_ends(text: &mut Text, written: &[u8], last: usize) {
+    text.put(first_lines(written, 1));
+    text.put(b"..\n");
+    text.put(last_lines(written, last));
+}
+
+/// The first lines of a text.
+pub(crate) fn first_lines(text: &[u8], count: usize) -> &[u8] {
+    let rest = after_pieces(text, b'\n', count).len();
+    &text[..text.len().saturating_sub(rest)]
+}
+
+fn last_lines(text: &[u8], count: usize) -> &[u8] {
+    after_pieces(text, b'\n', lines_of(text).saturating_sub(count))
 }

@@ -1,5 +1,8 @@
 //! The rows of a call or of a text.
-use small_lines::{Text, after_line, parts_of, put_piece, small_number};
+use crate::printing::first_lines;
+use crate::words::two_of;
+use made_line::made_input;
+use small_lines::{Text, after_line, number_of, parts_of, put_piece, small_number};
 use std::alloc::Global;
 
 // The most rows of one line, and the most times that it adds bytes.
@@ -55,22 +58,23 @@ fn put_of_line(alloc: Global, rows: &mut Text, script: &[u8], line: &[u8]) {
         [b'*', repeated @ ..] => put_numbered(rows, repeated),
         [b'^', count @ ..] => put_line_ends(rows, small_number(count) as usize),
         [b'+', repeated @ ..] => put_repeated(alloc, rows, repeated),
+        [b'&', made @ ..] => put_made(alloc, rows, made),
         [b'!', bytes @ ..] => rows.put(bytes),
         _ => rows.put_line(line),
     }
 }
 
-// Adds a row for each number from 1000 on, so many as a line says before its first blank, with the
-// number in the place of each `@` of what comes after it.
+// Adds so many rows as a line says before its first blank, of what comes after it, with a number in
+// the place of each `@`.
 fn put_numbered(rows: &mut Text, line: &[u8]) {
     let (count, row) = parts_of(line, b' ');
     for n in 0..small_number(count).min(MOST) {
-        put_with_number(rows, row, 1_000 + n);
+        put_with_numbers(rows, row, n);
     }
 }
 
-// Adds one row, with this number in the place of each `@`.
-fn put_with_number(rows: &mut Text, row: &[u8], number: u32) {
+// Adds the row of a place, from 0 on.
+fn put_with_numbers(rows: &mut Text, row: &[u8], n: u32) {
     let mut rest = row;
     for _ in 0..row.len() {
         let (piece, later) = parts_of(rest, b'@');
@@ -78,10 +82,46 @@ fn put_with_number(rows: &mut Text, row: &[u8], number: u32) {
         if piece.len() == rest.len() {
             return rows.put(b"\n");
         }
-        rows.show(b"", number);
-        rest = later;
+        rest = put_number(rows, later, n);
     }
     rows.put(b"\n");
+}
+
+// Adds the number of a place: the first and the step stand after the `@`, as in `@100+150`, and are
+// else 1000 and 1. Gives what comes after them.
+fn put_number<'a>(rows: &mut Text, spelled: &'a [u8], n: u32) -> &'a [u8] {
+    let (first, rest) = digits_of(spelled);
+    let first = if first.is_empty() {
+        1_000
+    } else {
+        number_of(first)
+    };
+    let (step, rest) = match rest {
+        [b'+', later @ ..] => digits_of(later),
+        _ => (b"1".as_slice(), rest),
+    };
+    let passed = number_of(step).saturating_mul(u64::from(n));
+    rows.show(b"", first.saturating_add(passed));
+    rest
+}
+
+// The digits that a text starts with, and what comes after them.
+fn digits_of(text: &[u8]) -> (&[u8], &[u8]) {
+    for place in 0..text.len() {
+        if !text[place].is_ascii_digit() {
+            return (&text[..place], &text[place..]);
+        }
+    }
+    (text, b"")
+}
+
+// Adds the first rows of the line that is made from a number.
+fn put_made(alloc: Global, rows: &mut Text, line: &[u8]) {
+    let (number, count) = two_of(line);
+    match made_input(alloc, number) {
+        Ok(made) => rows.put(first_lines(made.slice(), count as usize)),
+        Err(_) => rows.lose(),
+    }
 }
 
 fn put_line_ends(rows: &mut Text, count: usize) {
@@ -102,8 +142,8 @@ fn put_repeated(alloc: Global, rows: &mut Text, line: &[u8]) {
     }
 }
 
-// Adds bytes that are spelled, of which some by two digits after a backslash.
-fn put_spelled(bytes: &mut Text, spelled: &[u8]) {
+/// Adds bytes that are spelled, of which some by two digits after a backslash.
+pub(crate) fn put_spelled(bytes: &mut Text, spelled: &[u8]) {
     let (plain, mut rest) = parts_of(spelled, b'\\');
     bytes.put(plain);
     for _ in 0..spelled.len() {

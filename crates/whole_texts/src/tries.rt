@@ -5,15 +5,24 @@
 //! :take 1 0 5       all bytes of the source `abcde`, in pieces of 1, with no read failing, up to 5
 //! :send 2           the text `0123456789abcdefghij`, in pieces of 10, with the second call failing
 //! :full             two writes and a flush of a sink with room for three bytes
+//! :by-bytes         the source `abcde` is taken and sent again, by a reader and a writer of bytes
+//! :words a \ff      these two words, taken of words in memory
+//! :made 1 3         the first three rows of the line made from 1, and how many rows it has
 //! :alone session 1  whether a call with these words waits for nobody
 //! :statuses         the numbers of all statuses
 //! ```
+use crate::by_bytes::{ByteReader, ByteWriter};
 use crate::outside::{Outside, WORKING};
-use crate::printing::put_answer;
+use crate::printing::{first_lines, lines_of, put_answer};
+use crate::rows::put_spelled;
 use crate::words::{two_of, words_of};
 use capacity_cmd::{Cause, Status, alone};
-use rail_model::OutOfMemory;
-use rail_outside::{Failed, MemorySource, Sink, Source, Taken, send_all, take_all};
+use made_line::made_input;
+use rail_model::{List, OutOfMemory};
+use rail_outside::{
+    Failed, FromReader, MemorySource, MemoryWords, NotText, Sink, Source, Taken, ToWriter, Words,
+    send_all, take_all,
+};
 use small_lines::{Text, parts_of, small_number, word};
 use std::alloc::Global;
 
@@ -32,6 +41,9 @@ pub(crate) fn write_try(alloc: Global, text: &mut Text, line: &[u8]) {
         b"take" => write_taken(alloc, text, rest),
         b"send" => write_sent(alloc, text, rest),
         b"full" => write_full(alloc, text),
+        b"by-bytes" => write_by_bytes(alloc, text),
+        b"words" => write_words(alloc, text, rest),
+        b"made" => write_made(alloc, text, rest),
         b"alone" => Ok(write_alone(alloc, text, rest)),
         b"statuses" => Ok(write_statuses(text)),
         _ => Ok(text.put(b"unknown")),
@@ -96,6 +108,20 @@ fn write_full(alloc: Global, text: &mut Text) -> Result<(), OutOfMemory> {
     Ok(())
 }
 
+fn write_by_bytes(alloc: Global, text: &mut Text) -> Result<(), OutOfMemory> {
+    let mut source = FromReader::of(ByteReader { rest: BYTES });
+    match take_all(alloc, &mut source, BYTES.len())? {
+        Ok(bytes) => send_by_bytes(text, bytes.slice()),
+        Err(_) => text.put(b"failed"),
+    }
+    Ok(())
+}
+
+fn send_by_bytes(text: &mut Text, bytes: &[u8]) {
+    let answer = send_all(&mut ToWriter::of(ByteWriter { text: &mut *text }), bytes);
+    put_unit(text, answer);
+}
+
 fn put_unit(text: &mut Text, answer: Result<(), Failed>) {
     match answer {
         Ok(()) => text.put(b"0"),
@@ -106,6 +132,42 @@ fn put_unit(text: &mut Text, answer: Result<(), Failed>) {
 fn write_alone(alloc: Global, text: &mut Text, line: &[u8]) {
     let words = words_of(alloc, text, line);
     text.put(if alone(&words) { b"yes" } else { b"no" });
+}
+
+fn write_words(alloc: Global, text: &mut Text, line: &[u8]) -> Result<(), OutOfMemory> {
+    match two_words(alloc, line)?.take(alloc)? {
+        Ok(words) => put_words(text, &words),
+        Err(NotText) => text.put(b"not text"),
+    }
+    Ok(())
+}
+
+fn two_words(alloc: Global, line: &[u8]) -> Result<MemoryWords, OutOfMemory> {
+    let mut words = List::new(alloc);
+    words.push(bytes_of(alloc, word(line, 0))?)?;
+    words.push(bytes_of(alloc, word(line, 1))?)?;
+    Ok(MemoryWords::new(words))
+}
+
+fn bytes_of(alloc: Global, spelled: &[u8]) -> Result<List<u8>, OutOfMemory> {
+    let mut bytes = Text::new(alloc);
+    put_spelled(&mut bytes, spelled);
+    Ok(List::from_vec(Vec::from_slice(alloc, bytes.bytes())?))
+}
+
+fn put_words(text: &mut Text, words: &[String]) {
+    for word in words {
+        text.put(word.as_bytes());
+        text.put(b"|");
+    }
+}
+
+fn write_made(alloc: Global, text: &mut Text, line: &[u8]) -> Result<(), OutOfMemory> {
+    let (number, count) = two_of(line);
+    let rows = made_input(alloc, number)?;
+    text.put(first_lines(rows.slice(), count as usize));
+    text.show(b"rows ", lines_of(rows.slice()));
+    Ok(())
 }
 
 fn write_statuses(text: &mut Text) {

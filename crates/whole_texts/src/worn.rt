@@ -9,7 +9,11 @@ pub(crate) struct WornSource<S> {
 }
 
 impl<S: Source> Source for WornSource<S> {
+    ghost given = { λ s. S.given s.source };
+
     ghost left = { λ s. S.left s.source };
+
+    ghost ended = { λ s. S.ended s.source };
 
     ghost faults = { λ s. 2 ^ 64 - 1 };
 
@@ -26,6 +30,8 @@ pub(crate) struct WornSink<K> {
 }
 
 impl<K: Sink> Sink for WornSink<K> {
+    ghost taken = { λ s. K.taken s.sink };
+
     ghost written = { λ s. K.written s.sink };
 
     ghost flushed = { λ s. K.flushed s.sink };
