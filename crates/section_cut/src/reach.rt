@@ -3,8 +3,8 @@
 //!
 //! An edit of a section reaches its own rows, and an edit of a run its row, and those that its
 //! connections join. An edit of a connection reaches the rows of its two runs, or that of the first
-//! where only the minimum changes. A put or drop of a block, a signal or a route reaches none, and a change of one reaches
-//! the rows of the runs that pass it.
+//! where only the minimum changes. A put or drop of a block, a signal or a route reaches none, and a
+//! change of one reaches the rows of the runs that pass it.
 ghost use Rattle.std.specs.Prelude.{◌≡◌, ◌≢◌, true, false, All, IfOk, Some, None};
 ghost use Rattle.rail_model.specs.Edits as edits;
 ghost use Rattle.section_cut.specs.EditedConnection.{connection_edited};
