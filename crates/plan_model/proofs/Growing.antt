@@ -84,7 +84,7 @@ pub longer_issues_no_fewer : LongerIssuesNoFewer
 unfolding issued
 longer_issues_no_fewer xs ys = rw (sum_by-append (λ e. cond (issues e.act) 1 0) xs ys) (omega arith)
 
-last_or-append : {X : Type 0} (o : Option X) (xs ys : List X) → last_or o (xs ++ ys) ≡ last_or (last_or o xs) ys
+pub last_or-append : {X : Type 0} (o : Option X) (xs ys : List X) → last_or o (xs ++ ys) ≡ last_or (last_or o xs) ys
 last_or-append o [] ys = refl
 last_or-append o (x ∷ xs) ys = last_or-append (Some x) xs ys
 

@@ -36,3 +36,6 @@ pub mod FirstWith
 pub mod Preceded
 pub mod Unstamped
 pub mod Readings
+pub mod Untouched
+pub mod Rising
+pub mod Alone

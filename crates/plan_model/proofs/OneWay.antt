@@ -85,7 +85,7 @@ module _ (journal : List Entry) (section : List ℕ) where
       no_longer (cut_at journal section) (opening journal).at (last_number journal) a by
       (published_after_opening a legal stale.1) stale.3 stale.2 (subst (λ n. Stays (cut_at journal section) n (last_number journal)) same ready.2)
 
-  reply_one : (one other : Reply) → IsLegal journal → IsReply journal section one → IsReply journal section other → one ≡ other
+  pub reply_one : (one other : Reply) → IsLegal journal → IsReply journal section one → IsReply journal section other → one ≡ other
   reply_one reply.Unknown reply.Unknown legal h k = refl
   reply_one reply.Unknown reply.NotYet legal h k = absurd (k.0 h)
   reply_one reply.Unknown (reply.Stale at by) legal h k = absurd (k.0 h)

@@ -103,7 +103,7 @@ later_follow before [] ys h = subst (λ j. AllFollow j ys) (sym (append-nil befo
 later_follow before (e ∷ xs) ys h =
     subst (λ j. AllFollow j ys) (append_assoc before (e ∷ []) xs) (later_follow (before ++ e ∷ []) xs ys h.1)
 
-legal_later : (journal more : List Entry) → 0 < length journal → IsLegal (journal ++ more) → AllFollow journal more
+pub legal_later : (journal more : List Entry) → 0 < length journal → IsLegal (journal ++ more) → AllFollow journal more
 legal_later [] more some h = absurd (omega (arith, some))
 legal_later (e ∷ journal) more some h = later_follow (e ∷ []) journal more h.2
 
@@ -169,7 +169,7 @@ right_along journal (e ∷ later) section some right h =
     (right_along (journal ++ e ∷ []) later section (omega (arith, length-append journal (e ∷ []), some)) (right_next journal e section some right h.0) h.1)
 
 -- an entry that opens publishes nothing
-opening_publishes_none : (section : List ℕ) (a : Act) → Opens a → publication_of section a ≡ None
+pub opening_publishes_none : (section : List ℕ) (a : Act) → Opens a → publication_of section a ≡ None
 opening_publishes_none section (act.Opened tables at scripts) h = refl
 opening_publishes_none section (act.Entered number) h = absurd h
 opening_publishes_none section (act.Edited planner at edit) h = absurd h

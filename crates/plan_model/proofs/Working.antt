@@ -77,7 +77,7 @@ journal_next journal e h next does =
 -- ---- which tasks an act does
 
 -- a task by one planner is none of another
-of_planner : (by planner : ℕ) (t u : Task) → (if eqb by planner then Some t else None) ≡ Some u → (by ≡ planner) × (t ≡ u)
+pub of_planner : (by planner : ℕ) (t u : Task) → (if eqb by planner then Some t else None) ≡ Some u → (by ≡ planner) × (t ≡ u)
 of_planner by planner t u h =
     elim (cases_Bool (eqb by planner)) [
       | inl same ↦ (eqb-true by planner same, same_one t u (sym (rw same refl) ∙ h))

@@ -1,11 +1,13 @@
 -- Laws of journals.
-use Rattle.std.specs.Prelude.{◌≡◌, ℕ, ◌<◌, ◌≤◌, List, [], ◌∷◌, ◌++◌, length, Some, Result, Contains}
+use Rattle.std.specs.Prelude.{◌≡◌, ◌↔◌, ℕ, ◌<◌, ◌≤◌, List, [], ◌∷◌, ◌++◌, length, Some, Result, Contains, AllPairs}
 use Rattle.rail_model.specs.declared.edit.Edit.{Edit}
 use Rattle.rail_model.specs.declared.edit.Rule.{Rule}
+use Rattle.rail_model.specs.declared.tables.Tables.{Tables}
 use Rattle.rail_model.specs.Sound.{IsSound}
 use Rattle.plan_model.specs.declared.cut.CutRow.{CutRow}
 use Rattle.plan_model.specs.declared.cut.Cut.{Cut}
 use Rattle.plan_model.specs.declared.answer.Done.{Done}
+use Rattle.plan_model.specs.declared.scripts.Task.{Task}
 use Rattle.plan_model.specs.declared.journal.Act.TheVariants as act
 use Rattle.plan_model.specs.declared.journal.Entry.{Entry}
 use Rattle.plan_model.specs.declared.outcome.Asked.{Asked}
@@ -13,10 +15,11 @@ use Rattle.plan_model.specs.declared.outcome.Stepped.{Stepped}
 use Rattle.plan_model.specs.declared.outcome.Next.{Next}
 use Rattle.plan_model.specs.declared.outcome.NotTaken.{NotTaken}
 use Rattle.plan_model.specs.Answer.{IsAnswer}
-use Rattle.plan_model.specs.Journal.{edits, last_number, tables_at, tables_of, issued, done_by, script_of, tasks_left}
+use Rattle.plan_model.specs.Journal.{edits, last_number, tables_at, tables_of, publications, issued, done_by, script_of, tasks_left}
 use Rattle.plan_model.specs.Changes.{Stays}
-use Rattle.plan_model.specs.Touch.{cut_at, cut_now, IsCurrent, IsReading}
+use Rattle.plan_model.specs.Touch.{cut_at, cut_now, Touches, IsUntouchedSince, IsCurrent, IsReading}
 use Rattle.plan_model.specs.Legal.{IsNext, IsLegal, IsJournal}
+use Rattle.plan_model.specs.Session.{IsSessionAlone}
 use Rattle.plan_model.specs.Reading.{Shown}
 use Rattle.plan_model.specs.Outcome.{AddsEntry, EditsTo, AsksTo, IsPlanner, StepsTo, IsNextReading, ReadsTo, IsAnswerOf, IsDone, PublishesTo}
 
@@ -74,6 +77,23 @@ OthersKeepTables =
     (journal more : List Entry) → 0 < length journal → edits more ≡ [] → KeepsTables journal (journal ++ more)
 
 -- ---- sections
+
+-- no edit after one number, up to the last edit, touches the section
+abbrev pub NoneTouchesSince : List Entry → List ℕ → ℕ → Type 0
+NoneTouchesSince journal section at =
+    (number : ℕ) → at < number → number ≤ last_number journal → Touches journal section number → ⊥
+
+-- a section is untouched since an edit just where no later edit touches it
+abbrev pub UntouchedIsNoneTouches : Type 0
+UntouchedIsNoneTouches =
+    (journal : List Entry) (section : List ℕ) (at : ℕ)
+    → IsUntouchedSince journal section at ↔ NoneTouchesSince journal section at
+
+-- of two publications of one section, the later speaks of a later edit
+abbrev pub PublicationsRise : Type 0
+PublicationsRise =
+    (journal : List Entry) (section : List ℕ) → IsLegal journal
+    → AllPairs (λ p q. p.at < q.at) (publications journal section)
 
 -- a section that is current stays current by entries of which none makes an edit that touches it
 abbrev pub CurrentStays : Type 0
@@ -156,3 +176,11 @@ ReadingMayBePublished =
 -- an answer that may be published of a journal is that of its section also in a longer one
 abbrev pub DoneStays : Type 0
 DoneStays = (journal more : List Entry) (done : Done) → 0 < length journal → IsDone journal done → IsDone (journal ++ more) done
+
+-- ---- sessions
+
+-- tables, the number of the last edit before the session, and scripts determine the journal of a session without workers
+abbrev pub SessionAloneIsOne : Type 0
+SessionAloneIsOne =
+    (tables : Tables) (at : ℕ) (scripts : List (List Task)) (journal other : List Entry)
+    → IsSessionAlone tables at scripts journal → IsSessionAlone tables at scripts other → journal ≡ other

@@ -5,6 +5,7 @@ ghost use Rattle.plan_model.specs.JournalLaws.{LongerAgrees, OthersKeepTables, C
 ghost use Rattle.plan_model.specs.JournalLaws.{CurrentIsAnswered, StampTellsRow, NoneIsLeft};
 ghost use Rattle.plan_model.specs.JournalLaws.{CallsEndInOneWay, CallsLeaveJournals};
 ghost use Rattle.plan_model.specs.JournalLaws.{ReadingMayBePublished, DoneStays};
+ghost use Rattle.plan_model.specs.JournalLaws.{UntouchedIsNoneTouches, PublicationsRise, SessionAloneIsOne};
 
 /// Each beginning of a legal journal, with an entry at least, is legal.
 pub fn beginning_is_legal()
@@ -44,6 +45,17 @@ pub fn longer_agrees()
 /// Entries that make no edit leave the tables, the number of the last edit and all cuts.
 pub fn others_keep_tables()
     ensures { OthersKeepTables }
+{}
+
+/// A section is untouched since an edit just where no later edit touches it: where its cuts before
+/// and after each later edit do not differ.
+pub fn untouched_is_none_touches()
+    ensures { UntouchedIsNoneTouches }
+{}
+
+/// Of two publications of one section in a legal journal, the later speaks of a later edit.
+pub fn publications_rise()
+    ensures { PublicationsRise }
 {}
 
 /// A section that is current stays current by entries of which none makes an edit that touches it.
@@ -86,4 +98,10 @@ pub fn reading_may_be_published()
 /// An answer that may be published of a journal is that of its section also in a longer one.
 pub fn done_stays()
     ensures { DoneStays }
+{}
+
+/// The journal of a session without workers is one: the tables, the number of the last edit before
+/// it and the scripts determine each of its entries.
+pub fn session_alone_is_one()
+    ensures { SessionAloneIsOne }
 {}

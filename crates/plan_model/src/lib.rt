@@ -47,8 +47,9 @@ pub use journal::{Act, Entry, Reply};
 pub use journal_laws::{
     beginning_is_journal, beginning_is_legal, calls_end_in_one_way, calls_leave_journals,
     current_is_answered, current_stays, done_stays, each_is_next, longer_agrees,
-    longer_issues_no_fewer, next_is_legal, none_is_left, others_keep_tables,
-    reading_may_be_published, stamp_tells_row, tables_are_sound,
+    longer_issues_no_fewer, next_is_legal, none_is_left, others_keep_tables, publications_rise,
+    reading_may_be_published, session_alone_is_one, stamp_tells_row, tables_are_sound,
+    untouched_is_none_touches,
 };
 pub use laws::{
     answer_is_unique, comes_before_is_tested, conflict_is_overlap, fraction_is_reduced,
