@@ -6,9 +6,11 @@ use Rattle.plan_model.specs.declared.cut.Cut.{Cut}
 use Rattle.plan_model.specs.Places.{block_count}
 use Rattle.plan_model.specs.Members.{member, member_count, uses_place, use_at}
 use Rattle.plan_model.specs.Cut.{IsSoundCut}
-use Rattle.plan_model.specs.Schedule.{window_start, start_at, end_by, IsLeast}
+use Rattle.plan_model.specs.Schedule.{window_start, window_floor, start_at, end_by, IsLeast}
 use Rattle.plan_model.specs.Occupancy.{occupancy}
+use Rattle.compression.proofs.SomeLeast.{least_is_there}
 use Rattle.path_fill.specs.Copies.{IsFilledOccupancy}
+use Rattle.path_fill.specs.Laws.{FilledOccupancyIsThere}
 use Rattle.path_fill.specs.Search.{where_used, greater, time_at, kept_to, filled_time, IsGreatest}
 use Rattle.path_fill.proofs.Best.{none_yet, one_more}
 use Rattle.path_fill.proofs.Behind.{abs_is}
@@ -103,3 +105,9 @@ some_fill cut sound r there entries least =
         filled = filled_is cut sound r there entries least entry.0 times.0 entry.1 own.0 kept.0 kept.1;
       },
     )
+
+pub filled_occupancy_is_there : FilledOccupancyIsThere
+filled_occupancy_is_there cut r count sound there none =
+    let (entries, least) = least_is_there cut (window_floor cut) sound none in
+    let (first, headway, all) = some_fill cut sound r there entries least in
+    (filled_time (occupancy cut entries) first headway count, all.filled count)

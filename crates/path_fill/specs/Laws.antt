@@ -1,8 +1,9 @@
 -- Laws of copies.
-use Rattle.std.specs.Prelude.{◌≡◌, ℕ, ◌*◌, ◌<◌, ◌≤◌, ℤ, List}
+use Rattle.std.specs.Prelude.{◌≡◌, ℕ, ◌*◌, ◌<◌, ◌≤◌, ℤ, List, []}
 use Rattle.plan_model.specs.declared.cut.Cut.{Cut}
 use Rattle.plan_model.specs.Members.{member_count}
 use Rattle.plan_model.specs.Cut.{IsSoundCut}
+use Rattle.plan_model.specs.Disorder.{remaining}
 use Rattle.plan_model.specs.Schedule.{IsLeast}
 use Rattle.plan_model.specs.Rates.{Fraction}
 use Rattle.path_fill.specs.Copies.{IsLeastFilled, IsFilledOccupancy}
@@ -13,6 +14,12 @@ abbrev pub FilledOccupancyIsUnique : Type 0
 FilledOccupancyIsUnique =
     (cut : Cut) (r count time other : ℕ) → IsFilledOccupancy cut r count time → IsFilledOccupancy cut r count other
     → time ≡ other
+
+-- a sound cut whose trains have an order has a filled occupancy with any number of copies of a member
+abbrev pub FilledOccupancyIsThere : Type 0
+FilledOccupancyIsThere =
+    (cut : Cut) (r count : ℕ) → IsSoundCut cut → r < member_count cut → remaining cut ≡ []
+    → (time : ℕ) × IsFilledOccupancy cut r count time
 
 -- however many copies follow them, the members enter as in the compressed timetable
 abbrev pub MembersEnterAsCompressed : Type 0

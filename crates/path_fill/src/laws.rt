@@ -1,9 +1,15 @@
 //! Laws of the definitions: each function does nothing, and its contract is the law.
-ghost use Rattle.path_fill.specs.Laws.{FilledOccupancyIsUnique, MembersEnterAsCompressed, OccupancyNeverFalls, ConsumptionNeverFalls};
+ghost use Rattle.path_fill.specs.Laws.{FilledOccupancyIsUnique, FilledOccupancyIsThere, MembersEnterAsCompressed, OccupancyNeverFalls, ConsumptionNeverFalls};
 
 /// With so many copies there is at most one filled occupancy.
 pub fn filled_occupancy_is_unique()
     ensures { FilledOccupancyIsUnique }
+{}
+
+/// Where the trains of a sound cut have an order, there is a filled occupancy with any number of
+/// copies of a train.
+pub fn filled_occupancy_is_there()
+    ensures { FilledOccupancyIsThere }
 {}
 
 /// However many copies follow them, the trains of a section enter as in the compressed timetable.
