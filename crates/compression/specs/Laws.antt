@@ -1,28 +1,35 @@
 -- Laws of compressed timetables.
-use Rattle.std.specs.Prelude.{◌≡◌, ℕ, suc, ◌<◌, ℤ, ◌≤ℤ◌, List, [], ◌++◌, take, drop}
+use Rattle.std.specs.Prelude.{◌≡◌, ℕ, ◌<◌, ℤ, ◌≤ℤ◌, List, [], remove}
 use Rattle.plan_model.specs.declared.cut.Cut.{Cut}
 use Rattle.plan_model.specs.declared.answer.Answer.{Answer}
-use Rattle.plan_model.specs.Members.{member_count}
-use Rattle.plan_model.specs.Cut.{IsSoundCut}
+use Rattle.plan_model.specs.Members.{member, member_count}
+use Rattle.plan_model.specs.Cut.{IsSoundCut, connection_uses}
 use Rattle.plan_model.specs.Disorder.{remaining}
 use Rattle.plan_model.specs.Schedule.{entry_at, IsLeast, IsLeastFrom}
 use Rattle.plan_model.specs.Answer.{IsAnswer}
 
--- a list without the item at a position: each item behind it stands one position earlier
-abbrev pub without : {A : Type 0} → ℕ → List A → List A
-without r xs = take r xs ++ drop (suc r) xs
+-- a cut without one of its trains: those behind it stand one position earlier. All places stay: a connection of the train
+-- that is taken out binds no other train, since only one train uses it then
+abbrev pub cut_without : Cut → ℕ → Cut
+cut_without cut r = record cut { rows = remove cut.rows r }
 
--- a cut without one of its trains. All places stay: a connection of the train that is taken out binds no other train,
--- since only one train uses it then
-abbrev pub cut_without : ℕ → Cut → Cut
-cut_without r cut = record cut { rows = without r cut.rows }
-
--- one train fewer: no other train of the compressed timetable enters later. Positions are those of the trains that stay
+-- one train fewer: no other train of the compressed timetable enters later. With the train its entry is taken out, too
 abbrev pub NoneIsLaterWithout : Type 0
 NoneIsLaterWithout =
     (cut : Cut) (r : ℕ) (entries fewer : List ℤ) → r < member_count cut → IsLeast cut entries
-    → IsLeast (cut_without r cut) fewer → (i : ℕ) → i < member_count (cut_without r cut)
-    → entry_at fewer i ≤ℤ entry_at (without r entries) i
+    → IsLeast (cut_without cut r) fewer → (i : ℕ) → i < member_count (cut_without cut r)
+    → entry_at fewer i ≤ℤ entry_at (remove entries r) i
+
+-- one train fewer: where the trains have an order, the others have one
+abbrev pub OrderStaysWithout : Type 0
+OrderStaysWithout =
+    (cut : Cut) (r : ℕ) → r < member_count cut → remaining cut ≡ [] → remaining (cut_without cut r) ≡ []
+
+-- one train fewer: a sound cut is sound without a train that has no connection
+abbrev pub SoundWithout : Type 0
+SoundWithout =
+    (cut : Cut) (r : ℕ) → r < member_count cut → IsSoundCut cut → connection_uses cut (member cut r) ≡ []
+    → IsSoundCut (cut_without cut r)
 
 -- where no member of a sound cut remains, there is a least schedule from any floors
 abbrev pub LeastIsThere : Type 0

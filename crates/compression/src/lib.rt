@@ -20,4 +20,6 @@ mod answering;
 mod laws;
 
 pub use answering::{answer, answer_of_cut};
-pub use laws::{answer_is_there, least_is_there, none_is_later_without};
+pub use laws::{
+    answer_is_there, least_is_there, none_is_later_without, order_stays_without, sound_without,
+};
