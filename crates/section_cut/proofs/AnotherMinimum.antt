@@ -17,14 +17,13 @@ use Rattle.rail_model.specs.Edits.{with_changed}
 use Rattle.rail_model.specs.Name.{is_same, is_before, IsBefore, NamesRise}
 use Rattle.rail_model.specs.Rules.{is_named, has_run}
 use Rattle.rail_model.specs.Sound.{IsSound}
-use Rattle.rail_model.specs.Tables.{no_run, number_of, run_at, run_named, last_arrival}
-use Rattle.rail_model.proofs.Lists.{map_same}
+use Rattle.rail_model.specs.Tables.{number_of, run_at, run_named, last_arrival}
 use Rattle.rail_model.proofs.NameOrder.{same_name, is_same-from, is_same-after, is_before-itself}
 use Rattle.plan_model.specs.declared.cut.CutRow.{CutRow}
 use Rattle.plan_model.specs.declared.cut.Cut.{Cut}
 use Rattle.plan_model.specs.Cut.{stamped_row, stamped}
-use Rattle.plan_model.specs.SectionCut.{section_uses, entry_of, is_member, binds, binding_connections, connection_use, uses_of_connections, row_of, section_cut, cut_of}
-use Rattle.section_cut.specs.Connected.{with_bound, row_in}
+use Rattle.plan_model.specs.SectionCut.{section_uses, entry_of, is_member, binds, binding_connections, uses_of_connections, row_of, section_cut}
+use Rattle.section_cut.specs.Connected.{row_in}
 use Rattle.section_cut.specs.EditedConnection.{IsOfSameRuns, IsMinimumChanged, ending, uses_ending}
 use Rattle.section_cut.specs.OneRun.{cut_with}
 use Rattle.section_cut.proofs.Around.{filter_rows}

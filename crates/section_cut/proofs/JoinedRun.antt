@@ -1,7 +1,6 @@
 -- An edit of one run: the entries after it by the rows before it, and when the same connections bind.
-use Rattle.std.proofs.Common.{◌≡◌, ℕ, ◌<◌, Bool, true, false, cond, List, map, length, get_or, Option, Some, None, refl, sym, ap, ◌∙◌, subst, inl, inr}
-use Rattle.std.specs.Prelude.{All, filter, find, option_map, option_and_then, IfSome}
-use Rattle.std.specs.List.{list_any}
+use Rattle.std.proofs.Common.{◌≡◌, ℕ, Bool, true, false, cond, List, map, get_or, Option, Some, None, refl, sym, ap, ◌∙◌, subst, inl, inr}
+use Rattle.std.specs.Prelude.{All, filter, find, option_map, IfSome}
 use Rattle.std.proofs.lemmas.Bool.{cases_Bool, both_ways, or_parts}
 use Rattle.std.proofs.lemmas.List.Elements.{All-filter}
 use Rattle.rail_model.specs.declared.items.Run.{Run}
@@ -10,15 +9,15 @@ use Rattle.rail_model.specs.declared.items.Connection.{Connection}
 use Rattle.rail_model.specs.declared.stair.Stair.{Stair}
 use Rattle.rail_model.specs.declared.stair.Use.{Use}
 use Rattle.rail_model.specs.declared.tables.Tables.{Tables}
-use Rattle.rail_model.specs.Name.{NamesRise, is_same}
+use Rattle.rail_model.specs.Name.{is_same}
 use Rattle.rail_model.specs.Rules.{is_named, has_run}
 use Rattle.rail_model.specs.Sound.{IsSound}
 use Rattle.rail_model.specs.Tables.{no_run, number_of, run_at, run_named}
 use Rattle.rail_model.proofs.NameOrder.{same_name, is_same-from}
 use Rattle.plan_model.specs.declared.cut.CutRow.{CutRow}
 use Rattle.plan_model.specs.declared.cut.Cut.{Cut}
-use Rattle.plan_model.specs.Cut.{least, stamped_row, stamped}
-use Rattle.plan_model.specs.SectionCut.{section_uses, binds, binding_connections, row_of, is_member, section_cut}
+use Rattle.plan_model.specs.Cut.{least, stamped}
+use Rattle.plan_model.specs.SectionCut.{section_uses, binds, binding_connections, is_member, section_cut}
 use Rattle.section_cut.specs.Members.{enters, member_row}
 use Rattle.section_cut.specs.OneRun.{IsOneRun, row_of_stair}
 use Rattle.section_cut.specs.Connected.{joins, entry_in, IsOfRuns, HasEntryOf, TellsEntries, row_beside}

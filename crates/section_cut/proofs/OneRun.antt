@@ -1,9 +1,8 @@
 -- The cut of a section by tables that differ in one run, where the same connections bind: its row alone differs.
-use Rattle.std.proofs.Common.{◌≡◌, ℕ, ◌<◌, Bool, true, false, cond, List, [], ◌∷◌, ◌++◌, map, get_or, Option, Some, None, refl, sym, ap, ◌∙◌, subst, inl, inr, arith}
+use Rattle.std.proofs.Common.{◌≡◌, ℕ, ◌<◌, Bool, true, false, cond, List, [], ◌∷◌, ◌++◌, map, Option, Some, None, refl, sym, ap, ◌∙◌, subst, inl, inr, arith}
 use Rattle.std.specs.Prelude.{find, filter, option_map, option_and_then, length, All, IfSome, slice_get}
-use Rattle.std.specs.List.{filter_map, enumerate_from}
 use Rattle.std.specs.Option.{option_to_list}
-use Rattle.std.proofs.lemmas.List.{append-nil, map-append}
+use Rattle.std.proofs.lemmas.List.{map-append}
 use Rattle.std.proofs.lemmas.List.Elements.{filter-append}
 use Rattle.rail_model.specs.declared.items.Run.{Run}
 use Rattle.rail_model.specs.declared.items.Section.{Section}
@@ -15,9 +14,8 @@ use Rattle.rail_model.specs.Name.{is_same, is_before, NamesRise}
 use Rattle.plan_model.specs.declared.cut.CutRow.{CutRow}
 use Rattle.plan_model.specs.declared.cut.Cut.{Cut}
 use Rattle.plan_model.specs.Cut.{stamped_row, stamped}
-use Rattle.plan_model.specs.SectionCut.{section_uses, entry_of, is_member, binds, binding_connections, connection_use, row_of, section_cut}
-use Rattle.rail_model.proofs.Lists.{map_same}
-use Rattle.section_cut.specs.Members.{enters, member_row, row_on_blocks, rows_on_blocks}
+use Rattle.plan_model.specs.SectionCut.{section_uses, is_member, binding_connections, row_of, section_cut}
+use Rattle.section_cut.specs.Members.{enters, member_row}
 use Rattle.line_tables.proofs.Found.{find_some}
 use Rattle.rail_model.specs.Sound.{IsSound}
 use Rattle.rail_model.specs.Blocking.{stairway, stair_of}
@@ -27,7 +25,6 @@ use Rattle.section_cut.specs.Connected.{with_bound, row_in}
 use Rattle.section_cut.proofs.BindsBy.{row_by}
 use Rattle.rail_model.proofs.NameOrder.{same_name}
 use Rattle.rail_model.proofs.Timetables.{used_there}
-use Rattle.plan_model.specs.Cut.{IsSoundCut}
 use Rattle.plan_model.specs.SectionCut.{cut_of}
 use Rattle.std.proofs.lemmas.Bool.{cases_Bool}
 use Rattle.std.proofs.lemmas.Option.{slice_get-get_or, slice_get_past}
@@ -38,27 +35,11 @@ use Rattle.std.proofs.lemmas.List.{get_or_default}
 use Rattle.section_cut.specs.declared.cut_changes.CutChange.{CutChange}
 use Rattle.section_cut.specs.Change.{IsChange}
 use Rattle.section_cut.specs.EditedRun.{IsPut}
-use Rattle.section_cut.specs.OneRun.{before, behind, with_one, cut_with, row_of_stair, IsOneRun}
+use Rattle.section_cut.specs.OneRun.{before, behind, cut_with, row_of_stair, IsOneRun}
 use Rattle.section_cut.specs.Stamps.{IsReached, IsOwn}
 use Rattle.section_cut.proofs.Placed.{put_is}
 use Rattle.section_cut.proofs.SameValue.{sound_cut_of}
-use Rattle.section_cut.proofs.MemberRows.{row_listed}
 use Rattle.section_cut.proofs.Around.{split, filter_rows}
-
--- without connections a row has its uses of blocks alone
-module _ (tables : Tables) (s : Section) (none : tables.connections ≡ []) where
-  bare_row : (run : Run) → row_of tables s run ≡ row_on_blocks tables s 0 run
-  bare_row run =
-      let row : List Use → CutRow = λ uses. record { name = run.name; stamp = 0; entry = entry_of tables s run; uses = section_uses tables s run ++ uses } in
-      ap (λ (cs : List Connection). row (filter_map (connection_use tables s run) (enumerate_from (length s.blocks) (filter (binds tables s) cs)))) none
-      ∙ ap (λ uses. record { name = run.name; stamp = 0; entry = entry_of tables s run; uses = uses }) (append-nil (section_uses tables s run))
-
-  pub bare_cut : section_cut tables s ≡ record { section = s; connections = []; rows = rows_on_blocks tables s 0 }
-  bare_cut =
-      let members = filter (is_member tables s) tables.runs in
-      ap (λ (cs : List Connection). record { section = s; connections = map (λ (c : Connection). c.name) (filter (binds tables s) cs); rows = map (row_of tables s) members }) none
-      ∙ ap (λ rows. record { section = s; connections = []; rows = rows })
-      (map_same (row_of tables s) (row_on_blocks tables s 0) members (λ k d l. bare_row (get_or members k d)))
 
 -- the row of a run, if it is there and a member
 abbrev pub row_for : Tables → Section → ℕ → Option Run → Option CutRow
@@ -68,12 +49,6 @@ pub bare_member : (s : Section) (name : List ℕ) (stamp : ℕ) (uses : List Use
     → option_map (stamped_row 0) (member_row s name stamp uses) ≡ member_row s name 0 uses
 bare_member s name stamp uses true e = rw (sym e) refl
 bare_member s name stamp uses false e = rw (sym e) refl
-
-pub bare_row_for : (tables : Tables) (s : Section) (stamp : ℕ) (found : Option Run)
-    → option_map (stamped_row 0) (row_for tables s stamp found) ≡ row_for tables s 0 found
-bare_row_for tables s stamp None = refl
-bare_row_for tables s stamp (Some run) =
-    bare_member s run.name stamp (section_uses tables s run) (enters s (section_uses tables s run)) refl
 
 -- the row with its uses of connections
 rows_for : (tables : Tables) (s : Section) (found : Option Run)

@@ -1,5 +1,5 @@
 -- The row of an edited run that keeps its route, where it has a use for each block of the path.
-use Rattle.std.proofs.Common.{◌≡◌, ℕ, ◌<◌, true, map, length, Option, Some, None, List, refl, sym, ap, ◌∙◌, subst}
+use Rattle.std.proofs.Common.{◌≡◌, ℕ, ◌<◌, true, length, Option, Some, None, List, refl, sym, ap, ◌∙◌, subst}
 use Rattle.std.specs.Prelude.{find, option_map, IfSome}
 use Rattle.rail_model.specs.declared.items.Run.{Run}
 use Rattle.rail_model.specs.declared.items.Section.{Section}
@@ -14,7 +14,7 @@ use Rattle.rail_model.proofs.Paths.{place_within, run_stands}
 use Rattle.std.proofs.lemmas.List.Sums.{passes_at_first}
 use Rattle.plan_model.specs.declared.cut.CutRow.{CutRow}
 use Rattle.plan_model.specs.declared.cut.Cut.{Cut}
-use Rattle.plan_model.specs.Cut.{stamped_row, stamped}
+use Rattle.plan_model.specs.Cut.{stamped}
 use Rattle.plan_model.specs.SectionCut.{section_uses, cut_of}
 use Rattle.section_cut.specs.declared.one_run.EditedRun.{EditedRun}
 use Rattle.section_cut.specs.Times.{with_times}

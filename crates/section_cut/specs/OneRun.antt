@@ -1,5 +1,5 @@
 -- An edit of one run: what it leaves of the tables, and the row that it reaches.
-use Rattle.std.specs.Prelude.{◌≡◌, ℕ, List, [], ◌++◌, filter, find, map, length, nat_lt, Option, Some, None, option_map, option_and_then, IfSome, false}
+use Rattle.std.specs.Prelude.{◌≡◌, ℕ, List, ◌++◌, filter, find, map, length, nat_lt, Option, Some, None, option_map, option_and_then, IfSome, false}
 use Rattle.std.specs.Option.{option_to_list}
 use Rattle.rail_model.specs.declared.items.Item.{Item}
 use Rattle.rail_model.specs.declared.items.Item.TheVariants as item

@@ -212,11 +212,18 @@ pub(crate) fn cut_after_runs(
     let Some(rows) = rows_after(alloc, both, reached, table, rows, number)? else {
         return cut_made_anew(alloc, both, Some(old), section, number);
     };
-    Ok(CutChange::Touched(Some(Cut {
+    Ok(CutChange::Touched(Some(cut_of_rows(alloc, old, rows)?)))
+}
+
+// A cut with these rows in place of its own.
+fn cut_of_rows(alloc: Global, old: &Cut, rows: List<CutRow>) -> Result<Cut, OutOfMemory>
+    ensures { IfOk result (λ cut. cut ≡ record old.now { rows = rows }) }
+{
+    Ok(Cut {
         section: old.section.copy(alloc)?,
         connections: old.connections.copy(alloc)?,
         rows,
-    })))
+    })
 }
 
 // Whether all rows have the values after an edit that they had before it.

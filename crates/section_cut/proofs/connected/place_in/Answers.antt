@@ -1,7 +1,6 @@
-use Rattle.std.proofs.Common.{◌≡◌, List, ℕ, Result, Ok, Err, sym, subst, rules}
+use Rattle.std.proofs.Common.{List, ℕ, Ok, Err, sym, rules}
 use Rattle.std.specs.Cmp.Lexicographic.{slice_cmp}
 use Rattle.std.specs.Ordering.{nat_cmp}
-use Rattle.std.specs.Prelude.{length}
 use Rattle.std.proofs.lemmas.Fn.{always_returns_same}
 use Rattle.rail_model.proofs.Places.{searched}
 use Rattle.section_cut.proofs.connected.place_in.Goals as goal

@@ -1,4 +1,3 @@
-use Rattle.std.proofs.Common.{sym}
 use Rattle.std.specs.Option.{option_copied}
 use Rattle.section_cut.proofs.Rows.{own_found}
 use Rattle.section_cut.proofs.connected.row_named.Goals as goal

@@ -1,4 +1,4 @@
-use Rattle.std.proofs.Common.{◌≡◌, ℕ, ℤ, ◌+◌, ◌<◌, ◌+ℤ◌, Bool, true, false, w64, to_z, of_z, Some, refl, sym, ap, ◌∙◌, subst, inl, inr, rules, arith}
+use Rattle.std.proofs.Common.{◌≡◌, ℕ, ℤ, ◌+◌, ◌<◌, ◌+ℤ◌, true, false, w64, to_z, of_z, Some, sym, ap, ◌∙◌, inl, inr, rules, arith}
 use Rattle.std.specs.Prelude.{pos}
 use Rattle.std.proofs.lemmas.Bool.{false_from_ne_true, or_cases, both_ways}
 use Rattle.std.proofs.lemmas.Int.{to_z-of_z, to_z_pos}

@@ -1,4 +1,4 @@
-use Rattle.std.proofs.Common.{◌≡◌, ◌≤◌, ◌++◌, List, true, Some, length, map, sym, ap, ◌∙◌, subst, arith}
+use Rattle.std.proofs.Common.{◌≡◌, ◌++◌, List, true, Some, length, sym, ap, ◌∙◌, subst, arith}
 use Rattle.std.specs.Prelude.{All, filter, option_map, IfSome}
 use Rattle.rail_model.specs.Rules.{has_run}
 use Rattle.section_cut.proofs.BindsBy.{entry_is}
@@ -11,7 +11,7 @@ use Rattle.rail_model.specs.declared.stair.Use.{Use}
 use Rattle.rail_model.specs.Name.{NamesRise}
 use Rattle.rail_model.specs.Tables.{number_of, run_at, run_named}
 use Rattle.plan_model.specs.declared.cut.CutRow.{CutRow}
-use Rattle.plan_model.specs.SectionCut.{binds, entry_of, is_member}
+use Rattle.plan_model.specs.SectionCut.{binds, entry_of}
 use Rattle.section_cut.specs.Connected.{joins, IsOneOf, use_if_listed, with_bound}
 use Rattle.section_cut.proofs.Known.{IsKnown, connection_known, run_named_name}
 use Rattle.section_cut.proofs.Lists.{few_pass}

@@ -1,8 +1,7 @@
-use Rattle.std.proofs.Common.{◌≡◌, ℕ, Some, List, false, sym, ap, ◌∙◌, subst}
+use Rattle.std.proofs.Common.{◌≡◌, false, sym, ◌∙◌, subst}
 use Rattle.std.specs.Prelude.{IfSome}
 use Rattle.rail_model.specs.Name.{NamesRise}
 use Rattle.plan_model.specs.SectionCut.{binds}
-use Rattle.section_cut.specs.EditedConnection.{IsEditedConnection}
 use Rattle.section_cut.proofs.OldRows.{cut_rows, cut_names, cut_names_rise}
 use Rattle.section_cut.proofs.OneConnection.{cut_of_stays, entries_stay, found_there, binding_kept}
 use Rattle.section_cut.proofs.OneRun.{cut_is}

@@ -1,11 +1,11 @@
-use Rattle.std.proofs.Common.{◌≡◌, ℕ, ◌+◌, ◌<◌, Some, Result, Ok, Err, List, length, map, true, sym, ap, ◌∙◌, subst, arith, rules, w64}
+use Rattle.std.proofs.Common.{◌≡◌, ◌+◌, ◌<◌, Some, Result, Ok, Err, length, map, sym, ap, ◌∙◌, subst, arith, rules, w64}
 use Rattle.std.specs.Prelude.{IfOk, IfSome, pos}
 use Rattle.std.proofs.lemmas.Int.{to_z-of_z}
 use Rattle.std.proofs.lemmas.List.{length-map}
 use Rattle.rail_model.specs.declared.items.Connection.{Connection}
 use Rattle.rail_model.specs.declared.items.Run.{Run}
 use Rattle.rail_model.specs.declared.tables.Tables.{Tables}
-use Rattle.rail_model.specs.Name.{NamesRise, is_same}
+use Rattle.rail_model.specs.Name.{NamesRise}
 use Rattle.rail_model.specs.Tables.{number_of, run_at, last_arrival}
 use Rattle.plan_model.specs.declared.cut.CutRow.{CutRow}
 use Rattle.plan_model.specs.SectionCut.{binding_connections, cut_of}

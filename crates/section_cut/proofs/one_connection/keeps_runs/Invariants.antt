@@ -1,4 +1,4 @@
-use Rattle.std.proofs.Common.{◌≡◌, ℕ, ◌<◌, get_or}
+use Rattle.std.proofs.Common.{ℕ, ◌<◌, get_or}
 use Rattle.rail_model.specs.declared.items.Connection.{Connection}
 use Rattle.section_cut.specs.EditedConnection.{IsOfSameRuns}
 use Rattle.section_cut.proofs.one_connection.keeps_runs.Given as goal

@@ -1,18 +1,17 @@
-use Rattle.std.proofs.Common.{◌≡◌, List, ℕ, Some, None, Option, Result, Ok, Err, map, length, sym, ap, ◌∙◌, subst}
-use Rattle.std.specs.Prelude.{All, filter, find, IfOk, IfSome, option_map}
+use Rattle.std.proofs.Common.{◌≡◌, Some, Option, Result, Ok, Err, map, sym, ap, ◌∙◌, subst}
+use Rattle.std.specs.Prelude.{All, find, IfOk, IfSome}
 use Rattle.std.specs.Option.{option_copied}
 use Rattle.line_tables.proofs.Found.{find_some}
 use Rattle.rail_model.specs.declared.items.Connection.{Connection}
 use Rattle.rail_model.specs.declared.items.Section.{Section}
 use Rattle.rail_model.specs.declared.tables.Tables.{Tables}
 use Rattle.rail_model.specs.Name.{NamesRise, is_same}
-use Rattle.rail_model.specs.Rules.{is_named, has_run}
+use Rattle.rail_model.specs.Rules.{is_named}
 use Rattle.rail_model.proofs.NameOrder.{same_name}
 use Rattle.plan_model.specs.declared.cut.CutRow.{CutRow}
-use Rattle.plan_model.specs.Cut.{AreBlocksFirst, IsSoundCut}
 use Rattle.plan_model.specs.SectionCut.{binds, binding_connections, cut_of}
 use Rattle.section_cut.specs.Change.{IsChange}
-use Rattle.section_cut.specs.Connected.{joins, IsOfRuns, HasEntryOf, TellsEntries, row_beside, block_part}
+use Rattle.section_cut.specs.Connected.{IsOfRuns, TellsEntries, row_beside}
 use Rattle.section_cut.specs.EditedRun.{IsPut, KeepsPlaces}
 use Rattle.section_cut.specs.Stamps.{IsReached, IsOwn}
 use Rattle.section_cut.proofs.BlockPart.{own_blocks_first}

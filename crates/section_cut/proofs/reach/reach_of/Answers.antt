@@ -1,9 +1,8 @@
-use Rattle.std.proofs.Common.{◌≡◌, [], sym, ap, ◌∙◌, subst, arith}
+use Rattle.std.proofs.Common.{sym, ap, ◌∙◌, subst}
 use Rattle.std.specs.Prelude.{filter}
 use Rattle.section_cut.specs.Connected.{joins}
 use Rattle.section_cut.specs.OneRun.{IsOneRun}
 use Rattle.section_cut.specs.EditedRun.{KeepsRoute}
-use Rattle.std.proofs.lemmas.List.{nil_from_length}
 use Rattle.section_cut.proofs.KeptBlocks.{same_traffic}
 use Rattle.section_cut.proofs.NoRun.{cuts_stay}
 use Rattle.section_cut.proofs.Reached.{one_run, one_section}

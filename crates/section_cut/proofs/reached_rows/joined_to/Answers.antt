@@ -1,4 +1,4 @@
-use Rattle.std.proofs.Common.{◌≡◌, ◌-◌, ◌++◌, ◌∷◌, [], List, length, get_or, take, drop, Some, sym, ap, ◌∙◌, subst, arith}
+use Rattle.std.proofs.Common.{◌-◌, ◌++◌, ◌∷◌, [], List, length, get_or, take, drop, Some, sym, ap, ◌∙◌, subst, arith}
 use Rattle.std.specs.Prelude.{IfSome, option_map}
 use Rattle.std.specs.Option.{option_copied}
 use Rattle.std.proofs.lemmas.List.{append_assoc, take_more, take_all}
@@ -6,7 +6,7 @@ use Rattle.rail_model.specs.declared.stair.Use.{Use}
 use Rattle.plan_model.specs.declared.cut.CutRow.{CutRow}
 use Rattle.plan_model.specs.Cut.{AreBlocksFirst}
 use Rattle.plan_model.specs.Members.{no_use}
-use Rattle.section_cut.specs.Connected.{block_part, rest_part, with_rest}
+use Rattle.section_cut.specs.Connected.{block_part, with_rest}
 use Rattle.section_cut.proofs.BlockPart.{rest_taken}
 use Rattle.section_cut.proofs.reached_rows.joined_to.Goals as goal
 

@@ -1,9 +1,7 @@
-use Rattle.std.proofs.Common.{◌≡◌, List, map, sym, subst}
+use Rattle.std.proofs.Common.{sym, ap, subst}
 use Rattle.std.specs.Prelude.{IfSome}
 use Rattle.std.proofs.lemmas.Bool.{both_ways}
-use Rattle.rail_model.specs.Name.{NamesRise}
-use Rattle.plan_model.specs.declared.cut.CutRow.{CutRow}
-use Rattle.plan_model.specs.Cut.{stamped_row}
+use Rattle.plan_model.specs.declared.cut.Cut.{Cut}
 use Rattle.section_cut.specs.Positions.{IsPositions}
 use Rattle.section_cut.specs.RowsAfter.{AreBeside, AreRowsAfter}
 use Rattle.section_cut.proofs.OldRows.{cut_rows}
@@ -68,5 +66,6 @@ returns c =
     (subst (λ o. IfSome o (AreRowsAfter earlier later old.section c.args.number c.slice-rows.result.now)) c.in-Some-2.is c.in_ok-rows.ensures) in
     cut_changes earlier later c.args.reached.now c.args.section.now old c.requires.cut c.in_ok-positions.positions.items
     (beside (goal.at.returns c).After-slice-rows)
-    (record { section = c.in_ok-copy.field-0; connections = c.in_ok-copy-2.field-0; rows = rows }) c.in_ok-copy.ensures c.in_ok-copy-2.ensures c.args.number after
+    c.in_ok-cut_of_rows.field-0 (ap (λ (x : Cut). x.section) c.in_ok-cut_of_rows.ensures) (ap (λ (x : Cut). x.connections) c.in_ok-cut_of_rows.ensures) c.args.number
+    (subst (AreRowsAfter earlier later old.section c.args.number old.rows) (sym (ap (λ (x : Cut). x.rows) c.in_ok-cut_of_rows.ensures)) after)
     (λ all. both_ways c.in_ok-rows_stay.field-0 c.if-branch.false (c.in_ok-rows_stay.ensures.1 (rw (← c.deref.ensures.value, ← c.slice-rows.ensures) at all)))
