@@ -3,7 +3,7 @@ use Rattle.std.proofs.Common.{◌≡◌, ℕ, ℤ, zero, suc, ◌+◌, ◌<◌, 
 use Rattle.std.specs.Prelude.{All, filter, find, option_map, IfSome}
 use Rattle.std.specs.List.{filter_map, enumerate_from, list_any}
 use Rattle.std.specs.Option.{option_to_list}
-use Rattle.std.proofs.lemmas.Bool.{cases_lt}
+use Rattle.std.proofs.lemmas.Bool.{cases_Bool, cases_lt, both_ways, or_parts}
 use Rattle.std.proofs.Math.ListN.{get_or-append}
 use Rattle.std.proofs.lemmas.List.{append-nil, map-append, get_or_push, length-append, take_all, get_or_default}
 use Rattle.std.proofs.lemmas.List.Elements.{All-push, filter_more}
@@ -90,9 +90,17 @@ unmarked : (o : Option CutRow) → option_map (λ (r : CutRow). r.entry) (option
 unmarked None = refl
 unmarked (Some r) = refl
 
--- without connections none bind
-none_bind : (tables : Tables) (s : Section) → tables.connections ≡ [] → binding_connections tables s ≡ []
-none_bind tables s none = ap (filter (binds tables s)) none
+-- a run that has no connection has no uses of connections
+none_joined : (tables : Tables) (s : Section) (run : Run) (p : Connection → Bool) (n : ℕ) (some : List Connection) → list_any (joins run.name) some ≡ false
+    → filter_map (connection_use tables s run) (enumerate_from n (filter p some)) ≡ []
+none_joined tables s run p n [] none = refl
+none_joined tables s run p n (c ∷ some) none =
+    let parts = or_parts (joins run.name c) (list_any (joins run.name) some) none in
+    let apart = or_parts (is_same c.first run.name) (is_same c.second run.name) parts.0 in
+    elim (cases_Bool (p c)) [
+      | inl e ↦ rw e (rw (apart.0, apart.1) (none_joined tables s run p (n + 1) some parts.1))
+      | inr e ↦ rw e (none_joined tables s run p n some parts.1)
+    ]
 
 -- the rows with the next run's
 rows_next : (tables : Tables) (s : Section) (runs : List Run) (n : ℕ) → n < length runs
@@ -126,9 +134,7 @@ module _ {earlier later : Tables} {stairs : List (Option Stair)} {s : Section} {
   kept_binding kept =
       binding_same earlier later beside.earlier_sound beside.later_sound beside.reached.same.runs beside.reached.same.connections s
       (λ n l joined. elim (kept n l) [
-        | inl none ↦
-            let gone : true ≡ false = sym joined ∙ ap (list_any (joins (run_at earlier n).name)) none in
-            absurd (cc)
+        | inl none ↦ absurd (both_ways (list_any (joins (run_at earlier n).name) earlier.connections) none joined)
         | inr entries ↦ entries
       ])
 
@@ -256,22 +262,22 @@ module _ {earlier later : Tables} {stairs : List (Option Stair)} {s : Section} {
             (arrival_same earlier later beside.earlier_sound beside.later_sound beside.reached.same.runs beside.reached.same.connections n below_earlier)
             ∙ ap (uses (entry_of earlier s run) (last_arrival earlier run)) binding
 
-        none_joined : (tables : Tables) → tables.connections ≡ [] → uses_of_connections tables s run ≡ []
-        none_joined tables none = ap (λ bs. filter_map (connection_use tables s run) (enumerate_from (length s.blocks) bs)) (none_bind tables s none)
+        no_uses : (tables : Tables) → list_any (joins run.name) tables.connections ≡ false → uses_of_connections tables s run ≡ []
+        no_uses tables none = none_joined tables s run (binds tables s) (length s.blocks) tables.connections none
 
         rest_is : (b : Bool) → b ≡ is_member earlier s run → is_member later s run ≡ true → (bare : CutRow)
             → with_rest s (cond b (Some (row_of earlier s run)) None) bare ≡ record bare { uses = bare.uses ++ uses_of_connections later s run }
         rest_is b e member bare = elim kept [
           | inl none ↦
-              let after_none = none_joined later (beside.reached.same.connections ∙ none) in
+              let after_none = no_uses later (ap (list_any (joins run.name)) beside.reached.same.connections ∙ none) in
               rw after_none (by_member b e none)
           | inr entries ↦ by_entry b e entries
         ]
           where
-            by_member : (b : Bool) → b ≡ is_member earlier s run → earlier.connections ≡ []
+            by_member : (b : Bool) → b ≡ is_member earlier s run → list_any (joins run.name) earlier.connections ≡ false
                 → with_rest s (cond b (Some (row_of earlier s run)) None) bare ≡ record bare { uses = bare.uses ++ [] }
             by_member true e none =
-                ap (λ us. record bare { uses = bare.uses ++ us }) (others_are earlier beside.earlier_sound s n below_earlier (sym e) ∙ none_joined earlier none)
+                ap (λ us. record bare { uses = bare.uses ++ us }) (others_are earlier beside.earlier_sound s n below_earlier (sym e) ∙ no_uses earlier none)
             by_member false e none = ap (λ us. record bare { uses = us }) (sym (append-nil bare.uses))
 
             by_entry : (b : Bool) → b ≡ is_member earlier s run → entry_in later s run ≡ entry_in earlier s run

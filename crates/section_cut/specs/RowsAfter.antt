@@ -1,5 +1,5 @@
 -- The rows of a section's cut before and after an edit that changes the paths of some runs.
-use Rattle.std.specs.Prelude.{◌≡◌, ◌⊎◌, ℕ, ◌<◌, List, [], length, map, filter, find, slice_index_or, All, Option, None}
+use Rattle.std.specs.Prelude.{◌≡◌, ◌⊎◌, ℕ, ◌<◌, false, List, length, map, filter, find, slice_index_or, All, Option, None}
 use Rattle.rail_model.specs.declared.items.Section.{Section}
 use Rattle.rail_model.specs.declared.stair.Stair.{Stair}
 use Rattle.rail_model.specs.declared.tables.Tables.{Tables}
@@ -9,7 +9,8 @@ use Rattle.rail_model.specs.Tables.{run_at}
 use Rattle.plan_model.specs.declared.cut.CutRow.{CutRow}
 use Rattle.plan_model.specs.Cut.{stamped_row}
 use Rattle.plan_model.specs.SectionCut.{is_member, row_of}
-use Rattle.section_cut.specs.Connected.{entry_in}
+use Rattle.std.specs.List.{list_any}
+use Rattle.section_cut.specs.Connected.{joins, entry_in}
 use Rattle.section_cut.specs.Positions.{IsPositions}
 use Rattle.section_cut.specs.ReachedRuns.{AreReachedRuns, StaysRow}
 use Rattle.section_cut.specs.Stamps.{IsStampedBy}
@@ -34,10 +35,10 @@ AllStay later stairs section positions old =
     (n : ℕ) → n < length later.runs
     → StaysRow section positions (slice_index_or stairs n None) (find (λ r. is_same r.name (run_at later n).name) old)
 
--- there are no connections, or the run of a number enters a section as before, if it is a member
+-- the run of a number has no connection, or it enters a section as before, if it is a member
 abbrev pub IsKept : Tables → Tables → Section → ℕ → Type 0
 IsKept earlier later section n =
-    (earlier.connections ≡ []) ⊎ (entry_in later section (run_at earlier n) ≡ entry_in earlier section (run_at earlier n))
+    (list_any (joins (run_at earlier n).name) earlier.connections ≡ false) ⊎ (entry_in later section (run_at earlier n) ≡ entry_in earlier section (run_at earlier n))
 
 -- where all runs do, the rows after the edit of a number: their values and their stamps
 pub record AreRowsAfter (earlier later : Tables) (section : Section) (number : ℕ) (old rows : List CutRow) : Type 0 where

@@ -1,7 +1,7 @@
 //! The connections of one run in a section's cut: whether each binds after an edit as before it, and
 //! the run's uses of those that bind.
-ghost use Rattle.std.specs.Prelude.{◌≡◌, ◌+◌, ◌++◌, ◌≤◌, ◌<◌, true, All, filter, find, map, length, nat_lt, pos, is_some, IfOk, IfSome, Some, OnOk, option_map};
-ghost use Rattle.std.specs.List.{filter_map};
+ghost use Rattle.std.specs.Prelude.{◌≡◌, ◌+◌, ◌++◌, ◌≤◌, ◌<◌, true, false, All, filter, find, map, length, nat_lt, pos, is_some, IfOk, IfSome, Some, OnOk, option_map};
+ghost use Rattle.std.specs.List.{filter_map, list_any};
 ghost use Rattle.std.specs.Option.{option_copied, option_to_list};
 ghost use Rattle.rail_model.specs.declared.limits.TheConstants.{CONNECTIONS, PATH_HOPS, GREATEST_TIME_S};
 ghost use Rattle.rail_model.specs.Name.{NamesRise, is_same};
@@ -35,6 +35,21 @@ pub(crate) fn joined_by(
         }
     }
     Ok(all)
+}
+
+// Whether the run of a number has a connection.
+pub(crate) fn is_joined(tables: &LineTables, run: u32) -> bool
+    requires { run < length tables.now.runs }
+    ensures { result ≡ false
+        → list_any (joins (run_at tables.now run).name) tables.now.connections ≡ false }
+{
+    let name = &tables.run(run).name;
+    for number in 0..tables.connections() {
+        if joins(tables.connection(number), name) {
+            return true;
+        }
+    }
+    false
 }
 
 // Whether a connection is one of the run of a name.

@@ -1,5 +1,5 @@
 //! What a change of a block, a signal or a route makes of a section's cut. It reaches the rows of the
-//! runs that pass what is edited, and no other. Where there are connections, these runs are to enter
+//! runs that pass what is edited, and no other. Those of these runs that have connections are to enter
 //! the section as before, so that the same connections bind; else its cut is made anew.
 ghost use Rattle.std.specs.Prelude.{◌≡◌, ◌↔◌, ◌<◌, ◌++◌, IsTrue, Bool, if◌then◌else◌, true, All, length, IfOk, IfSome, OnOk, Some, None, option_map};
 ghost use Rattle.std.specs.Option.{option_to_list, option_copied};
@@ -19,6 +19,7 @@ ghost use Rattle.rail_model.specs.Path.{Fits};
 ghost use Rattle.rail_model.specs.Blocking.{stair_of};
 ghost use Rattle.section_cut.specs.ReachedRuns as reached;
 
+use crate::connected::is_joined;
 use crate::cut_changes::{BothTables, CutChange, cut_made_anew};
 use crate::positions::{SectionTable, positions};
 use crate::reached_rows::{row_anew, row_stays};
@@ -250,8 +251,8 @@ fn rows_stay(
     Ok(true)
 }
 
-// The rows after the edit of a number: their values and their stamps. `None` where there are
-// connections, and a run doesn't enter as before.
+// The rows after the edit of a number: their values and their stamps. `None` where a run that has a
+// connection doesn't enter as before.
 fn rows_after(
     alloc: Global,
     both: BothTables<'_>,
@@ -265,14 +266,13 @@ fn rows_after(
     ensures { IfOk result (λ rows. IfSome rows (AreRowsAfter both.entry.before.now
         both.entry.after.now table.entry.section.now number old.now)) }
 {
-    let joined = both.before.connections() > 0;
     let mut found = Vec::new(alloc);
     let mut rows = List::new(alloc);
     let mut at = 0;
     for n in 0..both.after.runs() {
         let own = row_of(both.after, n, old, &mut at);
         let row = row_anew(alloc, table, &reached[n as usize], own, number, &mut found)?;
-        if joined && !enters_as(&row, own) {
+        if !enters_as(&row, own) && is_joined(both.before, n) {
             return Ok(None);
         }
         push_row(&mut rows, row)?;

@@ -1,6 +1,6 @@
 use Rattle.std.proofs.Common.{◌≡◌, ℕ, ◌<◌, length, map, sym, ap, ◌∙◌, subst, inl, inr, arith}
 use Rattle.std.proofs.lemmas.Bool.{cases_lt}
-use Rattle.std.proofs.lemmas.List.{nil_from_length, take_all}
+use Rattle.std.proofs.lemmas.List.{take_all}
 use Rattle.std.specs.Prelude.{All, filter}
 use Rattle.std.specs.Option.{option_copied}
 use Rattle.plan_model.specs.Cut.{stamped_row}
@@ -9,7 +9,7 @@ use Rattle.section_cut.specs.RowsAfter.{IsKept}
 use Rattle.section_cut.specs.Stamps.{IsStampedBy}
 use Rattle.section_cut.proofs.ReachedRuns.{kept_binding, before_next, stair_uses, own_bare, kept_with, rows_with, stamps_with}
 use Rattle.section_cut.proofs.reached_runs.rows_after.Goals as goal
-use Rattle.section_cut.proofs.reached_runs.rows_after.Goals.{else-joined-via-then-joined+else-not-enters_as, else-joined-via-else-joined}
+use Rattle.section_cut.proofs.reached_runs.rows_after.Goals.{else-not-enters_as-via-then-not-enters_as+else-is_joined, else-not-enters_as-via-else-not-enters_as}
 
 pub row_of-own-requires-clause-before : goal.row_of-own-requires-clause-before
 row_of-own-requires-clause-before c = c.loop-n.invariant.before (omega (arith, c.loop-n-test.true, c.runs-n-end.ensures.count))
@@ -36,10 +36,10 @@ loop-n-preserved c =
     let row = c.in_ok-row.row in
     let below : n < length later.runs = omega (arith, c.loop-n-test.true, c.runs-n-end.ensures.count) in
     let kept : IsKept earlier later s n =
-    elim c.else-joined.branch [
-      | else-joined-via-then-joined+else-not-enters_as w ↦
-          inr (kept_with c.requires n below stair its own found c.args.number row c.in_ok-row.ensures c.loop-n.rows (w.enters_as.ensures w.if-not-enters_as.false))
-      | else-joined-via-else-joined w ↦ inl (nil_from_length earlier.connections (omega (arith, w.if-joined.false, c.connections-joined.ensures.count)))
+    elim c.else-not-enters_as.branch [
+      | else-not-enters_as-via-then-not-enters_as+else-is_joined w ↦ inl (w.is_joined.ensures w.if-is_joined.false)
+      | else-not-enters_as-via-else-not-enters_as w ↦
+          inr (kept_with c.requires n below stair its own found c.args.number row c.in_ok-row.ensures c.loop-n.rows (c.enters_as.ensures w.if-not-enters_as.false))
     ] in
     record {
       kept = λ k l. elim (cases_lt k n) [
