@@ -30,6 +30,7 @@ use Rattle.plan_model.proofs.Touching.{same_one, legal_later}
 use Rattle.plan_model.proofs.Unique.{answer_is_unique}
 use Rattle.plan_model.proofs.OneWay.{reply_one}
 use Rattle.plan_model.proofs.Working.{of_planner}
+use Rattle.plan_model.proofs.Parts.{all_first, all_last}
 
 -- ---- entries that publish
 
@@ -233,14 +234,6 @@ act_one journal planner (task.Ask section) a b legal h k (r, is) (s, also) =
     ∙ sym also
 
 -- ---- one turn
-
-all_first : {X : Type 0} (P : X → Type 0) (xs ys : List X) → All P (xs ++ ys) → All P xs
-all_first P [] ys h = All-nil P
-all_first P (x ∷ xs) ys h = All-cons P x xs (All-head P x (xs ++ ys) h) (all_first P xs ys (All-tail P x (xs ++ ys) h))
-
-all_last : {X : Type 0} (P : X → Type 0) (xs ys : List X) → All P (xs ++ ys) → All P ys
-all_last P [] ys h = h
-all_last P (x ∷ xs) ys h = all_last P xs ys (All-tail P x (xs ++ ys) h)
 
 -- publications, the entry of a task and the entries after it, in a legal journal, by pass 0
 record Turn (journal ps : List Entry) (e : Entry) (later : List Entry) : Type 0 where

@@ -38,4 +38,7 @@ pub mod Unstamped
 pub mod Readings
 pub mod Untouched
 pub mod Rising
+pub mod Parts
 pub mod Alone
+pub mod Rounds
+pub mod TrueRing

@@ -1,15 +1,16 @@
 -- Laws of cuts, schedules and answers.
-use Rattle.std.specs.Prelude.{◌≡◌, ◌≢◌, ◌⊎◌, ◌↔◌, ℕ, ◌<◌, ℤ, pos, ◌-ℤ◌, ◌≤ℤ◌, List, [], IsTrue}
+use Rattle.std.specs.Prelude.{◌≡◌, ◌≢◌, ◌⊎◌, ◌↔◌, ℕ, ◌<◌, ◌≤◌, ℤ, pos, ◌-ℤ◌, ◌≤ℤ◌, List, [], ◌++◌, map, take, drop, slice_index, IsTrue, All, AllPairs}
 use Rattle.std.specs.List.{list_any}
 use Rattle.rail_model.specs.Conflict.{ComesBefore, Overlap}
 use Rattle.plan_model.specs.declared.cut.CutRow.{CutRow}
 use Rattle.plan_model.specs.declared.cut.Cut.{Cut}
+use Rattle.plan_model.specs.declared.answer.Link.{Link}
 use Rattle.plan_model.specs.declared.answer.Answer.{Answer}
-use Rattle.plan_model.specs.Places.{places}
+use Rattle.plan_model.specs.Places.{place_name, place_count, places}
 use Rattle.plan_model.specs.Members.{member, member_count, uses_place, use_at}
 use Rattle.plan_model.specs.Precedence.{comes_before, precedes}
 use Rattle.plan_model.specs.Cut.{IsSoundCut}
-use Rattle.plan_model.specs.Disorder.{preceded, remaining}
+use Rattle.plan_model.specs.Disorder.{preceded, remaining, ring_members, ring}
 use Rattle.plan_model.specs.Schedule.{window_floor, entry_at, start_by, end_by, IsScheduleFrom, IsLeastFrom, IsSchedule, IsLeast}
 use Rattle.plan_model.specs.Tie.{touches}
 use Rattle.plan_model.specs.Answer.{IsAnswer}
@@ -45,6 +46,33 @@ UsesAreApart =
 -- a further round takes out none of the members that remain: each is preceded by one that remains
 abbrev pub RemainingIsLeft : Type 0
 RemainingIsLeft = (cut : Cut) → preceded cut (remaining cut) ≡ remaining cut
+
+-- a link is true: its train is a member that precedes the next, which is a member too, at the place that it names
+pub record IsTrueLink (cut : Cut) (link : Link) : Type 0 where
+  pub first : ℕ
+  pub second : ℕ
+  pub place : ℕ
+  pub there : place < place_count cut
+  pub precedes : IsTrue (precedes (member cut first) (member cut second) place)
+  pub train : link.train ≡ (member cut first).name
+  pub block : link.block ≡ place_name cut place
+  pub next : link.next ≡ (member cut second).name
+
+-- links are a ring of some members of a cut, which are numbered in the order of their names. Each link is true. The next
+-- of each is the train of the link after it, and that of the last is the train of the first. No train comes twice, and
+-- the least comes first
+pub record IsTrueRing (cut : Cut) (ring : List ℕ) (links : List Link) : Type 0 where
+  pub some : ring ≢ []
+  pub there : All (λ i. i < member_count cut) ring
+  pub trains : map (λ l. l.train) links ≡ map (λ i. (member cut i).name) ring
+  pub each : All (IsTrueLink cut) links
+  pub close : map (λ l. l.next) links ≡ drop 1 (map (λ l. l.train) links) ++ take 1 (map (λ l. l.train) links)
+  pub once : AllPairs (λ a b. a ≢ b) (map (λ l. l.train) links)
+  pub least : All (λ i. slice_index ring 0 ≤ i) ring
+
+-- where members of a sound cut remain, what `ring` tells of it is a ring
+abbrev pub RingIsTrue : Type 0
+RingIsTrue = (cut : Cut) → IsSoundCut cut → remaining cut ≢ [] → IsTrueRing cut (ring_members cut) (ring cut)
 
 -- member j enters at its floor, or touches a member that precedes it
 abbrev pub IsTiedFrom : Cut → (ℕ → ℤ) → List ℤ → ℕ → Type 0

@@ -1,7 +1,7 @@
 //! Laws of the definitions: each function does nothing, and its contract is the law.
 ghost use Rattle.plan_model.specs.Cut.{MembersAreUsable};
 ghost use Rattle.plan_model.specs.Disorder.{PrecededRemain};
-ghost use Rattle.plan_model.specs.Laws.{LeastIsUnique, AnswerIsUnique, UsesAreApart, RemainingIsLeft, TiedIsLeast, LeastIsTied, NoneIsLater, OccupancyIsToClosing, OccupancyReachesClosing, FractionIsReduced, ReducedIsUnique, ComesBeforeIsTested, ConflictIsOverlap};
+ghost use Rattle.plan_model.specs.Laws.{LeastIsUnique, AnswerIsUnique, UsesAreApart, RemainingIsLeft, TiedIsLeast, LeastIsTied, NoneIsLater, OccupancyIsToClosing, OccupancyReachesClosing, RingIsTrue, FractionIsReduced, ReducedIsUnique, ComesBeforeIsTested, ConflictIsOverlap};
 
 /// A cut has at most one least schedule from floors, one for each member: from the window's start
 /// as from later moments.
@@ -23,6 +23,13 @@ pub fn uses_are_apart()
 /// Each member that remains is preceded by one that remains.
 pub fn remaining_is_left()
     ensures { RemainingIsLeft }
+{}
+
+/// Where members of a sound cut remain, the links of its ring are true and close: each train
+/// precedes the next at the place that the link names, and the last train the first. No train comes
+/// twice, and the least comes first.
+pub fn ring_is_true()
+    ensures { RingIsTrue }
 {}
 
 /// Where no member remains, a schedule in which each train enters at its floor (the window's start,
