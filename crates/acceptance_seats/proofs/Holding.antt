@@ -1,5 +1,5 @@
 -- Answers that are held stay so while a book goes on.
-use Rattle.std.proofs.Common.{◌≡◌, ℕ, zero, suc, ◌<◌, List, [], ◌∷◌, ◌++◌, length, remove, Result, Ok, Err, sym, subst, arith}
+use Rattle.std.proofs.Common.{◌≡◌, ℕ, suc, ◌<◌, List, [], ◌∷◌, ◌++◌, length, remove, Result, Ok, Err, sym, subst, arith}
 use Rattle.std.specs.Prelude.{All}
 use Rattle.rail_model.specs.declared.edit.Edit.{Edit}
 use Rattle.rail_model.specs.declared.edit.Rule.{Rule}
