@@ -92,15 +92,15 @@ impl LineTables {
     pub fn copy(&self) -> Result<LineTables, OutOfMemory>
         ensures { IfOk result (λ other. other ≡ self.now) }
     {
+        let sets = self.route_sets.copy()?;
+        let track = copy_track(&self.blocks, &self.signals, &self.routes)?;
+        let trains = copy_trains(&self.runs, &self.sections, &self.connections)?;
         let counts = copy_counts(
             &self.block_uses,
             &self.signal_uses,
             &self.route_uses,
             &self.run_uses,
         )?;
-        let track = copy_track(&self.blocks, &self.signals, &self.routes)?;
-        let trains = copy_trains(&self.runs, &self.sections, &self.connections)?;
-        let sets = self.route_sets.copy()?;
         Ok(from_parts(self.alloc, track, trains, counts, sets))
     }
 
