@@ -76,11 +76,11 @@ fn untimed_hops(
     requires numbered { AreNumbered (length blocks.now) blocks.now numbers.now }
     ensures { IfOk result (λ hops. hops ≡ map (hops_in.hop_of blocks.now signals.now) keys.now) }
 {
-    let mut hops = List::from_vec(Vec::with_capacity(alloc, keys.len())?);
+    let mut hops = Vec::with_capacity(alloc, keys.len())?;
     for key in keys {
-        hops.push(untimed_hop(blocks, numbers, signals, *key))?;
+        hops.push_reserved(untimed_hop(blocks, numbers, signals, *key));
     }
-    Ok(hops)
+    Ok(List::from_vec(hops))
 }
 
 // The hops with the times of these legs, in their order.
