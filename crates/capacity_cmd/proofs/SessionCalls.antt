@@ -1,5 +1,5 @@
 -- What a call with the words `session W` has done where it ends with status 0.
-use Rattle.std.proofs.Common.{◌≡◌, ℕ, zero, suc, List, [], ◌∷◌, length, if◌then◌else◌, ◌==◌, Option, Some, None, Result, Ok, Err, MatchOption, refl, sym, ap, subst, codes, option_map}
+use Rattle.std.proofs.Common.{◌≡◌, ℕ, zero, suc, List, [], ◌∷◌, length, if◌then◌else◌, ◌==◌, Some, None, Result, Ok, Err, MatchOption, refl, sym, ap, subst, codes, option_map}
 use Rattle.std.proofs.lemmas.List.Elements.{All-weaker}
 use Rattle.rail_model.specs.declared.tables.Tables.{Tables}
 use Rattle.rail_outside.specs.InCall.{SourceInCall, SinkInCall, Gave, IsReadToEnd, IsWritten}
@@ -13,7 +13,6 @@ use Rattle.plan_model.specs.Journal.{task_of}
 use Rattle.plan_model.specs.Session.{IsByPlanner, IsByWorker, IsMade, IsSession}
 use Rattle.plan_book.specs.declared.book.TheConstants.{PLANNERS}
 use Rattle.session_run.proofs.Turns.{doer}
-use Rattle.capacity_cmd.specs.declared.command.Command.{Command}
 use Rattle.capacity_cmd.specs.declared.command.Command.TheVariants as command
 use Rattle.capacity_cmd.specs.declared.refusal.Refusal.{Refusal}
 use Rattle.capacity_cmd.specs.declared.status.Status.TheVariants.{Done}

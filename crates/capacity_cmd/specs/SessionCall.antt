@@ -1,5 +1,5 @@
 -- What a call with the words `session W` has done where it ends with status 0.
-use Rattle.std.specs.Prelude.{◌≡◌, ℕ, List, [], ◌∷◌, ◌++◌, length, map, codes, All, Some, Result, Ok}
+use Rattle.std.specs.Prelude.{◌≡◌, ℕ, List, [], ◌∷◌, ◌++◌, length, map, codes, All, Some, Ok}
 use Rattle.std.specs.List.{range_with_len}
 use Rattle.rail_model.specs.declared.tables.Tables.{Tables}
 use Rattle.rail_outside.specs.InCall.{SourceInCall, SinkInCall, Gave, IsReadToEnd, IsWritten}
