@@ -7,7 +7,8 @@ written, or as the call ends with ample memory: with its status and its whole te
 makes, how many runs ended in each way, and the most blocks of memory that a run didn't give back. Calls whose threads
 make a number of allocations that differs from run to run go on past the greatest number that was seen, several times.
 Where the start of a thread is refused, the call has to end as ever; where a read fails, with status 3 and nothing
-written; where a write fails, with status 4 and what was written before it. Ends with status 1 where a run ended otherwise.
+written; where a write fails, with status 4 and what was written before it. A word that isn't UTF-8 has to end the call with
+status 2 and nothing written. Ends with status 1 where a run ended otherwise.
 """
 import os
 import pathlib
@@ -157,8 +158,14 @@ def build(folder, program):
             sys.exit(built.stderr.decode())
 
 
+def refuse_word(program):
+    ended = subprocess.run([program, "compress", b"\xff"], input=LINE.encode(), capture_output=True, timeout=60)
+    print("a word that isn't UTF-8: status %d" % ended.returncode)
+    return [] if (ended.returncode, ended.stdout) == (2, b"") else ["status %d" % ended.returncode]
+
+
 def refuse_all(folder, program):
-    all_wrong = 0
+    all_wrong = tell_wrong(refuse_word(program))
     for words, given, texts in CALLS:
         runs = Runs(folder, program, words, given, texts)
         for _ in range(ROUNDS if runs.is_raced else 1):
