@@ -48,16 +48,8 @@ IsRead (Some command) (Some made) = IfOk made (λ c. c ≡ command)
 
 -- how many workers a command has: a session as many as are asked for, any other none
 abbrev pub workers_of : Command → ℕ
-workers_of command.Stairs = 0
-workers_of command.Check = 0
-workers_of (command.Compress section) = 0
-workers_of command.Report = 0
-workers_of (command.Headways section) = 0
-workers_of (command.Cut section) = 0
-workers_of (command.Cycle section) = 0
-workers_of (command.Delays section given) = 0
-workers_of (command.Fill section run) = 0
 workers_of (command.Session workers) = workers
+workers_of c = 0
 
 -- and how many words ask for, by the command that they spell
 abbrev pub workers_asked : Option Command → ℕ
@@ -76,13 +68,5 @@ pub record IsAlone (words : List (List ℕ)) : Type 0 where
 
 -- how many planners' scripts a command takes: a session up to 16, any other none
 abbrev pub planners_of : Command → ℕ
-planners_of command.Stairs = 0
-planners_of command.Check = 0
-planners_of (command.Compress section) = 0
-planners_of command.Report = 0
-planners_of (command.Headways section) = 0
-planners_of (command.Cut section) = 0
-planners_of (command.Cycle section) = 0
-planners_of (command.Delays section given) = 0
-planners_of (command.Fill section run) = 0
 planners_of (command.Session workers) = PLANNERS
+planners_of c = 0

@@ -22,9 +22,7 @@ use Rattle.made_line.specs.Tables.{base_tables}
 -- the occupancy time of an ordered section; 0 of any other
 abbrev pub occupancy_of : Answer → ℕ
 occupancy_of (answer.Ordered plan) = plan.occupancy
-occupancy_of (answer.Opposite first second block1 block2) = 0
-occupancy_of (answer.Ring links) = 0
-occupancy_of (answer.Crowded count) = 0
+occupancy_of a = 0
 
 -- the total of some answers, and the occupancy times of their ordered sections together
 pub record Counted : Type 0 where

@@ -21,36 +21,27 @@ pub record Total : Type 0 where
 -- a section whose trains have an order
 abbrev pub is_ordered : Answer → Bool
 is_ordered (answer.Ordered plan) = true
-is_ordered (answer.Opposite first second block1 block2) = false
-is_ordered (answer.Ring links) = false
-is_ordered (answer.Crowded count) = false
+is_ordered a = false
 
 -- an ordered section whose consumption is within its capacity, or over it
 abbrev pub is_within_capacity : Answer → Bool
 is_within_capacity (answer.Ordered plan) = is_within (consumption_of plan)
-is_within_capacity (answer.Opposite first second block1 block2) = false
-is_within_capacity (answer.Ring links) = false
-is_within_capacity (answer.Crowded count) = false
+is_within_capacity a = false
 
 abbrev pub is_over_capacity : Answer → Bool
 is_over_capacity (answer.Ordered plan) = not (is_within (consumption_of plan))
-is_over_capacity (answer.Opposite first second block1 block2) = false
-is_over_capacity (answer.Ring links) = false
-is_over_capacity (answer.Crowded count) = false
+is_over_capacity a = false
 
 -- a section with opposite trains or a ring
 abbrev pub is_disordered : Answer → Bool
-is_disordered (answer.Ordered plan) = false
 is_disordered (answer.Opposite first second block1 block2) = true
 is_disordered (answer.Ring links) = true
-is_disordered (answer.Crowded count) = false
+is_disordered a = false
 
 -- a section with more members than are compressed
 abbrev pub is_crowded : Answer → Bool
-is_crowded (answer.Ordered plan) = false
-is_crowded (answer.Opposite first second block1 block2) = false
-is_crowded (answer.Ring links) = false
 is_crowded (answer.Crowded count) = true
+is_crowded a = false
 
 -- the total of some answers
 abbrev pub total_of : List Answer → Total

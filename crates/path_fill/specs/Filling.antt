@@ -45,9 +45,7 @@ IsFill cut r (fill.Fits copies time next) = AreMost cut r copies time next
 -- an answer that isn't a compressed timetable
 abbrev pub IsNoPlan : Answer → Type 0
 IsNoPlan (answer.Ordered plan) = ⊥
-IsNoPlan (answer.Opposite first second block1 block2) = ⊤
-IsNoPlan (answer.Ring links) = ⊤
-IsNoPlan (answer.Crowded count) = ⊤
+IsNoPlan a = ⊤
 
 -- a cut that is compressed
 pub record IsOrdered (cut : Cut) : Type 0 where

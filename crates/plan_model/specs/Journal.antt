@@ -30,11 +30,7 @@ no_opening = record { tables = no_tables; at = 0; scripts = [] }
 -- the opening that an act makes, if it makes one
 abbrev pub opening_of : Act → Opening
 opening_of (act.Opened tables at scripts) = record { tables = tables; at = at; scripts = scripts }
-opening_of (act.Entered number) = no_opening
-opening_of (act.Edited planner at edit) = no_opening
-opening_of (act.Refused planner rule edit) = no_opening
-opening_of (act.Asked planner section reply) = no_opening
-opening_of (act.Published section at answer) = no_opening
+opening_of a = no_opening
 
 -- the opening of a journal: its first entry
 abbrev pub opening : List Entry → Opening
@@ -49,12 +45,8 @@ planners journal = range_with_len 1 (length (opening journal).scripts)
 
 -- the edit that an act makes, if it makes one; a refused edit is not made
 abbrev pub edit_of : Act → Option Edit
-edit_of (act.Opened tables at scripts) = None
-edit_of (act.Entered number) = None
 edit_of (act.Edited planner at edit) = Some edit
-edit_of (act.Refused planner rule edit) = None
-edit_of (act.Asked planner section reply) = None
-edit_of (act.Published section at answer) = None
+edit_of a = None
 
 -- the edits of a journal, in order
 abbrev pub edits : List Entry → List Edit
@@ -82,13 +74,9 @@ pub record Publication : Type 0 where
 
 -- the publication of this section that an act makes, if it makes one
 abbrev pub publication_of : List ℕ → Act → Option Publication
-publication_of name (act.Opened tables at scripts) = None
-publication_of name (act.Entered number) = None
-publication_of name (act.Edited planner at edit) = None
-publication_of name (act.Refused planner rule edit) = None
-publication_of name (act.Asked planner section reply) = None
 publication_of name (act.Published section at answer) =
     if is_same section name then Some (record { at = at; answer = answer }) else None
+publication_of name a = None
 
 -- the publications of a section, by its name, in order
 abbrev pub publications : List Entry → List ℕ → List Publication
@@ -102,12 +90,8 @@ last_publication journal name = last_or None (publications journal name)
 
 -- an act issues a pass
 abbrev pub issues : Act → Bool
-issues (act.Opened tables at scripts) = false
 issues (act.Entered number) = true
-issues (act.Edited planner at edit) = false
-issues (act.Refused planner rule edit) = false
-issues (act.Asked planner section reply) = false
-issues (act.Published section at answer) = false
+issues a = false
 
 -- how many passes are issued: pass 0, and one by each entry that enters
 unfoldable pub issued : List Entry → ℕ
@@ -117,12 +101,10 @@ issued journal = count_by (λ e. issues e.act) journal + 1
 
 -- the task of this planner that an act does, if it does one; it is done also where its edit is refused
 abbrev pub task_of : ℕ → Act → Option Task
-task_of planner (act.Opened tables at scripts) = None
-task_of planner (act.Entered number) = None
 task_of planner (act.Edited by at edit) = if by == planner then Some (task.Edit edit) else None
 task_of planner (act.Refused by rule edit) = if by == planner then Some (task.Edit edit) else None
 task_of planner (act.Asked by section reply) = if by == planner then Some (task.Ask section) else None
-task_of planner (act.Published section at answer) = None
+task_of planner a = None
 
 -- the tasks of a planner that are done, in order
 unfoldable pub done_by : List Entry → ℕ → List Task

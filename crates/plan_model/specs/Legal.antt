@@ -67,11 +67,7 @@ AllFollow before (e ∷ later) = IsNext before e × AllFollow (before ++ e ∷ [
 -- a journal opens with sound tables
 abbrev pub Opens : Act → Type 0
 Opens (act.Opened tables at scripts) = IsSound tables
-Opens (act.Entered number) = ⊥
-Opens (act.Edited planner at edit) = ⊥
-Opens (act.Refused planner rule edit) = ⊥
-Opens (act.Asked planner section reply) = ⊥
-Opens (act.Published section at answer) = ⊥
+Opens a = ⊥
 
 -- a legal journal: it opens by pass 0, and each next entry is legal after those before it
 abbrev pub IsLegal : List Entry → Type 0

@@ -46,12 +46,11 @@ IsByWorker planners (suc workers) pass = (planners < pass) × (pass ≤ planners
 
 -- once all have entered, planners edit and ask, and workers publish
 abbrev pub IsMade : ℕ → ℕ → ℕ → Act → Type 0
-IsMade planners workers pass (act.Opened tables at scripts) = ⊥
-IsMade planners workers pass (act.Entered number) = ⊥
 IsMade planners workers pass (act.Edited planner at edit) = IsByPlanner planners workers planner pass
 IsMade planners workers pass (act.Refused planner rule edit) = IsByPlanner planners workers planner pass
 IsMade planners workers pass (act.Asked planner section reply) = IsByPlanner planners workers planner pass
 IsMade planners workers pass (act.Published section at answer) = IsByWorker planners workers pass
+IsMade planners workers pass a = ⊥
 
 -- every section that is there is current
 abbrev pub AllAreCurrent : List Entry → Type 0
