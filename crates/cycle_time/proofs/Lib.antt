@@ -15,3 +15,6 @@ pub mod Repeated
 pub mod Told
 pub mod Kept
 pub mod Led
+pub mod SomeEdge
+pub mod SomeCycle
+pub mod SomeAnswer

@@ -47,13 +47,13 @@ pub record IsSearched (cut : Cut) (period : ℕ) (ring : List Edge) : Type 0 whe
 pub at_first : (cut : Cut) (ring : List Edge) → IsSearched cut 0 ring
 at_first cut ring = record { limit = inl refl; most = omega arith }
 
-pub found_it : (cut : Cut) → IsSoundCut cut → 0 < member_count cut → (period : ℕ) (ring : List Edge) → IsSearched cut period ring
-    → (entries : List ℤ) → IsLeastRepeating cut period entries
+pub found_it : (cut : Cut) → IsSoundCut cut → 0 < member_count cut → (period : ℕ) (ring : List Edge)
+    → (period ≡ 0) ⊎ IsLimit cut period ring → (entries : List ℤ) → IsLeastRepeating cut period entries
     → IsFound cut (record { period = period; entries = entries; ring = ring })
-found_it cut sound some period ring searched entries least = record {
-  limit = elim searched.limit [
+found_it cut sound some period ring limit entries least = record {
+  limit = elim limit [
     | inl z ↦ absurd (not_at_once cut sound some entries (subst (λ t. IsRepeating cut t entries) z least.repeats))
-    | inr limit ↦ limit
+    | inr is ↦ is
   ];
   least = least;
 }

@@ -1,6 +1,6 @@
 -- What becomes of a period: the entries repeat in it, or a ring refuses it.
-use Rattle.std.proofs.Common.{◌≡◌, ℕ, ◌+◌, ◌<◌, ◌≤◌, ◌==◌, true, false, List, [], ◌∷◌, length, map, inl, inr, refl, sym, ap, subst, ◌∙◌, arith}
-use Rattle.std.specs.Prelude.{ℤ, pos, ◌⊎◌, cond, replicate, ◌||◌, All, Option, None}
+use Rattle.std.proofs.Common.{◌≡◌, ℕ, ◌+◌, ◌*◌, ◌<◌, ◌≤◌, ◌==◌, true, false, List, [], ◌∷◌, length, map, inl, inr, refl, sym, ap, subst, ◌∙◌, arith}
+use Rattle.std.specs.Prelude.{ℤ, pos, ◌+ℤ◌, ◌*ℤ◌, ◌≤ℤ◌, ◌<ℤ◌, ◌⊎◌, cond, replicate, ◌||◌, All, Option, None}
 use Rattle.std.proofs.lemmas.Bool.{cases_Bool, cases_lt, or_cases, or_left, or_right, eqb-true, eq-eqb, both_ways}
 use Rattle.std.proofs.lemmas.Int.{ints}
 use Rattle.std.proofs.lemmas.List.{length-replicate, length-map}
@@ -22,7 +22,7 @@ use Rattle.cycle_time.specs.declared.edge.Edge.{Edge}
 use Rattle.cycle_time.specs.Repeating.{IsLeastRepeating}
 use Rattle.cycle_time.specs.Edges.{IsEdge, Keeps, AreEnough}
 use Rattle.cycle_time.specs.Raising.{cause_at, IsWhy, AreRaised, IsEarly, AreEarly, IsSettled, IsHigher}
-use Rattle.cycle_time.specs.Rings.{to_of, EndsAt, GoesRound, Back, laps, IsRefusal}
+use Rattle.cycle_time.specs.Rings.{to_of, EndsAt, GoesRound, Back, weights, laps, IsLoop, IsRefusal}
 use Rattle.cycle_time.proofs.Trails.{asked_is, soon, round, edges_of, back_of}
 
 -- ---- at the start
@@ -92,21 +92,27 @@ module _ (cut : Cut) (sound : IsSoundCut cut) (edges : List Edge) (enough : AreE
 
 -- ---- a trail that ends
 
+-- a train behind which a trail ends enters soon after the window's start
+pub soon_again : (cut : Cut) (period : ℕ) (entries : List ℤ) (causes : List (Option Edge)) (top : ℕ)
+    → AreRaised cut period entries causes → top < member_count cut → EndsAt causes top
+    → entry_at entries top ≤ℤ (window_start cut +ℤ pos (member_count cut * 200000000))
+soon_again cut period entries causes top (stamp, clock, raised) l ends =
+    let lr : ends.root < member_count cut = omega (arith, ends.there, raised.causes_count) in
+    let reach = soon cut period entries causes stamp clock raised top ends.trail ends.root l ends.leads in
+    let root : entry_at entries ends.root ≡ window_start cut =
+    subst (IsWhy cut period entries stamp ends.root) ends.never (raised.why ends.root lr) in
+    omega (arith, ints, reach, root, ends.short, raised.causes_count)
+
 pub early_again : (cut : Cut) → IsSoundCut cut → member_count cut ≤ MEMBERS → (period : ℕ) (before after : List ℤ)
     (causes : List (Option Edge)) (top : ℕ) → AreRaised cut period after causes → IsHigher before after top → EndsAt causes top
     → AreEarly after
-early_again cut sound few period before after causes top (stamp, clock, raised) higher ends =
+early_again cut sound few period before after causes top raised higher ends =
     elim higher.early [
       | inl early ↦ early
       | inr past ↦
-          let l : top < member_count cut = omega (arith, higher.there, raised.count) in
-          let lr : ends.root < member_count cut = omega (arith, ends.there, raised.causes_count) in
-          let reach = soon cut period after causes stamp clock raised top ends.trail ends.root l ends.leads in
-          let root : entry_at after ends.root ≡ window_start cut =
-          subst (IsWhy cut period after stamp ends.root) ends.never (raised.why ends.root lr) in
+          let reach = soon_again cut period after causes top raised (omega (arith, higher.there, raised.2.count)) ends in
           let w = sound.window_start in
-          let n : length ends.trail ≤ MEMBERS = omega (arith, ends.short, raised.causes_count, few) in
-          absurd (omega (arith, ints, past, reach, root, w, n))
+          absurd (omega (arith, ints, past, reach, w, few))
     ]
 
 -- ---- a ring
@@ -191,9 +197,11 @@ module _ (cut : Cut) (sound : IsSoundCut cut) (none : remaining cut ≡ []) wher
             absurd (both_ways _ (ap (λ xs. is_among xs at) none) left)
       ]
 
-  pub refused : member_count cut ≤ MEMBERS → (period : ℕ) (entries : List ℤ) (causes : List (Option Edge)) (ring : List Edge)
-      → AreRaised cut period entries causes → GoesRound causes ring → IsRefusal cut period ring
-  refused few period entries causes ring (stamp, clock, raised) round_it =
+  -- a ring of causes asks for more than its patterns take in the period
+  pub round_asks : (period : ℕ) (entries : List ℤ) (causes : List (Option Edge)) (ring : List Edge)
+      → AreRaised cut period entries causes → GoesRound causes ring
+      → IsLoop cut ring × ((pos (laps ring) *ℤ pos period) <ℤ weights ring)
+  round_asks period entries causes ring (stamp, clock, raised) round_it =
       let l : round_it.at < member_count cut = omega (arith, round_it.there, raised.causes_count) in
       let edges = edges_of cut period entries causes stamp clock raised round_it.at ring round_it.at l round_it.leads in
       let back = back_of cut period entries causes stamp clock raised round_it.at ring round_it.at l round_it.leads in
@@ -201,15 +209,20 @@ module _ (cut : Cut) (sound : IsSoundCut cut) (none : remaining cut ≡ []) wher
       let sum = asked_is period ring in
       let there : All (λ k. k < member_count cut) (map to_of ring) =
       All-map (λ k. k < member_count cut) to_of ring (λ k d lk. (edges k d lk).is_step.other_there) in
-      let whole = whole_length (member_count cut) (map to_of ring) there round_it.once in
-      record {
-        is_loop = record {
+      let whole = whole_length (member_count cut) (map to_of ring) there round_it.once in (
+        record {
           each = edges;
           at = round_it.at;
           leads = back;
           once = round_it.once;
           some = some_lap round_it.at ring round_it.some edges back;
-          few = omega (arith, whole, few, length-map ring to_of);
-        };
-        more = omega (arith, ints, more, sum);
-      }
+          few = omega (arith, whole, length-map ring to_of);
+        },
+        omega (arith, ints, more, sum),
+      )
+
+  pub refused : member_count cut ≤ MEMBERS → (period : ℕ) (entries : List ℤ) (causes : List (Option Edge)) (ring : List Edge)
+      → AreRaised cut period entries causes → GoesRound causes ring → IsRefusal cut period ring
+  refused few period entries causes ring raised round_it =
+      let (is, more) = round_asks period entries causes ring raised round_it in
+      record { is_loop = is; few = omega (arith, few, is.few); more = more }

@@ -1,13 +1,16 @@
 -- Laws of cycles.
-use Rattle.std.specs.Prelude.{◌≡◌, ℕ, ◌≤◌, ℤ, List}
+use Rattle.std.specs.Prelude.{◌≡◌, ℕ, ◌≤◌, ℤ, List, [], None, Result}
 use Rattle.plan_model.specs.declared.cut.Cut.{Cut}
+use Rattle.plan_model.specs.declared.answer.Disorder.{Disorder}
+use Rattle.plan_model.specs.Cut.{IsSoundCut}
+use Rattle.plan_model.specs.Disorder.{opposite, remaining}
 use Rattle.plan_model.specs.Schedule.{IsSchedule}
 use Rattle.plan_model.specs.Occupancy.{occupancy}
 use Rattle.cycle_time.specs.declared.found.Step.{Step}
 use Rattle.cycle_time.specs.declared.found.Cycle.{Cycle}
 use Rattle.cycle_time.specs.Repeating.{IsRepeating}
 use Rattle.cycle_time.specs.Ring.{Refuses}
-use Rattle.cycle_time.specs.Cycle.{IsCycle}
+use Rattle.cycle_time.specs.Cycle.{IsCycle, IsCycleOf, IsAnswered}
 
 -- the ring alone refuses each lesser period: no list of entries repeats in one
 abbrev pub NoLesserPeriod : Type 0
@@ -46,3 +49,13 @@ pub record AreAlike (cycle other : Cycle) : Type 0 where
 -- all cycles of a cut are alike
 abbrev pub CyclesAreAlike : Type 0
 CyclesAreAlike = (cut : Cut) (cycle other : Cycle) → IsCycle cut cycle → IsCycle cut other → AreAlike cycle other
+
+-- where the trains of a sound cut have an order, it has a cycle: a period with the least entries that repeat in it, and a
+-- ring that refuses each lesser one
+abbrev pub CycleIsThere : Type 0
+CycleIsThere =
+    (cut : Cut) → IsSoundCut cut → opposite cut ≡ None → remaining cut ≡ [] → (cycle : Cycle) × IsCycleOf cut cycle
+
+-- a sound cut has an answer: a cycle, where its trains have an order, else their disorder
+abbrev pub AnswerIsThere : Type 0
+AnswerIsThere = (cut : Cut) → IsSoundCut cut → (answer : Result Cycle Disorder) × IsAnswered cut answer

@@ -2,6 +2,7 @@
 use Rattle.std.specs.Prelude.{◌≡◌, ℕ, ◌<◌, ◌≤◌, ℤ, pos, ◌+ℤ◌, ◌-ℤ◌, ◌*ℤ◌, ◌<ℤ◌, List, [], ◌∷◌, length, map, count_by, All, Option, None, Some, IfSome}
 use Rattle.plan_model.specs.declared.limits.TheConstants.{MEMBERS}
 use Rattle.plan_model.specs.declared.cut.Cut.{Cut}
+use Rattle.plan_model.specs.Members.{member_count}
 use Rattle.train_order.specs.Taking.{IsDistinct}
 use Rattle.cycle_time.specs.declared.edge.Edge.{Edge}
 use Rattle.cycle_time.specs.declared.settling.Settled.{Settled}
@@ -78,11 +79,13 @@ pub record IsLoop (cut : Cut) (ring : List Edge) : Type 0 where
   pub leads : Back at ring at
   pub once : IsDistinct (map to_of ring)
   pub some : 0 < laps ring
-  pub few : length ring ≤ MEMBERS
+  pub few : length ring ≤ member_count cut
 
--- a ring of edges refuses a period: it asks for more than its patterns take
+-- a ring of edges, no more than a cut to be compressed has members, refuses a period: it asks for more than its patterns
+-- take
 pub record IsRefusal (cut : Cut) (period : ℕ) (ring : List Edge) : Type 0 where
   pub is_loop : IsLoop cut ring
+  pub few : length ring ≤ MEMBERS
   pub more : (pos (laps ring) *ℤ pos period) <ℤ weights ring
 
 abbrev pub IsSettling : Cut → ℕ → Settled → Type 0

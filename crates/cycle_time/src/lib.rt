@@ -49,8 +49,8 @@ mod turning;
 pub use checking::shows;
 pub use found::{Cycle, Step};
 pub use laws::{
-    cycles_are_alike, longer_repeats, no_lesser_period, period_is_within_occupancy,
-    schedule_repeats, shorter_is_refused,
+    answer_is_there, cycle_is_there, cycles_are_alike, longer_repeats, no_lesser_period,
+    period_is_within_occupancy, schedule_repeats, shorter_is_refused,
 };
 pub use repetition::cycle;
 pub use rows::cycle_rows;
