@@ -10,3 +10,5 @@ pub mod Paired
 pub mod Ways
 pub mod Apart
 pub mod Unique
+pub mod Covered
+pub mod OverPiece
