@@ -12,3 +12,4 @@ pub mod Apart
 pub mod Unique
 pub mod Covered
 pub mod OverPiece
+pub mod SomeCutting

@@ -3,6 +3,7 @@ use Rattle.std.specs.Prelude.{◌≡◌, ◌≢◌, ℕ, ◌+◌, ◌<◌, ◌�
 use Rattle.rail_model.specs.declared.items.Section.{Section}
 use Rattle.rail_model.specs.declared.tables.Tables.{Tables}
 use Rattle.plan_model.specs.declared.cut.Cut.{Cut}
+use Rattle.plan_model.specs.Cut.{IsSoundCut}
 use Rattle.plan_model.specs.SectionCut.{is_member, binding_connections, section_cut}
 use Rattle.line_cutter.specs.declared.found.Stretch.{Stretch}
 use Rattle.line_cutter.specs.declared.found.Cutting.{Cutting}
@@ -68,17 +69,21 @@ CuttingIsUnique =
     (cut : Cut) (cutting other : Cutting) → IsCutting cut cutting → IsCutting cut other → cutting ≡ other
 
 -- another section over a section's blocks from a to before b, with a name and a window of its own: each of its members is
--- a member of the section, too, and no connection binds in it. Without this it may also count a run that enters the
--- section before FROM and these blocks after it
+-- a member of the section, too, and no connection binds in it. Without this it may count more trains: one that enters the
+-- section before its window may enter these blocks within it
 pub record IsOverPiece (tables : Tables) (section : Section) (a b : ℕ) (other : Section) : Type 0 where
   pub blocks : other.blocks ≡ drop a (take b section.blocks)
   pub members : All (λ run. IsTrue (is_member tables other run) → IsTrue (is_member tables section run)) tables.runs
   pub none_binds : binding_connections tables other ≡ []
 
--- where a section has no block twice and the piece of its cut is orderly, the cut of a section over the piece's blocks is
--- orderly
+-- where a piece of a section's cut is orderly, as each piece of a cutting is, the cut of a section over the piece's blocks
+-- is orderly. The section has no block twice
 abbrev pub OverPieceIsOrderly : Type 0
 OverPieceIsOrderly =
     (tables : Tables) (section other : Section) (a b : ℕ) → AllPairs (λ m n. m ≢ n) section.blocks
     → b ≤ length section.blocks → IsOverPiece tables section a b other
     → IsOrderly (piece (section_cut tables section) a b) → IsOrderly (section_cut tables other)
+
+-- each sound cut has a cutting
+abbrev pub CuttingIsThere : Type 0
+CuttingIsThere = (cut : Cut) → IsSoundCut cut → (cutting : Cutting) × IsCutting cut cutting

@@ -1,5 +1,5 @@
 //! Laws of the definitions: each function does nothing, and its contract is the law.
-ghost use Rattle.line_cutter.specs.Laws.{PartIsOrderly, NoFewerPieces, EachIsLongest, EachNeedsACut, StretchesAreDisjoint, OnePieceMore, CuttingIsUnique, OverPieceIsOrderly};
+ghost use Rattle.line_cutter.specs.Laws.{PartIsOrderly, NoFewerPieces, EachIsLongest, EachNeedsACut, StretchesAreDisjoint, OnePieceMore, CuttingIsUnique, OverPieceIsOrderly, CuttingIsThere};
 
 /// A part of an orderly piece is orderly.
 pub fn part_is_orderly()
@@ -39,10 +39,17 @@ pub fn cutting_is_unique()
     ensures { CuttingIsUnique }
 {}
 
-/// What may be concluded from a cutting: a section over the blocks of an orderly piece has an order,
-/// where each of its members is a member of the section that was cut, and no connection binds in it.
-/// Its name and window may be others. Without these conditions it may have none: the cutting keeps
-/// the section's members, but the other section may count more.
+/// Each sound cut has a cutting.
+pub fn cutting_is_there()
+    ensures { CuttingIsThere }
+{}
+
+/// What may be concluded from a cutting: a section over the blocks of an orderly piece has an
+/// order, where each of its members is a member of the section that was cut, and no connection
+/// binds in it. Its name and window may be others.
+///
+/// Without these conditions it may have none: a piece has the section's members, and the other
+/// section may count more.
 pub fn over_piece_is_orderly()
     ensures { OverPieceIsOrderly }
 {}

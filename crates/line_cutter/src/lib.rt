@@ -36,7 +36,7 @@ mod rows;
 pub use cutting::cut_line;
 pub use found::{Cutting, Stretch};
 pub use laws::{
-    cutting_is_unique, each_is_longest, each_needs_a_cut, no_fewer_pieces, one_piece_more,
-    over_piece_is_orderly, part_is_orderly, stretches_are_disjoint,
+    cutting_is_there, cutting_is_unique, each_is_longest, each_needs_a_cut, no_fewer_pieces,
+    one_piece_more, over_piece_is_orderly, part_is_orderly, stretches_are_disjoint,
 };
 pub use rows::cutting_rows;
