@@ -1,10 +1,15 @@
 -- Laws of delayed schedules.
-use Rattle.std.specs.Prelude.{◌≡◌, ℕ, ◌<◌, ◌≤◌, ℤ, ◌+ℤ◌, ◌≤ℤ◌, pos, List, All}
+use Rattle.std.specs.Prelude.{◌≡◌, ℕ, ◌<◌, ◌≤◌, ℤ, ◌+ℤ◌, ◌≤ℤ◌, pos, List, [], All, Result}
 use Rattle.plan_model.specs.declared.cut.Cut.{Cut}
+use Rattle.plan_model.specs.declared.answer.Disorder.{Disorder}
 use Rattle.plan_model.specs.Members.{member_count}
+use Rattle.plan_model.specs.Cut.{IsSoundCut}
+use Rattle.plan_model.specs.Disorder.{remaining}
 use Rattle.plan_model.specs.Schedule.{entry_at, IsSchedule}
 use Rattle.plan_model.specs.Planned.{planned_entries}
 use Rattle.delay_spread.specs.Delayed.{delay_at, delayed_floor, knock_on, IsDelayedSchedule, IsLeastDelayed}
+use Rattle.delay_spread.specs.declared.found.Spread.{Spread}
+use Rattle.delay_spread.specs.Spreading.{IsSpread, IsSpreading}
 
 -- where no train is delayed and the planned entries are a schedule, no train has a knock-on delay
 abbrev pub NoneIsKnockedOn : Type 0
@@ -26,3 +31,13 @@ NoneIsEarlier =
     → IsLeastDelayed cut greater others
     → ((i : ℕ) → i < member_count cut → delay_at delays i ≤ delay_at greater i)
     → (i : ℕ) → i < member_count cut → entry_at entries i ≤ℤ entry_at others i
+
+-- where no member of a sound cut remains, any delays spread over it: there is a least delayed schedule
+abbrev pub SpreadIsThere : Type 0
+SpreadIsThere =
+    (cut : Cut) (delays : List ℕ) → IsSoundCut cut → remaining cut ≡ [] → (spread : Spread) × IsSpread cut delays spread
+
+-- whatever the delays, each sound cut has an answer: the delays spread, or its disorder
+abbrev pub SpreadingIsThere : Type 0
+SpreadingIsThere =
+    (cut : Cut) (delays : List ℕ) → IsSoundCut cut → (answer : Result Spread Disorder) × IsSpreading cut delays answer

@@ -1,5 +1,5 @@
 //! Laws of the definitions: each function does nothing, and its contract is the law.
-ghost use Rattle.delay_spread.specs.Laws.{NoneIsKnockedOn, EntersByItsKnockOn, NoneIsEarlier};
+ghost use Rattle.delay_spread.specs.Laws.{NoneIsKnockedOn, EntersByItsKnockOn, NoneIsEarlier, SpreadIsThere, SpreadingIsThere};
 
 /// Where no train is delayed and the planned entries are a schedule, no train has a knock-on delay.
 pub fn none_is_knocked_on()
@@ -14,4 +14,14 @@ pub fn enters_by_its_knock_on()
 /// Where each train's own delay is at least as great, no train enters earlier.
 pub fn none_is_earlier()
     ensures { NoneIsEarlier }
+{}
+
+/// Any delays spread over a sound cut whose trains have an order: there is a least delayed schedule.
+pub fn spread_is_there()
+    ensures { SpreadIsThere }
+{}
+
+/// Each sound cut has an answer, whatever the delays.
+pub fn spreading_is_there()
+    ensures { SpreadingIsThere }
 {}

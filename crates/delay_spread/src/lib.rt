@@ -20,6 +20,9 @@ mod rows;
 mod spreading;
 
 pub use found::{Held, Spread};
-pub use laws::{enters_by_its_knock_on, none_is_earlier, none_is_knocked_on};
+pub use laws::{
+    enters_by_its_knock_on, none_is_earlier, none_is_knocked_on, spread_is_there,
+    spreading_is_there,
+};
 pub use rows::spread_rows;
 pub use spreading::{GREATEST_DELAY_S, spread};
