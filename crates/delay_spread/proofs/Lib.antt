@@ -5,3 +5,4 @@ pub mod Tied
 pub mod Tally
 pub mod SomeLeast
 pub mod SomeSpread
+pub mod Unique

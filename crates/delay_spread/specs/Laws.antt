@@ -41,3 +41,15 @@ SpreadIsThere =
 abbrev pub SpreadingIsThere : Type 0
 SpreadingIsThere =
     (cut : Cut) (delays : List ℕ) → IsSoundCut cut → (answer : Result Spread Disorder) × IsSpreading cut delays answer
+
+-- delays are spread over a cut in one way: each train has one entry, one knock-on delay and one tie
+abbrev pub SpreadIsUnique : Type 0
+SpreadIsUnique =
+    (cut : Cut) (delays : List ℕ) (spread other : Spread) → IsSpread cut delays spread → IsSpread cut delays other
+    → spread ≡ other
+
+-- with its delays a cut has at most one answer: one spread, or one disorder
+abbrev pub SpreadingIsUnique : Type 0
+SpreadingIsUnique =
+    (cut : Cut) (delays : List ℕ) (answer other : Result Spread Disorder) → IsSpreading cut delays answer
+    → IsSpreading cut delays other → answer ≡ other

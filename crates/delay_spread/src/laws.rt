@@ -1,5 +1,5 @@
 //! Laws of the definitions: each function does nothing, and its contract is the law.
-ghost use Rattle.delay_spread.specs.Laws.{NoneIsKnockedOn, EntersByItsKnockOn, NoneIsEarlier, SpreadIsThere, SpreadingIsThere};
+ghost use Rattle.delay_spread.specs.Laws.{NoneIsKnockedOn, EntersByItsKnockOn, NoneIsEarlier, SpreadIsThere, SpreadingIsThere, SpreadIsUnique, SpreadingIsUnique};
 
 /// Where no train is delayed and the planned entries are a schedule, no train has a knock-on delay.
 pub fn none_is_knocked_on()
@@ -24,4 +24,14 @@ pub fn spread_is_there()
 /// Each sound cut has an answer, whatever the delays.
 pub fn spreading_is_there()
     ensures { SpreadingIsThere }
+{}
+
+/// Delays are spread over a cut in one way.
+pub fn spread_is_unique()
+    ensures { SpreadIsUnique }
+{}
+
+/// With its delays a cut has at most one answer: one spread, or one disorder.
+pub fn spreading_is_unique()
+    ensures { SpreadingIsUnique }
 {}

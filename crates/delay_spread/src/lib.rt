@@ -21,8 +21,8 @@ mod spreading;
 
 pub use found::{Held, Spread};
 pub use laws::{
-    enters_by_its_knock_on, none_is_earlier, none_is_knocked_on, spread_is_there,
-    spreading_is_there,
+    enters_by_its_knock_on, none_is_earlier, none_is_knocked_on, spread_is_there, spread_is_unique,
+    spreading_is_there, spreading_is_unique,
 };
 pub use rows::spread_rows;
 pub use spreading::{GREATEST_DELAY_S, spread};
