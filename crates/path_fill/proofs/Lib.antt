@@ -11,3 +11,4 @@ pub mod Unique
 pub mod Merged
 pub mod SomeFill
 pub mod Falls
+pub mod OneFill

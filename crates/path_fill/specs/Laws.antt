@@ -1,13 +1,15 @@
 -- Laws of copies.
-use Rattle.std.specs.Prelude.{◌≡◌, ℕ, ◌*◌, ◌<◌, ◌≤◌, ℤ, List, []}
+use Rattle.std.specs.Prelude.{◌≡◌, ℕ, ◌*◌, ◌<◌, ◌≤◌, ℤ, List, [], Result}
 use Rattle.plan_model.specs.declared.cut.Cut.{Cut}
+use Rattle.plan_model.specs.declared.answer.Answer.{Answer}
 use Rattle.plan_model.specs.Members.{member_count}
 use Rattle.plan_model.specs.Cut.{IsSoundCut}
 use Rattle.plan_model.specs.Disorder.{remaining}
 use Rattle.plan_model.specs.Schedule.{IsLeast}
 use Rattle.plan_model.specs.Rates.{Fraction}
+use Rattle.path_fill.specs.declared.found.Fill.{Fill}
 use Rattle.path_fill.specs.Copies.{IsLeastFilled, IsFilledOccupancy}
-use Rattle.path_fill.specs.Filling.{consumption_of}
+use Rattle.path_fill.specs.Filling.{consumption_of, IsFill, IsFilling}
 
 -- with so many copies there is at most one filled occupancy
 abbrev pub FilledOccupancyIsUnique : Type 0
@@ -47,3 +49,13 @@ abbrev pub ConsumptionNeverFalls : Type 0
 ConsumptionNeverFalls =
     (cut : Cut) (r fewer more time longer : ℕ) → IsFilledByMore cut r fewer more time longer
     → IsNoGreater (consumption_of cut.section time) (consumption_of cut.section longer)
+
+-- a section is filled with copies of a member in one way: one greatest number of them, and its filled occupancies
+abbrev pub FillIsUnique : Type 0
+FillIsUnique = (cut : Cut) (r : ℕ) (fill other : Fill) → IsFill cut r fill → IsFill cut r other → fill ≡ other
+
+-- with its member a cut has at most one answer: one way in which it is filled, or one answer without a timetable
+abbrev pub FillingIsUnique : Type 0
+FillingIsUnique =
+    (cut : Cut) (r : ℕ) (answer other : Result Fill Answer) → IsFilling cut r answer → IsFilling cut r other
+    → answer ≡ other

@@ -23,7 +23,7 @@ mod rows;
 pub use filling::{fill, fill_of_cut};
 pub use found::Fill;
 pub use laws::{
-    consumption_never_falls, filled_occupancy_is_there, filled_occupancy_is_unique,
-    members_enter_as_compressed, occupancy_never_falls,
+    consumption_never_falls, fill_is_unique, filled_occupancy_is_there, filled_occupancy_is_unique,
+    filling_is_unique, members_enter_as_compressed, occupancy_never_falls,
 };
 pub use rows::fill_rows;
