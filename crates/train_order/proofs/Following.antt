@@ -75,7 +75,7 @@ module _ (before last : List Moment) (i : ℕ) (some : List Use) (u : Use) (ther
 -- ---- one member more
 
 -- what holds of all uses holds of the use of a place
-at_place : (P : Use → Type 0) (place : ℕ) (uses : List Use) → list_any (λ (u : Use). u.block == place) uses ≡ true → All P uses
+pub at_place : (P : Use → Type 0) (place : ℕ) (uses : List Use) → list_any (λ (u : Use). u.block == place) uses ≡ true → All P uses
     → P (unwrap_or (find (λ (u : Use). u.block == place) uses) no_use)
     × ((unwrap_or (find (λ (u : Use). u.block == place) uses) no_use).block ≡ place)
 at_place P place [] h all = absurd (cc)

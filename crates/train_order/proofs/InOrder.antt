@@ -39,13 +39,13 @@ module _ (cut : Cut) (positions : List ℕ) (once : IsPermutation (members cut) 
   long : length positions ≡ n
   long = length_permutation (members cut) positions once ∙ length-range_with_len 0 n
 
-  stands : (i : ℕ) → i < n → StandsAt positions i
+  pub stands : (i : ℕ) → i < n → StandsAt positions i
   stands i l =
       let c = Contains-permutation (members cut) positions i once
       (i, omega (arith, l, length-range_with_len 0 n), get_or-range_with_len 0 n i i l ∙ omega arith) in
       record { at = c.0; within = c.1; is = get_or_default positions c.0 0 i c.1 ∙ c.2 }
 
-  not_itself : IsSoundCut cut → (i place : ℕ) → i < n → precedes (member cut i) (member cut i) place ≡ true → ⊥
+  pub not_itself : IsSoundCut cut → (i place : ℕ) → i < n → precedes (member cut i) (member cut i) place ≡ true → ⊥
   not_itself sound i place l h =
       let its = use_at (member cut i) place in
       both_ways _ (never_itself (its.start, i)) (sym (earlier_is cut sound its.start its.start i i l l) ∙ (and_parts _ _ h).1)

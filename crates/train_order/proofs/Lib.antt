@@ -25,3 +25,5 @@ pub mod InOrder
 pub mod Answered
 pub mod Next
 pub mod Unique
+pub mod Turn
+pub mod Beside

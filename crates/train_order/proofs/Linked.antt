@@ -75,7 +75,7 @@ module _ (cut : Cut) (sound : IsSoundCut cut) (i j : ℕ) (li : i < member_count
   within : All (λ (u : Use). u.block < place_count cut) (member cut i).uses
   within k d l = ((sound.each i no_member li).each k d l).place
 
-  test_is : (place : ℕ) → precedes (member cut i) (member cut j) place
+  pub test_is : (place : ℕ) → precedes (member cut i) (member cut j) place
       ≡ starts_first (nat_lt i j) (start_of (member cut i).uses place) (start_of (member cut j).uses place)
   test_is place =
       ap (λ b. (uses_place (member cut i) place && uses_place (member cut j) place)

@@ -52,6 +52,12 @@ module _ (cut : Cut) where
       let parts = and_parts (precedes_somewhere cut p.0 p.1) (precedes_somewhere cut p.1 p.0) t in
       never p.0 p.1 (omega (arith, below.0, below.1)) below.1 parts.0 parts.1)) (pairs n) (pairs_below n))
 
+  pub pair_opposed : (i j : ℕ) → opposite_pair cut ≡ Some (i, j) → AreOpposed cut i j
+  pair_opposed i j e =
+      let r = find_holds (λ (p : ℕ × ℕ). are_opposite cut p.0 p.1) (AreBelow n) (pairs n) (i, j) (pairs_below n) e in
+      let parts = and_parts (precedes_somewhere cut i j) (precedes_somewhere cut j i) r.0 in
+      record { lesser = r.1.0; there = r.1.1; precedes = parts.0; preceded = parts.1 }
+
   module _ (sets : List MemberSet) (told : ArePreceded cut sets) where
     pub pair_is : opposite_pair cut ≡ first_opposed sets
     pair_is =
@@ -63,7 +69,4 @@ module _ (cut : Cut) where
         ∙ ap (λ m. find (λ (p : ℕ × ℕ). oppose sets p.0 p.1) (pairs m)) (sym told.count)
 
     pub are_opposed : (i j : ℕ) → Some (i, j) ≡ first_opposed sets → AreOpposed cut i j
-    are_opposed i j e =
-        let r = find_holds (λ (p : ℕ × ℕ). are_opposite cut p.0 p.1) (AreBelow n) (pairs n) (i, j) (pairs_below n) (pair_is ∙ sym e) in
-        let parts = and_parts (precedes_somewhere cut i j) (precedes_somewhere cut j i) r.0 in
-        record { lesser = r.1.0; there = r.1.1; precedes = parts.0; preceded = parts.1 }
+    are_opposed i j e = pair_opposed i j (pair_is ∙ sym e)

@@ -7,3 +7,4 @@ pub mod Starts
 pub mod Walk
 pub mod EntryOrder
 pub mod Laws
+pub mod OutOfTurn

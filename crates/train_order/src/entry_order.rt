@@ -18,9 +18,9 @@ use std::alloc::Global;
 #[derive(Clone, Copy)]
 pub(crate) struct Moment {
     // Seconds from the timetable's origin.
-    time: i64,
+    pub(crate) time: i64,
     // The member's position.
-    member: u32,
+    pub(crate) member: u32,
 }
 
 // The order of a cut's trains by their entries, if they keep it at each place.
@@ -43,7 +43,7 @@ pub(crate) fn order_by_entry(alloc: Global, cut: &SoundCut) -> Result<Option<Ord
 }
 
 // The positions of the members by their entries and, at one moment, by their names.
-fn by_entry(alloc: Global, cut: &SoundCut) -> Result<Vec<u32>, OutOfMemory>
+pub(crate) fn by_entry(alloc: Global, cut: &SoundCut) -> Result<Vec<u32>, OutOfMemory>
     ensures order { IfOk result (λ positions. AreByEntry cut.now positions.items) }
     ensures sound { IsSoundCut cut.now }
 {
@@ -94,7 +94,7 @@ fn are_in_order(cut: &SoundCut, positions: &[u32], last: &mut [Moment]) -> bool
 
 // Whether a member's starts by some uses come after the last ones of their places. If so, they are
 // the last ones from then on.
-fn come_last(last: &mut [Moment], member: u32, uses: &[Use]) -> bool
+pub(crate) fn come_last(last: &mut [Moment], member: u32, uses: &[Use]) -> bool
     requires there { All (λ u. u.block < length last.old) uses.now }
     requires differ { AreOfOtherPlaces uses.now }
     ensures count { length last.new ≡ length last.old }
@@ -114,7 +114,7 @@ fn come_last(last: &mut [Moment], member: u32, uses: &[Use]) -> bool
 
 // Whether a moment comes after another. At one moment the names decide, and members stand in the
 // order of their names.
-fn comes_after(time: i64, member: u32, last: Moment) -> bool
+pub(crate) fn comes_after(time: i64, member: u32, last: Moment) -> bool
     ensures { result ≡ is_earlier (pair_of last) (time, member) }
 {
     last.time < time || last.time == time && last.member < member

@@ -2,9 +2,11 @@
 //! the other at some place, or a ring of trains each of which precedes the next.
 //!
 //! The definition takes trains out in rounds. `order` first takes the trains by their entries, and
-//! answers at once where each place keeps that order. Else the users of each place are sorted once.
-//! Each train gets a set of bits with those that it precedes and a count of those that precede it,
-//! and trains are taken out as their counts come to 0.
+//! answers at once where each place keeps that order. Where few trains are out of turn, so that the
+//! others keep it, only pairs with one of the few are compared, and the first that is opposite is
+//! the answer. Else the users of each place are sorted once. Each train gets a set of bits with
+//! those that it precedes and a count of those that precede it, and trains are taken out as their
+//! counts come to 0.
 //!
 //! `disorder_of` and `place_of_link` say the same without memory, with sets on the stack.
 //!
@@ -26,6 +28,8 @@ mod member_set;
 mod members;
 mod opposite;
 mod ordering;
+mod out_of_turn;
+mod pairs;
 mod precedence;
 mod ring;
 mod taking;

@@ -33,7 +33,7 @@ pub(crate) fn tell(
 
 // The disorder of members i and j, each of which precedes the other somewhere: with the first place
 // by name for either direction.
-fn opposite(cut: &SoundCut, i: u32, j: u32) -> Disorder
+pub(crate) fn opposite(cut: &SoundCut, i: u32, j: u32) -> Disorder
     requires one { i < member_count cut.now }
     requires other { j < member_count cut.now }
     requires precedes { IsTrue (precedes_somewhere cut.now i j) }

@@ -52,7 +52,7 @@ returns c =
     told_is cut found c.in_ok-told.told
     (disorder_is cut sets told taken up some found (subst (λ ms. IsDisorderBy sets ms found) c.slice-2.ensures
     (subst (λ ss. IsDisorderBy ss c.slice-2.result.now found) c.deref-2.ensures.value c.find_disorder.ensures))).0
-    (subst (λ k. IsTold k found c.in_ok-told.told) (c.sound-2.ensures.cut ∙ c.of-cut.ensures) c.in_ok-told.ensures)
+    (subst (λ k. IsTold k found c.in_ok-told.told) (c.sound-3.ensures.cut ∙ c.of-cut.ensures) c.in_ok-told.ensures)
 
 pub tell-requires : goal.tell-requires
 tell-requires c =
@@ -66,7 +66,7 @@ tell-requires c =
     omega (arith, whole_length (length sets) taken up.sound.within up.sound.once, c.len.ensures, c.len-2.ensures, c.if-len.false) in
     record {
       in_turn =
-          subst (λ k. PrecedeInTurn k found) (sym (c.sound-2.ensures.cut ∙ c.of-cut.ensures))
+          subst (λ k. PrecedeInTurn k found) (sym (c.sound-3.ensures.cut ∙ c.of-cut.ensures))
           (disorder_is cut sets told taken up some found (subst (λ ms. IsDisorderBy sets ms found) c.slice-2.ensures
           (subst (λ ss. IsDisorderBy ss c.slice-2.result.now found) c.deref-2.ensures.value c.find_disorder.ensures))).1;
     }
