@@ -1,12 +1,12 @@
 //! The net that is held beside kept rows, with the names of the places of which it speaks.
-ghost use Rattle.std.specs.Prelude.{◌≡◌, ◌≤◌, length, IfOk, IfSome, IsTrue, ◌↔◌, Ok};
+ghost use Rattle.std.specs.Prelude.{◌≡◌, ◌≤◌, ◌++◌, length, IfOk, IfSome, IsTrue, ◌↔◌, Ok};
 ghost use Rattle.std.specs.Prelude.{count_by, is_none};
 ghost use Rattle.plan_model.specs.declared.limits.TheConstants.{MEMBERS};
 ghost use Rattle.plan_model.specs.Cut.{IsSoundCut};
 ghost use Rattle.plan_model.specs.Members.{member_count};
+ghost use Rattle.plan_model.specs.Places.{place_names};
 ghost use Rattle.plan_model.specs.Answer.{IsAnswer};
 ghost use Rattle.train_order.specs.Ordering.{IsOrdering};
-ghost use Rattle.train_net.specs.Held.{IsNetOf};
 ghost use Rattle.plan_repair.specs.Held.{IsHeldOf, IsHeldBefore};
 
 use plan_model::{Answer, Cut, FitCut, SoundCut};
@@ -41,7 +41,7 @@ pub(crate) fn answer_held(
     ensures held { IfOk result (λ both. IfSome both.1 (IsHeldOf cut.now)) }
 {
     match mended(alloc, &SoundCut::of(cut), held, origin)? {
-        Some(net) => by_net(alloc, cut, net),
+        Some(held) => by_net(alloc, cut, held),
         None => anew(alloc, cut),
     }
 }
@@ -55,56 +55,75 @@ fn anew(alloc: Global, cut: &Cut) -> Result<(Answer, Option<Held>), OutOfMemory>
 {
     match order(alloc, cut)? {
         Ok(found) => {
-            let net = net_of(alloc, &SoundCut::of(cut), found.positions)?;
-            by_net(alloc, cut, net)
+            let sound = SoundCut::of(cut);
+            let places = sound.place_names(alloc)?;
+            let net = net_of(alloc, &sound, found.positions)?;
+            by_net(alloc, cut, Held { net, places })
         }
         Err(disorder) => Ok((disorder.into_answer(), None)),
     }
 }
 
-// The answer by a net, which is held.
-fn by_net(alloc: Global, cut: &Cut, net: Net) -> Result<(Answer, Option<Held>), OutOfMemory>
+// The answer by a net that is held.
+fn by_net(alloc: Global, cut: &Cut, held: Held) -> Result<(Answer, Option<Held>), OutOfMemory>
     requires sound { IsSoundCut cut.now }
     requires few { member_count cut.now ≤ MEMBERS }
-    requires order { IsOrdering cut.now (Ok (record { positions = net.order })) }
-    requires net { IsNetOf cut.now net }
+    requires order { IsOrdering cut.now (Ok (record { positions = held.net.order })) }
+    requires held { IsHeldOf cut.now held }
     ensures answer { IfOk result (λ both. IsAnswer cut.now both.0) }
     ensures held { IfOk result (λ both. IfSome both.1 (IsHeldOf cut.now)) }
 {
-    let fit = FitCut::of(cut);
-    let plan = plan_by(alloc, &fit, &net)?;
-    let places = fit.sound().place_names(alloc)?;
-    Ok((Answer::Ordered(plan), Some(Held { net, places })))
+    let plan = plan_by(alloc, &FitCut::of(cut), &held.net)?;
+    Ok((Answer::Ordered(plan), Some(held)))
 }
 
-// The net that was held before, mended to one of a cut: if at most a quarter of the rows is fresh,
+// What was held before, mended to what is held of a cut: if at most a quarter of the rows is fresh,
 // the places are the same, and it can be.
 fn mended(
     alloc: Global,
     cut: &SoundCut,
     held: Option<Held>,
     origin: &[Option<u32>],
-) -> Result<Option<Net>, OutOfMemory>
+) -> Result<Option<Held>, OutOfMemory>
     requires few { member_count cut.now ≤ MEMBERS }
     requires count { length origin.now ≡ member_count cut.now }
     requires held { IfSome held (IsHeldBefore cut.now origin.now) }
-    ensures net { IfOk result (λ r. IfSome r (IsNetOf cut.now)) }
-    ensures order { IfOk result (λ r. IfSome r (λ net.
-        IsOrdering cut.now (Ok (record { positions = net.order })))) }
+    ensures held { IfOk result (λ r. IfSome r (IsHeldOf cut.now)) }
+    ensures order { IfOk result (λ r. IfSome r (λ held.
+        IsOrdering cut.now (Ok (record { positions = held.net.order })))) }
 {
     match held {
         Some(held) => {
-            if 4 * fresh_count(origin) > origin.len() {
+            if 4 * fresh_count(origin) > origin.len() || !are_places(cut, held.places.slice()) {
                 return Ok(None);
             }
-            let places = cut.place_names(alloc)?;
-            if !same_names(held.places.slice(), places.slice()) {
-                return Ok(None);
+            let Held { net, places } = held;
+            match mend(alloc, cut, &net, origin)? {
+                Some(net) => Ok(Some(Held { net, places })),
+                None => Ok(None),
             }
-            mend(alloc, cut, &held.net, origin)
         }
         None => Ok(None),
     }
+}
+
+// Whether some names are those of a cut's places: of its blocks, and then of its connections.
+fn are_places(cut: &SoundCut, names: &[Name]) -> bool
+    ensures { IsTrue result ↔ (names.now ≡ place_names cut.now) }
+{
+    let cut = cut.cut();
+    are_joined(names, cut.section.blocks.slice(), cut.connections.slice())
+}
+
+// Whether some names are these, and then those.
+fn are_joined(names: &[Name], first: &[Name], then: &[Name]) -> bool
+    ensures { IsTrue result ↔ (names.now ≡ first.now ++ then.now) }
+{
+    let count = first.len();
+    if names.len() < count {
+        return false;
+    }
+    same_names(&names[..count], first) && same_names(&names[count..], then)
 }
 
 // How many rows are fresh.

@@ -17,6 +17,20 @@ pub(crate) fn next_kept(left: &mut VecDeque<CutRow>, name: &Name, stamp: u64) ->
     ensures left { IsLeft name.now left.old.items left.new.items }
     ensures behind { IfSome result (λ row. EndsWith left.old.items (row ∷ left.new.items)) }
 {
+    // Mostly the first row is the one, and its name need not be compared twice.
+    if stands_first(left, name, stamp) {
+        return left.pop_front();
+    }
+    look_on(left, name, stamp)
+}
+
+// As `next_kept`, where it isn't known whether the first row is the one.
+fn look_on(left: &mut VecDeque<CutRow>, name: &Name, stamp: u64) -> Option<CutRow>
+    requires { NamesRise (λ r. r.name) left.old.items }
+    ensures found { result ≡ find (has name.now stamp) left.old.items }
+    ensures left { IsLeft name.now left.old.items left.new.items }
+    ensures behind { IfSome result (λ row. EndsWith left.old.items (row ∷ left.new.items)) }
+{
     pass_over(left, name);
     if !stands_first(left, name, stamp) {
         return None;
