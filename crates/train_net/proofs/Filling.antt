@@ -1,7 +1,7 @@
 -- The table of who stands nearest, use after use and row after row.
 use Rattle.std.proofs.Common.{◌≡◌, ℕ, ◌+◌, ◌<◌, true, false, ◌==◌, List, [], ◌∷◌, length, take, get_or, inl, inr, refl, sym, ap, ◌∙◌, arith}
 use Rattle.std.specs.Prelude.{Option, None, Some, slice_index, slice_index_or, slice_set, find, unwrap_or}
-use Rattle.std.specs.Option.{option_or}
+use Rattle.std.specs.Option.{option_or, IsSome}
 use Rattle.std.specs.List.{list_any}
 use Rattle.std.proofs.lemmas.Bool.{cases_Bool, cases_eq, eq-eqb, ne_eqb, or_left, or_right, false_from_ne_true}
 use Rattle.std.proofs.lemmas.Grind.{get_or-set_at}
@@ -55,6 +55,11 @@ filled_more first near train uses k p l there before x is =
     ∙ filled_twice (slice_index_or first p None) train (find test (take k uses)) (find test (u ∷ []))
     ∙ ap (λ o. filled (slice_index_or first p None) (near_by train o None)) (sym (find-append test (take k uses) (u ∷ [])))
     ∙ ap (λ us. filled (slice_index_or first p None) (near_by train (find test us) None)) (sym (take_more uses k no_use l))
+
+-- who is found at a place stays
+pub stays_found : (near other : Option Near) → IsSome near → IsSome (filled near other)
+stays_found None other h = absurd (cc)
+stays_found (Some near) other h = h
 
 -- ---- row after row
 

@@ -1,6 +1,5 @@
 -- Who stands nearest before a position of an order at each place, as a table of all places tells it.
 use Rattle.std.specs.Prelude.{◌≡◌, ℕ, ◌<◌, ◌≤◌, true, false, List, All, slice_index, slice_index_or, Option, None, Some}
-use Rattle.std.specs.Option.{IsSome}
 use Rattle.rail_model.specs.declared.stair.Use.{Use}
 use Rattle.plan_model.specs.declared.cut.Cut.{Cut}
 use Rattle.plan_model.specs.Members.{uses_place, use_at}
@@ -16,10 +15,6 @@ near_by train (Some u) before = Some (record { train = train; one = u })
 abbrev pub filled : Option Near → Option Near → Option Near
 filled None other = other
 filled (Some near) other = Some near
-
--- the table has somebody at each of these places
-abbrev pub AreAllFound : List (Option Near) → List ℕ → Type 0
-AreAllFound near wanted = All (λ p. IsSome (slice_index_or near p None)) wanted
 
 -- who is found at a place stands nearest before a position of an order, with its use of the place
 pub record IsNearAt (cut : Cut) (order : List ℕ) (at place : ℕ) (near : Near) : Type 0 where

@@ -1,9 +1,9 @@
 //! Who stands nearest before a position of an order at each place.
-ghost use Rattle.std.specs.Prelude.{◌≡◌, ℕ, ◌<◌, ◌≤◌, length, All, IsTrue, IsSome, slice_index, slice_index_or, find, ◌==◌, None, replicate, IfOk, ◌↔◌, map};
+ghost use Rattle.std.specs.Prelude.{◌≡◌, ℕ, ◌<◌, ◌≤◌, length, All, IsSome, slice_index, slice_index_or, find, ◌==◌, None, replicate, IfOk, map};
 ghost use Rattle.plan_model.specs.Members.{member, member_count};
 ghost use Rattle.plan_model.specs.Places.{place_count};
 ghost use Rattle.plan_model.specs.Cut.{AreOfOtherPlaces};
-ghost use Rattle.train_net.specs.Near.{filled, near_by, AreAllFound, AreNear, AreNearAt};
+ghost use Rattle.train_net.specs.Near.{filled, near_by, AreNear, AreNearAt};
 
 use plan_model::SoundCut;
 use rail_model::{OutOfMemory, Use};
@@ -70,19 +70,29 @@ fn look_back(near: &mut [Option<Near>], cut: &SoundCut, order: &[u32], at: usize
     ensures { AreNear cut.now order.now at wanted.now near.new }
 {
     let mut from = at;
-    while from > 0 && !are_found(near, wanted) {
+    // Who is found stays, so each place is asked about once it is found, and no more.
+    let mut found = 0;
+    while from > 0 && found < wanted.len() {
         from -= 1;
         let train = order[from];
         fill(near, train, cut.row(train).uses.slice());
+        found = found_from(near, wanted, found);
     }
 }
 
-// Whether somebody is found at each of some places.
-fn are_found(near: &[Option<Near>], wanted: &[u32]) -> bool
-    requires { All (λ p. p < length near.now) wanted.now }
-    ensures { IsTrue result ↔ AreAllFound near.now wanted.now }
+// The end of the places, from a position on, at each of which somebody is found.
+fn found_from(near: &[Option<Near>], wanted: &[u32], from: usize) -> usize
+    requires wanted { All (λ p. p < length near.now) wanted.now }
+    requires within { from ≤ length wanted.now }
+    ensures within { result ≤ length wanted.now }
+    ensures found { (k : ℕ) → from ≤ k → k < result
+        → IsSome (slice_index_or near.now (slice_index wanted.now k) None) }
 {
-    wanted.iter().all(|place| near[*place as usize].is_some())
+    let mut at = from;
+    while at < wanted.len() && near[wanted[at] as usize].is_some() {
+        at += 1;
+    }
+    at
 }
 
 // Puts a train's uses into the table, so that it stands nearest at its places from then on.

@@ -1,10 +1,13 @@
-use Rattle.std.proofs.Common.{◌≡◌, List, ◌+◌, ◌-◌, refl, sym, ap, subst, ◌∙◌, arith, get_or}
+use Rattle.std.proofs.Common.{◌≡◌, List, ◌+◌, ◌-◌, ◌<◌, inl, inr, refl, sym, ap, subst, ◌∙◌, arith, get_or}
 use Rattle.std.specs.Prelude.{None, slice_index_or, find, ◌==◌}
 use Rattle.rail_model.specs.declared.stair.Use.{Use}
 use Rattle.plan_model.specs.declared.cut.CutRow.{CutRow}
 use Rattle.plan_model.specs.Members.{member}
 use Rattle.train_net.specs.Near.{filled, near_by, IsNearFrom}
-use Rattle.train_net.proofs.Filling.{with_row}
+use Rattle.std.specs.Option.{IsSome}
+use Rattle.std.proofs.lemmas.Bool.{cases_lt}
+use Rattle.plan_model.specs.Places.{place_count}
+use Rattle.train_net.proofs.Filling.{with_row, stays_found}
 use Rattle.train_net.proofs.near.look_back.Goals as goal
 
 pub loop-from-preserved : goal.loop-from-preserved
@@ -27,4 +30,13 @@ loop-from-preserved c =
           (with_row cut order c.args.at p from (omega (arith, next, inv.within)) before
           (subst (λ k. IsNearFrom cut order k c.args.at p before) next (inv.all p l))
           (find (λ (u : Use). u.block == p) (member cut train).uses) refl);
+      reached = c.found_from-found.ensures.within;
+      found = λ k l. elim (cases_lt k c.loop-from.found) [
+        | inl lt ↦
+            let p = get_or c.args.wanted.now k 0 in
+            let there : p < place_count cut = c.requires.wanted k 0 (omega (arith, lt, inv.reached)) in
+            subst IsSome (sym (c.fill.ensures.all p (omega (arith, there, inv.count))))
+            (stays_found (slice_index_or c.loop-from.near p None) _ (inv.found k lt))
+        | inr ge ↦ c.found_from-found.ensures.found k (omega (arith, ge)) l
+      ];
     }
