@@ -13,3 +13,5 @@ pub mod Pieces
 pub mod Counted
 pub mod SessionCalls
 pub mod AllLeft
+pub mod MadeRows
+pub mod MadeContent

@@ -1,9 +1,10 @@
 //! Laws of the definitions: each function does nothing, and its contract is the law.
-ghost use Rattle.std.specs.Prelude.{◌≡◌};
+ghost use Rattle.std.specs.Prelude.{◌≡◌, length};
 ghost use Rattle.rail_outside.specs.InCall.{source_call, sink_call};
 ghost use Rattle.made_line.specs.declared.counts.TheConstants as made;
+ghost use Rattle.made_line.specs.Base.{base_edits};
 ghost use Rattle.capacity_cmd.specs.SessionCall.{SessionWritesJournal};
-ghost use Rattle.capacity_cmd.specs.Laws.{EndsOnAllLeft};
+ghost use Rattle.capacity_cmd.specs.Laws.{EndsOnAllLeft, SaysMadeLine};
 
 use crate::{DELAY_DIGITS, GIVEN_DELAYS, INPUT_BYTES};
 use conflict_finder::LISTED;
@@ -35,6 +36,14 @@ pub fn session_writes_journal<S: Source, K: Sink>()
 /// all of them.
 pub fn ends_on_all_left<S: Source>()
     ensures { EndsOnAllLeft (source_call S.given S.left S.ended S.faults S.at_fault) }
+{}
+
+/// Reading the text that `made_line::made_input` writes gives back the line that `made N` stands
+/// for: a session on that text is run on the tables, the number of the last edit of the base and
+/// the scripts that `made N` runs its own session on.
+pub fn made_text_says(n: u32)
+    ensures says { SaysMadeLine n }
+    ensures at { length (base_edits n) ≡ made.BASE_EDITS }
 {}
 
 /// The limits of an input and of what is answered, by their numbers; those of a line's items are a
