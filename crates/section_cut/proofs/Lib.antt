@@ -48,3 +48,5 @@ pub mod PassedBy
 mod RowTimes
 mod Whole
 mod WholeRow
+pub mod JoinedRuns
+pub mod RowsKept

@@ -1,5 +1,6 @@
 -- The connections of a run, and the entries of runs, by which connections bind.
-use Rattle.std.specs.Prelude.{◌≡◌, ℕ, ◌+◌, ◌≤◌, ℤ, Bool, true, not, ◌||◌, if◌then◌else◌, nat_lt, List, ◌++◌, length, filter, find, Option, Some, None, option_map, option_and_then}
+use Rattle.std.specs.Prelude.{◌≡◌, ℕ, ◌+◌, ◌≤◌, ℤ, Bool, true, not, ◌||◌, if◌then◌else◌, nat_lt, List, ◌++◌, length, filter, find, slice_set, Option, Some, None, option_map, option_and_then}
+use Rattle.std.specs.List.{list_any}
 use Rattle.rail_model.specs.declared.items.Run.{Run}
 use Rattle.rail_model.specs.declared.items.Section.{Section}
 use Rattle.rail_model.specs.declared.items.Connection.{Connection}
@@ -17,7 +18,15 @@ use Rattle.section_cut.specs.Members.{member_row}
 abbrev pub joins : List ℕ → Connection → Bool
 joins name c = is_same c.first name || is_same c.second name
 
--- and its minimum is within the limit
+-- a run has one
+abbrev pub is_joined : Tables → Run → Bool
+is_joined tables run = list_any (joins run.name) tables.connections
+
+-- what is told of each run, with a yes for the run of a name
+abbrev pub with_told : Tables → List ℕ → List Bool → List Bool
+with_told tables name told = slice_set told (number_of (λ r. r.name) tables.runs name) true
+
+-- a connection is one of the run of a name, and its minimum is within the limit
 pub record IsOneOf (name : List ℕ) (c : Connection) : Type 0 where
   pub one : joins name c ≡ true
   pub minimum : c.minimum_s ≤ GREATEST_TIME_S

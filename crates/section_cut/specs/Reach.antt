@@ -12,7 +12,8 @@ use Rattle.rail_model.specs.Timetable.{timetable}
 use Rattle.plan_model.specs.SectionCut.{cut_of}
 use Rattle.section_cut.specs.declared.reach.Reach.{Reach}
 use Rattle.section_cut.specs.declared.reach.Reach.TheVariants as reach
-use Rattle.section_cut.specs.ReachedRuns.{AreReachedRuns}
+use Rattle.section_cut.specs.Connected.{is_joined}
+use Rattle.section_cut.specs.ReachedRuns.{AreReachedRuns, IsTold}
 use Rattle.section_cut.specs.OneRun.{before, behind}
 use Rattle.section_cut.specs.EditedRun.{IsEditedRun}
 use Rattle.section_cut.specs.EditedConnection.{IsEditedConnection, IsMinimumChanged}
@@ -81,5 +82,6 @@ IsReach earlier later (reach.All stairs) = stairs ≡ timetable later
 IsReach earlier later (reach.Run run) = IsEditedRun earlier later run
 IsReach earlier later (reach.Connection edited) = IsEditedConnection earlier later edited
 IsReach earlier later (reach.Minimum c) = IsMinimumChanged earlier later c
-IsReach earlier later (reach.Runs stairs) = AreReachedRuns earlier later stairs.items
+IsReach earlier later (reach.Runs stairs joined) =
+    AreReachedRuns earlier later stairs.items × IsTold (is_joined earlier) earlier.runs joined.items
 IsReach earlier later (reach.Section name) = IsOneSection earlier later name

@@ -1,5 +1,5 @@
 -- The rows of a section's cut before and after an edit that changes the paths of some runs.
-use Rattle.std.specs.Prelude.{◌≡◌, ◌⊎◌, ℕ, ◌<◌, false, List, length, map, filter, find, slice_index_or, All, Option, None}
+use Rattle.std.specs.Prelude.{◌≡◌, ◌⊎◌, ℕ, ◌<◌, false, List, length, map, filter, find, slice_index_or, All, Option, None, option_map}
 use Rattle.rail_model.specs.declared.items.Section.{Section}
 use Rattle.rail_model.specs.declared.stair.Stair.{Stair}
 use Rattle.rail_model.specs.declared.tables.Tables.{Tables}
@@ -7,13 +7,30 @@ use Rattle.rail_model.specs.Name.{NamesRise, is_same}
 use Rattle.rail_model.specs.Sound.{IsSound}
 use Rattle.rail_model.specs.Tables.{run_at}
 use Rattle.plan_model.specs.declared.cut.CutRow.{CutRow}
-use Rattle.plan_model.specs.Cut.{stamped_row}
-use Rattle.plan_model.specs.SectionCut.{is_member, row_of}
-use Rattle.std.specs.List.{list_any}
-use Rattle.section_cut.specs.Connected.{joins, entry_in}
+use Rattle.plan_model.specs.Cut.{stamped_row, AreBlocksFirst}
+use Rattle.plan_model.specs.SectionCut.{section_uses, is_member, row_of}
+use Rattle.section_cut.specs.Connected.{is_joined, entry_in, block_part}
+use Rattle.section_cut.specs.Members.{member_row}
 use Rattle.section_cut.specs.Positions.{IsPositions}
 use Rattle.section_cut.specs.ReachedRuns.{AreReachedRuns, StaysRow}
 use Rattle.section_cut.specs.Stamps.{IsStampedBy}
+
+-- a row with this stamp and its uses of blocks alone
+abbrev pub on_blocks : Section → ℕ → CutRow → CutRow
+on_blocks section stamp row = record row { stamp = stamp; uses = block_part section row.uses }
+
+-- among these rows each run of the tables has one with its entry and its uses of blocks, if it is a member
+abbrev pub TellsMembers : Tables → Section → List CutRow → Type 0
+TellsMembers tables section rows =
+    (stamp n : ℕ) → n < length tables.runs
+    → option_map (on_blocks section stamp) (find (λ r. is_same r.name (run_at tables n).name) rows)
+    ≡ member_row section (run_at tables n).name stamp (section_uses tables section (run_at tables n))
+
+-- these rows do, and their names rise, and their uses of blocks stand first
+pub record AreOfMembers (tables : Tables) (section : Section) (rows : List CutRow) : Type 0 where
+  pub rise : NamesRise (λ r. r.name) rows
+  pub first : All (λ r. AreBlocksFirst (length section.blocks) r.uses) rows
+  pub each : TellsMembers tables section rows
 
 -- both tables with the stairs of the runs that the edit reaches, and a section with its rows by the earlier tables and
 -- the positions of its blocks by the later ones
@@ -38,7 +55,7 @@ AllStay later stairs section positions old =
 -- the run of a number has no connection, or it enters a section as before, if it is a member
 abbrev pub IsKept : Tables → Tables → Section → ℕ → Type 0
 IsKept earlier later section n =
-    (list_any (joins (run_at earlier n).name) earlier.connections ≡ false) ⊎ (entry_in later section (run_at earlier n) ≡ entry_in earlier section (run_at earlier n))
+    (is_joined earlier (run_at earlier n) ≡ false) ⊎ (entry_in later section (run_at earlier n) ≡ entry_in earlier section (run_at earlier n))
 
 -- where all runs do, the rows after the edit of a number: their values and their stamps
 pub record AreRowsAfter (earlier later : Tables) (section : Section) (number : ℕ) (old rows : List CutRow) : Type 0 where

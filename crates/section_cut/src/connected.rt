@@ -1,7 +1,7 @@
-//! The connections of one run in a section's cut: whether each binds after an edit as before it, and
-//! the run's uses of those that bind.
+//! Which runs have connections; and those of one run in a section's cut: whether each binds after an
+//! edit as before it, and the run's uses of those that bind.
 ghost use Rattle.std.specs.Prelude.{◌≡◌, ◌+◌, ◌++◌, ◌≤◌, ◌<◌, true, false, All, filter, find, map, length, nat_lt, pos, is_some, IfOk, IfSome, Some, OnOk, option_map};
-ghost use Rattle.std.specs.List.{filter_map, list_any};
+ghost use Rattle.std.specs.List.{filter_map};
 ghost use Rattle.std.specs.Option.{option_copied, option_to_list};
 ghost use Rattle.rail_model.specs.declared.limits.TheConstants.{CONNECTIONS, PATH_HOPS, GREATEST_TIME_S};
 ghost use Rattle.rail_model.specs.Name.{NamesRise, is_same};
@@ -9,9 +9,10 @@ ghost use Rattle.rail_model.specs.Rules.{is_named, has_run};
 ghost use Rattle.rail_model.specs.Tables.{number_of, run_at};
 ghost use Rattle.plan_model.specs.Cut.{AreBlocksFirst};
 ghost use Rattle.plan_model.specs.SectionCut as cuts;
-ghost use Rattle.section_cut.specs.Connected.{joins, HasEntryOf, TellsEntries, IsOneOf, IsOfRuns, row_beside, use_if_listed, with_bound, block_part};
+ghost use Rattle.section_cut.specs.ReachedRuns.{IsTold};
+ghost use Rattle.section_cut.specs.Connected.{joins, HasEntryOf, TellsEntries, IsOneOf, IsOfRuns, is_joined, with_told, row_beside, use_if_listed, with_bound, block_part};
 
-use crate::connections::{comes_before, last_arrival};
+use crate::connections::{comes_before, last_arrival, number_of_run};
 use crate::same_value::same_name;
 use crate::stamps::{own_row, place_of};
 use line_tables::LineTables;
@@ -37,19 +38,27 @@ pub(crate) fn joined_by(
     Ok(all)
 }
 
-// Whether the run of a number has a connection.
-pub(crate) fn is_joined(tables: &LineTables, run: u32) -> bool
-    requires { run < length tables.now.runs }
-    ensures { result ≡ false
-        → list_any (joins (run_at tables.now run).name) tables.now.connections ≡ false }
+// For each run, in the order of the runs' names, whether it has a connection.
+pub(crate) fn joined_runs(alloc: Global, tables: &LineTables) -> Result<Vec<bool>, OutOfMemory>
+    ensures { IfOk result (λ told. IsTold (is_joined tables.now) tables.now.runs told.items) }
 {
-    let name = &tables.run(run).name;
+    tables.learn_sound();
+    let mut told = vec![in alloc; false; tables.runs() as usize]?;
     for number in 0..tables.connections() {
-        if joins(tables.connection(number), name) {
-            return true;
-        }
+        tell_joined(&mut told, tables, tables.connection(number));
     }
-    false
+    Ok(told)
+}
+
+// Tells that the two runs of a connection have one.
+fn tell_joined(told: &mut [bool], tables: &LineTables, connection: &Connection)
+    requires count { length told.old ≡ length tables.now.runs }
+    requires there { IsOfRuns tables.now connection.now }
+    ensures { told.new ≡ with_told tables.now connection.now.second
+        (with_told tables.now connection.now.first told.old) }
+{
+    told[number_of_run(tables, &connection.first) as usize] = true;
+    told[number_of_run(tables, &connection.second) as usize] = true;
 }
 
 // Whether a connection is one of the run of a name.

@@ -97,7 +97,7 @@ fn bound_by(
 }
 
 // The number of the run of a name.
-fn number_of_run(tables: &LineTables, name: &Name) -> u32
+pub(crate) fn number_of_run(tables: &LineTables, name: &Name) -> u32
     requires { has_run tables.now name.now ≡ true }
     ensures number { result ≡ number_of (λ r. r.name) tables.now.runs name.now }
     ensures in_range { result < length tables.now.runs }

@@ -114,8 +114,10 @@ impl<'a> CutChanges<'a> {
                 None => Ok(CutChange::Untouched),
             },
             Reach::Nothing => Ok(CutChange::Untouched),
-            Reach::Runs(stairs) => match cut {
-                Some(old) => cut_after_runs(alloc, self.both, stairs, old, section, number),
+            Reach::Runs { stairs, joined } => match cut {
+                Some(old) => {
+                    cut_after_runs(alloc, self.both, stairs, joined, old, section, number)
+                }
                 None => Ok(CutChange::Untouched),
             },
             Reach::Section(name) => {
@@ -223,7 +225,7 @@ fn cut_anew(
 
 // What the edit of a number makes of a cut that is there before it and after it, where all rows of
 // the later one have its number.
-fn compared(old: &Cut, later: Cut, number: u64) -> CutChange
+pub(crate) fn compared(old: &Cut, later: Cut, number: u64) -> CutChange
     requires old_sound { IsSoundCut old.now }
     requires sound { IsSoundCut later }
     ensures { IsChange (Some (stamped 0 old.now)) (Some (stamped 0 later)) number (Some old.now) result }

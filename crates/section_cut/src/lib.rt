@@ -14,12 +14,14 @@
 //!   each block of its path, the positions stay, and only times are written. One row is put in place
 //!   of the old one, or the cut is copied with the row or without it. All other rows stay where each
 //!   of the run's connections binds after the edit exactly where it does before it.
-//! - An edit of a connection touches the sections in which it binds before or after it. Another
-//!   minimum changes one use of the first run's row.
+//! - An edit of a connection touches the sections in which it binds before or after it. There the
+//!   connections are bound anew, while the members and their uses of blocks stay. Another minimum
+//!   changes one use of the first run's row.
 //! - An edit of a block, a signal or a route compares the row of each run that passes it with the
 //!   run's new stairway. A row that differs is copied, and its uses that differ are written anew.
 //!   Its uses of connections stay, where each such run enters the section as before.
-//! - Where other connections bind, the section's cut is made anew.
+//! - Where an edit of a run or of its path makes other connections bind, the section's cut is made
+//!   anew.
 //! - Rows that stand as before keep their stamps.
 //!
 //! ```text
@@ -31,6 +33,7 @@
 #![tactic(auto)]
 
 mod all_stairways;
+mod bound_anew;
 mod connected;
 mod connections;
 mod cut_changes;

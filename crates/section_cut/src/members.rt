@@ -138,7 +138,7 @@ fn enters(section: &Section, uses: &[Use], entry: i64) -> bool
 }
 
 // Adds the next run: its row, if it is a member.
-fn add_run(all: &mut MemberRows, row: Option<CutRow>) -> Result<(), OutOfMemory>
+pub(crate) fn add_run(all: &mut MemberRows, row: Option<CutRow>) -> Result<(), OutOfMemory>
     ensures rows { OnOk result (all.new.rows ≡ all.old.rows ++ option_to_list row) }
     ensures of_run { OnOk result (all.new.of_run.items
         ≡ all.old.of_run.items ++ option_map (rows.member_of (length all.old.rows)) row ∷ []) }

@@ -1,6 +1,6 @@
 //! What an edit of a connection makes of a section's cut. Where the connection binds neither before
 //! nor after it, nothing. Where only its minimum changes, the first run keeps it until another
-//! moment. Else the cut is made anew.
+//! moment. Else the connections are bound anew: the members and their uses of blocks stay.
 ghost use Rattle.std.specs.Prelude.{◌≡◌, ◌<◌, true, All, find, length, IfOk, IfSome, Some};
 ghost use Rattle.std.specs.Option.{option_copied};
 ghost use Rattle.plan_model.specs.Cut.{stamped};
@@ -11,6 +11,7 @@ ghost use Rattle.section_cut.specs.Connected.{IsOfRuns, TellsEntries};
 ghost use Rattle.section_cut.specs.EditedConnection.{connection_edited, IsEditedConnection, IsMinimumChanged, IsOfSameRuns};
 ghost use Rattle.section_cut.specs.EditedConnection as ends;
 
+use crate::bound_anew::cut_bound_anew;
 use crate::connected::{binds, place_in, row_named, until};
 use crate::cut_changes::{BothTables, CutChange, cut_made_anew};
 use crate::one_run::with_row;
@@ -93,11 +94,11 @@ pub(crate) fn cut_after_connection(
     both.before.learn_sound();
     both.after.learn_sound();
     if place_in(old.connections.slice(), &edited.name).is_some() {
-        return cut_made_anew(alloc, both, Some(old), section, number);
+        return cut_bound_anew(alloc, both, old.rows.slice(), old, section, number);
     }
     if let Some(connection) = &edited.after {
         if binds_among(both.after, old, connection) {
-            return cut_made_anew(alloc, both, Some(old), section, number);
+            return cut_bound_anew(alloc, both, old.rows.slice(), old, section, number);
         }
     }
     Ok(CutChange::Untouched)

@@ -14,6 +14,7 @@ ghost use Rattle.rail_model.specs.Sound.{IsSound};
 ghost use Rattle.rail_model.specs.Timetable.{timetable};
 
 use crate::all_stairways::{AllStairways, stairways};
+use crate::connected::joined_runs;
 use crate::one_connection::{EditedConnection, connection_edited, connection_named, keeps_runs};
 use crate::one_run::{EditedRun, edited_run, run_edited};
 use crate::reached_runs::reached_runs;
@@ -36,8 +37,12 @@ pub(crate) enum Reach {
     Connection(EditedConnection),
     // That of the first run of a connection, of which only the minimum changes.
     Minimum(Connection),
-    // Those of some runs: for each run its stair, if it is one of them.
-    Runs(Vec<Option<TimedStair>>),
+    // Those of some runs: for each run its stair, if it is one of them, and whether it has a
+    // connection.
+    Runs {
+        stairs: Vec<Option<TimedStair>>,
+        joined: Vec<bool>,
+    },
     // Any row: the stairways of all runs.
     All(AllStairways),
 }
@@ -68,7 +73,7 @@ pub(crate) fn reach_of(
     }
     if keeps_blocks(edit) {
         let stairs = reached_runs(alloc, before, after, edit)?;
-        return Ok(reach_of_runs(before, after, stairs));
+        return reach_of_runs(alloc, before, after, stairs);
     }
     Ok(Reach::All(stairs_of_all(alloc, after)?))
 }
@@ -148,16 +153,22 @@ fn keeps_blocks(edit: &Edit) -> bool
 
 // What rows an edit can reach by the stairs of the runs that it reaches: none, where no run is
 // reached.
-fn reach_of_runs(before: &LineTables, after: &LineTables, stairs: Vec<Option<TimedStair>>) -> Reach
+fn reach_of_runs(
+    alloc: Global,
+    before: &LineTables,
+    after: &LineTables,
+    stairs: Vec<Option<TimedStair>>,
+) -> Result<Reach, OutOfMemory>
     requires before { IsSound before.now }
     requires after { IsSound after.now }
     requires reached { AreReachedRuns before.now after.now stairs.items }
-    ensures { IsReach before.now after.now result }
+    ensures { IfOk result (IsReach before.now after.now) }
 {
-    if reaches_some(&stairs) {
-        return Reach::Runs(stairs);
+    if !reaches_some(&stairs) {
+        return Ok(Reach::Nothing);
     }
-    Reach::Nothing
+    let joined = joined_runs(alloc, before)?;
+    Ok(Reach::Runs { stairs, joined })
 }
 
 // Whether one of these stairs is there.

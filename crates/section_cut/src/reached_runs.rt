@@ -8,6 +8,7 @@ ghost use Rattle.plan_model.specs.Cut.{stamped};
 ghost use Rattle.plan_model.specs.SectionCut.{cut_of};
 ghost use Rattle.rail_model.specs.Tables.{run_at, path_in};
 ghost use Rattle.section_cut.specs.Change.{IsChange};
+ghost use Rattle.section_cut.specs.Connected.{is_joined};
 ghost use Rattle.section_cut.specs.ReachedRuns.{IsSameTraffic, KeepsBlocks, IsTold, AreReachedRuns};
 ghost use Rattle.section_cut.specs.RowsAfter.{AreBeside, AllStay, AreRowsAfter, IsOwnOf};
 ghost use Rattle.section_cut.specs.Stamps.{AreBefore, IsReached};
@@ -19,7 +20,6 @@ ghost use Rattle.rail_model.specs.Path.{Fits};
 ghost use Rattle.rail_model.specs.Blocking.{stair_of};
 ghost use Rattle.section_cut.specs.ReachedRuns as reached;
 
-use crate::connected::is_joined;
 use crate::cut_changes::{BothTables, CutChange, cut_made_anew};
 use crate::positions::{SectionTable, positions};
 use crate::reached_rows::{row_anew, row_stays};
@@ -182,16 +182,19 @@ fn path_by(after: &LineTables, paths: &Option<Paths<'_>>, run: u32) -> Result<Pa
     }
 }
 
-// What the edit of a number makes of the cut of a section that is there.
+// What the edit of a number makes of the cut of a section that is there, where it is told of each
+// run whether it has a connection.
 pub(crate) fn cut_after_runs(
     alloc: Global,
     both: BothTables<'_>,
     reached: &[Option<TimedStair>],
+    joined: &[bool],
     old: &Cut,
     section: &Name,
     number: u64,
 ) -> Result<CutChange, OutOfMemory>
     requires reached { AreReachedRuns both.before.now both.after.now reached.now }
+    requires joined { IsTold (is_joined both.before.now) both.before.now.runs joined.now }
     requires cut { cut_of both.before.now section.now ≡ Some (stamped 0 old.now) }
     ensures { IfOk result (IsChange (cut_of both.entry.before.now section.now)
         (cut_of both.entry.after.now section.now) number (Some old.now)) }
@@ -210,7 +213,7 @@ pub(crate) fn cut_after_runs(
     if rows_stay(alloc, both, reached, table, rows)? {
         return Ok(CutChange::Untouched);
     }
-    let Some(rows) = rows_after(alloc, both, reached, table, rows, number)? else {
+    let Some(rows) = rows_after(alloc, both, reached, joined, table, rows, number)? else {
         return cut_made_anew(alloc, both, Some(old), section, number);
     };
     Ok(CutChange::Touched(Some(cut_of_rows(alloc, old, rows)?)))
@@ -257,11 +260,13 @@ fn rows_after(
     alloc: Global,
     both: BothTables<'_>,
     reached: &[Option<TimedStair>],
+    joined: &[bool],
     table: SectionTable<'_>,
     old: &[CutRow],
     number: u64,
 ) -> Result<Option<List<CutRow>>, OutOfMemory>
-    requires { AreBeside both.before.now both.after.now reached.now table.section.now
+    requires joined { IsTold (is_joined both.before.now) both.before.now.runs joined.now }
+    requires beside { AreBeside both.before.now both.after.now reached.now table.section.now
         table.positions.now old.now }
     ensures { IfOk result (λ rows. IfSome rows (AreRowsAfter both.entry.before.now
         both.entry.after.now table.entry.section.now number old.now)) }
@@ -272,7 +277,7 @@ fn rows_after(
     for n in 0..both.after.runs() {
         let own = row_of(both.after, n, old, &mut at);
         let row = row_anew(alloc, table, &reached[n as usize], own, number, &mut found)?;
-        if !enters_as(&row, own) && is_joined(both.before, n) {
+        if joined[n as usize] && !enters_as(&row, own) {
             return Ok(None);
         }
         push_row(&mut rows, row)?;
@@ -296,7 +301,7 @@ fn enters_as(row: &Option<CutRow>, own: Option<&CutRow>) -> bool
 
 // The row of the run of a number, if it has one, where all rows below a place have names before the
 // run's. The place is then that of the first row whose name isn't before it.
-fn row_of<'a>(
+pub(crate) fn row_of<'a>(
     tables: &LineTables,
     run: u32,
     rows: &'a [CutRow],

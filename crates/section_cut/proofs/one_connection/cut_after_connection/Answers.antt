@@ -2,9 +2,11 @@ use Rattle.std.proofs.Common.{◌≡◌, false, sym, ◌∙◌, subst}
 use Rattle.std.specs.Prelude.{IfSome}
 use Rattle.rail_model.specs.Name.{NamesRise}
 use Rattle.plan_model.specs.SectionCut.{binds}
+use Rattle.section_cut.specs.RowsAfter.{AreOfMembers}
 use Rattle.section_cut.proofs.OldRows.{cut_rows, cut_names, cut_names_rise}
 use Rattle.section_cut.proofs.OneConnection.{cut_of_stays, entries_stay, found_there, binding_kept}
 use Rattle.section_cut.proofs.OneRun.{cut_is}
+use Rattle.section_cut.proofs.RowsKept.{members_stay}
 use Rattle.section_cut.proofs.SameValue.{sound_cut_of}
 use Rattle.section_cut.proofs.one_connection.cut_after_connection.Goals as goal
 use Rattle.section_cut.proofs.one_connection.cut_after_connection.Goals.{in-Some+else-binds_among, in_default}
@@ -30,6 +32,20 @@ binds_among-requires-clause-entries c =
 pub binds_among-requires-clause-there : goal.binds_among-requires-clause-there
 binds_among-requires-clause-there c =
     found_there c.args.both.after.now c.learn_sound-2.ensures c.args.edited.now.name c.in-Some.connection (sym c.requires.edited.after ∙ c.in-Some.is)
+
+pub cut_bound_anew-requires-clause-members : goal.cut_bound_anew-requires-clause-members
+cut_bound_anew-requires-clause-members c =
+    let later = c.args.both.after.now in
+    let old = c.args.old.now in
+    subst (AreOfMembers later old.section) (sym c.slice-then-is_some.ensures)
+    (members_stay c.args.both.before.now later c.requires.edited.others c.learn_sound.ensures c.args.section.now old c.requires.cut)
+
+pub cut_bound_anew-requires-then-binds_among-clause-members : goal.cut_bound_anew-requires-then-binds_among-clause-members
+cut_bound_anew-requires-then-binds_among-clause-members c =
+    let later = c.args.both.after.now in
+    let old = c.args.old.now in
+    subst (AreOfMembers later old.section) (sym c.slice-then-binds_among.ensures)
+    (members_stay c.args.both.before.now later c.requires.edited.others c.learn_sound.ensures c.args.section.now old c.requires.cut)
 
 pub returns : goal.returns
 returns c =

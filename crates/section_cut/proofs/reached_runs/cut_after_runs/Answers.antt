@@ -44,8 +44,8 @@ beside c =
 pub rows_stay-requires : goal.rows_stay-requires
 rows_stay-requires c = rw (c.deref.ensures.value, c.slice-rows.ensures) (beside (goal.at.rows_stay-requires c).After-slice-rows)
 
-pub rows_after-requires : goal.rows_after-requires
-rows_after-requires c = rw (c.deref.ensures.value, c.slice-rows.ensures) (beside (goal.at.rows_after-requires c).After-slice-rows)
+pub rows_after-requires-clause-beside : goal.rows_after-requires-clause-beside
+rows_after-requires-clause-beside c = rw (c.deref.ensures.value, c.slice-rows.ensures) (beside (goal.at.rows_after-requires-clause-beside c).After-slice-rows)
 
 pub returns-then-branch : goal.returns-then-branch
 returns-then-branch c =

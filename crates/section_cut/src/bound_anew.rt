@@ -1,0 +1,117 @@
+//! A section's cut whose connections are bound anew, where it is known which runs are its members,
+//! and their uses of its blocks.
+ghost use Rattle.std.specs.Prelude.{◌≡◌, ◌≤◌, length, IfOk, IfSome, Some, option_map};
+ghost use Rattle.std.specs.Option.{option_copied};
+ghost use Rattle.plan_model.specs.Cut.{stamped, AreBlocksFirst};
+ghost use Rattle.plan_model.specs.SectionCut as cuts;
+ghost use Rattle.rail_model.specs.declared.limits.TheConstants.{PATH_HOPS};
+ghost use Rattle.section_cut.specs.Change.{IsChange};
+ghost use Rattle.section_cut.specs.Members.{rows_on_blocks, members_by_run};
+ghost use Rattle.section_cut.specs.RowsAfter.{AreOfMembers};
+ghost use Rattle.section_cut.specs.RowsAfter as bare;
+
+use crate::connected::block_part;
+use crate::connections::connections;
+use crate::cut_changes::{BothTables, CutChange, compared};
+use crate::members::{MemberRows, add_run};
+use crate::reached_runs::row_of;
+use line_tables::LineTables;
+use plan_model::{Cut, CutRow};
+use rail_model::{List, Name, OutOfMemory, Section};
+use std::alloc::Global;
+
+// What the edit of a number makes of the cut of a section that stays, by rows with the uses of blocks
+// of the members after it.
+pub(crate) fn cut_bound_anew(
+    alloc: Global,
+    both: BothTables<'_>,
+    rows: &[CutRow],
+    old: &Cut,
+    section: &Name,
+    number: u64,
+) -> Result<CutChange, OutOfMemory>
+    requires cut { cuts.cut_of both.before.now section.now ≡ Some (stamped 0 old.now) }
+    requires sections { both.after.now.sections ≡ both.before.now.sections }
+    requires members { AreOfMembers both.after.now old.now.section rows.now }
+    ensures { IfOk result (IsChange (cuts.cut_of both.entry.before.now section.now)
+        (cuts.cut_of both.entry.after.now section.now) number (Some old.now)) }
+{
+    both.before.learn_sound();
+    both.after.learn_sound();
+    let later = cut_by_rows(alloc, both.after, &old.section, rows, number)?;
+    Ok(compared(old, later, number))
+}
+
+// The cut of a section, each row with this stamp, by rows with the uses of blocks of its members.
+fn cut_by_rows(
+    alloc: Global,
+    tables: &LineTables,
+    section: &Section,
+    rows: &[CutRow],
+    stamp: u64,
+) -> Result<Cut, OutOfMemory>
+    requires blocks { length section.now.blocks ≤ PATH_HOPS }
+    requires members { AreOfMembers tables.now section.now rows.now }
+    ensures { IfOk result
+        (λ cut. cut ≡ stamped stamp (cuts.section_cut tables.now section.now)) }
+{
+    tables.learn_sound();
+    let MemberRows { mut rows, of_run } = members_by_rows(alloc, tables, section, rows, stamp)?;
+    let connections = connections(alloc, tables, section, &of_run, &mut rows)?;
+    Ok(Cut {
+        section: section.copy(alloc)?,
+        connections,
+        rows,
+    })
+}
+
+// The members' rows without their uses of connections, and for each run which of them is its.
+fn members_by_rows(
+    alloc: Global,
+    tables: &LineTables,
+    section: &Section,
+    own: &[CutRow],
+    stamp: u64,
+) -> Result<MemberRows, OutOfMemory>
+    requires { AreOfMembers tables.now section.now own.now }
+    ensures rows { IfOk result
+        (λ all. all.rows ≡ rows_on_blocks tables.now section.now stamp) }
+    ensures of_run { IfOk result
+        (λ all. all.of_run.items ≡ members_by_run tables.now section.now) }
+{
+    let mut all = MemberRows {
+        rows: List::new(alloc),
+        of_run: Vec::with_capacity(alloc, tables.runs() as usize)?,
+    };
+    let mut at = 0;
+    for n in 0..tables.runs() {
+        let its = row_of(tables, n, own, &mut at);
+        let row = on_blocks(alloc, section, its, stamp)?;
+        add_run(&mut all, row)?;
+    }
+    Ok(all)
+}
+
+// A row, if it is there, with this stamp and without its uses of connections.
+fn on_blocks(
+    alloc: Global,
+    section: &Section,
+    own: Option<&CutRow>,
+    stamp: u64,
+) -> Result<Option<CutRow>, OutOfMemory>
+    requires { IfSome (option_copied own)
+        (λ r. AreBlocksFirst (length section.now.blocks) r.uses) }
+    ensures { IfOk result
+        (λ row. row ≡ option_map (bare.on_blocks section.now stamp) (option_copied own.entry)) }
+{
+    let Some(row) = own else {
+        return Ok(None);
+    };
+    let uses = block_part(section, row.uses.slice());
+    Ok(Some(CutRow {
+        name: row.name,
+        stamp,
+        entry: row.entry,
+        uses: List::from_vec(Vec::from_slice(alloc, uses)?),
+    }))
+}
