@@ -50,3 +50,4 @@ mod Whole
 mod WholeRow
 pub mod JoinedRuns
 pub mod RowsKept
+pub mod SameRows

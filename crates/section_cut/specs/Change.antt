@@ -1,6 +1,7 @@
 -- What an edit makes of a section's cut: whether it touches the section, and the stamps of the
 -- cut's rows.
 use Rattle.std.specs.Prelude.{◌≡◌, ◌≢◌, ◌⊎◌, ℕ, ◌<◌, List, length, slice_set, Option, Some, option_map, IfSome, All}
+use Rattle.rail_model.specs.declared.items.Section.{Section}
 use Rattle.rail_model.specs.declared.tables.Tables.{Tables}
 use Rattle.plan_model.specs.declared.cut.CutRow.{CutRow}
 use Rattle.plan_model.specs.declared.cut.Cut.{Cut}
@@ -39,6 +40,12 @@ IsChange before after number old change.Untouched = after ≡ before
 IsChange before after number old (change.Touched cut) = (after ≢ before) × IsCutAfter after number old cut
 IsChange before after number old (change.Row place row) =
     IfSome old (HasPlace place) × (after ≢ before) × IsCutAfter after number old (option_map (with_row place row) old)
+
+-- two sections have the same window and the same blocks, so runs have the same rows in both
+pub record HasSameRows (a b : Section) : Type 0 where
+  pub from : a.from_s ≡ b.from_s
+  pub to : a.to_s ≡ b.to_s
+  pub blocks : a.blocks ≡ b.blocks
 
 -- tables before and after an edit
 pub record TwoTables : Type 0 where

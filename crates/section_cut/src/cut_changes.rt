@@ -14,11 +14,11 @@ use crate::one_connection::{cut_after_connection, cut_after_minimum};
 use crate::one_run::cut_after_run;
 use crate::reach::{Reach, reach_of};
 use crate::reached_runs::cut_after_runs;
-use crate::same_value::{same_cut, same_name};
+use crate::same_value::{has_same_rows, same_cut, same_name};
 use crate::stamps::keep_stamps;
 use line_tables::LineTables;
 use plan_model::{Cut, CutRow};
-use rail_model::{Edit, Name, OutOfMemory};
+use rail_model::{Edit, Name, OutOfMemory, Section};
 use std::alloc::Global;
 use std::marker::Model;
 
@@ -163,7 +163,50 @@ fn cut_after_section(
     if !same_name(edited, section) {
         return Ok(CutChange::Untouched);
     }
+    if let Some(old) = cut {
+        if let Some(change) = cut_of_same_rows(alloc, both, old, section, number)? {
+            return Ok(change);
+        }
+    }
     cut_made_anew(alloc, both, cut, section, number)
+}
+
+// What the edit of a number makes of the cut of the section that it changes, where the section's
+// window and its blocks stay: then the rows do, too. Otherwise `None`.
+fn cut_of_same_rows(
+    alloc: Global,
+    both: BothTables<'_>,
+    old: &Cut,
+    section: &Name,
+    number: u64,
+) -> Result<Option<CutChange>, OutOfMemory>
+    requires others { both.after.now
+        ≡ record both.before.now { sections = both.after.now.sections } }
+    requires cut { cut_of both.before.now section.now ≡ Some (stamped 0 old.now) }
+    ensures { IfOk result
+        (λ made. IfSome made (IsChange (cut_of both.entry.before.now section.now)
+        (cut_of both.entry.after.now section.now) number (Some old.now))) }
+{
+    both.before.learn_sound();
+    both.after.learn_sound();
+    let Some(place) = both.after.section_number(section) else {
+        return Ok(None);
+    };
+    let later = both.after.section(place);
+    if !has_same_rows(later, &old.section) {
+        return Ok(None);
+    }
+    let cut = with_section(alloc, old, later)?;
+    Ok(Some(compared(old, cut, number)))
+}
+
+// A copy of a cut, of this section.
+fn with_section(alloc: Global, old: &Cut, section: &Section) -> Result<Cut, OutOfMemory>
+    ensures { IfOk result (λ cut. cut ≡ record old.now { section = section.now }) }
+{
+    let mut cut = old.copy(alloc)?;
+    cut.section = section.copy(alloc)?;
+    Ok(cut)
 }
 
 // What the edit of a number makes of the cut of the section of a name, where that is made anew.

@@ -1,6 +1,7 @@
 //! Whether two cuts have one value: stamps are no part of it.
-ghost use Rattle.std.specs.Prelude.{◌≡◌, ◌↔◌, IsTrue, map};
+ghost use Rattle.std.specs.Prelude.{◌≡◌, ◌↔◌, IsTrue, true, map};
 ghost use Rattle.plan_model.specs.Cut.{stamped_row, IsSameCut};
+ghost use Rattle.section_cut.specs.Change.{HasSameRows};
 
 use plan_model::{Cut, CutRow};
 use rail_model::{Name, Section, Use};
@@ -67,6 +68,13 @@ fn same_section(a: &Section, b: &Section) -> bool
         && a.to_s == b.to_s
         && a.add_percent == b.add_percent
         && same_names(a.blocks.slice(), b.blocks.slice())
+}
+
+// Whether two sections have the same window and the same blocks.
+pub(crate) fn has_same_rows(a: &Section, b: &Section) -> bool
+    ensures { result ≡ true → HasSameRows a.now b.now }
+{
+    a.from_s == b.from_s && a.to_s == b.to_s && same_names(a.blocks.slice(), b.blocks.slice())
 }
 
 // Whether two lists of names are equal.
