@@ -70,7 +70,7 @@ fn put_edges(
 pub(crate) fn no_edges(alloc: Global, count: u32) -> Result<Vec<List<Edge>>, OutOfMemory>
     ensures { IfOk result (λ edges. length edges.items ≡ count) }
 {
-    let mut edges = Vec::new(alloc);
+    let mut edges = Vec::with_capacity(alloc, count as usize)?;
     for _made in 0..count {
         edges.push(List::new(alloc))?;
     }

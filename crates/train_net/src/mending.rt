@@ -206,7 +206,7 @@ fn moved_edges(
 ) -> Result<Option<List<Edge>>, OutOfMemory>
     ensures { IfOk result (λ r. IfSome r (AllZip (IsMoved now.now) edges.now)) }
 {
-    let mut moved = List::new(alloc);
+    let mut moved = List::from_vec(Vec::with_capacity(alloc, edges.len())?);
     for edge in edges {
         match moved_edge(*edge, now) {
             Some(edge) => moved.push(edge)?,

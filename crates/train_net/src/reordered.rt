@@ -57,7 +57,7 @@ fn stands(
     ensures { IfOk result (λ stands. map (λ s. s.member) stands.items ≡ members cut.now) }
 {
     let places = places_in(alloc, before, now.len())?;
-    let mut stands = Vec::new(alloc);
+    let mut stands = Vec::with_capacity(alloc, cut.member_count() as usize)?;
     for member in 0..cut.member_count() {
         let entry = cut.row(member).entry;
         let slot = match origin[member as usize] {
@@ -117,7 +117,7 @@ fn enters_later(cut: &SoundCut, now: &[Option<u32>], member: u32, entry: i64) ->
 fn members_of(alloc: Global, stands: &[Stand]) -> Result<Vec<u32>, OutOfMemory>
     ensures { IfOk result (λ members. members.items ≡ map (λ s. s.member) stands.now) }
 {
-    let mut members = Vec::new(alloc);
+    let mut members = Vec::with_capacity(alloc, stands.len())?;
     for stand in stands {
         members.push(stand.member)?;
     }
