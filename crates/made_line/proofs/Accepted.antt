@@ -25,7 +25,8 @@ use Rattle.made_line.specs.Tables.{base_tables}
 use Rattle.made_line.proofs.Lists.{joined_base}
 use Rattle.made_line.proofs.Images.{All-images, All-images_from}
 use Rattle.made_line.proofs.Rising.{tested, blocks_rise, signals_rise, runs_rise, sections_rise}
-use Rattle.made_line.proofs.Puts.{Make, make_none, make_first, make_then, make_first_items, named_image}
+use Rattle.made_line.specs.Laws.{Make}
+use Rattle.made_line.proofs.Puts.{make_none, make_first, make_then, make_first_items, named_image}
 
 -- ---- tests of numbers
 
@@ -132,8 +133,8 @@ no_last_dwell x count last is =
     ∙ ap (λ leg. leg.dwell_s)
     (get_or-map-range_with_len (λ j. made_leg (after_draws x j)) 0 count last last no_leg (omega (arith, is)) (omega arith))
 
-run_within : (x i : ℕ) → i < 300 → is_run_within (made_run x i) ≡ true
-run_within x i below =
+pub run_from_within : (x i start : ℕ) → start ≤ 604800 → is_run_within (record (made_run x i) { start_s = start }) ≡ true
+run_from_within x i start early =
     let legs = next_number x in
     both_true
     (both_true
@@ -141,14 +142,17 @@ run_within x i below =
     (both_true
     (both_true (rw (length_legs legs 64) refl) (from_one (100 + draw x 300) 1000000 (omega arith) (omega (arith, small_draw x 300 (omega arith)))))
     refl)
-    (le-leb (1000 + 300 * i) 604800 (omega (arith, below))))
+    (le-leb start 604800 early))
     (legs_within legs 64))
     (rw (no_last_dwell legs 64 63 refl) refl)
+
+run_within : (x i : ℕ) → i < 300 → is_run_within (made_run x i) ≡ true
+run_within x i below = run_from_within x i (1000 + 300 * i) (omega (arith, below))
 
 abbrev with_runs : ℕ → List Run → Tables
 with_runs n runs = record no_tables { blocks = made_blocks n; signals = made_signals; routes = made_route ∷ []; runs = runs }
 
-run_counted : (n x i : ℕ) (runs : List Run) → miscounts_legs (with_runs n runs) (item.Run (made_run x i)) ≡ false
+pub run_counted : (n x i : ℕ) (runs : List Run) → miscounts_legs (with_runs n runs) (item.Run (made_run x i)) ≡ false
 run_counted n x i runs = rw (length_legs (next_number x) 64, length_signal_names 64) refl
 
 runs_put : (n x count : ℕ) → count ≤ 300

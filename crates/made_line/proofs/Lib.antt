@@ -8,4 +8,8 @@ pub mod Puts
 pub mod Accepted
 pub mod HowMany
 pub mod Written
+pub mod Later
+pub mod AnyOrder
+pub mod Planners
+pub mod Sessions
 mod Examples

@@ -13,12 +13,8 @@ use Rattle.rail_model.specs.Edited.{after_edits, AreAccepted}
 use Rattle.rail_model.proofs.NameOrder.{is_before-from, is_before-back, is_same-before, is_same-from}
 use Rattle.rail_model.proofs.Places.{filter_all, filter_none}
 use Rattle.rail_model.proofs.Edited.{accepted_first, accepted_from}
+use Rattle.made_line.specs.Laws.{Make}
 use Rattle.made_line.proofs.Images.{All-images}
-
--- no rule refuses one of the edits, and they leave these tables
-pub record Make (tables : Tables) (edits : List Edit) (later : Tables) : Type 0 where
-  pub accepted : AreAccepted tables edits
-  pub after : after_edits tables edits ≡ later
 
 pub make_none : (tables : Tables) → Make tables [] tables
 make_none tables = record { accepted = refl; after = refl }

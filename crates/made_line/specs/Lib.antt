@@ -3,4 +3,6 @@ pub mod Names
 pub mod Base
 pub mod MadeScripts
 pub mod Tables
+pub mod Later
+pub mod Laws
 pub mod Text

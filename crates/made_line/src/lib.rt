@@ -12,6 +12,7 @@ mod base;
 mod counts;
 mod draws;
 mod input;
+mod laws;
 mod names;
 mod runs;
 mod scripts;
@@ -19,5 +20,6 @@ mod tables;
 
 pub use counts::{BASE_EDITS, PLANNERS, SCRIPT_EDITS, WORKERS, made_counts};
 pub use input::made_input;
+pub use laws::{any_order_makes_one, each_session_makes_all};
 pub use scripts::made_scripts;
 pub use tables::made_tables;
