@@ -1,4 +1,4 @@
-use Rattle.std.proofs.Common.{ℕ, List, Result, sym, ap, subst, ◌∙◌}
+use Rattle.std.proofs.Common.{ℕ, Result, sym, ap, subst, ◌∙◌}
 use Rattle.std.specs.Prelude.{IfOk, MatchResult}
 use Rattle.row_text.specs.Lines.{◌>>=◌}
 use Rattle.plan_model.specs.declared.cut.Cut.{Cut}
