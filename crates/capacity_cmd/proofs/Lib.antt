@@ -9,6 +9,7 @@ pub mod Members
 pub mod GivenDelays
 pub mod Reports
 pub mod SideBySide
+pub mod LastAnswers
 pub mod Pieces
 pub mod Counted
 pub mod SessionCalls

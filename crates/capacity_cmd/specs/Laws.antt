@@ -1,6 +1,11 @@
--- Laws of the promise.
-use Rattle.std.specs.Prelude.{◌≡◌, ℕ, List, Some, Ok}
+-- Laws of the promise, of the report of a session, and of the made line.
+use Rattle.std.specs.Prelude.{◌≡◌, ℕ, List, Some, Ok, All}
+use Rattle.rail_model.specs.declared.tables.Tables.{Tables}
 use Rattle.rail_outside.specs.InCall.{SourceInCall}
+use Rattle.plan_model.specs.declared.scripts.Task.{Task}
+use Rattle.plan_model.specs.declared.journal.Entry.{Entry}
+use Rattle.plan_model.specs.Journal.{tables_of}
+use Rattle.plan_model.specs.Session.{IsSession}
 use Rattle.plan_book.specs.declared.book.TheConstants.{PLANNERS}
 use Rattle.made_line.specs.Base.{base_edits}
 use Rattle.made_line.specs.MadeScripts.{scripts_of_made}
@@ -11,6 +16,8 @@ use Rattle.capacity_cmd.specs.Input.{content_of_input}
 use Rattle.capacity_cmd.specs.Outcome.{Outcome}
 use Rattle.capacity_cmd.specs.Ends.{EndsOn}
 use Rattle.capacity_cmd.specs.Promise.{IsEnd}
+use Rattle.capacity_cmd.specs.Session.{IsJournalText}
+use Rattle.capacity_cmd.specs.Published.{IsAnsweredLast, ReportsLast}
 
 -- where a source tells the bytes that it has left, the outcome of a call is that of the command on all of them
 abbrev pub EndsOnAllLeft : {S : Type 0} → (S → S → SourceInCall S) → Type 0
@@ -25,3 +32,16 @@ abbrev pub SaysMadeLine : ℕ → Type 0
 SaysMadeLine n =
     content_of_input PLANNERS (made_text n)
     ≡ Ok (record { spelling = record { base = base_edits n; scripts = scripts_of_made n }; tables = base_tables n })
+
+-- in the journal of a session each section of the end was published, and the answer of its last publication is that of
+-- its cut then
+abbrev pub LastPublicationsAnswer : Type 0
+LastPublicationsAnswer =
+    (tables : Tables) (at : ℕ) (scripts : List (List Task)) (workers : ℕ) (journal : List Entry)
+    → IsSession tables at scripts workers journal → All (IsAnsweredLast journal) (tables_of journal).sections
+
+-- in the text of this journal the report has the heads of the last publications
+abbrev pub ReportIsOfLast : Type 0
+ReportIsOfLast =
+    (tables : Tables) (at : ℕ) (scripts : List (List Task)) (workers : ℕ) (journal : List Entry) (text : List ℕ)
+    → IsSession tables at scripts workers journal → IsJournalText journal text → ReportsLast journal text

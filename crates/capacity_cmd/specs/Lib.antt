@@ -16,6 +16,7 @@ pub mod Cycle
 pub mod Delays
 pub mod Fill
 pub mod Session
+pub mod Published
 pub mod Made
 pub mod Ends
 pub mod InputSoFar

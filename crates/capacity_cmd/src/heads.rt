@@ -7,7 +7,7 @@ ghost use Rattle.capacity_report.specs.Total.{total_of};
 ghost use Rattle.capacity_cmd.specs.Report.{HasHeads};
 ghost use Rattle.capacity_cmd.specs.Heads.{IsHead, AreHeads};
 
-use crate::report::add_head;
+use crate::report::{add_head, answer_among};
 use capacity_report::Tally;
 use line_tables::LineTables;
 use rail_model::OutOfMemory;
@@ -63,6 +63,7 @@ fn head_of(
     requires there { number < length tables.now.sections }
     ensures { IfOk result (IsHead tables.now (section_at tables.now number)) }
 {
+    let answer = answer_among(alloc, tables, stairs, number)?;
     let mut head = Head {
         sheet: Sheet::new(alloc),
         tally: Tally::new(),
@@ -72,8 +73,8 @@ fn head_of(
         &mut head.sheet,
         &mut head.tally,
         tables,
-        stairs,
         number,
+        &answer,
     )?;
     Ok(head)
 }

@@ -4,7 +4,7 @@ ghost use Rattle.rail_outside.specs.InCall.{source_call, sink_call};
 ghost use Rattle.made_line.specs.declared.counts.TheConstants as made;
 ghost use Rattle.made_line.specs.Base.{base_edits};
 ghost use Rattle.capacity_cmd.specs.SessionCall.{SessionWritesJournal};
-ghost use Rattle.capacity_cmd.specs.Laws.{EndsOnAllLeft, SaysMadeLine};
+ghost use Rattle.capacity_cmd.specs.Laws.{EndsOnAllLeft, SaysMadeLine, LastPublicationsAnswer, ReportIsOfLast};
 
 use crate::{DELAY_DIGITS, GIVEN_DELAYS, INPUT_BYTES};
 use conflict_finder::LISTED;
@@ -44,6 +44,14 @@ pub fn ends_on_all_left<S: Source>()
 pub fn made_text_says(n: u32)
     ensures says { SaysMadeLine n }
     ensures at { length (base_edits n) ≡ made.BASE_EDITS }
+{}
+
+/// In the end of a session each section was published, and the answer of its last publication is that
+/// of its cut. So the report after the journal's rows has the heads of the last publications of all
+/// sections, in the order of names, and their total.
+pub fn report_is_of_last()
+    ensures answers { LastPublicationsAnswer }
+    ensures report { ReportIsOfLast }
 {}
 
 /// The limits of an input and of what is answered, by their numbers; those of a line's items are a

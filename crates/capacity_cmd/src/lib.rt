@@ -33,6 +33,7 @@ mod limit;
 mod lines;
 mod made;
 mod named;
+mod published;
 mod refusal;
 mod reply;
 mod report;

@@ -2,8 +2,8 @@
 ghost use Rattle.std.specs.Prelude.{◌≡◌, ◌++◌, ◌<◌, [], length, IfOk, OnOk, decimal, string_bytes};
 ghost use Rattle.rail_model.specs.Tables.{section_at};
 ghost use Rattle.rail_model.specs.Timetable.{timetable};
-ghost use Rattle.plan_model.specs.Journal.{opening, edits};
-ghost use Rattle.plan_model.specs.Session.{IsSession};
+ghost use Rattle.plan_model.specs.Journal.{opening, edits, tables_of};
+ghost use Rattle.plan_model.specs.Session.{IsSession, AllAreCurrent};
 ghost use Rattle.row_text.specs.SheetRows.{text_of_rows, with_row};
 ghost use Rattle.capacity_report.specs.Total.{IsAnswerOfSome};
 ghost use Rattle.made_line.specs.declared.counts.TheConstants.{BASE_EDITS, WORKERS};
@@ -12,6 +12,7 @@ ghost use Rattle.made_line.specs.Tables.{base_tables};
 ghost use Rattle.capacity_cmd.specs.Made as made;
 ghost use Rattle.capacity_cmd.specs.Made.{IsMadeText, AreCounted, CountsSection};
 
+use crate::published::answers_of_book;
 use crate::report::answer_among;
 use capacity_report::{Tally, total_row};
 use line_tables::LineTables;
@@ -100,7 +101,7 @@ pub(crate) fn made_text<R: Threads + Wait + Sync, G: Gate>(
     let tables = made_tables(alloc, n)?;
     let base = counts_of(alloc, &tables)?;
     let book = made_book(rt, alloc, n, tables, gate)?;
-    let last = counts_of(alloc, book.tables())?;
+    let last = counts_of_book(alloc, &book)?;
     text_of_counts(alloc, n, &base, edits_made(&book), &last)
 }
 
@@ -138,6 +139,23 @@ fn counts_of(alloc: Global, tables: &LineTables) -> Result<Counts, OutOfMemory>
     let mut counts = Counts::none();
     for number in 0..tables.sections() {
         count_section(alloc, &mut counts, tables, &stairs, number)?;
+    }
+    Ok(counts)
+}
+
+// What is counted of the answers of all sections of a book: each is current, so the last
+// publications are the answers.
+fn counts_of_book(alloc: Global, book: &Book) -> Result<Counts, OutOfMemory>
+    requires { AllAreCurrent book.now }
+    ensures { IfOk result (AreCounted (tables_of book.now) (length (tables_of book.now).sections)) }
+{
+    let answers = answers_of_book(alloc, book)?;
+    let mut counts = Counts::none();
+    for number in 0..book.tables().sections() {
+        let Some(answer) = answers[number as usize] else {
+            unreachable!();
+        };
+        counts.add(answer);
     }
     Ok(counts)
 }

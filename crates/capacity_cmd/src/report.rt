@@ -1,5 +1,5 @@
 //! The command `report`.
-ghost use Rattle.std.specs.Prelude.{◌≡◌, ◌<◌, [], length, IfOk, OnOk};
+ghost use Rattle.std.specs.Prelude.{◌≡◌, ◌<◌, [], length, map, option_copied, IfOk, OnOk};
 ghost use Rattle.rail_model.specs.Tables.{section_at};
 ghost use Rattle.rail_model.specs.Timetable.{timetable};
 ghost use Rattle.plan_model.specs.SectionCut.{section_cut};
@@ -7,6 +7,7 @@ ghost use Rattle.plan_model.specs.Answer.{IsAnswer};
 ghost use Rattle.capacity_report.specs.Total.{total_of, IsAnswerOfSome};
 ghost use Rattle.capacity_cmd.specs.Report.{IsReportText, AddsReport, HasHeads, AddsHead};
 ghost use Rattle.capacity_cmd.specs.Heads.{AreHeads};
+ghost use Rattle.capacity_cmd.specs.Published.{HaveAnswers};
 
 use crate::compress::answer_of;
 use crate::heads::{Head, heads_of, join_heads};
@@ -15,7 +16,7 @@ use line_tables::LineTables;
 use plan_model::Answer;
 use rail_model::OutOfMemory;
 use row_text::Sheet;
-use section_cut::{AllStairways, cut_among, stairways, stairways_in_parts};
+use section_cut::{AllStairways, cut_among, stairways_in_parts};
 use std::alloc::Global;
 use std::thread::Threads;
 
@@ -44,17 +45,18 @@ fn text_of_heads(alloc: Global, tables: &LineTables, heads: &[Head]) -> Result<V
     Ok(sheet.into_text())
 }
 
-// Adds the heads of all sections and their total to a sheet. Only this thread makes them.
+// Adds the heads of the answers of all sections, which are there, and their total to a sheet.
 pub(crate) fn add_report(
     alloc: Global,
     sheet: &mut Sheet,
     tables: &LineTables,
+    answers: &[Option<&Answer>],
 ) -> Result<(), OutOfMemory>
+    requires { HaveAnswers tables.now (map option_copied answers.now) }
     ensures { OnOk result (AddsReport tables.now sheet.old.rows sheet.new.rows) }
 {
-    let stairs = AllStairways::of(alloc, stairways(alloc, tables)?)?;
     let mut tally = Tally::new();
-    add_heads(alloc, sheet, &mut tally, tables, &stairs)?;
+    add_heads(alloc, sheet, &mut tally, tables, answers)?;
     total_row(sheet, &tally)
 }
 
@@ -64,15 +66,18 @@ fn add_heads(
     sheet: &mut Sheet,
     tally: &mut Tally,
     tables: &LineTables,
-    stairs: &AllStairways,
+    answers: &[Option<&Answer>],
 ) -> Result<(), OutOfMemory>
-    requires stairs { stairs.now ≡ timetable tables.now }
+    requires answers { HaveAnswers tables.now (map option_copied answers.now) }
     requires tally { tally.old ≡ total_of [] }
     ensures { OnOk result (HasHeads
         tables.now (length tables.now.sections) sheet.old.rows sheet.new.rows tally.new) }
 {
     for number in 0..tables.sections() {
-        add_head(alloc, sheet, tally, tables, stairs, number)?;
+        let Some(answer) = answers[number as usize] else {
+            unreachable!();
+        };
+        add_head(alloc, sheet, tally, tables, number, answer)?;
     }
     Ok(())
 }
@@ -83,11 +88,12 @@ pub(crate) fn add_head(
     sheet: &mut Sheet,
     tally: &mut Tally,
     tables: &LineTables,
-    stairs: &AllStairways,
     number: u32,
+    answer: &Answer,
 ) -> Result<(), OutOfMemory>
-    requires stairs { stairs.now ≡ timetable tables.now }
     requires there { number < length tables.now.sections }
+    requires answer { IsAnswer (section_cut tables.now (section_at tables.now number)) answer.now }
+    requires of_some { IsAnswerOfSome answer.now }
     requires room { tally.old.sections < 4_294_967_295 }
     ensures { OnOk result (AddsHead
         tables.now
@@ -97,10 +103,9 @@ pub(crate) fn add_head(
         tally.old
         tally.new) }
 {
-    let answer = answer_among(alloc, tables, stairs, number)?;
     let section = tables.section(number).name;
-    answer_rows(alloc, sheet, &section, &answer, Detail::Head)?;
-    tally.add(&answer);
+    answer_rows(alloc, sheet, &section, answer, Detail::Head)?;
+    tally.add(answer);
     Ok(())
 }
 

@@ -1,5 +1,6 @@
 //! The command `session`.
 ghost use Rattle.std.specs.Prelude.{◌≡◌, ◌≤◌, IfOk};
+ghost use Rattle.plan_model.specs.Session.{AllAreCurrent};
 ghost use Rattle.session_run.specs.declared.threads.TheConstants.{WORKERS};
 ghost use Rattle.capacity_cmd.specs.InputSoFar.{IsWithin};
 ghost use Rattle.capacity_cmd.specs.Session.{IsSessionText, IsJournalText};
@@ -7,6 +8,7 @@ ghost use Rattle.capacity_cmd.specs.declared.limit.TheConstants.{INPUT_BYTES};
 ghost use Rattle.plan_book.specs.declared.book.TheConstants.{PLANNERS};
 
 use crate::accepted::Accepted;
+use crate::published::answers_of_book;
 use crate::report::add_report;
 use capacity_report::journal_rows;
 use plan_book::Book;
@@ -53,12 +55,15 @@ pub(crate) fn text_on_threads<R: Threads + Wait + Sync, G: Gate>(
     text_of_book(alloc, &book)
 }
 
-// The rows of a book's journal, and the report of its tables.
+// The rows of a book's journal, and the report of its tables: each section is current, so the last
+// publications are the answers.
 fn text_of_book(alloc: Global, book: &Book) -> Result<Vec<u8>, OutOfMemory>
+    requires { AllAreCurrent book.now }
     ensures { IfOk result (λ text. IsJournalText book.now text.items) }
 {
     let mut sheet = Sheet::new(alloc);
     journal_rows(alloc, &mut sheet, book.journal())?;
-    add_report(alloc, &mut sheet, book.tables())?;
+    let answers = answers_of_book(alloc, book)?;
+    add_report(alloc, &mut sheet, book.tables(), &answers)?;
     Ok(sheet.into_text())
 }

@@ -6,6 +6,9 @@ use Rattle.capacity_cmd.specs.Made.{made_rows, IsCounted, IsMadeText}
 use Rattle.capacity_cmd.proofs.Counted.{all_counted}
 use Rattle.capacity_cmd.proofs.made.made_text.Goals as goal
 
+pub counts_of_book-requires : goal.counts_of_book-requires
+counts_of_book-requires g c = c.in_ok-book.ensures.current
+
 pub returns : goal.returns
 returns g c =
     let n = c.args.n in
@@ -19,7 +22,7 @@ returns g c =
       journal = c.in_ok-book.book;
       session = c.in_ok-book.ensures;
       last = last;
-      last_is = subst (λ (t : Tables). IsCounted t last) c.tables.ensures (all_counted _ last c.in_ok-last.ensures);
+      last_is = all_counted _ last c.in_ok-last.ensures;
       text_is = is ∙ ap (λ edits. text_of_rows (made_rows n base edits last)) c.edits_made.ensures;
     })
     c.text_of_counts.ensures

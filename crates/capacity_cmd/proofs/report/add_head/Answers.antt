@@ -9,11 +9,11 @@ use Rattle.capacity_cmd.proofs.report.add_head.Goals as goal
 pub returns : goal.returns
 returns c =
     let tables = c.args.tables.now in
-    let answer = c.in_ok-answer.answer in
+    let answer = c.args.answer.now in
     let section_is = get_or_from_slice_get tables.sections c.args.number c.section.result.now no_section c.section.ensures in
     record {
       answer = answer;
-      is = c.in_ok-answer.ensures.answer;
+      is = c.requires.answer;
       head = c.in_ok-answer_rows.ensures.ok
           ∙ ap (λ (section : Section). c.args.sheet.now.rows ++ answer_rows section.name answer detail.Head) (sym section_is);
       counted = c.add.ensures;

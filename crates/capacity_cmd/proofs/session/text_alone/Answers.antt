@@ -2,6 +2,9 @@ use Rattle.std.proofs.lemmas.Result.{IfOk-weaker}
 use Rattle.capacity_cmd.specs.Session.{IsSessionText, IsJournalText}
 use Rattle.capacity_cmd.proofs.session.text_alone.Goals as goal
 
+pub text_of_book-requires : goal.text_of_book-requires
+text_of_book-requires c = c.in_ok-book.ensures.session.current
+
 pub returns : goal.returns
 returns c =
     let given = c.args.given in

@@ -3,6 +3,9 @@ use Rattle.capacity_cmd.specs.Session.{IsSessionText, IsJournalText}
 use Rattle.capacity_cmd.proofs.Reports.{journal_with}
 use Rattle.capacity_cmd.proofs.session.text_on_threads.Goals as goal
 
+pub text_of_book-requires : goal.text_of_book-requires
+text_of_book-requires g c = c.in_ok-book.ensures.current
+
 pub returns : goal.returns
 returns g c =
     let given = c.args.given in
