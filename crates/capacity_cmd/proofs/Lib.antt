@@ -12,6 +12,7 @@ pub mod SideBySide
 pub mod LastAnswers
 pub mod Pieces
 pub mod Counted
+pub mod MadeOne
 pub mod SessionCalls
 pub mod AllLeft
 pub mod MadeRows

@@ -18,6 +18,8 @@ use Rattle.capacity_cmd.specs.Ends.{EndsOn}
 use Rattle.capacity_cmd.specs.Promise.{IsEnd}
 use Rattle.capacity_cmd.specs.Session.{IsJournalText}
 use Rattle.capacity_cmd.specs.Published.{IsAnsweredLast, ReportsLast}
+use Rattle.capacity_cmd.specs.Made.{IsMadeText}
+use Rattle.capacity_cmd.specs.MadeOne.{IsOneText}
 
 -- where a source tells the bytes that it has left, the outcome of a call is that of the command on all of them
 abbrev pub EndsOnAllLeft : {S : Type 0} → (S → S → SourceInCall S) → Type 0
@@ -45,3 +47,7 @@ abbrev pub ReportIsOfLast : Type 0
 ReportIsOfLast =
     (tables : Tables) (at : ℕ) (scripts : List (List Task)) (workers : ℕ) (journal : List Entry) (text : List ℕ)
     → IsSession tables at scripts workers journal → IsJournalText journal text → ReportsLast journal text
+
+-- there is one text of `made` for a number: in whatever order its session goes, it tells of the same tables
+abbrev pub MadeIsOne : Type 0
+MadeIsOne = (n : ℕ) (text : List ℕ) → IsMadeText n text → IsOneText n text

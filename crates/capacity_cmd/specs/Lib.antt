@@ -18,6 +18,7 @@ pub mod Fill
 pub mod Session
 pub mod Published
 pub mod Made
+pub mod MadeOne
 pub mod Ends
 pub mod InputSoFar
 pub mod ReadAhead

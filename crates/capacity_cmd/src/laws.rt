@@ -4,7 +4,7 @@ ghost use Rattle.rail_outside.specs.InCall.{source_call, sink_call};
 ghost use Rattle.made_line.specs.declared.counts.TheConstants as made;
 ghost use Rattle.made_line.specs.Base.{base_edits};
 ghost use Rattle.capacity_cmd.specs.SessionCall.{SessionWritesJournal};
-ghost use Rattle.capacity_cmd.specs.Laws.{EndsOnAllLeft, SaysMadeLine, LastPublicationsAnswer, ReportIsOfLast};
+ghost use Rattle.capacity_cmd.specs.Laws.{EndsOnAllLeft, SaysMadeLine, LastPublicationsAnswer, ReportIsOfLast, MadeIsOne};
 
 use crate::{DELAY_DIGITS, GIVEN_DELAYS, INPUT_BYTES};
 use conflict_finder::LISTED;
@@ -52,6 +52,13 @@ pub fn made_text_says(n: u32)
 pub fn report_is_of_last()
     ensures answers { LastPublicationsAnswer }
     ensures report { ReportIsOfLast }
+{}
+
+/// A number has one text of `made`, whatever the order in which the planners and workers of its
+/// session come. The text tells what is counted of the base, that the 64 edits of the scripts were
+/// made, and what is counted of the tables that they leave.
+pub fn made_is_one()
+    ensures { MadeIsOne }
 {}
 
 /// The limits of an input and of what is answered, by their numbers; those of a line's items are a
