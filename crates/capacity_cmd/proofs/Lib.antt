@@ -1,5 +1,6 @@
 pub mod Refused
 pub mod Outcomes
+pub mod OneOutcome
 pub mod RowCount
 pub mod Making
 pub mod ReadingAhead

@@ -1,5 +1,5 @@
 -- Laws of the promise, of the report of a session, and of the made line.
-use Rattle.std.specs.Prelude.{◌≡◌, ℕ, List, Some, Ok, All}
+use Rattle.std.specs.Prelude.{◌≡◌, ℕ, List, Some, Ok, All, ◌⊎◌}
 use Rattle.rail_model.specs.declared.tables.Tables.{Tables}
 use Rattle.rail_outside.specs.InCall.{SourceInCall}
 use Rattle.plan_model.specs.declared.scripts.Task.{Task}
@@ -14,12 +14,20 @@ use Rattle.made_line.specs.Text.{made_text}
 use Rattle.capacity_cmd.specs.declared.command.Command.{Command}
 use Rattle.capacity_cmd.specs.Input.{content_of_input}
 use Rattle.capacity_cmd.specs.Outcome.{Outcome}
+use Rattle.capacity_cmd.specs.OneOutcome.{IsLeftOpen}
 use Rattle.capacity_cmd.specs.Ends.{EndsOn}
 use Rattle.capacity_cmd.specs.Promise.{IsEnd}
 use Rattle.capacity_cmd.specs.Session.{IsJournalText}
 use Rattle.capacity_cmd.specs.Published.{IsAnsweredLast, ReportsLast}
 use Rattle.capacity_cmd.specs.Made.{IsMadeText}
 use Rattle.capacity_cmd.specs.MadeOne.{IsOneText}
+
+-- the words and the input of a call leave one outcome: two outcomes of a command on one input are equal, but for what the
+-- command leaves open
+abbrev pub OutcomeIsOne : Type 0
+OutcomeIsOne =
+    (command : Command) (input : List ℕ) (outcome other : Outcome) → EndsOn command input outcome
+    → EndsOn command input other → (outcome ≡ other) ⊎ IsLeftOpen command outcome other
 
 -- where a source tells the bytes that it has left, the outcome of a call is that of the command on all of them
 abbrev pub EndsOnAllLeft : {S : Type 0} → (S → S → SourceInCall S) → Type 0

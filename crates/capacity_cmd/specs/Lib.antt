@@ -20,6 +20,7 @@ pub mod Published
 pub mod Made
 pub mod MadeOne
 pub mod Ends
+pub mod OneOutcome
 pub mod InputSoFar
 pub mod ReadAhead
 pub mod Reply

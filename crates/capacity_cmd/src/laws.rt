@@ -4,7 +4,7 @@ ghost use Rattle.rail_outside.specs.InCall.{source_call, sink_call};
 ghost use Rattle.made_line.specs.declared.counts.TheConstants as made;
 ghost use Rattle.made_line.specs.Base.{base_edits};
 ghost use Rattle.capacity_cmd.specs.SessionCall.{SessionWritesJournal};
-ghost use Rattle.capacity_cmd.specs.Laws.{EndsOnAllLeft, SaysMadeLine, LastPublicationsAnswer, ReportIsOfLast, MadeIsOne};
+ghost use Rattle.capacity_cmd.specs.Laws.{EndsOnAllLeft, SaysMadeLine, LastPublicationsAnswer, ReportIsOfLast, MadeIsOne, OutcomeIsOne};
 
 use crate::{DELAY_DIGITS, GIVEN_DELAYS, INPUT_BYTES};
 use conflict_finder::LISTED;
@@ -30,6 +30,13 @@ pub fn session_writes_journal<S: Source, K: Sink>()
     ensures { SessionWritesJournal
         (source_call S.given S.left S.ended S.faults S.at_fault)
         (sink_call K.taken K.written K.flushed K.faults) }
+{}
+
+/// The words and the input of a call leave one outcome: one text or one refusal. Two things are left
+/// open: which circuit `cycle` shows, where several allow no lesser period, and the text of a session
+/// with workers.
+pub fn outcome_is_one()
+    ensures { OutcomeIsOne }
 {}
 
 /// Where a source tells the bytes that it has left, the outcome of a call is that of the command on
