@@ -1,12 +1,7 @@
 -- The text of `made` is one: the answers of a line's sections are, and the journal leaves the same tables in any order.
-use Rattle.std.proofs.Common.{◌≡◌, ℕ, List, [], ◌∷◌, refl, sym, ap, ◌∙◌, subst}
-use Rattle.rail_model.specs.declared.items.Section.{Section}
+use Rattle.std.proofs.Common.{◌≡◌, ℕ, List, sym, ap, ◌∙◌, subst}
 use Rattle.rail_model.specs.declared.tables.Tables.{Tables}
-use Rattle.plan_model.specs.declared.answer.Answer.{Answer}
-use Rattle.plan_model.specs.SectionCut.{section_cut}
-use Rattle.plan_model.proofs.Unique.{answer_is_unique}
 use Rattle.row_text.specs.SheetRows.{text_of_rows}
-use Rattle.capacity_report.specs.Report.{AreAnswers}
 use Rattle.made_line.specs.declared.counts.TheConstants.{BASE_EDITS, WORKERS, SCRIPT_EDITS}
 use Rattle.made_line.specs.Tables.{base_tables}
 use Rattle.made_line.specs.Later.{later_tables}
@@ -14,18 +9,7 @@ use Rattle.made_line.proofs.Sessions.{each_session_makes_all}
 use Rattle.capacity_cmd.specs.Made.{Counted, counted_of, IsCounted, made_rows, IsMadeText}
 use Rattle.capacity_cmd.specs.MadeOne.{TellsOfAll}
 use Rattle.capacity_cmd.specs.Laws.{MadeIsOne}
-
-answers_one : (tables : Tables) (sections : List Section) (answers others : List Answer) → AreAnswers tables sections answers
-    → AreAnswers tables sections others → answers ≡ others
-answers_one tables [] [] [] are also = refl
-answers_one tables [] [] (b ∷ others) are also = absurd also
-answers_one tables [] (a ∷ answers) others are also = absurd are
-answers_one tables (s ∷ sections) [] others are also = absurd are
-answers_one tables (s ∷ sections) (a ∷ answers) [] are also = absurd also
-answers_one tables (s ∷ sections) (a ∷ answers) (b ∷ others) are also =
-    let first = answer_is_unique (section_cut tables s) a b are.0 also.0 in
-    let rest = answers_one tables sections answers others are.1 also.1 in
-    λ i. first i ∷ rest i
+use Rattle.capacity_cmd.proofs.OneOutcome.{answers_one}
 
 counted_one : (tables : Tables) (counted other : Counted) → IsCounted tables counted → IsCounted tables other → counted ≡ other
 counted_one tables counted other is also =

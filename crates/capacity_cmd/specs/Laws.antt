@@ -1,5 +1,5 @@
 -- Laws of the promise, of the report of a session, and of the made line.
-use Rattle.std.specs.Prelude.{◌≡◌, ℕ, List, Some, Ok, All, ◌⊎◌}
+use Rattle.std.specs.Prelude.{◌≡◌, ◌⊎◌, ℕ, List, All, Some, Ok}
 use Rattle.rail_model.specs.declared.tables.Tables.{Tables}
 use Rattle.rail_outside.specs.InCall.{SourceInCall}
 use Rattle.plan_model.specs.declared.scripts.Task.{Task}

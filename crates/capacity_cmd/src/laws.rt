@@ -4,7 +4,7 @@ ghost use Rattle.rail_outside.specs.InCall.{source_call, sink_call};
 ghost use Rattle.made_line.specs.declared.counts.TheConstants as made;
 ghost use Rattle.made_line.specs.Base.{base_edits};
 ghost use Rattle.capacity_cmd.specs.SessionCall.{SessionWritesJournal};
-ghost use Rattle.capacity_cmd.specs.Laws.{EndsOnAllLeft, SaysMadeLine, LastPublicationsAnswer, ReportIsOfLast, MadeIsOne, OutcomeIsOne};
+ghost use Rattle.capacity_cmd.specs.Laws.{OutcomeIsOne, EndsOnAllLeft, SaysMadeLine, LastPublicationsAnswer, ReportIsOfLast, MadeIsOne};
 
 use crate::{DELAY_DIGITS, GIVEN_DELAYS, INPUT_BYTES};
 use conflict_finder::LISTED;
