@@ -1,5 +1,5 @@
 -- What the words of the process are.
-use Rattle.std.specs.Prelude.{◌≡◌, ◌++◌, ℕ, List, map, drop, Option, None, Some, Result, Ok, Err}
+use Rattle.std.specs.Prelude.{◌≡◌, ◌++◌, ℕ, List, map, drop, Option, None, Some, Result, Ok, Err, IsErr, IsOkAnd}
 use Rattle.std.specs.Global.{Vec}
 use Rattle.std.specs.String.{string_bytes}
 use Rattle.rail_outside.specs.declared.std_words.StdWords.{StdWords}
@@ -17,3 +17,7 @@ bytes_of_words bytes (Err why) = None
 -- the words
 abbrev pub std_words : StdWords → Option (List (List ℕ))
 std_words w = bytes_of_words string_bytes w.words
+
+-- there are none, and for another reason than want of memory
+abbrev pub AreRefused : StdWords → Type 0
+AreRefused w = IsOkAnd w.words IsErr

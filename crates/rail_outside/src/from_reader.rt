@@ -1,9 +1,10 @@
 //! A source over any reader.
-ghost use Rattle.std.specs.Prelude.{◌≡◌, [], IsTrue, IsFalse};
+ghost use Rattle.std.specs.Prelude.{◌≡◌, ◌≤◌, ◌<◌, ◌++◌, ◌↔◌, [], length, take, Ok, IsOk, IsErr, IfOk, OnErr, IsTrue, IsFalse};
 
 use crate::faults::one_more;
 use crate::source::found_end;
 use crate::{Failed, History, Source};
+use std::io;
 use std::io::Read;
 
 /// A source over any reader of the standard library. What it has left is what the reader has left,
@@ -38,6 +39,41 @@ impl<R: Read> FromReader<R> {
     }
 }
 
+impl<R> FromReader<R> {
+    ghost use Rattle.rail_outside.specs.Faults.{CountsFaults};
+    ghost use Rattle.rail_outside.specs.FromReader.{reader_of, reader_given, reader_ended, reader_at_fault, reader_faults};
+
+    // Notes what the reader answered to a read.
+    fn noted(&mut self, into: &[u8], answer: io::Result<usize>) -> Result<usize, Failed>
+        requires { IfOk answer (λ n. n ≤ length into.now) }
+        ensures reader { reader_of self.new ≡ reader_of self.old }
+        ensures same { IsOk result ↔ IsOk answer }
+        ensures count { IfOk result (λ n. answer ≡ Ok n) }
+        ensures more { IfOk result (λ n.
+            reader_given self.new ≡ reader_given self.old ++ take n into.now) }
+        ensures none_given { OnErr result (reader_given self.new ≡ reader_given self.old) }
+        ensures ended { IsTrue (reader_ended self.new) ↔ ((result ≡ Ok 0) × (0 < length into.now)) }
+        ensures at_fault { IsTrue (reader_at_fault self.new) ↔ IsErr result }
+        ensures faults { CountsFaults result (reader_faults self.old) (reader_faults self.new) }
+        ensures later { reader_faults self.old ≤ reader_faults self.new }
+    {
+        match answer {
+            Ok(count) => {
+                self.given.add(&into[..count]);
+                self.ended = found_end(count, into.len());
+                self.at_fault = false;
+                Ok(count)
+            }
+            Err(_) => {
+                self.ended = false;
+                self.at_fault = true;
+                self.faults = one_more(self.faults);
+                Err(Failed)
+            }
+        }
+    }
+}
+
 impl<R: Read> Source for FromReader<R> {
     ghost use Rattle.rail_outside.specs.FromReader.{reader_of, reader_given, reader_ended, reader_at_fault, reader_faults};
 
@@ -52,19 +88,7 @@ impl<R: Read> Source for FromReader<R> {
     ghost at_fault = { λ s. IsTrue (reader_at_fault s) };
 
     fn read(&mut self, into: &mut [u8]) -> Result<usize, Failed> {
-        match self.reader.read(into) {
-            Ok(count) => {
-                self.given.add(&into[..count]);
-                self.ended = found_end(count, into.len());
-                self.at_fault = false;
-                Ok(count)
-            }
-            Err(_) => {
-                self.ended = false;
-                self.at_fault = true;
-                self.faults = one_more(self.faults);
-                Err(Failed)
-            }
-        }
+        let answer = self.reader.read(into);
+        self.noted(into, answer)
     }
 }

@@ -27,8 +27,11 @@ impl MemoryWords {
 
 impl Words for MemoryWords {
     ghost use Rattle.rail_outside.specs.MemoryWords.{memory_words};
+    ghost use Rattle.rail_outside.specs.Words.{HasNoText};
 
     ghost told = { λ w. Some (memory_words w) };
+
+    ghost not_text = { λ w. HasNoText (memory_words w) };
 
     fn take(&self, alloc: Global) -> Result<Result<Vec<String>, NotText>, OutOfMemory> {
         let mut words = Vec::new(alloc);

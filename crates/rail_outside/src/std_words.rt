@@ -1,5 +1,5 @@
 //! The process's words.
-ghost use Rattle.std.specs.Prelude.{◌≡◌, ◌≢◌, map, drop, IfOk, IsOk, IsErr};
+ghost use Rattle.std.specs.Prelude.{◌≡◌, ◌≢◌, map, drop, IfOk, IfErr, IsOk, IsErr, IsOkAnd};
 ghost use Rattle.std.specs.String.{string_bytes};
 ghost use Rattle.std.specs.Vec.Iter.{into_iter_items, into_iter_len};
 ghost use Rattle.std.specs.IoError.{error_kind};
@@ -9,10 +9,10 @@ ghost use Rattle.rail_outside.specs.StdWords.{AreAllOf};
 use crate::{NotText, Words};
 use rail_model::OutOfMemory;
 use std::alloc::Global;
-use std::env;
 use std::env::Args;
 use std::io::{Error, ErrorKind};
 use std::rt::Env;
+use std::{env, io};
 
 /// The words that the process had when this was made. They are told, unless one of them isn't UTF-8
 /// or there was no memory for them.
@@ -26,15 +26,17 @@ impl StdWords {
     /// The words of the process that has this runtime.
     pub fn of<R: AllocGlobal + Env>(rt: &R) -> Self {
         StdWords {
-            words: words_of(rt),
+            words: words_of(rt.alloc(), env::args(rt)),
         }
     }
 }
 
 impl Words for StdWords {
-    ghost use Rattle.rail_outside.specs.StdWords.{std_words};
+    ghost use Rattle.rail_outside.specs.StdWords.{std_words, AreRefused};
 
     ghost told = { λ w. std_words w };
+
+    ghost not_text = { λ w. AreRefused w };
 
     fn take(&self, alloc: Global) -> Result<Result<Vec<String>, NotText>, OutOfMemory> {
         match &self.words {
@@ -45,10 +47,20 @@ impl Words for StdWords {
     }
 }
 
-// The process's words, of which the program's name is the first.
-fn words_of<R: AllocGlobal + Env>(rt: &R) -> Result<Result<Vec<String>, NotText>, OutOfMemory> {
-    match env::args(rt) {
-        Ok(args) => Ok(Ok(all_of(rt.alloc(), args)?)),
+// The words that the process was given, of which the program's name is the first.
+fn words_of(
+    alloc: Global,
+    given: io::Result<Args>,
+) -> Result<Result<Vec<String>, NotText>, OutOfMemory>
+    ensures all { IfOk given (λ args. IfOk result (λ read. IfOk read (λ words.
+        AreAllOf into_iter_items into_iter_len args words.items))) }
+    ensures some { IfOk given (λ _. IfOk result IsOk) }
+    ensures not_text { IfErr given (λ error.
+        error_kind error ≢ kind.OutOfMemory → IsOkAnd result IsErr) }
+    ensures no_memory { IfErr given (λ error. error_kind error ≡ kind.OutOfMemory → IsErr result) }
+{
+    match given {
+        Ok(args) => Ok(Ok(all_of(alloc, args)?)),
         Err(error) => Ok(Err(why_not(&error)?)),
     }
 }

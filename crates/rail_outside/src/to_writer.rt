@@ -1,8 +1,9 @@
 //! A sink over any writer.
-ghost use Rattle.std.specs.Prelude.{◌≡◌, []};
+ghost use Rattle.std.specs.Prelude.{◌≡◌, ◌≤◌, ◌<◌, ◌++◌, ◌↔◌, [], length, take, Ok, IsOk, IfOk, IsOkAnd, OnErr};
 
 use crate::faults::one_more;
 use crate::{Failed, History, Sink};
+use std::io;
 use std::io::Write;
 
 /// A sink over any writer of the standard library. What it holds is what the writer holds, where
@@ -32,6 +33,59 @@ impl<W: Write> ToWriter<W> {
     }
 }
 
+impl<W> ToWriter<W> {
+    ghost use Rattle.rail_outside.specs.Faults.{CountsFaults};
+    ghost use Rattle.rail_outside.specs.Sink.{IsFlushed};
+    ghost use Rattle.rail_outside.specs.ToWriter.{writer_of, writer_taken, writer_flushed, writer_faults};
+
+    // Notes what the writer answered to a write. One that takes none of some bytes would be tried
+    // again forever, so it fails.
+    fn noted(&mut self, from: &[u8], answer: io::Result<usize>) -> Result<usize, Failed>
+        requires { IfOk answer (λ n. n ≤ length from.now) }
+        ensures writer { writer_of self.new ≡ writer_of self.old }
+        ensures some { IsOk result ↔ IsOkAnd answer (λ n. 0 < length from.now → 0 < n) }
+        ensures count { IfOk result (λ n. answer ≡ Ok n) }
+        ensures more { IfOk result (λ n.
+            writer_taken self.new ≡ writer_taken self.old ++ take n from.now) }
+        ensures none_taken { OnErr result (writer_taken self.new ≡ writer_taken self.old) }
+        ensures flushed { writer_flushed self.new ≡ writer_flushed self.old }
+        ensures faults { CountsFaults result (writer_faults self.old) (writer_faults self.new) }
+        ensures later { writer_faults self.old ≤ writer_faults self.new }
+    {
+        match answer {
+            Ok(count) if count > 0 || from.is_empty() => {
+                self.taken.add(&from[..count]);
+                Ok(count)
+            }
+            _ => {
+                self.faults = one_more(self.faults);
+                Err(Failed)
+            }
+        }
+    }
+
+    // Notes what the writer answered to a flush.
+    fn settled(&mut self, answer: io::Result<()>) -> Result<(), Failed>
+        ensures writer { writer_of self.new ≡ writer_of self.old }
+        ensures same { IsOk result ↔ IsOk answer }
+        ensures none_taken { writer_taken self.new ≡ writer_taken self.old }
+        ensures all { IsOk result → IsFlushed (writer_taken self.new) (writer_flushed self.new) }
+        ensures faults { CountsFaults result (writer_faults self.old) (writer_faults self.new) }
+        ensures later { writer_faults self.old ≤ writer_faults self.new }
+    {
+        match answer {
+            Ok(()) => {
+                self.taken.settle();
+                Ok(())
+            }
+            Err(_) => {
+                self.faults = one_more(self.faults);
+                Err(Failed)
+            }
+        }
+    }
+}
+
 impl<W: Write> Sink for ToWriter<W> {
     ghost use Rattle.rail_outside.specs.ToWriter.{writer_of, writer_taken, writer_flushed, writer_faults};
 
@@ -44,29 +98,12 @@ impl<W: Write> Sink for ToWriter<W> {
     ghost faults = { λ s. writer_faults s };
 
     fn write(&mut self, from: &[u8]) -> Result<usize, Failed> {
-        match self.writer.write(from) {
-            Ok(count) if count > 0 || from.is_empty() => {
-                self.taken.add(&from[..count]);
-                Ok(count)
-            }
-            // A write that takes none of some bytes would be tried again forever.
-            _ => {
-                self.faults = one_more(self.faults);
-                Err(Failed)
-            }
-        }
+        let answer = self.writer.write(from);
+        self.noted(from, answer)
     }
 
     fn flush(&mut self) -> Result<(), Failed> {
-        match self.writer.flush() {
-            Ok(()) => {
-                self.taken.settle();
-                Ok(())
-            }
-            Err(_) => {
-                self.faults = one_more(self.faults);
-                Err(Failed)
-            }
-        }
+        let answer = self.writer.flush();
+        self.settled(answer)
     }
 }
