@@ -604,7 +604,9 @@ def is_number(field):
 
 
 def spoil_row(dice, rows):
-    """Makes one row wrong, most often."""
+    """Makes one row wrong, most often; of no rows none."""
+    if not rows:
+        return
     place = dice.randrange(len(rows))
     row = rows[place] = list(rows[place])
     numbers = [column for column in range(2, len(row)) if is_number(row[column])]
