@@ -36,6 +36,7 @@ pub(crate) fn end_of_call<
     ensures { EndsAsCall
         result
         (W.told words.now)
+        (W.not_text words.now)
         (source_call S.given S.left S.ended S.faults S.at_fault source.old source.new)
         (sink_call K.taken K.written K.flushed K.faults sink.old sink.new) }
 {
@@ -60,6 +61,7 @@ fn call<R: AllocGlobal + Threads + Wait + Sync, W: Words, S: Source, K: Sink>(
     ensures { IsCall
         result
         (W.told words.now)
+        (W.not_text words.now)
         (source_call S.given S.left S.ended S.faults S.at_fault source.old source.new)
         (sink_call K.taken K.written K.flushed K.faults sink.old sink.new) }
 {
