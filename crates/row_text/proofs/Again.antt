@@ -1,5 +1,5 @@
 -- The row that spells a line spells it again.
-use Rattle.std.proofs.Common.{◌≡◌, ℕ, suc, ◌+◌, ◌-◌, ◌%◌, ◌<◌, ◌≤◌, Bool, true, false, ◌==◌, nat_lt, nat_le, List, [], ◌∷◌, length, map, Result, Ok, Some, refl, sym, ap, ◌∙◌, subst, inl, inr, arith}
+use Rattle.std.proofs.Common.{◌≡◌, ℕ, suc, ◌+◌, ◌-◌, ◌%◌, ◌<◌, ◌≤◌, Bool, true, false, ◌==◌, nat_lt, nat_le, List, [], ◌∷◌, length, drop, map, Result, Ok, IfOk, Some, refl, sym, ap, ◌∙◌, subst, inl, inr, arith}
 use Rattle.std.specs.List.{list_all}
 use Rattle.std.proofs.lemmas.Bool.{cases_Bool, and_parts, leb-true, le-ltb, false≢true, lt-ltb}
 use Rattle.rail_model.specs.declared.form.Form.{Form}
@@ -16,13 +16,13 @@ use Rattle.row_text.specs.declared.word.Word.{Word}
 use Rattle.row_text.specs.declared.word.Word.TheVariants as word
 use Rattle.row_text.specs.Row.{Row, field}
 use Rattle.row_text.specs.Sorts.{Name, Number, Rate, Time, or_fault, name_in, time_in}
-use Rattle.row_text.specs.Words.{Nothing, Names, Times, kind_shape, shape_of, word_text, word_of, may_follow, allows}
-use Rattle.row_text.specs.Lines.{read_each, legs_of, differences, falls, run_legs, make_item, item_in, line_of, read_in}
+use Rattle.row_text.specs.Words.{More, Names, Times, kind_shape, shape_of, word_text, word_of, may_follow, allows}
+use Rattle.row_text.specs.Lines.{read_each, legs_of, differences, falls, run_legs, legs_in, item_in, line_of, read_in}
 use Rattle.row_text.specs.Spelling.{leg_times, sums, run_times, time_text, kind_of_item, item_fields, row_in, has_clock_times, has_times_in, IsSpelled}
 use Rattle.std.proofs.lemmas.List.{length-map}
 use Rattle.row_text.specs.Words.{Shape}
 use Rattle.row_text.proofs.Numbers.{number_in-decimal, rate_in-decimal, time_in-text}
-use Rattle.row_text.proofs.Says.{Says, Each, Makes, read_from-makes, bind-ok}
+use Rattle.row_text.proofs.Says.{Says, Each, bind-ok, name-ok, number-ok, rate-ok, time-ok, names-ok, times-ok}
 
 -- the times of legs are those that they were made of, where the last leg has no dwell time
 leg_times-cons : (leg : Leg) (x : ℕ) (times : List ℕ) → leg_times (leg ∷ legs_of (x ∷ times)) ≡ leg.running_s ∷ leg.dwell_s ∷ leg_times (legs_of (x ∷ times))
@@ -123,17 +123,55 @@ run_legs-made version start times legs each few e = elim (cases_Bool (version ==
       (times, same, each, few)
 ]
 
-item-makes : (version : ℕ) (k : Kind) → Makes IsItem (kind_shape k).sorts (kind_shape k).more (make_item version k)
-item-makes version kind.Block = λ name a length_m b. (a, b)
-item-makes version kind.Signal = λ name a block b approach_m c watch_s d form_s e overlap_m f release_s g. (a, b, c, d, e, f, g)
-item-makes version kind.Route = λ name a signals b few. (a, b, few)
-item-makes version kind.Run = λ name a route b length_m c tail_s d start_s e times f few made is.
-    let legs = bind-ok (run_legs version start_s times) _ made is in
-    let steps = run_legs-made version start_s times legs.0 f few legs.1 in
-    let same : item.Run (record { name = name; route = route; length_m = length_m; tail_s = tail_s; start_s = start_s; legs = legs.0 }) ≡ made = cc legs.2 in
-    subst IsItem same (a, b, c, d, e, steps.0, steps.1, steps.2, steps.3)
-item-makes version kind.Section = λ name a from_s b to_s c add_percent d blocks e few. (a, b, c, d, e, few)
-item-makes version kind.Connection = λ name a first b second c minimum_s d. (a, b, c, d)
+-- as many fields follow as may
+few-after : (more : More) (row : Row) (fields n : ℕ) → allows (record { fields = fields; more = more }) (length row) ≡ true → length row - (fields + 1) ≡ n → may_follow more n ≡ true
+few-after more row fields n allowed count =
+    let few = (and_parts (nat_lt fields (length row)) (may_follow more (length row - fields - 1)) allowed).1 in
+    let same : length row - fields - 1 ≡ n = omega (arith, count) in
+    subst (λ m. may_follow more m ≡ true) same few
+
+-- the item that a row spells
+item-says : (version : ℕ) (k : Kind) (row : Row) (x : Item) → allows (kind_shape k) (length row) ≡ true → item_in version k row ≡ Ok x → IsItem x
+item-says version kind.Block row x allowed e =
+    let name = name-ok (field row 1) _ x e in
+    let length_m = number-ok (field row 2) _ x name.2 in
+    subst (λ r. IfOk r IsItem) length_m.2 (name.1, length_m.1)
+item-says version kind.Signal row x allowed e =
+    let name = name-ok (field row 1) _ x e in
+    let block = name-ok (field row 2) _ x name.2 in
+    let approach_m = number-ok (field row 3) _ x block.2 in
+    let watch_s = number-ok (field row 4) _ x approach_m.2 in
+    let form_s = number-ok (field row 5) _ x watch_s.2 in
+    let overlap_m = number-ok (field row 6) _ x form_s.2 in
+    let release_s = number-ok (field row 7) _ x overlap_m.2 in
+    subst (λ r. IfOk r IsItem) release_s.2 (name.1, block.1, approach_m.1, watch_s.1, form_s.1, overlap_m.1, release_s.1)
+item-says version kind.Route row x allowed e =
+    let name = name-ok (field row 1) _ x e in
+    let signals = names-ok row 2 _ x name.2 in
+    subst (λ r. IfOk r IsItem) signals.3 (name.1, signals.1, few-after Names row 1 (length signals.0) allowed signals.2)
+item-says version kind.Run row x allowed e =
+    let name = name-ok (field row 1) _ x e in
+    let route = name-ok (field row 2) _ x name.2 in
+    let length_m = number-ok (field row 3) _ x route.2 in
+    let tail_s = number-ok (field row 4) _ x length_m.2 in
+    let start_s = time-ok version (field row 5) _ x tail_s.2 in
+    let legs = bind-ok (legs_in version start_s.0 (drop 6 row)) _ x start_s.2 in
+    let times = times-ok version row 6 _ legs.0 legs.1 in
+    let steps = run_legs-made version start_s.0 times.0 legs.0 times.1 (few-after Times row 5 (length times.0) allowed times.2) times.3 in
+    subst (λ r. IfOk r IsItem) legs.2 (name.1, route.1, length_m.1, tail_s.1, start_s.1, steps.0, steps.1, steps.2, steps.3)
+item-says version kind.Section row x allowed e =
+    let name = name-ok (field row 1) _ x e in
+    let from_s = time-ok version (field row 2) _ x name.2 in
+    let to_s = time-ok version (field row 3) _ x from_s.2 in
+    let add_percent = rate-ok (field row 4) _ x to_s.2 in
+    let blocks = names-ok row 5 _ x add_percent.2 in
+    subst (λ r. IfOk r IsItem) blocks.3 (name.1, from_s.1, to_s.1, add_percent.1, blocks.1, few-after Names row 4 (length blocks.0) allowed blocks.2)
+item-says version kind.Connection row x allowed e =
+    let name = name-ok (field row 1) _ x e in
+    let first = name-ok (field row 2) _ x name.2 in
+    let second = name-ok (field row 3) _ x first.2 in
+    let minimum_s = number-ok (field row 4) _ x second.2 in
+    subst (λ r. IfOk r IsItem) minimum_s.2 (name.1, first.1, second.1, minimum_s.1)
 
 -- the times of a run are read back, and make its legs
 run-again : (version start : ℕ) (legs : List Leg) (steps : List ℕ) → legs ≡ legs_of steps → Each (Says Time) steps → may_follow Times (length steps) ≡ true
@@ -176,10 +214,10 @@ item-again version (item.Section s) first is clock =
 item-again version (item.Connection c) first is clock = rw (is.0, is.1, is.2, number_in-decimal c.minimum_s is.3) refl
 
 -- and its row has as many fields as it may have
-allows-more : (shape : Shape) (fields more : ℕ) → fields ≡ length shape.sorts + more + 1 → may_follow shape.more more ≡ true → allows shape fields ≡ true
+allows-more : (shape : Shape) (fields more : ℕ) → fields ≡ shape.fields + more + 1 → may_follow shape.more more ≡ true → allows shape fields ≡ true
 allows-more shape fields more count few =
-    let rest : fields - length shape.sorts - 1 ≡ more = omega arith in
-    rw (lt-ltb (length shape.sorts) fields (omega arith), rest, few) refl
+    let rest : fields - shape.fields - 1 ≡ more = omega arith in
+    rw (lt-ltb shape.fields fields (omega arith), rest, few) refl
 
 item-allows : (version : ℕ) (x : Item) (first : List ℕ) → IsItem x → ((version == 2) ≡ true → has_clock_times x ≡ true) → allows (kind_shape (kind_of_item x)) (length (first ∷ item_fields version x)) ≡ true
 item-allows version (item.Block b) first is clock = refl
@@ -204,17 +242,13 @@ IsLine (line.Planner n) = Says Number n
 line_of-says : (version : ℕ) (w : Word) (row : Row) (l : Line) → allows (shape_of w) (length row) ≡ true → line_of version w row ≡ Ok l → IsLine l
 line_of-says version (word.Put k) row l allowed e =
     let x = bind-ok (item_in version k row) _ l e in
-    let few = (and_parts (nat_lt (length (kind_shape k).sorts) (length row)) (may_follow (kind_shape k).more (length row - length (kind_shape k).sorts - 1)) allowed).1 in
-    let same : line.Edit (edit.Put x.0) ≡ l = cc x.2 in
-    subst IsLine same (read_from-makes IsItem version (kind_shape k).sorts (kind_shape k).more (make_item version k) row 1 x.0 (item-makes version k) few x.1)
+    subst (λ r. IfOk r IsLine) x.2 (item-says version k row x.0 allowed x.1)
 line_of-says version (word.Change k) row l allowed e =
     let x = bind-ok (item_in version k row) _ l e in
-    let few = (and_parts (nat_lt (length (kind_shape k).sorts) (length row)) (may_follow (kind_shape k).more (length row - length (kind_shape k).sorts - 1)) allowed).1 in
-    let same : line.Edit (edit.Change x.0) ≡ l = cc x.2 in
-    subst IsLine same (read_from-makes IsItem version (kind_shape k).sorts (kind_shape k).more (make_item version k) row 1 x.0 (item-makes version k) few x.1)
-line_of-says version (word.Drop k) row l allowed e = read_from-makes IsLine version (Name ∷ []) Nothing (λ name. line.Edit (edit.Drop k name)) row 1 l (λ name a. a) (and_parts (nat_lt 1 (length row)) (length row - 1 - 1 == 0) allowed).1 e
-line_of-says version word.Ask row l allowed e = read_from-makes IsLine version (Name ∷ []) Nothing line.Ask row 1 l (λ name a. a) (and_parts (nat_lt 1 (length row)) (length row - 1 - 1 == 0) allowed).1 e
-line_of-says version word.Planner row l allowed e = read_from-makes IsLine version (Number ∷ []) Nothing line.Planner row 1 l (λ n a. a) (and_parts (nat_lt 1 (length row)) (length row - 1 - 1 == 0) allowed).1 e
+    subst (λ r. IfOk r IsLine) x.2 (item-says version k row x.0 allowed x.1)
+line_of-says version (word.Drop k) row l allowed e = let name = name-ok (field row 1) _ l e in subst (λ r. IfOk r IsLine) name.2 name.1
+line_of-says version word.Ask row l allowed e = let name = name-ok (field row 1) _ l e in subst (λ r. IfOk r IsLine) name.2 name.1
+line_of-says version word.Planner row l allowed e = let n = number-ok (field row 1) _ l e in subst (λ r. IfOk r IsLine) n.2 n.1
 
 read_in-says : (version : ℕ) (row : Row) (l : Line) → read_in version row ≡ Ok l → IsLine l
 read_in-says version row l e =

@@ -14,10 +14,9 @@ use Rattle.rail_model.specs.Name.{is_name, is_same}
 use Rattle.rail_model.specs.declared.form.Form.{Form}
 use Rattle.rail_model.specs.declared.form.Form.TheVariants as form
 use Rattle.std.specs.Option.{option_or}
-use Rattle.row_text.specs.Row.{Row, field}
-use Rattle.row_text.specs.Sorts.{Sort, Name, Number, Rate, Time, Read, or_fault, value_of, is_number, number_of, classes, class_rate, rate_of, has_clock_form, clock_after, clock_of, time_of, name_in, time_in, read}
-use Rattle.row_text.specs.Words.{More, Nothing, Names, Times, may_follow}
-use Rattle.row_text.specs.Lines.{◌>>=◌, read_each, read_from, Maker}
+use Rattle.row_text.specs.Row.{Row}
+use Rattle.row_text.specs.Sorts.{Sort, Name, Number, Rate, Time, or_fault, value_of, is_number, number_of, classes, class_rate, rate_of, has_clock_form, clock_after, clock_of, time_of, name_in, number_in, rate_in, time_in}
+use Rattle.row_text.specs.Lines.{◌>>=◌, read_each}
 
 -- the value before a read that goes on
 pub bind-ok : {A B : Type 0} (r : Result A Form) (next : A → Result B Form) (y : B) → (r >>= next) ≡ Ok y → (x : A) × (r ≡ Ok x) × (next x ≡ Ok y)
@@ -135,17 +134,36 @@ name_in-again text n e = elim (cases_Bool (is_name text)) [
 ]
 
 -- what a field of a sort says can be said
+abbrev pub Read : Sort → Type 0
+Read Name = List ℕ
+Read sort = ℕ
+
 abbrev pub Says : (sort : Sort) → Read sort → Type 0
 Says Name n = name_in n ≡ Ok n
 Says Number n = n < 1000000000
 Says Rate n = n < 1000000000
 Says Time n = n < 1000000000
 
-read-says : (version : ℕ) (sort : Sort) (text : List ℕ) (x : Read sort) → read version sort text ≡ Ok x → Says sort x
-read-says version Name text x e = name_in-again text x e
-read-says version Number text x e = number_of-small text x (or_fault-ok form.Number (number_of text) x e)
-read-says version Rate text x e = rate_of-small text x (or_fault-ok form.Number (rate_of text) x e)
-read-says version Time text x e = time_of-small version text x (or_fault-ok form.Number (time_of version text) x e)
+time_in-says : (version : ℕ) (text : List ℕ) (n : ℕ) → time_in version text ≡ Ok n → Says Time n
+time_in-says version text n e = time_of-small version text n (or_fault-ok form.Number (time_of version text) n e)
+
+-- a field that was read says such a thing, and what comes next made the rest
+pub name-ok : {B : Type 0} (text : List ℕ) (next : List ℕ → Result B Form) (y : B) → (name_in text >>= next) ≡ Ok y → (n : List ℕ) × Says Name n × (next n ≡ Ok y)
+name-ok text next y e = let n = bind-ok (name_in text) next y e in (n.0, name_in-again text n.0 n.1, n.2)
+
+pub number-ok : {B : Type 0} (text : List ℕ) (next : ℕ → Result B Form) (y : B) → (number_in text >>= next) ≡ Ok y → (n : ℕ) × Says Number n × (next n ≡ Ok y)
+number-ok text next y e =
+    let n = bind-ok (number_in text) next y e in
+    (n.0, number_of-small text n.0 (or_fault-ok form.Number (number_of text) n.0 n.1), n.2)
+
+pub rate-ok : {B : Type 0} (text : List ℕ) (next : ℕ → Result B Form) (y : B) → (rate_in text >>= next) ≡ Ok y → (n : ℕ) × Says Rate n × (next n ≡ Ok y)
+rate-ok text next y e =
+    let n = bind-ok (rate_in text) next y e in
+    (n.0, rate_of-small text n.0 (or_fault-ok form.Number (rate_of text) n.0 n.1), n.2)
+
+pub time-ok : {B : Type 0} (version : ℕ) (text : List ℕ) (next : ℕ → Result B Form) (y : B) → (time_in version text >>= next) ≡ Ok y → (n : ℕ) × Says Time n × (next n ≡ Ok y)
+time-ok version text next y e =
+    let n = bind-ok (time_in version text) next y e in (n.0, time_in-says version text n.0 n.1, n.2)
 
 read_each-says : {A : Type 0} (of : List ℕ → Result A Form) (P : A → Type 0) → ((text : List ℕ) (x : A) → of text ≡ Ok x → P x) → (fields : Row) (xs : List A) → read_each of fields ≡ Ok xs
     → Each P xs × (length xs ≡ length fields)
@@ -157,29 +175,17 @@ read_each-says {A} of P says (first ∷ fields) xs e =
     let tail = read_each-says of P says fields rest.0 rest.1 in
     rw whole ((says first head.0 head.1, tail.0), ap suc tail.1)
 
--- whatever is made of such fields has a property
-abbrev pub Makes : {A : Type 0} → (A → Type 0) → (sorts : List Sort) → (more : More) → Maker sorts more A → Type 0
-Makes P [] Nothing made = P made
-Makes P [] Names make = (names : List (List ℕ)) → Each (Says Name) names → may_follow Names (length names) ≡ true → P (make names)
-Makes {A} P [] Times make = (times : List ℕ) → Each (Says Time) times → may_follow Times (length times) ≡ true → (made : A) → make times ≡ Ok made → P made
-Makes P (sort ∷ sorts) more make = (x : Read sort) → Says sort x → Makes P sorts more (make x)
-
-pub read_from-makes : {A : Type 0} (P : A → Type 0) (version : ℕ) (sorts : List Sort) (more : More) (make : Maker sorts more A) (row : Row) (i : ℕ) (made : A)
-    → Makes P sorts more make → may_follow more (length row - length sorts - i) ≡ true → read_from version sorts more make row i ≡ Ok made → P made
-read_from-makes P version [] Nothing make row i made makes few e =
-    let same : make ≡ made = cc e in subst P same makes
-read_from-makes {A} P version [] Names make row i made makes few e =
-    let names = bind-ok (read_each name_in (drop i row)) _ made e in
+-- and so do the fields from one on
+pub names-ok : {B : Type 0} (row : Row) (i : ℕ) (next : List (List ℕ) → Result B Form) (y : B) → (read_each name_in (drop i row) >>= next) ≡ Ok y
+    → (names : List (List ℕ)) × Each (Says Name) names × (length row - i ≡ length names) × (next names ≡ Ok y)
+names-ok row i next y e =
+    let names = bind-ok (read_each name_in (drop i row)) next y e in
     let said = read_each-says name_in (Says Name) name_in-again (drop i row) names.0 names.1 in
-    let count : length row - 0 - i ≡ length names.0 = omega (arith, said.1, length-drop i row) in
-    let same : make names.0 ≡ made = cc names.2 in
-    subst P same (makes names.0 said.0 (subst (λ (n : ℕ). may_follow Names n ≡ true) count few))
-read_from-makes P version [] Times make row i made makes few e =
-    let times = bind-ok (read_each (time_in version) (drop i row)) _ made e in
-    let said = read_each-says (time_in version) (Says Time) (read-says version Time) (drop i row) times.0 times.1 in
-    let count : length row - 0 - i ≡ length times.0 = omega (arith, said.1, length-drop i row) in
-    makes times.0 said.0 (subst (λ (n : ℕ). may_follow Times n ≡ true) count few) made times.2
-read_from-makes P version (sort ∷ sorts) more make row i made makes few e =
-    let x = bind-ok (read version sort (field row i)) _ made e in
-    let next : length row - length (sort ∷ sorts) - i ≡ length row - length sorts - (i + 1) = omega arith in
-    read_from-makes P version sorts more (make x.0) row (i + 1) made (makes x.0 (read-says version sort (field row i) x.0 x.1)) (subst (λ (n : ℕ). may_follow more n ≡ true) next few) x.2
+    (names.0, said.0, omega (arith, said.1, length-drop i row), names.2)
+
+pub times-ok : {B : Type 0} (version : ℕ) (row : Row) (i : ℕ) (next : List ℕ → Result B Form) (y : B) → (read_each (time_in version) (drop i row) >>= next) ≡ Ok y
+    → (times : List ℕ) × Each (Says Time) times × (length row - i ≡ length times) × (next times ≡ Ok y)
+times-ok version row i next y e =
+    let times = bind-ok (read_each (time_in version) (drop i row)) next y e in
+    let said = read_each-says (time_in version) (Says Time) (time_in-says version) (drop i row) times.0 times.1 in
+    (times.0, said.0, omega (arith, said.1, length-drop i row), times.2)

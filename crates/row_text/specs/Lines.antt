@@ -1,5 +1,5 @@
 -- Which line a row spells, or its first form fault.
-use Rattle.std.specs.Prelude.{ℕ, ◌+◌, ◌-◌, Bool, false, ◌||◌, ◌==◌, nat_lt, if◌then◌else◌, List, [], ◌∷◌, length, drop, Result, Ok, Err}
+use Rattle.std.specs.Prelude.{ℕ, ◌-◌, Bool, false, ◌||◌, ◌==◌, nat_lt, if◌then◌else◌, List, [], ◌∷◌, length, drop, Result, Ok, Err}
 use Rattle.rail_model.specs.declared.form.Form.{Form}
 use Rattle.rail_model.specs.declared.form.Form.TheVariants as form
 use Rattle.rail_model.specs.declared.edit.Kind.{Kind}
@@ -13,8 +13,8 @@ use Rattle.row_text.specs.declared.line.Line.TheVariants as line
 use Rattle.row_text.specs.declared.word.Word.{Word}
 use Rattle.row_text.specs.declared.word.Word.TheVariants as word
 use Rattle.row_text.specs.Row.{Row, field}
-use Rattle.row_text.specs.Sorts.{Sort, Read, read, name_in, time_in, or_fault}
-use Rattle.row_text.specs.Words.{More, Nothing, Names, Times, Shape, kind_shape, shape_of, word_of, allows}
+use Rattle.row_text.specs.Sorts.{name_in, number_in, rate_in, time_in, or_fault}
+use Rattle.row_text.specs.Words.{shape_of, word_of, allows}
 
 -- what comes next where there is no fault
 infixl 10 ◌>>=◌
@@ -29,37 +29,6 @@ read_each of (first ∷ fields) = do
   x ← of first
   xs ← read_each of fields
   Ok (x ∷ xs)
-
--- what is made of the fields that may follow
-abbrev pub MadeOf : More → Type 0 → Type 0
-MadeOf Nothing A = A
-MadeOf Names A = List (List ℕ) → A
-MadeOf Times A = List ℕ → Result A Form
-
--- what is made of fields of these sorts, and of those that may follow
-abbrev pub Maker : List Sort → More → Type 0 → Type 0
-Maker [] more A = MadeOf more A
-Maker (sort ∷ sorts) more A = Read sort → Maker sorts more A
-
-abbrev pub read_more : {A : Type 0} → ℕ → (more : More) → MadeOf more A → Row → Result A Form
-read_more version Nothing made fields = Ok made
-read_more version Names make fields = do
-  names ← read_each name_in fields
-  Ok (make names)
-read_more version Times make fields = do
-  times ← read_each (time_in version) fields
-  make times
-
--- the fields from a place on, read one after the other: what is made of them, or the first fault
-abbrev pub read_from :
-    {A : Type 0} → ℕ → (sorts : List Sort) → (more : More) → Maker sorts more A → Row → ℕ → Result A Form
-read_from version [] more made row i = read_more version more made (drop i row)
-read_from version (sort ∷ sorts) more make row i = do
-  x ← read version sort (field row i)
-  read_from version sorts more (make x) row (i + 1)
-
-abbrev pub read_fields : {A : Type 0} → ℕ → (shape : Shape) → Maker shape.sorts shape.more A → Row → Result A Form
-read_fields version shape make row = read_from version shape.sorts shape.more make row 1
 
 -- a running and a dwell time for each leg, and the running time of the last
 abbrev pub legs_of : List ℕ → List Leg
@@ -89,23 +58,40 @@ legs_in version start fields = do
   times ← read_each (time_in version) fields
   run_legs version start times
 
--- the item of a kind, of the fields of its row
-abbrev pub make_item : ℕ → (k : Kind) → Maker (kind_shape k).sorts (kind_shape k).more Item
-make_item version kind.Block = λ name length_m.
-    item.Block (record { name = name; length_m = length_m })
-make_item version kind.Signal = λ name block approach_m watch_s form_s overlap_m release_s.
-    item.Signal (record {
-      name = name;
-      block = block;
-      approach_m = approach_m;
-      watch_s = watch_s;
-      form_s = form_s;
-      overlap_m = overlap_m;
-      release_s = release_s;
-    })
-make_item version kind.Route = λ name signals. item.Route (record { name = name; signals = signals })
-make_item version kind.Run = λ name route length_m tail_s start_s times. do
-  legs ← run_legs version start_s times
+-- the item of a kind that a row of so many fields spells, or the fault of the first field that isn't of its sort
+abbrev pub item_in : ℕ → Kind → Row → Result Item Form
+item_in version kind.Block row = do
+  name ← name_in (field row 1)
+  length_m ← number_in (field row 2)
+  Ok (item.Block (record { name = name; length_m = length_m }))
+item_in version kind.Signal row = do
+  name ← name_in (field row 1)
+  block ← name_in (field row 2)
+  approach_m ← number_in (field row 3)
+  watch_s ← number_in (field row 4)
+  form_s ← number_in (field row 5)
+  overlap_m ← number_in (field row 6)
+  release_s ← number_in (field row 7)
+  Ok (item.Signal (record {
+    name = name;
+    block = block;
+    approach_m = approach_m;
+    watch_s = watch_s;
+    form_s = form_s;
+    overlap_m = overlap_m;
+    release_s = release_s;
+  }))
+item_in version kind.Route row = do
+  name ← name_in (field row 1)
+  signals ← read_each name_in (drop 2 row)
+  Ok (item.Route (record { name = name; signals = signals }))
+item_in version kind.Run row = do
+  name ← name_in (field row 1)
+  route ← name_in (field row 2)
+  length_m ← number_in (field row 3)
+  tail_s ← number_in (field row 4)
+  start_s ← time_in version (field row 5)
+  legs ← legs_in version start_s (drop 6 row)
   Ok (item.Run (record {
     name = name;
     route = route;
@@ -114,26 +100,27 @@ make_item version kind.Run = λ name route length_m tail_s start_s times. do
     start_s = start_s;
     legs = legs;
   }))
-make_item version kind.Section = λ name from_s to_s add_percent blocks.
-    item.Section (record { name = name; from_s = from_s; to_s = to_s; add_percent = add_percent; blocks = blocks })
-make_item version kind.Connection = λ name first second minimum_s.
-    item.Connection (record { name = name; first = first; second = second; minimum_s = minimum_s })
-
-abbrev pub item_in : ℕ → Kind → Row → Result Item Form
-item_in version k row = read_fields version (kind_shape k) (make_item version k) row
+item_in version kind.Section row = do
+  name ← name_in (field row 1)
+  from_s ← time_in version (field row 2)
+  to_s ← time_in version (field row 3)
+  add_percent ← rate_in (field row 4)
+  blocks ← read_each name_in (drop 5 row)
+  Ok (item.Section (record { name = name; from_s = from_s; to_s = to_s; add_percent = add_percent; blocks = blocks }))
+item_in version kind.Connection row = do
+  name ← name_in (field row 1)
+  first ← name_in (field row 2)
+  second ← name_in (field row 3)
+  minimum_s ← number_in (field row 4)
+  Ok (item.Connection (record { name = name; first = first; second = second; minimum_s = minimum_s }))
 
 -- the line of a row of a word
 abbrev pub line_of : ℕ → Word → Row → Result Line Form
-line_of version (word.Put k) row = do
-  x ← item_in version k row
-  Ok (line.Edit (edit.Put x))
-line_of version (word.Change k) row = do
-  x ← item_in version k row
-  Ok (line.Edit (edit.Change x))
-line_of version (word.Drop k) row =
-    read_fields version (shape_of (word.Drop k)) (λ name. line.Edit (edit.Drop k name)) row
-line_of version word.Ask row = read_fields version (shape_of word.Ask) line.Ask row
-line_of version word.Planner row = read_fields version (shape_of word.Planner) line.Planner row
+line_of version (word.Put k) row = item_in version k row >>= λ x. Ok (line.Edit (edit.Put x))
+line_of version (word.Change k) row = item_in version k row >>= λ x. Ok (line.Edit (edit.Change x))
+line_of version (word.Drop k) row = name_in (field row 1) >>= λ name. Ok (line.Edit (edit.Drop k name))
+line_of version word.Ask row = name_in (field row 1) >>= λ name. Ok (line.Ask name)
+line_of version word.Planner row = number_in (field row 1) >>= λ n. Ok (line.Planner n)
 
 -- the line that a row spells in a version of the rows, or its first form fault: its word, the number of its fields,
 -- the first field that isn't of its sort, the order of its times

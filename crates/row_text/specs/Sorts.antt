@@ -15,13 +15,6 @@ pub data Sort : Type 0 where
   Rate : Sort
   Time : Sort
 
--- what a field of a sort is read as: a name as its bytes, all others as a number
-abbrev pub Read : Sort → Type 0
-Read Name = List ℕ
-Read Number = ℕ
-Read Rate = ℕ
-Read Time = ℕ
-
 -- the value where there is one, else a fault
 abbrev pub or_fault : {A : Type 0} → Form → Option A → Result A Form
 or_fault fault None = Err fault
@@ -94,9 +87,3 @@ rate_in field = or_fault form.Number (rate_of field)
 
 abbrev pub time_in : ℕ → List ℕ → Result ℕ Form
 time_in version field = or_fault form.Number (time_of version field)
-
-abbrev pub read : ℕ → (sort : Sort) → List ℕ → Result (Read sort) Form
-read version Name field = name_in field
-read version Number field = number_in field
-read version Rate field = rate_in field
-read version Time field = time_in version field

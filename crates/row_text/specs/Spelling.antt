@@ -104,13 +104,10 @@ are_clock_times times = list_all (λ time. nat_le time GREATEST_CLOCK_S) times
 
 -- every time of an item can be written as a time of day
 abbrev pub has_clock_times : Item → Bool
-has_clock_times (item.Block b) = true
-has_clock_times (item.Signal s) = true
-has_clock_times (item.Route r) = true
 has_clock_times (item.Run r) =
     nat_le r.start_s GREATEST_CLOCK_S && are_clock_times (sums r.start_s (leg_times r.legs))
 has_clock_times (item.Section s) = nat_le s.from_s GREATEST_CLOCK_S && nat_le s.to_s GREATEST_CLOCK_S
-has_clock_times (item.Connection c) = true
+has_clock_times x = true
 
 -- every time of an item, and of a line, can be written in a version of the rows
 abbrev pub has_item_times_in : ℕ → Item → Bool
@@ -119,9 +116,7 @@ has_item_times_in version x = if version == 2 then has_clock_times x else true
 abbrev pub has_times_in : ℕ → Line → Bool
 has_times_in version (line.Edit (edit.Put x)) = has_item_times_in version x
 has_times_in version (line.Edit (edit.Change x)) = has_item_times_in version x
-has_times_in version (line.Edit (edit.Drop k name)) = true
-has_times_in version (line.Ask name) = true
-has_times_in version (line.Planner n) = true
+has_times_in version l = true
 
 -- a row of some version spells the line
 abbrev pub IsSpelled : Line → Type 0

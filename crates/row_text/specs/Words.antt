@@ -1,12 +1,11 @@
 -- The words that rows begin with, and the fields that follow each.
-use Rattle.std.specs.Prelude.{ℕ, ◌*◌, ◌-◌, ◌%◌, Bool, ◌&&◌, ◌==◌, nat_lt, nat_le, List, [], ◌∷◌, ◌++◌, length, map, find, codes, Option}
+use Rattle.std.specs.Prelude.{ℕ, ◌*◌, ◌-◌, ◌%◌, Bool, ◌&&◌, ◌==◌, nat_lt, nat_le, List, [], ◌∷◌, ◌++◌, map, find, codes, Option}
 use Rattle.rail_model.specs.Name.{is_same}
 use Rattle.rail_model.specs.declared.edit.Kind.{Kind}
 use Rattle.rail_model.specs.declared.edit.Kind.TheVariants as kind
 use Rattle.rail_model.specs.declared.limits.TheConstants.{PATH_HOPS}
 use Rattle.row_text.specs.declared.word.Word.{Word}
 use Rattle.row_text.specs.declared.word.Word.TheVariants as word
-use Rattle.row_text.specs.Sorts.{Sort, Name, Number, Rate, Time}
 
 -- the word of a kind of items
 abbrev pub kind_text : Kind → List ℕ
@@ -42,27 +41,24 @@ pub data More : Type 0 where
   Names : More
   Times : More
 
--- the sorts of the fields after the word, and what may follow them
+-- how many fields each row of a word has after the word, and what may follow them
 pub record Shape : Type 0 where
-  pub sorts : List Sort
+  pub fields : ℕ
   pub more : More
 
 abbrev pub kind_shape : Kind → Shape
-kind_shape kind.Block = record { sorts = Name ∷ Number ∷ []; more = Nothing }
-kind_shape kind.Signal =
-    record { sorts = Name ∷ Name ∷ Number ∷ Number ∷ Number ∷ Number ∷ Number ∷ []; more = Nothing }
-kind_shape kind.Route = record { sorts = Name ∷ []; more = Names }
-kind_shape kind.Run = record { sorts = Name ∷ Name ∷ Number ∷ Number ∷ Time ∷ []; more = Times }
-kind_shape kind.Section = record { sorts = Name ∷ Time ∷ Time ∷ Rate ∷ []; more = Names }
-kind_shape kind.Connection = record { sorts = Name ∷ Name ∷ Name ∷ Number ∷ []; more = Nothing }
+kind_shape kind.Block = record { fields = 2; more = Nothing }
+kind_shape kind.Signal = record { fields = 7; more = Nothing }
+kind_shape kind.Route = record { fields = 1; more = Names }
+kind_shape kind.Run = record { fields = 5; more = Times }
+kind_shape kind.Section = record { fields = 4; more = Names }
+kind_shape kind.Connection = record { fields = 4; more = Nothing }
 
--- a `change-` row has the fields of the row that puts the item
+-- a `change-` row has the fields of the row that puts the item; all other rows have one
 abbrev pub shape_of : Word → Shape
 shape_of (word.Put k) = kind_shape k
 shape_of (word.Change k) = kind_shape k
-shape_of (word.Drop k) = record { sorts = Name ∷ []; more = Nothing }
-shape_of word.Ask = record { sorts = Name ∷ []; more = Nothing }
-shape_of word.Planner = record { sorts = Number ∷ []; more = Nothing }
+shape_of w = record { fields = 1; more = Nothing }
 
 -- how many further fields there may be
 abbrev pub may_follow : More → ℕ → Bool
@@ -72,4 +68,4 @@ may_follow Times n = (n % 2 == 1) && nat_lt n (2 * PATH_HOPS)
 
 -- whether a row of a word may have this many fields, with the word
 abbrev pub allows : Shape → ℕ → Bool
-allows shape fields = nat_lt (length shape.sorts) fields && may_follow shape.more (fields - length shape.sorts - 1)
+allows shape fields = nat_lt shape.fields fields && may_follow shape.more (fields - shape.fields - 1)
