@@ -19,35 +19,37 @@ use Rattle.rail_model.specs.Edits.{with_changed}
 
 -- ---- names
 
--- the name is there among items, and in each kind
+-- the name is there among items
 abbrev pub is_named : {X : Type 0} → (X → List ℕ) → List X → List ℕ → Bool
 is_named name items n = list_any (λ x. is_same (name x) n) items
 
+-- the tables have an item of this kind and name
+abbrev pub has : Tables → Kind → List ℕ → Bool
+has tables kind.Block n = is_named (λ b. b.name) tables.blocks n
+has tables kind.Signal n = is_named (λ s. s.name) tables.signals n
+has tables kind.Route n = is_named (λ r. r.name) tables.routes n
+has tables kind.Run n = is_named (λ r. r.name) tables.runs n
+has tables kind.Section n = is_named (λ s. s.name) tables.sections n
+has tables kind.Connection n = is_named (λ c. c.name) tables.connections n
+
+-- the same of each kind
 abbrev pub has_block : Tables → List ℕ → Bool
-has_block tables n = is_named (λ b. b.name) tables.blocks n
+has_block tables n = has tables kind.Block n
 
 abbrev pub has_signal : Tables → List ℕ → Bool
-has_signal tables n = is_named (λ s. s.name) tables.signals n
+has_signal tables n = has tables kind.Signal n
 
 abbrev pub has_route : Tables → List ℕ → Bool
-has_route tables n = is_named (λ r. r.name) tables.routes n
+has_route tables n = has tables kind.Route n
 
 abbrev pub has_run : Tables → List ℕ → Bool
-has_run tables n = is_named (λ r. r.name) tables.runs n
+has_run tables n = has tables kind.Run n
 
 abbrev pub has_section : Tables → List ℕ → Bool
-has_section tables n = is_named (λ s. s.name) tables.sections n
+has_section tables n = has tables kind.Section n
 
 abbrev pub has_connection : Tables → List ℕ → Bool
-has_connection tables n = is_named (λ c. c.name) tables.connections n
-
-abbrev pub has : Tables → Kind → List ℕ → Bool
-has tables kind.Block n = has_block tables n
-has tables kind.Signal n = has_signal tables n
-has tables kind.Route n = has_route tables n
-has tables kind.Run n = has_run tables n
-has tables kind.Section n = has_section tables n
-has tables kind.Connection n = has_connection tables n
+has_connection tables n = has tables kind.Connection n
 
 -- a name stands among names
 abbrev pub lists : List (List ℕ) → List ℕ → Bool
@@ -57,21 +59,18 @@ lists names n = list_any (λ m. is_same m n) names
 
 -- the item's name is there in its kind
 abbrev pub is_there : Tables → Item → Bool
-is_there tables (item.Block b) = has_block tables b.name
-is_there tables (item.Signal s) = has_signal tables s.name
-is_there tables (item.Route r) = has_route tables r.name
-is_there tables (item.Run r) = has_run tables r.name
-is_there tables (item.Section s) = has_section tables s.name
-is_there tables (item.Connection c) = has_connection tables c.name
+is_there tables (item.Block b) = has tables kind.Block b.name
+is_there tables (item.Signal s) = has tables kind.Signal s.name
+is_there tables (item.Route r) = has tables kind.Route r.name
+is_there tables (item.Run r) = has tables kind.Run r.name
+is_there tables (item.Section s) = has tables kind.Section s.name
+is_there tables (item.Connection c) = has tables kind.Connection c.name
 
 -- the item's name is taken: it is there in its kind, or a block and a connection would share it
 abbrev pub is_taken : Tables → Item → Bool
-is_taken tables (item.Block b) = has_block tables b.name || has_connection tables b.name
-is_taken tables (item.Signal s) = has_signal tables s.name
-is_taken tables (item.Route r) = has_route tables r.name
-is_taken tables (item.Run r) = has_run tables r.name
-is_taken tables (item.Section s) = has_section tables s.name
-is_taken tables (item.Connection c) = has_connection tables c.name || has_block tables c.name
+is_taken tables (item.Block b) = has tables kind.Block b.name || has tables kind.Connection b.name
+is_taken tables (item.Connection c) = has tables kind.Connection c.name || has tables kind.Block c.name
+is_taken tables x = is_there tables x
 
 -- the item's kind has its greatest number of items
 abbrev pub is_full : Tables → Item → Bool
@@ -86,11 +85,11 @@ is_full tables (item.Connection c) = nat_le CONNECTIONS (length tables.connectio
 -- connection's two runs
 abbrev pub refers_to_known : Tables → Item → Bool
 refers_to_known tables (item.Block b) = true
-refers_to_known tables (item.Signal s) = has_block tables s.block
-refers_to_known tables (item.Route r) = list_all (has_signal tables) r.signals
-refers_to_known tables (item.Run r) = has_route tables r.route
-refers_to_known tables (item.Section s) = list_all (has_block tables) s.blocks
-refers_to_known tables (item.Connection c) = has_run tables c.first && has_run tables c.second
+refers_to_known tables (item.Signal s) = has tables kind.Block s.block
+refers_to_known tables (item.Route r) = list_all (has tables kind.Signal) r.signals
+refers_to_known tables (item.Run r) = has tables kind.Route r.route
+refers_to_known tables (item.Section s) = list_all (has tables kind.Block) s.blocks
+refers_to_known tables (item.Connection c) = has tables kind.Run c.first && has tables kind.Run c.second
 
 -- two places of a route have signals of one block
 abbrev pub repeats_block : Tables → Route → Bool

@@ -2,11 +2,12 @@
 use Rattle.std.specs.Prelude.{◌≡◌, ℕ, ◌≤◌, false, not, List, length, IsTrue, All}
 use Rattle.rail_model.specs.declared.items.Item.{Item}
 use Rattle.rail_model.specs.declared.items.Item.TheVariants as item
+use Rattle.rail_model.specs.declared.edit.Kind.TheVariants as kind
 use Rattle.rail_model.specs.declared.tables.Tables.{Tables}
 use Rattle.rail_model.specs.declared.limits.TheConstants.{BLOCKS, SIGNALS, ROUTES, RUNS, SECTIONS, CONNECTIONS}
 use Rattle.rail_model.specs.Name.{NamesRise}
 use Rattle.rail_model.specs.Within.{is_within}
-use Rattle.rail_model.specs.Rules.{has_block, refers_to_known, repeats, miscounts_legs}
+use Rattle.rail_model.specs.Rules.{has, refers_to_known, repeats, miscounts_legs}
 
 -- no rule but that of its own name being there would refuse an item of the tables
 pub record Stands (tables : Tables) (x : Item) : Type 0 where
@@ -29,4 +30,4 @@ pub record IsSound (tables : Tables) : Type 0 where
   pub runs : AreSound tables item.Run (λ x. x.name) RUNS tables.runs
   pub sections : AreSound tables item.Section (λ x. x.name) SECTIONS tables.sections
   pub connections : AreSound tables item.Connection (λ x. x.name) CONNECTIONS tables.connections
-  pub apart : All (λ c. has_block tables c.name ≡ false) tables.connections
+  pub apart : All (λ c. has tables kind.Block c.name ≡ false) tables.connections
