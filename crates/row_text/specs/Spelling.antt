@@ -61,22 +61,11 @@ kind_of_item (item.Connection c) = kind.Connection
 abbrev pub item_fields : ℕ → Item → Row
 item_fields version (item.Block b) = b.name ∷ decimal b.length_m ∷ []
 item_fields version (item.Signal s) =
-    s.name
-    ∷ s.block
-    ∷ decimal s.approach_m
-    ∷ decimal s.watch_s
-    ∷ decimal s.form_s
-    ∷ decimal s.overlap_m
-    ∷ decimal s.release_s
-    ∷ []
+    s.name ∷ s.block ∷ map decimal (s.approach_m ∷ s.watch_s ∷ s.form_s ∷ s.overlap_m ∷ s.release_s ∷ [])
 item_fields version (item.Route r) = r.name ∷ r.signals
 item_fields version (item.Run r) =
-    r.name
-    ∷ r.route
-    ∷ decimal r.length_m
-    ∷ decimal r.tail_s
-    ∷ time_text version r.start_s
-    ∷ map (time_text version) (run_times version r.start_s r.legs)
+    r.name ∷ r.route ∷ decimal r.length_m ∷ decimal r.tail_s
+    ∷ map (time_text version) (r.start_s ∷ run_times version r.start_s r.legs)
 item_fields version (item.Section s) =
     s.name ∷ time_text version s.from_s ∷ time_text version s.to_s ∷ decimal s.add_percent ∷ s.blocks
 item_fields version (item.Connection c) = c.name ∷ c.first ∷ c.second ∷ decimal c.minimum_s ∷ []
