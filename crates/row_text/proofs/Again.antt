@@ -1,7 +1,8 @@
 -- The row that spells a line spells it again.
-use Rattle.std.proofs.Common.{◌≡◌, ℕ, suc, ◌+◌, ◌-◌, ◌%◌, ◌<◌, ◌≤◌, Bool, true, false, ◌==◌, nat_lt, nat_le, List, [], ◌∷◌, length, drop, map, Result, Ok, IfOk, Some, refl, sym, ap, ◌∙◌, subst, inl, inr, arith}
+use Rattle.std.proofs.Common.{◌≡◌, ℕ, suc, ◌+◌, ◌-◌, ◌%◌, ◌<◌, ◌≤◌, Bool, true, false, ◌&&◌, ◌==◌, nat_lt, nat_le, List, [], ◌∷◌, length, drop, map, Result, Ok, IfOk, Some, refl, sym, ap, ◌∙◌, subst, inl, inr, arith}
 use Rattle.std.specs.List.{list_all}
-use Rattle.std.proofs.lemmas.Bool.{cases_Bool, and_parts, leb-true, le-ltb, false≢true, lt-ltb}
+use Rattle.std.proofs.lemmas.Bool.{cases_Bool, and_parts, leb-true, le-ltb, false≢true}
+use Rattle.std.specs.Option.{ok_or}
 use Rattle.rail_model.specs.declared.form.Form.{Form}
 use Rattle.rail_model.specs.declared.form.Form.TheVariants as form
 use Rattle.rail_model.specs.declared.edit.Kind.{Kind}
@@ -14,13 +15,13 @@ use Rattle.row_text.specs.declared.line.Line.{Line}
 use Rattle.row_text.specs.declared.line.Line.TheVariants as line
 use Rattle.row_text.specs.declared.word.Word.{Word}
 use Rattle.row_text.specs.declared.word.Word.TheVariants as word
+use Rattle.rail_model.specs.Within.{is_from_one}
 use Rattle.row_text.specs.Row.{Row, field}
-use Rattle.row_text.specs.Sorts.{Name, Number, Rate, Time, or_fault, name_in, time_in}
-use Rattle.row_text.specs.Words.{More, Names, Times, kind_shape, shape_of, word_text, word_of, may_follow, allows}
+use Rattle.row_text.specs.Sorts.{Name, Number, Rate, Time, name_in, time_in}
+use Rattle.row_text.specs.Words.{kind_shape, shape_of, word_text, word_of, allows}
 use Rattle.row_text.specs.Lines.{read_each, legs_of, differences, falls, run_legs, legs_in, item_in, line_of, read_in}
 use Rattle.row_text.specs.Spelling.{leg_times, sums, run_times, time_text, kind_of_item, item_fields, row_in, has_clock_times, has_times_in, IsSpelled}
 use Rattle.std.proofs.lemmas.List.{length-map}
-use Rattle.row_text.specs.Words.{Shape}
 use Rattle.row_text.proofs.Numbers.{number_in-decimal, rate_in-decimal, time_in-text}
 use Rattle.row_text.proofs.Says.{Says, Each, bind-ok, name-ok, number-ok, rate-ok, time-ok, names-ok, times-ok}
 
@@ -98,19 +99,26 @@ word_of-text (word.Drop kind.Connection) = refl
 word_of-text word.Ask = refl
 word_of-text word.Planner = refl
 
+-- how many names, and how many times, may stand at the end of a row
+abbrev few_names : ℕ → Bool
+few_names n = is_from_one n 256
+
+abbrev few_times : ℕ → Bool
+few_times n = (n % 2 == 1) && nat_lt n 512
+
 -- what an item has that a row spells
 abbrev IsItem : Item → Type 0
 IsItem (item.Block b) = Says Name b.name × Says Number b.length_m
 IsItem (item.Signal s) = Says Name s.name × Says Name s.block × Says Number s.approach_m × Says Number s.watch_s × Says Number s.form_s × Says Number s.overlap_m × Says Number s.release_s
-IsItem (item.Route r) = Says Name r.name × Each (Says Name) r.signals × (may_follow Names (length r.signals) ≡ true)
+IsItem (item.Route r) = Says Name r.name × Each (Says Name) r.signals × (few_names (length r.signals) ≡ true)
 IsItem (item.Run r) = Says Name r.name × Says Name r.route × Says Number r.length_m × Says Number r.tail_s × Says Time r.start_s
-    × (times : List ℕ) × (r.legs ≡ legs_of times) × Each (Says Time) times × (may_follow Times (length times) ≡ true)
-IsItem (item.Section s) = Says Name s.name × Says Time s.from_s × Says Time s.to_s × Says Rate s.add_percent × Each (Says Name) s.blocks × (may_follow Names (length s.blocks) ≡ true)
+    × (times : List ℕ) × (r.legs ≡ legs_of times) × Each (Says Time) times × (few_times (length times) ≡ true)
+IsItem (item.Section s) = Says Name s.name × Says Time s.from_s × Says Time s.to_s × Says Rate s.add_percent × Each (Says Name) s.blocks × (few_names (length s.blocks) ≡ true)
 IsItem (item.Connection c) = Says Name c.name × Says Name c.first × Says Name c.second × Says Number c.minimum_s
 
 -- the times that a run's legs are made of
-run_legs-made : (version start : ℕ) (times : List ℕ) (legs : List Leg) → Each (Says Time) times → may_follow Times (length times) ≡ true → run_legs version start times ≡ Ok legs
-    → (steps : List ℕ) × (legs ≡ legs_of steps) × Each (Says Time) steps × (may_follow Times (length steps) ≡ true)
+run_legs-made : (version start : ℕ) (times : List ℕ) (legs : List Leg) → Each (Says Time) times → few_times (length times) ≡ true → run_legs version start times ≡ Ok legs
+    → (steps : List ℕ) × (legs ≡ legs_of steps) × Each (Says Time) steps × (few_times (length steps) ≡ true)
 run_legs-made version start times legs each few e = elim (cases_Bool (version == 2)) [
   | inl second ↦ elim (cases_Bool (falls start times)) [
     | inl down ↦ absurd (cc (rw (second, down) at e))
@@ -124,11 +132,10 @@ run_legs-made version start times legs each few e = elim (cases_Bool (version ==
 ]
 
 -- as many fields follow as may
-few-after : (more : More) (row : Row) (fields n : ℕ) → allows (record { fields = fields; more = more }) (length row) ≡ true → length row - (fields + 1) ≡ n → may_follow more n ≡ true
-few-after more row fields n allowed count =
-    let few = (and_parts (nat_lt fields (length row)) (may_follow more (length row - fields - 1)) allowed).1 in
-    let same : length row - fields - 1 ≡ n = omega (arith, count) in
-    subst (λ m. may_follow more m ≡ true) same few
+few-after : (few : ℕ → Bool) (row : Row) (fields n : ℕ) → few (length row - 1 - fields) ≡ true → length row - (fields + 1) ≡ n → few n ≡ true
+few-after few row fields n allowed count =
+    let same : length row - 1 - fields ≡ n = omega (arith, count) in
+    subst (λ m. few m ≡ true) same allowed
 
 -- the item that a row spells
 item-says : (version : ℕ) (k : Kind) (row : Row) (x : Item) → allows (kind_shape k) (length row) ≡ true → item_in version k row ≡ Ok x → IsItem x
@@ -148,7 +155,7 @@ item-says version kind.Signal row x allowed e =
 item-says version kind.Route row x allowed e =
     let name = name-ok (field row 1) _ x e in
     let signals = names-ok row 2 _ x name.2 in
-    subst (λ r. IfOk r IsItem) signals.3 (name.1, signals.1, few-after Names row 1 (length signals.0) allowed signals.2)
+    subst (λ r. IfOk r IsItem) signals.3 (name.1, signals.1, few-after few_names row 1 (length signals.0) allowed signals.2)
 item-says version kind.Run row x allowed e =
     let name = name-ok (field row 1) _ x e in
     let route = name-ok (field row 2) _ x name.2 in
@@ -157,7 +164,7 @@ item-says version kind.Run row x allowed e =
     let start_s = time-ok version (field row 5) _ x tail_s.2 in
     let legs = bind-ok (legs_in version start_s.0 (drop 6 row)) _ x start_s.2 in
     let times = times-ok version row 6 _ legs.0 legs.1 in
-    let steps = run_legs-made version start_s.0 times.0 legs.0 times.1 (few-after Times row 5 (length times.0) allowed times.2) times.3 in
+    let steps = run_legs-made version start_s.0 times.0 legs.0 times.1 (few-after few_times row 5 (length times.0) allowed times.2) times.3 in
     subst (λ r. IfOk r IsItem) legs.2 (name.1, route.1, length_m.1, tail_s.1, start_s.1, steps.0, steps.1, steps.2, steps.3)
 item-says version kind.Section row x allowed e =
     let name = name-ok (field row 1) _ x e in
@@ -165,7 +172,7 @@ item-says version kind.Section row x allowed e =
     let to_s = time-ok version (field row 3) _ x from_s.2 in
     let add_percent = rate-ok (field row 4) _ x to_s.2 in
     let blocks = names-ok row 5 _ x add_percent.2 in
-    subst (λ r. IfOk r IsItem) blocks.3 (name.1, from_s.1, to_s.1, add_percent.1, blocks.1, few-after Names row 4 (length blocks.0) allowed blocks.2)
+    subst (λ r. IfOk r IsItem) blocks.3 (name.1, from_s.1, to_s.1, add_percent.1, blocks.1, few-after few_names row 4 (length blocks.0) allowed blocks.2)
 item-says version kind.Connection row x allowed e =
     let name = name-ok (field row 1) _ x e in
     let first = name-ok (field row 2) _ x name.2 in
@@ -174,7 +181,7 @@ item-says version kind.Connection row x allowed e =
     subst (λ r. IfOk r IsItem) minimum_s.2 (name.1, first.1, second.1, minimum_s.1)
 
 -- the times of a run are read back, and make its legs
-run-again : (version start : ℕ) (legs : List Leg) (steps : List ℕ) → legs ≡ legs_of steps → Each (Says Time) steps → may_follow Times (length steps) ≡ true
+run-again : (version start : ℕ) (legs : List Leg) (steps : List ℕ) → legs ≡ legs_of steps → Each (Says Time) steps → few_times (length steps) ≡ true
     → ((version == 2) ≡ true → list_all (λ time. nat_le time 359999999) (sums start (leg_times legs)) ≡ true)
     → (read_each (time_in version) (map (time_text version) (run_times version start legs)) ≡ Ok (run_times version start legs))
     × (run_legs version start (run_times version start legs) ≡ Ok legs)
@@ -214,21 +221,21 @@ item-again version (item.Section s) first is clock =
 item-again version (item.Connection c) first is clock = rw (is.0, is.1, is.2, number_in-decimal c.minimum_s is.3) refl
 
 -- and its row has as many fields as it may have
-allows-more : (shape : Shape) (fields more : ℕ) → fields ≡ shape.fields + more + 1 → may_follow shape.more more ≡ true → allows shape fields ≡ true
-allows-more shape fields more count few =
-    let rest : fields - shape.fields - 1 ≡ more = omega arith in
-    rw (lt-ltb shape.fields fields (omega arith), rest, few) refl
+allows-more : (few : ℕ → Bool) (row : Row) (fields more : ℕ) → length row ≡ fields + more + 1 → few more ≡ true → few (length row - 1 - fields) ≡ true
+allows-more few row fields more count is =
+    let same : length row - 1 - fields ≡ more = omega (arith, count) in
+    rw same is
 
 item-allows : (version : ℕ) (x : Item) (first : List ℕ) → IsItem x → ((version == 2) ≡ true → has_clock_times x ≡ true) → allows (kind_shape (kind_of_item x)) (length (first ∷ item_fields version x)) ≡ true
 item-allows version (item.Block b) first is clock = refl
 item-allows version (item.Signal s) first is clock = refl
-item-allows version (item.Route r) first is clock = allows-more (kind_shape kind.Route) (length (first ∷ item_fields version (item.Route r))) (length r.signals) (omega arith) is.2
+item-allows version (item.Route r) first is clock = allows-more few_names (first ∷ item_fields version (item.Route r)) 1 (length r.signals) (omega arith) is.2
 item-allows version (item.Run r) first is clock =
     let times = λ (second : (version == 2) ≡ true). and_parts (nat_le r.start_s 359999999) (list_all (λ time. nat_le time 359999999) (sums r.start_s (leg_times r.legs))) (clock second) in
     let again = run-again version r.start_s r.legs is.5 is.6 is.7 is.8 (λ second. (times second).1) in
     let count = length-map (run_times version r.start_s r.legs) (time_text version) in
-    allows-more (kind_shape kind.Run) (length (first ∷ item_fields version (item.Run r))) (length is.5) (omega (arith, count, again.2)) is.8
-item-allows version (item.Section s) first is clock = allows-more (kind_shape kind.Section) (length (first ∷ item_fields version (item.Section s))) (length s.blocks) (omega arith) is.5
+    allows-more few_times (first ∷ item_fields version (item.Run r)) 5 (length is.5) (omega (arith, count, again.2)) is.8
+item-allows version (item.Section s) first is clock = allows-more few_names (first ∷ item_fields version (item.Section s)) 4 (length s.blocks) (omega arith) is.5
 item-allows version (item.Connection c) first is clock = refl
 
 -- what a line has that a row spells
@@ -252,7 +259,7 @@ line_of-says version word.Planner row l allowed e = let n = number-ok (field row
 
 read_in-says : (version : ℕ) (row : Row) (l : Line) → read_in version row ≡ Ok l → IsLine l
 read_in-says version row l e =
-    let w = bind-ok (or_fault form.Kind (word_of (field row 0))) _ l e in
+    let w = bind-ok (ok_or (word_of (field row 0)) form.Kind) _ l e in
     elim (cases_Bool (allows (shape_of w.0) (length row))) [
       | inl allowed ↦ line_of-says version w.0 row l allowed (rw allowed at w.2)
       | inr other ↦ absurd (cc (rw other at w.2))

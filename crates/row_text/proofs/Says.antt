@@ -13,9 +13,9 @@ use Rattle.std.proofs.lemmas.List.{length-drop}
 use Rattle.rail_model.specs.Name.{is_name, is_same}
 use Rattle.rail_model.specs.declared.form.Form.{Form}
 use Rattle.rail_model.specs.declared.form.Form.TheVariants as form
-use Rattle.std.specs.Option.{option_or}
+use Rattle.std.specs.Option.{option_or, ok_or}
 use Rattle.row_text.specs.Row.{Row}
-use Rattle.row_text.specs.Sorts.{Sort, Name, Number, Rate, Time, or_fault, value_of, is_number, number_of, classes, class_rate, rate_of, has_clock_form, clock_after, clock_of, time_of, name_in, number_in, rate_in, time_in}
+use Rattle.row_text.specs.Sorts.{Sort, Name, Number, Rate, Time, value_of, is_number, number_of, classes, class_rate, rate_of, has_clock_form, clock_after, clock_of, time_of, name_in, number_in, rate_in, time_in}
 use Rattle.row_text.specs.Lines.{◌>>=◌, read_each}
 
 -- the value before a read that goes on
@@ -23,9 +23,9 @@ pub bind-ok : {A B : Type 0} (r : Result A Form) (next : A → Result B Form) (y
 bind-ok (Ok x) next y e = (x, refl, e)
 bind-ok (Err fault) next y e = absurd (cc e)
 
-or_fault-ok : {A : Type 0} (fault : Form) (o : Option A) (x : A) → or_fault fault o ≡ Ok x → o ≡ Some x
-or_fault-ok fault (Some y) x e = cc e
-or_fault-ok fault None x e = absurd (cc e)
+ok_or-ok : {A : Type 0} (fault : Form) (o : Option A) (x : A) → ok_or o fault ≡ Ok x → o ≡ Some x
+ok_or-ok fault (Some y) x e = cc e
+ok_or-ok fault None x e = absurd (cc e)
 
 value_from : (before : ℕ) (digits : List ℕ) → list_all is_ascii_digit digits ≡ true → fold (λ value digit. value * 10 + (digit - 48)) before digits < (before + 1) * 10 ^ length digits
 value_from before [] all = omega arith
@@ -145,7 +145,7 @@ Says Rate n = n < 1000000000
 Says Time n = n < 1000000000
 
 time_in-says : (version : ℕ) (text : List ℕ) (n : ℕ) → time_in version text ≡ Ok n → Says Time n
-time_in-says version text n e = time_of-small version text n (or_fault-ok form.Number (time_of version text) n e)
+time_in-says version text n e = time_of-small version text n (ok_or-ok form.Number (time_of version text) n e)
 
 -- a field that was read says such a thing, and what comes next made the rest
 pub name-ok : {B : Type 0} (text : List ℕ) (next : List ℕ → Result B Form) (y : B) → (name_in text >>= next) ≡ Ok y → (n : List ℕ) × Says Name n × (next n ≡ Ok y)
@@ -154,12 +154,12 @@ name-ok text next y e = let n = bind-ok (name_in text) next y e in (n.0, name_in
 pub number-ok : {B : Type 0} (text : List ℕ) (next : ℕ → Result B Form) (y : B) → (number_in text >>= next) ≡ Ok y → (n : ℕ) × Says Number n × (next n ≡ Ok y)
 number-ok text next y e =
     let n = bind-ok (number_in text) next y e in
-    (n.0, number_of-small text n.0 (or_fault-ok form.Number (number_of text) n.0 n.1), n.2)
+    (n.0, number_of-small text n.0 (ok_or-ok form.Number (number_of text) n.0 n.1), n.2)
 
 pub rate-ok : {B : Type 0} (text : List ℕ) (next : ℕ → Result B Form) (y : B) → (rate_in text >>= next) ≡ Ok y → (n : ℕ) × Says Rate n × (next n ≡ Ok y)
 rate-ok text next y e =
     let n = bind-ok (rate_in text) next y e in
-    (n.0, rate_of-small text n.0 (or_fault-ok form.Number (rate_of text) n.0 n.1), n.2)
+    (n.0, rate_of-small text n.0 (ok_or-ok form.Number (rate_of text) n.0 n.1), n.2)
 
 pub time-ok : {B : Type 0} (version : ℕ) (text : List ℕ) (next : ℕ → Result B Form) (y : B) → (time_in version text >>= next) ≡ Ok y → (n : ℕ) × Says Time n × (next n ≡ Ok y)
 time-ok version text next y e =

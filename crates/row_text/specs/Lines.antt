@@ -1,5 +1,6 @@
 -- Which line a row spells, or its first form fault.
 use Rattle.std.specs.Prelude.{ℕ, ◌-◌, Bool, false, ◌||◌, ◌==◌, nat_lt, if◌then◌else◌, List, [], ◌∷◌, length, drop, Result, Ok, Err}
+use Rattle.std.specs.Option.{ok_or}
 use Rattle.rail_model.specs.declared.form.Form.{Form}
 use Rattle.rail_model.specs.declared.form.Form.TheVariants as form
 use Rattle.rail_model.specs.declared.edit.Kind.{Kind}
@@ -13,7 +14,7 @@ use Rattle.row_text.specs.declared.line.Line.TheVariants as line
 use Rattle.row_text.specs.declared.word.Word.{Word}
 use Rattle.row_text.specs.declared.word.Word.TheVariants as word
 use Rattle.row_text.specs.Row.{Row, field}
-use Rattle.row_text.specs.Sorts.{name_in, number_in, rate_in, time_in, or_fault}
+use Rattle.row_text.specs.Sorts.{name_in, number_in, rate_in, time_in}
 use Rattle.row_text.specs.Words.{shape_of, word_of, allows}
 
 -- what comes next where there is no fault
@@ -54,9 +55,7 @@ run_legs version start times =
 
 -- the legs of the times that fields say, or the first fault
 abbrev pub legs_in : ℕ → ℕ → Row → Result (List Leg) Form
-legs_in version start fields = do
-  times ← read_each (time_in version) fields
-  run_legs version start times
+legs_in version start fields = read_each (time_in version) fields >>= λ times. run_legs version start times
 
 -- the item of a kind that a row of so many fields spells, or the fault of the first field that isn't of its sort
 abbrev pub item_in : ℕ → Kind → Row → Result Item Form
@@ -126,5 +125,5 @@ line_of version word.Planner row = number_in (field row 1) >>= λ n. Ok (line.Pl
 -- the first field that isn't of its sort, the order of its times
 abbrev pub read_in : ℕ → Row → Result Line Form
 read_in version row = do
-  w ← or_fault form.Kind (word_of (field row 0))
+  w ← ok_or (word_of (field row 0)) form.Kind
   if allows (shape_of w) (length row) then line_of version w row else Err form.Fields

@@ -1,6 +1,6 @@
 -- The sorts of fields, and what a field of each sort says.
-use Rattle.std.specs.Prelude.{ℕ, ◌+◌, ◌-◌, ◌*◌, Bool, ◌&&◌, ◌==◌, nat_lt, nat_le, if◌then◌else◌, List, [], ◌∷◌, length, take, fold, codes, slice_range, slice_index, Option, Some, None, Result, Ok, Err, option_and_then, find, option_map}
-use Rattle.std.specs.Option.{option_or}
+use Rattle.std.specs.Prelude.{ℕ, ◌+◌, ◌-◌, ◌*◌, Bool, ◌&&◌, ◌==◌, nat_lt, nat_le, if◌then◌else◌, List, [], ◌∷◌, length, take, fold, codes, slice_range, slice_index, Option, Some, None, Result, option_and_then, find, option_map}
+use Rattle.std.specs.Option.{option_or, ok_or}
 use Rattle.std.specs.List.{list_all}
 use Rattle.std.specs.Char.{is_ascii_digit}
 use Rattle.rail_model.specs.Name.{is_same, name_of}
@@ -14,11 +14,6 @@ pub data Sort : Type 0 where
   Number : Sort
   Rate : Sort
   Time : Sort
-
--- the value where there is one, else a fault
-abbrev pub or_fault : {A : Type 0} → Form → Option A → Result A Form
-or_fault fault None = Err fault
-or_fault fault (Some x) = Ok x
 
 -- the number that digits write in decimal
 abbrev pub value_of : List ℕ → ℕ
@@ -77,13 +72,13 @@ time_of version field = if version == 2 then option_or (number_of field) (clock_
 
 -- what a field says as a field of a sort, or its fault
 abbrev pub name_in : List ℕ → Result (List ℕ) Form
-name_in field = or_fault form.BadName (name_of field)
+name_in field = ok_or (name_of field) form.BadName
 
 abbrev pub number_in : List ℕ → Result ℕ Form
-number_in field = or_fault form.Number (number_of field)
+number_in field = ok_or (number_of field) form.Number
 
 abbrev pub rate_in : List ℕ → Result ℕ Form
-rate_in field = or_fault form.Number (rate_of field)
+rate_in field = ok_or (rate_of field) form.Number
 
 abbrev pub time_in : ℕ → List ℕ → Result ℕ Form
-time_in version field = or_fault form.Number (time_of version field)
+time_in version field = ok_or (time_of version field) form.Number

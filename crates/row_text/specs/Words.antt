@@ -1,6 +1,7 @@
 -- The words that rows begin with, and the fields that follow each.
-use Rattle.std.specs.Prelude.{ℕ, ◌*◌, ◌-◌, ◌%◌, Bool, ◌&&◌, ◌==◌, nat_lt, nat_le, List, [], ◌∷◌, ◌++◌, map, find, codes, Option}
+use Rattle.std.specs.Prelude.{ℕ, ◌*◌, ◌-◌, ◌%◌, Bool, ◌&&◌, ◌==◌, nat_lt, List, [], ◌∷◌, ◌++◌, map, find, codes, Option}
 use Rattle.rail_model.specs.Name.{is_same}
+use Rattle.rail_model.specs.Within.{is_from_one}
 use Rattle.rail_model.specs.declared.edit.Kind.{Kind}
 use Rattle.rail_model.specs.declared.edit.Kind.TheVariants as kind
 use Rattle.rail_model.specs.declared.limits.TheConstants.{PATH_HOPS}
@@ -34,38 +35,22 @@ words = map word.Put kinds ++ map word.Change kinds ++ map word.Drop kinds ++ wo
 unfoldable pub word_of : List ℕ → Option Word
 word_of field = find (λ w. is_same field (word_text w)) words
 
--- what may follow the fields that each row of a word has: nothing; 1 to 256 names; or the times of 1 to 256 legs,
--- which are a running and a dwell time each, but for the last, which has no dwell time
-pub data More : Type 0 where
-  Nothing : More
-  Names : More
-  Times : More
-
--- how many fields each row of a word has after the word, and what may follow them
-pub record Shape : Type 0 where
-  pub fields : ℕ
-  pub more : More
-
-abbrev pub kind_shape : Kind → Shape
-kind_shape kind.Block = record { fields = 2; more = Nothing }
-kind_shape kind.Signal = record { fields = 7; more = Nothing }
-kind_shape kind.Route = record { fields = 1; more = Names }
-kind_shape kind.Run = record { fields = 5; more = Times }
-kind_shape kind.Section = record { fields = 4; more = Names }
-kind_shape kind.Connection = record { fields = 4; more = Nothing }
+-- how many fields may follow the word of a row that puts an item: a route ends with 1 to 256 names, and so does a section;
+-- a run ends with the times of 1 to 256 legs, a running and a dwell time each, but for the last, which has no dwell time
+abbrev pub kind_shape : Kind → ℕ → Bool
+kind_shape kind.Block n = n == 2
+kind_shape kind.Signal n = n == 7
+kind_shape kind.Route n = is_from_one (n - 1) PATH_HOPS
+kind_shape kind.Run n = ((n - 5) % 2 == 1) && nat_lt (n - 5) (2 * PATH_HOPS)
+kind_shape kind.Section n = is_from_one (n - 4) PATH_HOPS
+kind_shape kind.Connection n = n == 4
 
 -- a `change-` row has the fields of the row that puts the item; all other rows have one
-abbrev pub shape_of : Word → Shape
-shape_of (word.Put k) = kind_shape k
-shape_of (word.Change k) = kind_shape k
-shape_of w = record { fields = 1; more = Nothing }
+abbrev pub shape_of : Word → ℕ → Bool
+shape_of (word.Put k) n = kind_shape k n
+shape_of (word.Change k) n = kind_shape k n
+shape_of w n = n == 1
 
--- how many further fields there may be
-abbrev pub may_follow : More → ℕ → Bool
-may_follow Nothing n = n == 0
-may_follow Names n = nat_lt 0 n && nat_le n PATH_HOPS
-may_follow Times n = (n % 2 == 1) && nat_lt n (2 * PATH_HOPS)
-
--- whether a row of a word may have this many fields, with the word
-abbrev pub allows : Shape → ℕ → Bool
-allows shape fields = nat_lt shape.fields fields && may_follow shape.more (fields - shape.fields - 1)
+-- whether a row whose word may be followed by so many fields may have this many, with the word
+abbrev pub allows : (ℕ → Bool) → ℕ → Bool
+allows shape fields = shape (fields - 1)
