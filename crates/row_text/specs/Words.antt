@@ -51,6 +51,6 @@ shape_of (word.Put k) n = kind_shape k n
 shape_of (word.Change k) n = kind_shape k n
 shape_of w n = n == 1
 
--- whether a row whose word may be followed by so many fields may have this many, with the word
+-- whether a row of such a shape may have this many fields, with the word
 abbrev pub allows : (ℕ → Bool) → ℕ → Bool
 allows shape fields = shape (fields - 1)
