@@ -14,7 +14,7 @@ use Rattle.rail_model.proofs.Places.{searched, place_searched, is_named-place, n
 use Rattle.plan_book.specs.declared.shelf.Shelf.{Shelf}
 use Rattle.plan_book.specs.Shelves.{IsPlaceOf, IsPlaceFor}
 
-abbrev label : Shelf → List ℕ
+abbrev pub label : Shelf → List ℕ
 label s = s.name
 
 pub searched_is : (shelves : List Shelf) (n : List ℕ) (r : Result ℕ ℕ) → NamesRise label shelves

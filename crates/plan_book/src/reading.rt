@@ -9,7 +9,7 @@ ghost use Rattle.plan_book.specs.Kept.{IsWithin, AreDone};
 ghost use Rattle.plan_book.specs.Reading.{HasLatest, IsNextOpen, IsReadingOf};
 
 use crate::Book;
-use crate::shelf::{Shelf, shelf_of};
+use crate::shelf::{Shelf, shelf_near};
 use plan_model::{Act, Entry, Next, Reading, Scripts};
 use rail_model::OutOfMemory;
 
@@ -67,14 +67,15 @@ impl Book {
         Ok(Reading::shared(cut.share(self.alloc)?, self.at()))
     }
 
-    // The shelf of the section of a number.
+    // The shelf of the section of a number. It stands at that number among shelves, unless shelves
+    // of sections that are gone stand before it.
     fn shelf(&self, number: u32) -> &Shelf
         requires { number < length (tables_of self.now).sections }
         ensures shelf { IsShelf self.now (section_name self.now number) result.now }
         ensures is_journal { IsJournal self.now }
     {
         let name = &self.tables.tables().section(number).name;
-        let Some(shelf) = shelf_of(self.shelves.slice(), name) else {
+        let Some(shelf) = shelf_near(self.shelves.slice(), name, number as usize) else {
             unreachable!();
         };
         shelf

@@ -50,6 +50,17 @@ pub(crate) fn shelf_of<'a>(shelves: &'a [Shelf], name: &Name) -> Option<&'a Shel
     }
 }
 
+// The shelf of a name, if there is one, which is looked for at a place first.
+pub(crate) fn shelf_near<'a>(shelves: &'a [Shelf], name: &Name, near: usize) -> Option<&'a Shelf>
+    requires { NamesRise (λ s. s.name) shelves.now }
+    ensures { option_copied result ≡ find (λ s. is_same s.name name.now) shelves.now }
+{
+    match shelves.get(near) {
+        Some(shelf) if shelf.name == *name => Some(shelf),
+        _ => shelf_of(shelves, name),
+    }
+}
+
 // What one gets who asks for the section of a shelf.
 pub(crate) fn asked_of(
     alloc: Global,

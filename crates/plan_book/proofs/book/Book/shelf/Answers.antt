@@ -23,7 +23,7 @@ unreachable-requires c =
     ∙ ap (λ (s : Section). s.name) (get_or_from_slice_get b.tables.sections n c.section.result.now no_section (subst (λ (t : Tables). slice_get t.sections n ≡ Some c.section.result.now) c.tables.ensures c.section.ensures)) in
     let there : n < length (tables_of b.journal).sections = subst (λ j. n < length (tables_of j).sections) (sym c.self.view_is) c.requires in
     let are = subst (AreShelves b.journal b.first) (sym c.slice.ensures) c.self.invariant.shelves_are in
-    let found = sym c.shelf_of.ensures ∙ ap option_copied c.in_default.is in
+    let found = sym c.shelf_near.ensures ∙ ap option_copied c.in_default.is in
     let none = (none_found b.journal b.first c.slice.result.now name are found).cut.value in
     cut_not_missing b.journal n c.self.invariant.is_journal there (subst (λ m. cut_now b.journal m ≡ None) (sym name_is) none)
 
@@ -36,7 +36,7 @@ returns-clause-shelf c =
     ap (λ t. (section_at t n).name) (sym c.self.invariant.tables_are)
     ∙ ap (λ (s : Section). s.name) (get_or_from_slice_get b.tables.sections n c.section.result.now no_section (subst (λ (t : Tables). slice_get t.sections n ≡ Some c.section.result.now) c.tables.ensures c.section.ensures)) in
     let are = subst (AreShelves b.journal b.first) (sym c.slice.ensures) c.self.invariant.shelves_are in
-    let found = sym c.shelf_of.ensures ∙ ap option_copied c.in-Some.is in
+    let found = sym c.shelf_near.ensures ∙ ap option_copied c.in-Some.is in
     subst (λ j. IsShelf j (section_name j n) c.in-Some.shelf.now) c.self.view_is
     (subst (λ m. IsShelf b.journal m c.in-Some.shelf.now) (sym name_is)
     (shelf_found b.journal b.first c.slice.result.now name are c.in-Some.shelf.now found))
