@@ -42,3 +42,4 @@ pub mod Parts
 pub mod Alone
 pub mod Rounds
 pub mod TrueRing
+pub mod Ordered

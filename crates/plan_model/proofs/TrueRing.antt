@@ -45,10 +45,10 @@ module _ (cut : Cut) where
   of_rounds (suc n) some j h =
       (filter-has (λ j. list_any (λ i. precedes_somewhere cut i j) some) some j (of_rounds n (preceded cut some) j h)).0
 
-  remains_there : (j : ℕ) → Remains j → j < count
+  pub remains_there : (j : ℕ) → Remains j → j < count
   remains_there j h = omega (arith, in_range 0 count j (of_rounds count (members cut) j h))
 
-  predecessor_is : (j : ℕ) → Remains j → Remains (predecessor cut j) × Precedes (predecessor cut j) j
+  pub predecessor_is : (j : ℕ) → Remains j → Remains (predecessor cut j) × Precedes (predecessor cut j) j
   predecessor_is j h =
       let left = remaining cut in
       let again : has (preceded cut left) j ≡ true = subst (λ xs. has xs j ≡ true) (sym (remaining_is_left cut)) h in

@@ -57,7 +57,8 @@ abbrev pub after_rounds : Cut → ℕ → List ℕ → List ℕ
 after_rounds cut zero some = some
 after_rounds cut (suc n) some = after_rounds cut n (preceded cut some)
 
--- the members that remain: as many rounds as there are members leave nothing to take out
+-- the members that remain: the greatest set of members of which each is preceded by one of the set. As many rounds as
+-- there are members leave it
 abbrev pub remaining : Cut → List ℕ
 remaining cut = after_rounds cut (member_count cut) (members cut)
 
@@ -68,11 +69,19 @@ pub record IsPrecededAmong (cut : Cut) (some : List ℕ) (j : ℕ) : Type 0 wher
   pub among : is_among some member ≡ true
   pub precedes : precedes_somewhere cut member j ≡ true
 
+-- each of some members is preceded by one of them
+abbrev pub ArePrecededAmong : Cut → List ℕ → Type 0
+ArePrecededAmong cut some = (j : ℕ) → is_among some j ≡ true → IsPrecededAmong cut some j
+
 -- members of which each is preceded by one of them have no order: each of them remains
 abbrev pub PrecededRemain : Type 0
 PrecededRemain =
-    (cut : Cut) (some : List ℕ) → ((j : ℕ) → is_among some j ≡ true → IsPrecededAmong cut some j)
-    → (j : ℕ) → is_among some j ≡ true → is_among (remaining cut) j ≡ true
+    (cut : Cut) (some : List ℕ) → ArePrecededAmong cut some → (j : ℕ) → is_among some j ≡ true
+    → is_among (remaining cut) j ≡ true
+
+-- the members have an order: there are none of which each is preceded by one of them
+abbrev pub HaveOrder : Cut → Type 0
+HaveOrder cut = (some : List ℕ) → ArePrecededAmong cut some → some ≡ []
 
 -- ---- the ring
 

@@ -10,7 +10,7 @@ use Rattle.plan_model.specs.Places.{place_name, place_count, places}
 use Rattle.plan_model.specs.Members.{member, member_count, uses_place, use_at}
 use Rattle.plan_model.specs.Precedence.{comes_before, precedes}
 use Rattle.plan_model.specs.Cut.{IsSoundCut}
-use Rattle.plan_model.specs.Disorder.{preceded, remaining, ring_members, ring}
+use Rattle.plan_model.specs.Disorder.{preceded, remaining, HaveOrder, ring_members, ring}
 use Rattle.plan_model.specs.Schedule.{window_floor, entry_at, start_by, end_by, IsScheduleFrom, IsLeastFrom, IsSchedule, IsLeast}
 use Rattle.plan_model.specs.Tie.{touches}
 use Rattle.plan_model.specs.Answer.{IsAnswer}
@@ -46,6 +46,10 @@ UsesAreApart =
 -- a further round takes out none of the members that remain: each is preceded by one that remains
 abbrev pub RemainingIsLeft : Type 0
 RemainingIsLeft = (cut : Cut) → preceded cut (remaining cut) ≡ remaining cut
+
+-- the members have an order just where none of them remains
+abbrev pub OrderIsNoneRemains : Type 0
+OrderIsNoneRemains = (cut : Cut) → HaveOrder cut ↔ (remaining cut ≡ [])
 
 -- a link is true: its train is a member that precedes the next, which is a member too, at the place that it names
 pub record IsTrueLink (cut : Cut) (link : Link) : Type 0 where

@@ -1,7 +1,7 @@
 //! Laws of the definitions: each function does nothing, and its contract is the law.
 ghost use Rattle.plan_model.specs.Cut.{MembersAreUsable};
 ghost use Rattle.plan_model.specs.Disorder.{PrecededRemain};
-ghost use Rattle.plan_model.specs.Laws.{LeastIsUnique, AnswerIsUnique, UsesAreApart, RemainingIsLeft, TiedIsLeast, LeastIsTied, NoneIsLater, OccupancyIsToClosing, OccupancyReachesClosing, RingIsTrue, FractionIsReduced, ReducedIsUnique, ComesBeforeIsTested, ConflictIsOverlap};
+ghost use Rattle.plan_model.specs.Laws.{LeastIsUnique, AnswerIsUnique, UsesAreApart, RemainingIsLeft, OrderIsNoneRemains, TiedIsLeast, LeastIsTied, NoneIsLater, OccupancyIsToClosing, OccupancyReachesClosing, RingIsTrue, FractionIsReduced, ReducedIsUnique, ComesBeforeIsTested, ConflictIsOverlap};
 
 /// A cut has at most one least schedule from floors, one for each member: from the window's start
 /// as from later moments.
@@ -23,6 +23,12 @@ pub fn uses_are_apart()
 /// Each member that remains is preceded by one that remains.
 pub fn remaining_is_left()
     ensures { RemainingIsLeft }
+{}
+
+/// The members of a cut have an order just where none of them remains: there are none of which each
+/// is preceded by one of them.
+pub fn order_is_none_remains()
+    ensures { OrderIsNoneRemains }
 {}
 
 /// Where members of a sound cut remain, the links of its ring are true and close: each train

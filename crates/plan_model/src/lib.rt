@@ -54,8 +54,8 @@ pub use journal_laws::{
 pub use laws::{
     answer_is_unique, comes_before_is_tested, conflict_is_overlap, fraction_is_reduced,
     least_is_tied, least_is_unique, members_are_usable, none_is_later, occupancy_is_to_closing,
-    occupancy_reaches_closing, preceded_remain, reduced_is_unique, remaining_is_left, ring_is_true,
-    tied_is_least, uses_are_apart,
+    occupancy_reaches_closing, order_is_none_remains, preceded_remain, reduced_is_unique,
+    remaining_is_left, ring_is_true, tied_is_least, uses_are_apart,
 };
 pub use limits::{MEMBERS, is_crowded};
 pub use outcome::{Asked, Next, NotTaken, Stepped};
