@@ -10,6 +10,7 @@ use Rattle.plan_model.specs.declared.scripts.Task.{Task}
 use Rattle.plan_model.specs.declared.journal.Entry.{Entry}
 use Rattle.plan_model.specs.Journal.{opening, planners, done_by, script_of, left_of}
 use Rattle.plan_model.specs.Legal.{KeepsToScript, IsJournal}
+use Rattle.plan_model.proofs.Working.{script_is}
 use Rattle.plan_book.specs.Kept.{AreDone}
 
 -- as many tasks are left as a script has more than are done
@@ -44,15 +45,12 @@ scripts_more scripts k within = sum_by_more length scripts k [] within
 pub scripts_most : (scripts : List (List Task)) (k : ℕ) → sum_by length (take k scripts) ≤ sum_by length scripts
 scripts_most scripts k = sum_by-take-le length scripts k
 
-pub script_is : (journal : List Entry) (k : ℕ) → script_of journal (k + 1) ≡ get_or (opening journal).scripts k []
-script_is journal k = ap (λ n. get_or (opening journal).scripts n []) (omega arith)
-
 module _ (journal : List Entry) (done : List ℕ) (k left : ℕ) (script : List Task) (is_journal : IsJournal journal) (are : AreDone journal done) (below : k < length done) (is : script ≡ get_or (opening journal).scripts k []) where
   within : k < length (opening journal).scripts
   within = omega (arith, are.count, below)
 
   same_script : length script ≡ length (script_of journal (k + 1))
-  same_script = ap length (is ∙ sym (script_is journal k))
+  same_script = ap length (is ∙ sym (script_is (opening journal).scripts k))
 
   pub enough : get_or done k 0 ≤ length script
   enough = omega (arith, are.each k below, done_within journal k is_journal within, same_script)

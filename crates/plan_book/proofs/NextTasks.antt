@@ -12,9 +12,9 @@ use Rattle.plan_model.specs.declared.outcome.Stepped.TheVariants as stepped
 use Rattle.plan_model.specs.Journal.{opening}
 use Rattle.plan_model.specs.Legal.{IsJournal}
 use Rattle.plan_model.specs.Outcome.{IsPlanner, next_task, EditsTo, AsksTo}
-use Rattle.plan_model.proofs.Working.{calls_leave_journals}
+use Rattle.plan_model.proofs.Working.{script_is, calls_leave_journals}
 use Rattle.plan_book.specs.Kept.{IsWithin, AreDone, MayDo}
-use Rattle.plan_book.proofs.Left.{done_within, script_is}
+use Rattle.plan_book.proofs.Left.{done_within}
 
 pub some_if : (b : Bool) (t : Task) → is_some (if b then Some t else None) ≡ b
 some_if true t = refl
@@ -49,7 +49,7 @@ pub few_done : (journal : List Entry) (done : List ℕ) → IsJournal journal �
     → (k : ℕ) → k < length done → get_or done k 0 < 2 ^ 63
 few_done journal done h within are k l =
     let there : k < length (opening journal).scripts = omega (arith, are.count, l) in
-    omega (arith, are.each k l, done_within journal k h there, ap length (script_is journal k), get_or-le-sum_by length (opening journal).scripts k [] there, within.tasks)
+    omega (arith, are.each k l, done_within journal k h there, ap length (script_is (opening journal).scripts k), get_or-le-sum_by length (opening journal).scripts k [] there, within.tasks)
 
 pub next_at : {X : Type 0} (xs : List X) (n : ℕ) → slice_get (drop n xs) 0 ≡ slice_get xs n
 next_at xs zero = refl

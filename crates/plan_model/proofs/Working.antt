@@ -1,5 +1,5 @@
 -- Planners at work: each call leaves a journal in which each planner keeps to its script.
-use Rattle.std.proofs.Common.{◌≡◌, ℕ, ◌<◌, ◌≤◌, eqb, if◌then◌else◌, List, [], ◌∷◌, ◌++◌, length, drop, get_or, Option, Some, None, Result, Ok, Err, inl, inr, refl, sym, ap, ◌∙◌, subst, arith, append_assoc}
+use Rattle.std.proofs.Common.{◌≡◌, ℕ, suc, ◌+◌, ◌<◌, ◌≤◌, eqb, if◌then◌else◌, List, [], ◌∷◌, ◌++◌, length, drop, get_or, Option, Some, None, Result, Ok, Err, inl, inr, refl, sym, ap, ◌∙◌, subst, arith, append_assoc}
 use Rattle.std.specs.Prelude.{slice_get}
 use Rattle.std.specs.List.{cons_option, range_with_len}
 use Rattle.std.proofs.Math.Seq.{drop-append_seam}
@@ -25,6 +25,10 @@ use Rattle.plan_model.specs.JournalLaws.{CallsLeaveJournals}
 use Rattle.plan_model.proofs.Growing.{opening-more, done_by-more}
 use Rattle.plan_model.proofs.Legality.{legal_has_one, next_is_legal}
 use Rattle.plan_model.proofs.Touching.{same_one}
+
+-- planner 1 has the first script
+pub script_is : (scripts : List (List Task)) (k : ℕ) → script scripts (k + 1) ≡ get_or scripts k []
+script_is scripts k = let next : k + 1 ≡ suc k = omega arith in ap (λ n. get_or ([] ∷ scripts) n []) next
 
 -- what of an act is a planner's task is its next task
 abbrev DoesNext : List Entry → Act → Type 0

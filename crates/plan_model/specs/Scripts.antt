@@ -7,6 +7,6 @@ abbrev pub with_task : List (List Task) → Task → List (List Task)
 with_task scripts task =
     let last = length scripts - 1 in slice_set scripts last (slice_index_or scripts last [] ++ task ∷ [])
 
--- the script of a planner, from 1
+-- the script of a planner, from 1; planner 0 has none
 abbrev pub script : List (List Task) → ℕ → List Task
-script scripts planner = slice_index_or scripts (planner - 1) []
+script scripts planner = slice_index_or ([] ∷ scripts) planner []

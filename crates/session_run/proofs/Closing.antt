@@ -24,6 +24,7 @@ use Rattle.plan_model.proofs.Growing.{opening-more, done_by-more, issued-more}
 use Rattle.plan_model.proofs.Legality.{legal_has_one, each_is_next}
 use Rattle.plan_model.proofs.TasksLeft.{none_is_left}
 use Rattle.plan_model.proofs.Touching.{share_without_edits}
+use Rattle.plan_model.proofs.Working.{script_is}
 use Rattle.turn_desk.proofs.Growing.{all_right}
 use Rattle.session_run.specs.Actors.{Role, Planner, Worker, role_at, DoesTaskOf, Publishes, IsBy, AreBy, HasRested, IsFinished}
 use Rattle.session_run.proofs.Entered.{issues_none}
@@ -226,7 +227,7 @@ module _ (tables : Tables) (at : ℕ) (scripts : List (List Task)) (workers : �
         let count : length (opening log).scripts ≡ planners = ap (λ (o : Opening). length o.scripts) opening_is in
         let is_planner : IsPlanner log (k + 1) = record { from_one = omega arith; to_last = omega (arith, count, l) } in
         done_is_script log (k + 1) h.is_journal is_planner finished
-        ∙ ap (λ (o : Opening). get_or o.scripts (k + 1 - 1) []) opening_is ∙ ap (λ n. get_or scripts n []) (omega arith)
+        ∙ ap (λ (o : Opening). script o.scripts (k + 1)) opening_is ∙ script_is scripts k
 
     -- every edit is a planner's
     edits_as_planner : All (EditsAsPlanner planners) log

@@ -1,5 +1,5 @@
 -- The tasks of all planners in turn, and the session that they make.
-use Rattle.std.proofs.Common.{◌≡◌, ℕ, zero, suc, ◌+◌, ◌-◌, ◌<◌, ◌≤◌, ◌⊎◌, eqb, List, [], ◌∷◌, ◌++◌, length, map, get_or, take, Some, refl, sym, ap, ◌∙◌, subst, inl, inr, arith, append_assoc, append-nil}
+use Rattle.std.proofs.Common.{◌≡◌, ℕ, zero, suc, ◌+◌, ◌<◌, ◌≤◌, ◌⊎◌, eqb, List, [], ◌∷◌, ◌++◌, length, map, get_or, take, Some, refl, sym, ap, ◌∙◌, subst, inl, inr, arith, append_assoc, append-nil}
 use Rattle.std.specs.Prelude.{All, flat_map}
 use Rattle.std.specs.List.{enumerate_from, range_with_len}
 use Rattle.std.proofs.lemmas.Bool.{cases_Bool, eqb-true, eq-eqb}
@@ -16,6 +16,8 @@ use Rattle.plan_model.specs.declared.scripts.Task.TheVariants as task
 use Rattle.plan_model.specs.Journal.{Opening, opening, task_of, done_by, script_of}
 use Rattle.plan_model.specs.Legal.{IsLegal}
 use Rattle.plan_model.specs.Outcome.{IsPlanner}
+use Rattle.plan_model.specs.Scripts.{script}
+use Rattle.plan_model.proofs.Working.{script_is}
 use Rattle.plan_model.specs.Session.{opened, IsMade, AllAreCurrent, tasks_in_turn, GoesInTurn, IsSessionAlone}
 use Rattle.session_run.specs.Turns.{IsPublication, HasCaughtUp, DoesTasks, by_planner}
 use Rattle.session_run.proofs.Turns.{tasks_for, of_planner, doer, nothing_done, all_done, tasks_more, tasks_opening, task_opening}
@@ -121,7 +123,7 @@ module _ (tables : Tables) (at : ℕ) (scripts : List (List Task)) (k : ℕ) (no
       → DoesTasks (opened tables at scripts ∷ []) (tasks_in_turn (take (k + 1) scripts)) after
   one_script_more after does =
       let place : script_of now (k + 1) ≡ get_or scripts k [] =
-      ap (λ (o : Opening). get_or o.scripts (k + 1 - 1) []) opening_now ∙ ap (λ n. get_or scripts n []) (omega arith) in
+      ap (λ (o : Opening). script o.scripts (k + 1)) opening_now ∙ script_is scripts k in
       rw (script_more scripts k l)
       (tasks_more (tasks_in_turn (take k scripts)) (by_planner (k + 1) (get_or scripts k [])) (opened tables at scripts ∷ []) now after h
       (subst (λ s. DoesTasks now (by_planner (k + 1) s) after) place does))
