@@ -16,10 +16,11 @@ use Rattle.plan_model.specs.Legal.{IsJournal, IsAnswerAt, MayBePublished}
 use Rattle.plan_model.proofs.Growing.{opening-more, issued-more, done_by-more, others_keep_tables}
 use Rattle.plan_model.proofs.Changing.{same_from, stays_within}
 use Rattle.plan_model.proofs.Legality.{legal_has_one}
+use Rattle.plan_model.specs.Outcome.{IsNotTaken}
 use Rattle.plan_book.specs.declared.shelf.Shelf.{Shelf}
 use Rattle.plan_book.specs.Shelves.{blank, IsPublished, KnowsLast, IsShelf, IsVerdict, AreShelves}
 use Rattle.plan_model.specs.declared.scripts.Task.{Task}
-use Rattle.plan_book.specs.Kept.{IsBy, IsCounted, AreDone, IsBook, IsQuiet, IsOutside, IsNotTaken}
+use Rattle.plan_book.specs.Kept.{IsBy, IsCounted, AreDone, IsBook, IsQuiet, IsOutside}
 use Rattle.plan_book.proofs.Found.{found_name}
 use Rattle.plan_book.proofs.Latest.{current_has_latest}
 use Rattle.plan_book.proofs.Others.{none, shelves-more}
@@ -70,12 +71,15 @@ module _ (journal : List Entry) (s : Shelf) (done : Done) (is_journal : IsJourna
     untouched = untouched_from done.at h.0;
     wanted = not_current h.1;
   }
-  verdict_is (Err (not_taken.Stale by)) h = (subst (IsLastTouching journal done.section) (sym h.0) known.touched, h.1)
+  verdict_is (Err (not_taken.Stale by)) h =
+      record { last = subst (IsLastTouching journal done.section) (sym h.0) known.touched; later = h.1 }
   verdict_is (Err (not_taken.Current at)) h =
       let last : IsPublished journal done.section h.2.0 = subst (KnowsLast journal done.section) h.2.1 known.published in (
         untouched_from done.at h.0,
-        (last.answer, subst (λ n. last_publication journal done.section ≡ Some (record { at = n; answer = last.answer })) h.2.2 last.last),
-        untouched_from at h.1,
+        record {
+          published = (last.answer, subst (λ n. last_publication journal done.section ≡ Some (record { at = n; answer = last.answer })) h.2.2 last.last);
+          untouched = untouched_from at h.1;
+        },
       )
 
 -- ---- tasks that are done

@@ -46,9 +46,9 @@ module _ (pass : ℕ) (found after : List Entry) where
   edit_issues planner edit (Err rule) h = entry_issues pass _ found after refl h
 
   pub step_issues : (planner : ℕ) (s : Stepped) → StepsTo pass planner found s after → issued after ≡ issued found
-  step_issues planner (stepped.Edited at) h = edit_issues planner h.0 (Ok at) h.2
-  step_issues planner (stepped.Refused rule) h = edit_issues planner h.0 (Err rule) h.2
-  step_issues planner (stepped.Asked a) h = entry_issues pass _ found after refl h.2.adds
+  step_issues planner (stepped.Edited at) h = edit_issues planner h.edit (Ok at) h.edits
+  step_issues planner (stepped.Refused rule) h = edit_issues planner h.edit (Err rule) h.edits
+  step_issues planner (stepped.Asked a) h = entry_issues pass _ found after refl h.asks.adds
   step_issues planner stepped.Ended h = ap issued h.1
 
   pub publish_issues : (done : Done) (r : Result (Unit {0}) NotTaken) → PublishesTo pass done found r after

@@ -26,8 +26,8 @@ planner_within journal planner t (inr next) = next.0.to_last
 
 by_step : (pass planner : ℕ) (edit : Edit) (r : Result ℕ Rule) (found after : List Entry) → IsJournal found → IsPlanner found planner
     → next_task found planner ≡ Some (task.Edit edit) → EditsTo pass planner edit found r after → IsJournal after
-by_step pass planner edit (Ok at) found after h is next does = (calls_leave_journals found after h).step pass planner (stepped.Edited at) is (edit, next, does)
-by_step pass planner edit (Err rule) found after h is next does = (calls_leave_journals found after h).step pass planner (stepped.Refused rule) is (edit, next, does)
+by_step pass planner edit (Ok at) found after h is next does = (calls_leave_journals found after h).step pass planner (stepped.Edited at) is (record { edit = edit; next = next; edits = does })
+by_step pass planner edit (Err rule) found after h is next does = (calls_leave_journals found after h).step pass planner (stepped.Refused rule) is (record { edit = edit; next = next; edits = does })
 
 -- after an edit that may be done the journal is one of planners at work
 pub journal_edited : (pass planner : ℕ) (edit : Edit) (r : Result ℕ Rule) (found after : List Entry) → IsJournal found
@@ -42,7 +42,7 @@ pub journal_asked : (pass planner : ℕ) (section : List ℕ) (a : Asked) (found
 journal_asked pass planner section a found after h (inl out) does =
     (calls_leave_journals found after h).ask pass section a (subst (λ p. AsksTo pass p section found a after) out does)
 journal_asked pass planner section a found after h (inr next) does =
-    (calls_leave_journals found after h).step pass planner (stepped.Asked a) next.0 (section, next.1, does)
+    (calls_leave_journals found after h).step pass planner (stepped.Asked a) next.0 (record { section = section; next = next.1; asks = does })
 
 -- no planner has done more tasks than there are in all scripts
 pub few_done : (journal : List Entry) (done : List ℕ) → IsJournal journal → IsWithin (opening journal) → AreDone journal done

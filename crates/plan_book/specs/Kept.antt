@@ -1,15 +1,11 @@
 -- What a book keeps beside its journal, so that no call goes through the journal.
 use Rattle.std.specs.Prelude.{◌≡◌, ℕ, ◌+◌, ◌<◌, ◌≤◌, ◌==◌, ◌⊎◌, if◌then◌else◌, false, List, length, slice_index_or, sum_by, None, Some, is_some}
 use Rattle.rail_model.specs.declared.tables.Tables.{Tables}
-use Rattle.plan_model.specs.declared.answer.Done.{Done}
 use Rattle.plan_model.specs.declared.journal.Act.{Act}
 use Rattle.plan_model.specs.declared.journal.Entry.{Entry}
 use Rattle.plan_model.specs.declared.outcome.Asked.{Asked}
-use Rattle.plan_model.specs.declared.outcome.NotTaken.{NotTaken}
-use Rattle.plan_model.specs.declared.outcome.NotTaken.TheVariants as not_taken
 use Rattle.plan_model.specs.Journal.{Opening, opening, last_number, tables_of, issued, done_by, edit_of, publication_of, issues, task_of}
-use Rattle.plan_model.specs.Touch.{IsUntouchedSince, IsLastTouching}
-use Rattle.plan_model.specs.Legal.{IsJournal, IsReply, WasPublishedAt}
+use Rattle.plan_model.specs.Legal.{IsJournal, IsReply}
 use Rattle.plan_model.specs.declared.scripts.Task.{Task}
 use Rattle.plan_model.specs.Outcome.{IsPlanner, next_task, reply_of, GivesLast}
 use Rattle.plan_book.specs.declared.shelf.Shelf.{Shelf}
@@ -69,10 +65,3 @@ pub record IsCounted (planner : ℕ) (old new : List ℕ) : Type 0 where
 pub record IsAnswered (journal : List Entry) (section : List ℕ) (a : Asked) : Type 0 where
   pub reply : IsReply journal section (reply_of a)
   pub gives : GivesLast journal section a
-
--- why an answer is not published
-abbrev pub IsNotTaken : List Entry → Done → NotTaken → Type 0
-IsNotTaken journal done (not_taken.Stale by) = IsLastTouching journal done.section by × (done.at < by)
-IsNotTaken journal done (not_taken.Current at) =
-    IsUntouchedSince journal done.section done.at
-    × WasPublishedAt journal done.section at × IsUntouchedSince journal done.section at

@@ -6,13 +6,13 @@ ghost use Rattle.plan_model.specs.Legal.{IsJournal, IsNext, MayBePublished};
 ghost use Rattle.rail_model.specs.Sound.{IsSound};
 ghost use Rattle.plan_model.specs.Session.{opened};
 ghost use Rattle.plan_model.specs.Board.{Gives};
-ghost use Rattle.plan_model.specs.Outcome.{AddsEntry, EditsTo, AsksTo, PublishesTo, IsDone};
+ghost use Rattle.plan_model.specs.Outcome.{AddsEntry, EditsTo, AsksTo, PublishesTo, IsDone, IsNotTaken};
 ghost use Rattle.plan_model.specs.Outcome.{reply_of};
 ghost use Rattle.rail_model.specs.Rules.{rule_of};
 ghost use Rattle.rail_model.specs.Edits as edits;
 ghost use Rattle.plan_model.specs.declared.journal.Act.TheVariants as acts;
 ghost use Rattle.plan_model.specs.declared.scripts.Task.TheVariants as tasks;
-ghost use Rattle.plan_book.specs.Kept.{IsQuiet, IsBy, MayDo, IsAnswered, IsNotTaken};
+ghost use Rattle.plan_book.specs.Kept.{IsQuiet, IsBy, MayDo, IsAnswered};
 
 use crate::changes::{change_shelves, changes_for, make_ready, share_cuts};
 use crate::first::first_shelves;

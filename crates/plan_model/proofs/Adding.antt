@@ -41,9 +41,9 @@ module _ (pass : ℕ) (found after : List Entry) where
   ask_adds planner section a h = entry_adds pass _ found after h.adds
 
   pub step_adds : (planner : ℕ) (s : Stepped) → StepsTo pass planner found s after → AddsOwn pass found after
-  step_adds planner (stepped.Edited at) h = edit_adds planner h.0 (Ok at) h.2
-  step_adds planner (stepped.Refused rule) h = edit_adds planner h.0 (Err rule) h.2
-  step_adds planner (stepped.Asked a) h = ask_adds planner h.0 a h.2
+  step_adds planner (stepped.Edited at) h = edit_adds planner h.edit (Ok at) h.edits
+  step_adds planner (stepped.Refused rule) h = edit_adds planner h.edit (Err rule) h.edits
+  step_adds planner (stepped.Asked a) h = ask_adds planner h.section a h.asks
   step_adds planner stepped.Ended h = none_adds pass found after h.1
 
   pub read_adds : {R : Type 0} (shown : R → Shown) (share of : ℕ) (n : Next R) → ReadsTo shown share of found n after → AddsOwn pass found after

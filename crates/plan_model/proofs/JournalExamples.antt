@@ -231,7 +231,7 @@ moved_entry_4 = record {
 
 moved_entry_5 : IsNext moved_4 (by_main (act.Asked 1 s (reply.Ready 9)))
 unfolding last_number last_publication issued cut_at tables_at
-moved_entry_5 = record { pass = lit< tt; follows = ((λ e. cc), (at_9, refl), stays_at _ 9) }
+moved_entry_5 = record { pass = lit< tt; follows = ((λ e. cc), record { published = (at_9, refl); untouched = stays_at _ 9 }) }
 
 moved_legal : IsLegal moved_5
 moved_legal = (refl, two_runs_sound, (first_at_8 asked_script, (moved_entry_3, (moved_entry_4, (moved_entry_5, tt)))))

@@ -25,11 +25,11 @@ use Rattle.plan_model.specs.Journal.{Publication, opening, last_number}
 use Rattle.plan_model.specs.Changes.{Stays, IsLastChange}
 use Rattle.plan_model.specs.Cut.{stamped_row, stamped}
 use Rattle.plan_model.specs.Reading.{Shown}
-use Rattle.plan_model.specs.Touch.{cut_at, row_at, IsUntouchedSince, IsLastTouching, IsCurrent, IsStamp, IsReading}
-use Rattle.plan_model.specs.Legal.{WasPublishedAt, IsReply, IsLegal}
+use Rattle.plan_model.specs.Touch.{cut_at, row_at, IsUntouchedSince, IsStamp, IsReading}
+use Rattle.plan_model.specs.Legal.{WasPublishedAt, IsTouchedSince, IsReply, IsLegal}
 use Rattle.plan_model.specs.Outcome.{EditsTo, reply_of, GivesLast, AsksTo, next_task, StepsTo, section_name, IsNextReading, ReadsTo, IsDone, PublishesTo}
 use Rattle.plan_model.specs.JournalLaws.{CallsEndInOneWay}
-use Rattle.plan_model.proofs.Touching.{same_one, last_is_right}
+use Rattle.plan_model.proofs.Touching.{same_one, last_is_right, current_since}
 use Rattle.plan_model.proofs.Stamps.{same_row}
 
 -- ---- options and results
@@ -81,9 +81,10 @@ module _ (journal : List Entry) (section : List ℕ) where
 
   stale_not_ready : (a b by : ℕ) → IsLegal journal → IsReply journal section (reply.Stale a by) → IsReply journal section (reply.Ready b) → ⊥
   stale_not_ready a b by legal stale ready =
-      let same = published_one b a ready.1 stale.1 in
+      let same = published_one b a ready.1.published stale.1 in
       no_longer (cut_at journal section) (opening journal).at (last_number journal) a by
-      (published_after_opening a legal stale.1) stale.3 stale.2 (subst (λ n. Stays (cut_at journal section) n (last_number journal)) same ready.2)
+      (published_after_opening a legal stale.1) stale.2.later stale.2.last
+      (subst (λ n. Stays (cut_at journal section) n (last_number journal)) same ready.1.untouched)
 
   pub reply_one : (one other : Reply) → IsLegal journal → IsReply journal section one → IsReply journal section other → one ≡ other
   reply_one reply.Unknown reply.Unknown legal h k = refl
@@ -93,18 +94,18 @@ module _ (journal : List Entry) (section : List ℕ) where
   reply_one reply.NotYet reply.Unknown legal h k = absurd (h.0 k)
   reply_one reply.NotYet reply.NotYet legal h k = refl
   reply_one reply.NotYet (reply.Stale at by) legal h k = absurd (something _ _ k.1.1 h.1)
-  reply_one reply.NotYet (reply.Ready at) legal h k = absurd (something _ _ k.1.1 h.1)
+  reply_one reply.NotYet (reply.Ready at) legal h k = absurd (something _ _ k.1.published.1 h.1)
   reply_one (reply.Stale at by) reply.Unknown legal h k = absurd (h.0 k)
   reply_one (reply.Stale at by) reply.NotYet legal h k = absurd (something _ _ h.1.1 k.1)
   reply_one (reply.Stale at by) (reply.Stale other_at other_by) legal h k =
       let same_at = published_one at other_at h.1 k.1 in
-      let same_by = last_change_one (cut_at journal section) (opening journal).at (last_number journal) by other_by h.2 k.2 in
+      let same_by = last_change_one (cut_at journal section) (opening journal).at (last_number journal) by other_by h.2.last k.2.last in
       rw (same_at, same_by) refl
   reply_one (reply.Stale at by) (reply.Ready other) legal h k = absurd (stale_not_ready at other by legal h k)
   reply_one (reply.Ready at) reply.Unknown legal h k = absurd (h.0 k)
-  reply_one (reply.Ready at) reply.NotYet legal h k = absurd (something _ _ h.1.1 k.1)
+  reply_one (reply.Ready at) reply.NotYet legal h k = absurd (something _ _ h.1.published.1 k.1)
   reply_one (reply.Ready at) (reply.Stale other by) legal h k = absurd (stale_not_ready other at by legal k h)
-  reply_one (reply.Ready at) (reply.Ready other) legal h k = rw (published_one at other h.1 k.1) refl
+  reply_one (reply.Ready at) (reply.Ready other) legal h k = rw (published_one at other h.1.published k.1.published) refl
 
 -- answers that are ready are equal, where their replies and the last publication are
 asked_one : (found : List Entry) (section : List ℕ) (one other : Asked) → reply_of one ≡ reply_of other
@@ -209,26 +210,24 @@ module _ (found : List Entry) (share of : ℕ) where
 -- ---- publications
 
 module _ (found : List Entry) (pass : ℕ) (done : Done) (is_done : IsDone found done) where
-  stale_alone : (by : ℕ) → IsLastTouching found done.section by → done.at < by → IsUntouchedSince found done.section done.at → ⊥
-  stale_alone by last less untouched =
-      no_longer (cut_at found done.section) (opening found).at (last_number found) done.at by is_done.from_opening less last untouched
-
-  current_by : (at : ℕ) → WasPublishedAt found done.section at → IsUntouchedSince found done.section at → IsCurrent found done.section
-  current_by at was untouched = record { publication = record { at = at; answer = was.0 }; last = was.1; untouched = untouched }
+  stale_alone : (by : ℕ) → IsTouchedSince found done.section done.at by → IsUntouchedSince found done.section done.at → ⊥
+  stale_alone by touched untouched =
+      no_longer (cut_at found done.section) (opening found).at (last_number found) done.at by is_done.from_opening
+      touched.later touched.last untouched
 
   publish_one : (one other : Result (Unit {0}) NotTaken) (after later : List Entry)
       → PublishesTo pass done found one after → PublishesTo pass done found other later → one ≡ other
   publish_one (Ok u) (Ok v) after later h k = refl
-  publish_one (Ok u) (Err (not_taken.Stale by)) after later h k = absurd (stale_alone by k.1 k.2 h.next.follows.untouched)
-  publish_one (Ok u) (Err (not_taken.Current at)) after later h k = absurd (h.next.follows.wanted (current_by at k.2 k.3))
-  publish_one (Err (not_taken.Stale by)) (Ok v) after later h k = absurd (stale_alone by h.1 h.2 k.next.follows.untouched)
+  publish_one (Ok u) (Err (not_taken.Stale by)) after later h k = absurd (stale_alone by k.1 h.next.follows.untouched)
+  publish_one (Ok u) (Err (not_taken.Current at)) after later h k = absurd (h.next.follows.wanted (current_since found done.section at k.1.1))
+  publish_one (Err (not_taken.Stale by)) (Ok v) after later h k = absurd (stale_alone by h.1 k.next.follows.untouched)
   publish_one (Err (not_taken.Stale by)) (Err (not_taken.Stale by2)) after later h k =
-      rw (last_change_one (cut_at found done.section) (opening found).at (last_number found) by by2 h.1 k.1) refl
-  publish_one (Err (not_taken.Stale by)) (Err (not_taken.Current at)) after later h k = absurd (stale_alone by h.1 h.2 k.1)
-  publish_one (Err (not_taken.Current at)) (Ok v) after later h k = absurd (k.next.follows.wanted (current_by at h.2 h.3))
-  publish_one (Err (not_taken.Current at)) (Err (not_taken.Stale by)) after later h k = absurd (stale_alone by k.1 k.2 h.1)
+      rw (last_change_one (cut_at found done.section) (opening found).at (last_number found) by by2 h.1.last k.1.last) refl
+  publish_one (Err (not_taken.Stale by)) (Err (not_taken.Current at)) after later h k = absurd (stale_alone by h.1 k.1.0)
+  publish_one (Err (not_taken.Current at)) (Ok v) after later h k = absurd (k.next.follows.wanted (current_since found done.section at h.1.1))
+  publish_one (Err (not_taken.Current at)) (Err (not_taken.Stale by)) after later h k = absurd (stale_alone by k.1 h.1.0)
   publish_one (Err (not_taken.Current at)) (Err (not_taken.Current at2)) after later h k =
-      rw (published_one found done.section at at2 h.2 k.2) refl
+      rw (published_one found done.section at at2 h.1.1.published k.1.1.published) refl
 
 -- ---- steps
 
@@ -260,25 +259,25 @@ module _ (found : List Entry) (pass planner : ℕ) where
   step_one : IsLegal found → (one other : Stepped) (after later : List Entry)
       → StepsTo pass planner found one after → StepsTo pass planner found other later → one ≡ other
   step_one legal (stepped.Edited a) (stepped.Edited b) after later h k =
-      let same = edits_one h.0 k.0 (Ok a) (Ok b) after later h.1 k.1 h.2 k.2 in cc
+      let same = edits_one h.edit k.edit (Ok a) (Ok b) after later h.next k.next h.edits k.edits in cc
   step_one legal (stepped.Edited a) (stepped.Refused rule) after later h k =
-      let same = edits_one h.0 k.0 (Ok a) (Err rule) after later h.1 k.1 h.2 k.2 in absurd (cc)
-  step_one legal (stepped.Edited a) (stepped.Asked b) after later h k = absurd (edit_or_ask _ h.0 k.0 h.1 k.1)
-  step_one legal (stepped.Edited a) stepped.Ended after later h k = absurd (something _ _ h.1 k.0)
+      let same = edits_one h.edit k.edit (Ok a) (Err rule) after later h.next k.next h.edits k.edits in absurd (cc)
+  step_one legal (stepped.Edited a) (stepped.Asked b) after later h k = absurd (edit_or_ask _ h.edit k.section h.next k.next)
+  step_one legal (stepped.Edited a) stepped.Ended after later h k = absurd (something _ _ h.next k.0)
   step_one legal (stepped.Refused rule) (stepped.Edited b) after later h k =
-      let same = edits_one h.0 k.0 (Err rule) (Ok b) after later h.1 k.1 h.2 k.2 in absurd (cc)
+      let same = edits_one h.edit k.edit (Err rule) (Ok b) after later h.next k.next h.edits k.edits in absurd (cc)
   step_one legal (stepped.Refused rule) (stepped.Refused other) after later h k =
-      let same = edits_one h.0 k.0 (Err rule) (Err other) after later h.1 k.1 h.2 k.2 in cc
-  step_one legal (stepped.Refused rule) (stepped.Asked b) after later h k = absurd (edit_or_ask _ h.0 k.0 h.1 k.1)
-  step_one legal (stepped.Refused rule) stepped.Ended after later h k = absurd (something _ _ h.1 k.0)
-  step_one legal (stepped.Asked a) (stepped.Edited b) after later h k = absurd (edit_or_ask _ k.0 h.0 k.1 h.1)
-  step_one legal (stepped.Asked a) (stepped.Refused rule) after later h k = absurd (edit_or_ask _ k.0 h.0 k.1 h.1)
+      let same = edits_one h.edit k.edit (Err rule) (Err other) after later h.next k.next h.edits k.edits in cc
+  step_one legal (stepped.Refused rule) (stepped.Asked b) after later h k = absurd (edit_or_ask _ h.edit k.section h.next k.next)
+  step_one legal (stepped.Refused rule) stepped.Ended after later h k = absurd (something _ _ h.next k.0)
+  step_one legal (stepped.Asked a) (stepped.Edited b) after later h k = absurd (edit_or_ask _ k.edit h.section k.next h.next)
+  step_one legal (stepped.Asked a) (stepped.Refused rule) after later h k = absurd (edit_or_ask _ k.edit h.section k.next h.next)
   step_one legal (stepped.Asked a) (stepped.Asked b) after later h k =
-      ap (λ a. stepped.Asked a) (asks_one legal h.0 k.0 a b after later h.1 k.1 h.2 k.2)
-  step_one legal (stepped.Asked a) stepped.Ended after later h k = absurd (something _ _ h.1 k.0)
-  step_one legal stepped.Ended (stepped.Edited b) after later h k = absurd (something _ _ k.1 h.0)
-  step_one legal stepped.Ended (stepped.Refused rule) after later h k = absurd (something _ _ k.1 h.0)
-  step_one legal stepped.Ended (stepped.Asked b) after later h k = absurd (something _ _ k.1 h.0)
+      ap (λ a. stepped.Asked a) (asks_one legal h.section k.section a b after later h.next k.next h.asks k.asks)
+  step_one legal (stepped.Asked a) stepped.Ended after later h k = absurd (something _ _ h.next k.0)
+  step_one legal stepped.Ended (stepped.Edited b) after later h k = absurd (something _ _ k.next h.0)
+  step_one legal stepped.Ended (stepped.Refused rule) after later h k = absurd (something _ _ k.next h.0)
+  step_one legal stepped.Ended (stepped.Asked b) after later h k = absurd (something _ _ k.next h.0)
   step_one legal stepped.Ended stepped.Ended after later h k = refl
 
 pub calls_end_in_one_way : CallsEndInOneWay

@@ -92,17 +92,19 @@ stale = (
   (λ e. cc),
   (at_8, refl),
   record {
-    from_first = lit≤ tt;
-    to_last = lit≤ tt;
-    changes = inr moved_touches;
-    stays = stays_at _ 9;
+    last = record {
+      from_first = lit≤ tt;
+      to_last = lit≤ tt;
+      changes = inr moved_touches;
+      stays = stays_at _ 9;
+    };
+    later = lit< tt;
   },
-  lit< tt,
 )
 
 ready_after_a_touching_edit : MayFollow moved_3 (act.Asked 1 s (reply.Ready 8)) → ⊥
 unfolding last_number
-ready_after_a_touching_edit h = moved_touches (h.2.each 9 (lit< tt) (lit≤ tt))
+ready_after_a_touching_edit h = moved_touches (h.1.untouched.each 9 (lit< tt) (lit≤ tt))
 
 unknown : MayFollow moved_3 (act.Asked 1 (codes "X") reply.Unknown)
 unfolding last_number cut_at tables_at

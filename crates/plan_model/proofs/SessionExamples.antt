@@ -124,12 +124,14 @@ asked_too_early = record {
                     (λ e. cc),
                     (at_8, refl),
                     record {
-                      from_first = lit≤ tt;
-                      to_last = lit≤ tt;
-                      changes = inr late_touches_3;
-                      stays = stays_at _ 9;
+                      last = record {
+                        from_first = lit≤ tt;
+                        to_last = lit≤ tt;
+                        changes = inr late_touches_3;
+                        stays = stays_at _ 9;
+                      };
+                      later = lit< tt;
                     },
-                    lit< tt,
                   );
                 },
                 (

@@ -63,7 +63,7 @@ far_legal = (
     first_at_8 far_script,
     (
       record { pass = lit< tt; follows = (refl, refl) },
-      (record { pass = lit< tt; follows = ((λ e. cc), (at_8, refl), far_untouched_3) }, tt),
+      (record { pass = lit< tt; follows = ((λ e. cc), record { published = (at_8, refl); untouched = far_untouched_3 }) }, tt),
     ),
   ),
 )

@@ -13,7 +13,7 @@ use Rattle.plan_model.specs.declared.journal.Entry.{Entry}
 use Rattle.plan_model.specs.Journal.{Publication, last_number, publication_of, last_publication, edits, tables_of}
 use Rattle.plan_model.specs.Changes.{Stays}
 use Rattle.plan_model.specs.Touch.{cut_at, Touches, IsCurrent}
-use Rattle.plan_model.specs.Legal.{IsAnswerAt, MayFollow, IsNext, AllFollow, Opens, IsLegal}
+use Rattle.plan_model.specs.Legal.{IsAnswerAt, IsCurrentSince, MayFollow, IsNext, AllFollow, Opens, IsLegal}
 use Rattle.plan_model.specs.Outcome.{section_name, ShareIsCurrent}
 use Rattle.plan_model.specs.JournalLaws.{CurrentStays, CurrentIsAnswered}
 use Rattle.plan_model.proofs.Growing.{others_keep_tables, opening-more, last_number-more, cut_at-more, last_publication-more}
@@ -211,3 +211,12 @@ share_without_edits share of journal more some legal none current number is_of =
     subst (IsCurrent (journal ++ more)) (ap (λ t. (section_at t number).name) (sym same))
     (current_without_edits journal more (section_name journal number) some legal none
     (current number (record { there = there; rest = is_of.rest })))
+
+-- a section that is current since a publication is current
+pub current_since : (journal : List Entry) (section : List ℕ) (at : ℕ) → IsCurrentSince journal section at
+    → IsCurrent journal section
+current_since journal section at h = record {
+  publication = record { at = at; answer = h.published.0 };
+  last = h.published.1;
+  untouched = h.untouched;
+}

@@ -120,11 +120,11 @@ after_edit pass planner edit (Err rule) found after h does next = after_entry pa
 after_step : (pass planner : ℕ) (s : Stepped) (found after : List Entry) → IsJournal found → StepsTo pass planner found s after
     → IsJournal after
 after_step pass planner (stepped.Edited at) found after h does =
-    after_edit pass planner does.0 (Ok at) found after h does.2 (next_of found planner (task.Edit does.0) does.1)
+    after_edit pass planner does.edit (Ok at) found after h does.edits (next_of found planner (task.Edit does.edit) does.next)
 after_step pass planner (stepped.Refused rule) found after h does =
-    after_edit pass planner does.0 (Err rule) found after h does.2 (next_of found planner (task.Edit does.0) does.1)
+    after_edit pass planner does.edit (Err rule) found after h does.edits (next_of found planner (task.Edit does.edit) does.next)
 after_step pass planner (stepped.Asked a) found after h does =
-    after_entry pass _ found after h does.2.adds (next_of found planner (task.Ask does.0) does.1)
+    after_entry pass _ found after h does.asks.adds (next_of found planner (task.Ask does.section) does.next)
 after_step pass planner stepped.Ended found after h does = subst IsJournal (sym does.1) h
 
 after_publication : (pass : ℕ) (done : Done) (r : Result (Unit {0}) NotTaken) (found after : List Entry) → IsJournal found

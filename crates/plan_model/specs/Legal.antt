@@ -34,15 +34,24 @@ module _ (journal : List Entry) where
   WasPublishedAt section at =
       (answer : Answer) × (last_publication journal section ≡ Some (record { at = at; answer = answer }))
 
+  -- a later edit touches the section, the last one by this number
+  pub record IsTouchedSince (section : List ℕ) (at by : ℕ) : Type 0 where
+    pub last : IsLastTouching journal section by
+    pub later : at < by
+
+  -- the section is current since its last publication, at the edit of this number
+  pub record IsCurrentSince (section : List ℕ) (at : ℕ) : Type 0 where
+    pub published : WasPublishedAt section at
+    pub untouched : IsUntouchedSince journal section at
+
   -- what is replied to one who asks for a section: `Unknown` where it isn't there; else `NotYet` where it was never
   -- published; else `Stale` where a later edit touches it, the last one by this number; else `Ready`
   abbrev pub IsReply : List ℕ → Reply → Type 0
   IsReply section reply.Unknown = cut_now journal section ≡ None
   IsReply section reply.NotYet = (cut_now journal section ≢ None) × (last_publication journal section ≡ None)
   IsReply section (reply.Stale at by) =
-      (cut_now journal section ≢ None) × WasPublishedAt section at × IsLastTouching journal section by × (at < by)
-  IsReply section (reply.Ready at) =
-      (cut_now journal section ≢ None) × WasPublishedAt section at × IsUntouchedSince journal section at
+      (cut_now journal section ≢ None) × WasPublishedAt section at × IsTouchedSince section at by
+  IsReply section (reply.Ready at) = (cut_now journal section ≢ None) × IsCurrentSince section at
 
   -- what may be done next: a pass of the next number is issued; an edit that no rule refuses gets the next number; an
   -- edit is refused by the first rule that refuses it; an answer is published where it may be; a reply is right

@@ -22,8 +22,8 @@ use Rattle.plan_model.specs.declared.outcome.NotTaken.TheVariants as not_taken
 use Rattle.plan_model.specs.Answer.{IsAnswer}
 use Rattle.plan_model.specs.Reading.{Shown}
 use Rattle.plan_model.specs.Journal.{opening, last_number, tables_of, last_publication, left_of, tasks_left}
-use Rattle.plan_model.specs.Touch.{IsUntouchedSince, IsLastTouching, IsCurrent, IsReading}
-use Rattle.plan_model.specs.Legal.{IsAnswerAt, WasPublishedAt, IsNext}
+use Rattle.plan_model.specs.Touch.{IsUntouchedSince, IsCurrent, IsReading}
+use Rattle.plan_model.specs.Legal.{IsAnswerAt, IsTouchedSince, IsCurrentSince, IsNext}
 
 -- a call adds this one entry, which is a legal next one
 pub record AddsEntry (pass : ℕ) (a : Act) (found after : List Entry) : Type 0 where
@@ -48,9 +48,7 @@ reply_of asked.Unknown = reply.Unknown
 abbrev pub GivesLast : List Entry → List ℕ → Asked → Type 0
 GivesLast found section (asked.Ready at answer) =
     last_publication found section ≡ Some (record { at = at; answer = answer })
-GivesLast found section (asked.Stale at by) = Unit {0}
-GivesLast found section asked.NotYet = Unit {0}
-GivesLast found section asked.Unknown = Unit {0}
+GivesLast found section a = Unit {0}
 
 -- a section is asked for, and gets its reply
 pub record AsksTo (pass planner : ℕ) (section : List ℕ) (found : List Entry) (a : Asked) (after : List Entry) : Type 0 where
@@ -68,14 +66,23 @@ pub record IsPlanner (journal : List Entry) (planner : ℕ) : Type 0 where
 abbrev pub next_task : List Entry → ℕ → Option Task
 next_task journal planner = slice_get (left_of journal planner) 0
 
--- a planner's next task is done, as an edit or a question of this planner; or none is left, and nothing is done
+-- a planner's next task is an edit, which is made or refused
+pub record EditsNext (pass planner : ℕ) (found : List Entry) (made : Result ℕ Rule) (after : List Entry) : Type 0 where
+  pub edit : Edit
+  pub next : next_task found planner ≡ Some (task.Edit edit)
+  pub edits : EditsTo pass planner edit found made after
+
+-- a planner's next task is a question of a section, which gets its reply
+pub record AsksNext (pass planner : ℕ) (found : List Entry) (a : Asked) (after : List Entry) : Type 0 where
+  pub section : List ℕ
+  pub next : next_task found planner ≡ Some (task.Ask section)
+  pub asks : AsksTo pass planner section found a after
+
+-- a planner's next task is done; or none is left, and nothing is done
 abbrev pub StepsTo : ℕ → ℕ → List Entry → Stepped → List Entry → Type 0
-StepsTo pass planner found (stepped.Edited at) after =
-    (edit : Edit) × (next_task found planner ≡ Some (task.Edit edit)) × EditsTo pass planner edit found (Ok at) after
-StepsTo pass planner found (stepped.Refused rule) after =
-    (edit : Edit) × (next_task found planner ≡ Some (task.Edit edit)) × EditsTo pass planner edit found (Err rule) after
-StepsTo pass planner found (stepped.Asked a) after =
-    (section : List ℕ) × (next_task found planner ≡ Some (task.Ask section)) × AsksTo pass planner section found a after
+StepsTo pass planner found (stepped.Edited at) after = EditsNext pass planner found (Ok at) after
+StepsTo pass planner found (stepped.Refused rule) after = EditsNext pass planner found (Err rule) after
+StepsTo pass planner found (stepped.Asked a) after = AsksNext pass planner found a after
 StepsTo pass planner found stepped.Ended after = (next_task found planner ≡ None) × (after ≡ found)
 
 -- ---- readings
@@ -122,12 +129,14 @@ pub record IsAnswerOf (shown : Shown) (done : Done) : Type 0 where
 abbrev pub IsDone : List Entry → Done → Type 0
 IsDone journal done = IsAnswerAt journal done.section done.at done.answer
 
--- an answer is published; or a later edit touches its section, the last one by this number; or none does, and the
--- section is current since its last publication. Where it is not published, nothing is added
+-- why an answer is not published: a later edit touches its section, the last one by this number; or none does, and the
+-- section is current since its last publication
+abbrev pub IsNotTaken : List Entry → Done → NotTaken → Type 0
+IsNotTaken journal done (not_taken.Stale by) = IsTouchedSince journal done.section done.at by
+IsNotTaken journal done (not_taken.Current at) =
+    IsUntouchedSince journal done.section done.at × IsCurrentSince journal done.section at
+
+-- an answer is published, or it is not, and nothing is added
 abbrev pub PublishesTo : ℕ → Done → List Entry → Result (Unit {0}) NotTaken → List Entry → Type 0
 PublishesTo pass done found (Ok u) after = AddsEntry pass (act.Published done.section done.at done.answer) found after
-PublishesTo pass done found (Err (not_taken.Stale by)) after =
-    (after ≡ found) × IsLastTouching found done.section by × (done.at < by)
-PublishesTo pass done found (Err (not_taken.Current at)) after =
-    (after ≡ found) × IsUntouchedSince found done.section done.at
-    × WasPublishedAt found done.section at × IsUntouchedSince found done.section at
+PublishesTo pass done found (Err why) after = (after ≡ found) × IsNotTaken found done why

@@ -4,7 +4,7 @@ use Rattle.std.specs.List.{last_or}
 use Rattle.plan_model.specs.declared.journal.Entry.{Entry}
 use Rattle.plan_model.specs.Journal.{Publication, publications, last_publication}
 use Rattle.plan_model.specs.Touch.{IsUntouchedSince, IsCurrent}
-use Rattle.plan_model.specs.Legal.{WasPublishedAt}
+use Rattle.plan_model.specs.Legal.{WasPublishedAt, IsCurrentSince}
 use Rattle.plan_model.proofs.Growing.{last_number-more, cut_at-more, last_publication-more}
 
 -- what no edit of a longer journal touches is not touched by those of the shorter
@@ -23,12 +23,12 @@ last_is o [] p is none = absurd (none is)
 last_is o (q ∷ qs) p is none = is
 
 pub published_past : (xs ys : List Entry) (section : List ℕ) (at : ℕ) → 0 < length xs → (IsCurrent xs section → ⊥)
-    → WasPublishedAt (xs ++ ys) section at → IsUntouchedSince (xs ++ ys) section at → WasPublishedAt ys section at
+    → IsCurrentSince (xs ++ ys) section at → WasPublishedAt ys section at
 unfolding last_publication
-published_past xs ys section at some wanted (answer, last) untouched =
-    let p : Publication = record { at = at; answer = answer } in (
-      answer,
+published_past xs ys section at some wanted now =
+    let p : Publication = record { at = at; answer = now.published.0 } in (
+      now.published.0,
       last_is (last_publication xs section) (publications ys section) p
-          (sym (last_publication-more xs ys section) ∙ last)
-          (λ e. wanted record { publication = p; last = e; untouched = untouched_before xs ys section at some untouched }),
+          (sym (last_publication-more xs ys section) ∙ now.published.1)
+          (λ e. wanted record { publication = p; last = e; untouched = untouched_before xs ys section at some now.untouched }),
     )

@@ -1,5 +1,6 @@
 -- What a turn does, put together from its two calls.
 use Rattle.std.proofs.Common.{◌≡◌, ℕ, ◌<◌, List, [], ◌++◌, length, Result, Ok, Err, refl, sym, ap, ◌∙◌, subst, inr, arith, append_assoc, append-nil}
+use Rattle.std.specs.Prelude.{All}
 use Rattle.std.proofs.lemmas.List.Elements.{All-nil, All-append}
 use Rattle.rail_model.specs.declared.memory.OutOfMemory.{OutOfMemory}
 use Rattle.plan_model.specs.declared.answer.Answer.{Answer}
@@ -11,11 +12,12 @@ use Rattle.plan_model.specs.declared.outcome.NotTaken.{NotTaken}
 use Rattle.plan_model.specs.declared.outcome.NotTaken.TheVariants as not_taken
 use Rattle.plan_model.specs.Reading.{Shown}
 use Rattle.plan_model.specs.Journal.{last_number, tasks_left}
-use Rattle.plan_model.specs.Legal.{WasPublishedAt}
-use Rattle.plan_model.specs.Touch.{IsUntouchedSince, IsLastTouching, IsCurrent}
+use Rattle.plan_model.specs.declared.journal.Act.TheVariants as act
+use Rattle.plan_model.specs.Legal.{IsTouchedSince, IsCurrentSince}
+use Rattle.plan_model.specs.Touch.{IsCurrent}
 use Rattle.plan_model.specs.Call.{IsOthers, GoesOn, AddsOwn}
 use Rattle.plan_model.specs.Board.{Access, IsAccess, IsCall, KeepsCounts, NotesTaken}
-use Rattle.plan_model.specs.Outcome.{ShareIsCurrent, IsNextReading, ReadsTo, PublishesTo}
+use Rattle.plan_model.specs.Outcome.{AddsEntry, ShareIsCurrent, IsNextReading, ReadsTo, PublishesTo}
 use Rattle.plan_model.proofs.Growing.{last_number-more}
 use Rattle.plan_model.proofs.Legality.{legal_has_one}
 use Rattle.section_worker.specs.declared.worker.Turned.{Turned}
@@ -88,12 +90,39 @@ module _ (w later : Working) (old mid new : Access) (g : GoesOn old.numbers old.
     );
   }
 
+  ends_later : (r : Reads w mid) (t : Turned) → EndsAs r new.seen t → EndsAs (reads_later r) new.seen t
+  unfolding reads_later
+  ends_later r (turned.Published section at) e = record {
+    of_section = e.of_section;
+    at_reading = e.at_reading;
+    before = e.before;
+    goes_on = subst (λ ns. GoesOn ns r.found e.before) numbers e.goes_on;
+    answer = e.answer;
+    adds = subst (λ p. AddsEntry p (act.Published section at e.answer) e.before new.seen) pass e.adds;
+  }
+  ends_later r (turned.Stale section at by) e = record {
+    of_section = e.of_section;
+    at_reading = e.at_reading;
+    goes_on = subst (λ ns. GoesOn ns r.found new.seen) numbers e.goes_on;
+    touched = e.touched;
+  }
+  ends_later r (turned.Current section last) e = record {
+    of_section = e.of_section;
+    goes_on = record {
+      more = e.goes_on.more;
+      is = e.goes_on.is;
+      others = subst (λ ns. All (IsOthers ns) e.goes_on.more) numbers e.goes_on.others;
+    };
+    current = e.current;
+    by_others = e.by_others;
+  }
+  ends_later r (turned.Idle left) e = absurd e
+
   answers_later : (t : Turned) → Answers w later mid new t → Answers w later old new t
   unfolding reads_later
   answers_later t a = record {
     reads = reads_later a.reads;
-    ends = subst (λ ns. EndsAs old.pass ns a.reads.found a.reads.cut a.reads.at new.seen t) numbers
-        (subst (λ p. EndsAs p mid.numbers a.reads.found a.reads.cut a.reads.at new.seen t) pass a.ends);
+    ends = ends_later a.reads t a.ends;
     keeps = a.keeps;
     handed = a.handed;
   }
@@ -116,34 +145,37 @@ module _ (w later : Working) (old mid new : Access) (g : GoesOn old.numbers old.
 
 -- ---- what comes of a publication
 
-module _ (pass : ℕ) (numbers : List ℕ) (start found seen : List Entry) (shown : Shown) (answer : Answer) where
-  pub ends_as : (p : Result (Unit {0}) NotTaken) → 0 < length start → (IsCurrent start shown.cut.section.name → ⊥)
-      → GoesOn numbers start found → PublishesTo pass (done_of shown answer) found p seen
-      → EndsAs pass numbers start shown.cut shown.at seen (turned_of shown.cut.section.name shown.at p)
-  ends_as (Ok u) some wanted g h = (refl, refl, (found, answer, g, h))
-  ends_as (Err (not_taken.Stale by)) some wanted g h = (
-    refl,
-    refl,
-    subst (GoesOn numbers start) (sym h.0) g,
-    subst (λ j. IsLastTouching j shown.cut.section.name by) (sym h.0) h.1,
-    h.2,
-  )
+module _ {w : Working} {a : Access} (reads : Reads w a) (found seen : List Entry) (shown : Shown) (answer : Answer)
+    (section : shown.cut.section.name ≡ reads.cut.section.name) (at : shown.at ≡ reads.at) where
+  pub ends_as : (p : Result (Unit {0}) NotTaken) → 0 < length reads.found
+      → (IsCurrent reads.found shown.cut.section.name → ⊥) → GoesOn a.numbers reads.found found
+      → PublishesTo a.pass (done_of shown answer) found p seen
+      → EndsAs reads seen (turned_of shown.cut.section.name shown.at p)
+  ends_as (Ok u) some wanted g h = record {
+    of_section = section;
+    at_reading = at;
+    before = found;
+    goes_on = g;
+    answer = answer;
+    adds = h;
+  }
+  ends_as (Err (not_taken.Stale by)) some wanted g h = record {
+    of_section = section;
+    at_reading = at;
+    goes_on = subst (GoesOn a.numbers reads.found) (sym h.0) g;
+    touched = subst (λ j. IsTouchedSince j shown.cut.section.name shown.at by) (sym h.0) h.1;
+  }
   ends_as (Err (not_taken.Current last)) some wanted g h =
-      let section = shown.cut.section.name in
-      let later : GoesOn numbers start seen = subst (GoesOn numbers start) (sym h.0) g in
-      let was : WasPublishedAt seen section last = subst (λ j. WasPublishedAt j section last) (sym h.0) h.2 in
-      let untouched : IsUntouchedSince seen section last = subst (λ j. IsUntouchedSince j section last)
-      (sym h.0) h.3 in (
-        refl,
-        was,
-        untouched,
-        (
-          later,
-          published_past start later.more section last some wanted
-              (subst (λ j. WasPublishedAt j section last) later.is was)
-              (subst (λ j. IsUntouchedSince j section last) later.is untouched),
-        ),
-      )
+      let name = shown.cut.section.name in
+      let later : GoesOn a.numbers reads.found seen = subst (GoesOn a.numbers reads.found) (sym h.0) g in
+      let current : IsCurrentSince seen name last = subst (λ j. IsCurrentSince j name last) (sym h.0) h.1.1 in
+      record {
+        of_section = section;
+        goes_on = later;
+        current = current;
+        by_others = published_past reads.found later.more name last some wanted
+            (subst (λ j. IsCurrentSince j name last) later.is current);
+      }
 
 -- what is seen after a call goes on from what was seen before
 pub seen_more : (pass : ℕ) (numbers : List ℕ) (start found seen : List Entry) → GoesOn numbers start found
@@ -175,14 +207,12 @@ module _ (w later : Working) (a new : Access) (shown : Shown) (access : IsAccess
         let out = call.does in
         let wanted : IsCurrent a.seen after.cut.section.name → ⊥ =
         subst (λ (c : Cut). IsCurrent a.seen c.section.name → ⊥) (sym takes.cut) not_current in
-        let ends : EndsAs a.pass a.numbers a.seen after.cut after.at new.seen t =
-        subst (EndsAs a.pass a.numbers a.seen after.cut after.at new.seen) (sym out.1)
-        (ends_as a.pass a.numbers a.seen call.found new.seen after answer out.0
-        (legal_has_one a.seen access.seen.legal) wanted call.goes_on out.2) in
+        let reads = reads_here w a shown access next in
         record {
-          reads = reads_here w a shown access next;
-          ends = subst (λ (c : Cut). EndsAs a.pass a.numbers a.seen c shown.at new.seen t) takes.cut
-              (subst (λ n. EndsAs a.pass a.numbers a.seen after.cut n new.seen t) takes.at ends);
+          reads = reads;
+          ends = subst (EndsAs reads new.seen) (sym out.1)
+              (ends_as reads call.found new.seen after answer (ap (λ (c : Cut). c.section.name) takes.cut) takes.at out.0
+              (legal_has_one a.seen access.seen.legal) wanted call.goes_on out.2);
           keeps = keeps;
           handed = omega (arith, notes.handed, takes.taken, next.untaken);
         }

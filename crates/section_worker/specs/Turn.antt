@@ -1,5 +1,5 @@
 -- What one turn of a worker does, and what it answers.
-use Rattle.std.specs.Prelude.{◌≡◌, ◌⊎◌, ℕ, ◌<◌, ◌≤◌, List, Result, Ok, Err, MatchResult}
+use Rattle.std.specs.Prelude.{◌≡◌, ◌⊎◌, ℕ, ◌≤◌, List, Result, Ok, Err, MatchResult}
 use Rattle.rail_model.specs.declared.memory.OutOfMemory.{OutOfMemory}
 use Rattle.plan_model.specs.declared.answer.Answer.{Answer}
 use Rattle.plan_model.specs.declared.answer.Done.{Done}
@@ -10,8 +10,7 @@ use Rattle.plan_model.specs.declared.journal.Entry.{Entry}
 use Rattle.plan_model.specs.declared.outcome.NotTaken.{NotTaken}
 use Rattle.plan_model.specs.declared.outcome.NotTaken.TheVariants as not_taken
 use Rattle.plan_model.specs.Journal.{last_number, tasks_left}
-use Rattle.plan_model.specs.Touch.{IsUntouchedSince, IsLastTouching}
-use Rattle.plan_model.specs.Legal.{IsJournal, WasPublishedAt}
+use Rattle.plan_model.specs.Legal.{IsJournal, WasPublishedAt, IsTouchedSince, IsCurrentSince}
 use Rattle.plan_model.specs.Call.{GoesOn}
 use Rattle.plan_model.specs.Outcome.{AddsEntry, IsOfShare, section_name, ShareIsCurrent, IsNextReading, PublishesTo}
 use Rattle.plan_model.specs.Board.{Access, IsAccess, KeepsCounts}
@@ -60,27 +59,42 @@ TurnsOut pass done found t after = (published : Result (Unit {0}) NotTaken)
 abbrev pub done_of : Shown → Answer → Done
 done_of shown answer = record { section = shown.cut.section.name; at = shown.at; answer = answer }
 
--- what comes of a reading of a journal: its answer is published by an entry of the pass; or a later edit touches its
--- section, the last one by this number; or the section is current, since a publication that was made after the reading.
--- Where it is not published, nothing is added
-abbrev pub EndsAs : ℕ → List ℕ → List Entry → Cut → ℕ → List Entry → Turned → Type 0
-EndsAs pass numbers found cut at seen (turned.Published section number) =
-    (section ≡ cut.section.name) × (number ≡ at)
-    × ((before : List Entry) × (answer : Answer) × GoesOn numbers found before
-    × AddsEntry pass (act.Published section number answer) before seen)
-EndsAs pass numbers found cut at seen (turned.Stale section number by) =
-    (section ≡ cut.section.name) × (number ≡ at) × GoesOn numbers found seen
-    × IsLastTouching seen section by × (number < by)
-EndsAs pass numbers found cut at seen (turned.Current section last) =
-    (section ≡ cut.section.name) × WasPublishedAt seen section last × IsUntouchedSince seen section last
-    × ((more : GoesOn numbers found seen) × WasPublishedAt more.more section last)
-EndsAs pass numbers found cut at seen (turned.Idle left) = ⊥
+module _ {w : Working} {old : Access} (reads : Reads w old) (seen : List Entry) where
+  -- the answer of what was read is published by an entry of the pass
+  pub record Publishes (section : List ℕ) (at : ℕ) : Type 0 where
+    pub of_section : section ≡ reads.cut.section.name
+    pub at_reading : at ≡ reads.at
+    pub before : List Entry
+    pub goes_on : GoesOn old.numbers reads.found before
+    pub answer : Answer
+    pub adds : AddsEntry old.pass (act.Published section at answer) before seen
+
+  -- a later edit touches the section that was read, the last one by this number, and nothing is added
+  pub record WasStale (section : List ℕ) (at by : ℕ) : Type 0 where
+    pub of_section : section ≡ reads.cut.section.name
+    pub at_reading : at ≡ reads.at
+    pub goes_on : GoesOn old.numbers reads.found seen
+    pub touched : IsTouchedSince seen section at by
+
+  -- the section that was read is current, since a publication that was made after the reading, and nothing is added
+  pub record WasCurrent (section : List ℕ) (last : ℕ) : Type 0 where
+    pub of_section : section ≡ reads.cut.section.name
+    pub goes_on : GoesOn old.numbers reads.found seen
+    pub current : IsCurrentSince seen section last
+    pub by_others : WasPublishedAt goes_on.more section last
+
+  -- what comes of a reading
+  abbrev pub EndsAs : Turned → Type 0
+  EndsAs (turned.Published section at) = Publishes section at
+  EndsAs (turned.Stale section at by) = WasStale section at by
+  EndsAs (turned.Current section last) = WasCurrent section last
+  EndsAs (turned.Idle left) = ⊥
 
 -- a turn with a reading: the reading's rows are kept, and of those rows that weren't kept with their name and stamp all
 -- uses are taken at most
 pub record Answers (w later : Working) (old new : Access) (t : Turned) : Type 0 where
   pub reads : Reads w old
-  pub ends : EndsAs old.pass old.numbers reads.found reads.cut reads.at new.seen t
+  pub ends : EndsAs reads new.seen t
   pub keeps : KeepsRows reads.cut reads.at w later
   pub handed : new.handed ≤ uses_missing (kept_for w reads.cut.section.name) reads.cut
 
@@ -108,8 +122,6 @@ pub record Rests (w later : Working) (old new : Access) (left : ℕ) : Type 0 wh
 
 -- what a turn does
 abbrev pub TurnsTo : Working → Working → Access → Access → Result Turned OutOfMemory → Type 0
-TurnsTo w later old new (Ok (turned.Published section at)) = Answers w later old new (turned.Published section at)
-TurnsTo w later old new (Ok (turned.Stale section at by)) = Answers w later old new (turned.Stale section at by)
-TurnsTo w later old new (Ok (turned.Current section at)) = Answers w later old new (turned.Current section at)
 TurnsTo w later old new (Ok (turned.Idle left)) = Rests w later old new left
+TurnsTo w later old new (Ok t) = Answers w later old new t
 TurnsTo w later old new (Err e) = ReadsNothing w later old new ⊎ Fails w later old new

@@ -3,7 +3,6 @@ use Rattle.std.proofs.Common.{◌≡◌, ℕ, true, false, List, [], ◌∷◌, 
 use Rattle.std.specs.Prelude.{Contains}
 use Rattle.std.proofs.lemmas.Bool.{eqb-true}
 use Rattle.rail_model.specs.declared.memory.OutOfMemory.{OutOfMemory}
-use Rattle.plan_model.specs.declared.cut.Cut.{Cut}
 use Rattle.plan_model.specs.declared.journal.Act.{Act}
 use Rattle.plan_model.specs.declared.journal.Act.TheVariants as act
 use Rattle.plan_model.specs.declared.journal.Entry.{Entry}
@@ -17,7 +16,7 @@ use Rattle.section_worker.specs.declared.worker.Turned.{Turned}
 use Rattle.section_worker.specs.declared.worker.Turned.TheVariants as turned
 use Rattle.timetable_desk.specs.Seat.{Seated, access_of}
 use Rattle.section_worker.specs.Keeping.{Working, IsSameWorker, KeepsWhatWasRead}
-use Rattle.section_worker.specs.Turn.{IsSameBoard, EndsAs, Answers, Rests, TurnsTo}
+use Rattle.section_worker.specs.Turn.{IsSameBoard, Reads, EndsAs, Answers, Rests, TurnsTo}
 use Rattle.session_run.specs.declared.actor.Part.TheVariants as part
 use Rattle.session_run.specs.declared.actor.Actor.{Actor}
 use Rattle.session_run.specs.Actors.{Role, Planner, Worker, IsBy, AreBy, HasRested, IsAtWork}
@@ -72,18 +71,21 @@ module _ (w later : Working) (old new : Access) (ended : Bool) (h : IsAtWork (Wo
   abbrev role : Role
   role = Worker w.share w.of
 
-  ends_grow : (found : List Entry) (cut : Cut) (at : ℕ) (t : Turned) → Grows role old found
-      → EndsAs old.pass old.numbers found cut at new.seen t → Grows role old new.seen
-  ends_grow found cut at (turned.Published section of) first e =
-      grows_by role old ended h e.2.0 new.seen (act.Published section of e.2.1) (grows_on role old ended h found e.2.0 first e.2.2)
-      (record { section = section; at = of; answer = e.2.1; is = refl }) e.2.3
-  ends_grow found cut at (turned.Stale section of by) first e = grows_on role old ended h found new.seen first e.2
-  ends_grow found cut at (turned.Current section last) first e = grows_on role old ended h found new.seen first e.3.0
-  ends_grow found cut at (turned.Idle left) first e = absurd e
+  ends_grow : (reads : Reads w old) (t : Turned) → Grows role old reads.found → EndsAs reads new.seen t
+      → Grows role old new.seen
+  ends_grow reads (turned.Published section of) first e =
+      grows_by role old ended h e.before new.seen (act.Published section of e.answer)
+      (grows_on role old ended h reads.found e.before first e.goes_on)
+      (record { section = section; at = of; answer = e.answer; is = refl }) e.adds
+  ends_grow reads (turned.Stale section of by) first e =
+      grows_on role old ended h reads.found new.seen first e.goes_on
+  ends_grow reads (turned.Current section last) first e =
+      grows_on role old ended h reads.found new.seen first e.goes_on
+  ends_grow reads (turned.Idle left) first e = absurd e
 
   answers_grow : (t : Turned) → Answers w later old new t → Grows role old new.seen
   answers_grow t a =
-      ends_grow a.reads.found a.reads.cut a.reads.at t (grows role old ended h a.reads.found a.reads.goes_on) a.ends
+      ends_grow a.reads t (grows role old ended h a.reads.found a.reads.goes_on) a.ends
 
   turn_grows : (r : Result Turned OutOfMemory) → TurnsTo w later old new r → Grows role old new.seen
   turn_grows (Ok (turned.Published section at)) t = answers_grow (turned.Published section at) t

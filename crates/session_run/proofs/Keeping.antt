@@ -35,7 +35,7 @@ keeps_published w later found after shown next rows keeps p =
 -- a planner makes a step
 pub keeps_stepping : (w : Working) (planner : ℕ) (found after : List Entry) (s : Stepped) → StepsTo 0 planner found s after
     → KeepsWhatWasRead w found → KeepsWhatWasRead w after
-keeps_stepping w planner found after (stepped.Edited at) h keeps = keeps_on w found _ after h.2.is keeps
-keeps_stepping w planner found after (stepped.Refused rule) h keeps = keeps_on w found _ after h.2.is keeps
-keeps_stepping w planner found after (stepped.Asked a) h keeps = keeps_on w found _ after h.2.adds.is keeps
+keeps_stepping w planner found after (stepped.Edited at) h keeps = keeps_on w found _ after h.edits.is keeps
+keeps_stepping w planner found after (stepped.Refused rule) h keeps = keeps_on w found _ after h.edits.is keeps
+keeps_stepping w planner found after (stepped.Asked a) h keeps = keeps_on w found _ after h.asks.adds.is keeps
 keeps_stepping w planner found after stepped.Ended h keeps = subst (KeepsWhatWasRead w) (sym h.1) keeps

@@ -43,9 +43,9 @@ module _ (planner : ℕ) (found ready : List Entry) (some : 0 < length found) (i
   }
 
   pub step_does : (after : List Entry) (s : Stepped) → next_task found planner ≢ None → StepsTo 0 planner ready s after → DoesNextTask planner found after
-  step_does after (stepped.Edited at) left h = by_entry after _ _ h.1 h.2 (rw (eq-eqb planner planner refl) refl)
-  step_does after (stepped.Refused rule) left h = by_entry after _ _ h.1 h.2 (rw (eq-eqb planner planner refl) refl)
-  step_does after (stepped.Asked a) left h = by_entry after _ _ h.1 h.2.adds (rw (eq-eqb planner planner refl) refl)
+  step_does after (stepped.Edited at) left h = by_entry after _ _ h.next h.edits (rw (eq-eqb planner planner refl) refl)
+  step_does after (stepped.Refused rule) left h = by_entry after _ _ h.next h.edits (rw (eq-eqb planner planner refl) refl)
+  step_does after (stepped.Asked a) left h = by_entry after _ _ h.next h.asks.adds (rw (eq-eqb planner planner refl) refl)
   step_does after stepped.Ended left h = absurd (left (sym same_next ∙ h.0))
 
 -- ---- a script

@@ -15,6 +15,7 @@ use Rattle.plan_model.specs.Outcome.{IsAnswerOf, IsNextReading, PublishesTo}
 use Rattle.plan_model.proofs.Growing.{others_keep_tables, last_publication-more}
 use Rattle.plan_model.proofs.Changing.{stays_at}
 use Rattle.plan_model.proofs.Readings.{next_name}
+use Rattle.plan_model.proofs.Touching.{current_since}
 use Rattle.session_run.specs.Turns.{PublishesNow}
 
 -- pass 0 is issued
@@ -25,11 +26,11 @@ main_issued journal = omega arith
 -- what is read and answered is not refused
 pub not_refused : (found after : List Entry) (shown : Shown) (done : Done) (why : NotTaken) → IsNextReading 0 1 found shown
     → IsAnswerOf shown done → PublishesTo 0 done found (Err why) after → ⊥
-not_refused found after shown done (not_taken.Stale by) r is h = omega (arith, r.at, is.at, h.1.to_last, h.2)
+not_refused found after shown done (not_taken.Stale by) r is h = omega (arith, r.at, is.at, h.1.last.to_last, h.1.later)
 not_refused found after shown done (not_taken.Current last) r is h =
     r.wanted
     (subst (IsCurrent found) (is.section ∙ next_name 0 1 found shown r)
-    (record { publication = record { at = last; answer = h.2.0 }; last = h.2.1; untouched = h.3 }))
+    (current_since found done.section last h.1.1))
 
 pub is_published : (found after : List Entry) (shown : Shown) (done : Done) → IsNextReading 0 1 found shown
     → IsAnswerOf shown done → PublishesTo 0 done found (Ok tt) after → IsLegal found → IsLegal after

@@ -43,11 +43,11 @@ entry_by role number pass a found after by adds h =
 step_by : (planner number pass : ℕ) (s : Stepped) (found after : List Entry) → StepsTo pass planner found s after
     → AreBy (Planner planner) number found → AreBy (Planner planner) number after
 step_by planner number pass (stepped.Edited at) found after h by =
-    entry_by (Planner planner) number pass _ found after (record { task = task.Edit h.0; is = rw (eq-eqb planner planner refl) refl }) h.2 by
+    entry_by (Planner planner) number pass _ found after (record { task = task.Edit h.edit; is = rw (eq-eqb planner planner refl) refl }) h.edits by
 step_by planner number pass (stepped.Refused rule) found after h by =
-    entry_by (Planner planner) number pass _ found after (record { task = task.Edit h.0; is = rw (eq-eqb planner planner refl) refl }) h.2 by
+    entry_by (Planner planner) number pass _ found after (record { task = task.Edit h.edit; is = rw (eq-eqb planner planner refl) refl }) h.edits by
 step_by planner number pass (stepped.Asked a) found after h by =
-    entry_by (Planner planner) number pass _ found after (record { task = task.Ask h.0; is = rw (eq-eqb planner planner refl) refl }) h.2.adds by
+    entry_by (Planner planner) number pass _ found after (record { task = task.Ask h.section; is = rw (eq-eqb planner planner refl) refl }) h.asks.adds by
 step_by planner number pass stepped.Ended found after h by = subst (AreBy (Planner planner) number) (sym h.1) by
 
 steps_by : (planner number pass : ℕ) (r : Result Stepped OutOfMemory) (found after : List Entry) → Gives (StepsTo pass planner) r found after
