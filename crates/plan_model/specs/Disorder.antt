@@ -57,8 +57,8 @@ abbrev pub after_rounds : Cut → ℕ → List ℕ → List ℕ
 after_rounds cut zero some = some
 after_rounds cut (suc n) some = after_rounds cut n (preceded cut some)
 
--- the members that remain: the greatest set of members of which each is preceded by one of the set. As many rounds as
--- there are members leave it
+-- the members that remain when, again and again, each member that no remaining one precedes is taken out: after as many
+-- rounds as there are members no more goes. They are the greatest set of which each is preceded by one of the set
 abbrev pub remaining : Cut → List ℕ
 remaining cut = after_rounds cut (member_count cut) (members cut)
 
@@ -79,7 +79,7 @@ PrecededRemain =
     (cut : Cut) (some : List ℕ) → ArePrecededAmong cut some → (j : ℕ) → is_among some j ≡ true
     → is_among (remaining cut) j ≡ true
 
--- the members have an order: there are none of which each is preceded by one of them
+-- the members have an order: there is no group of them in which each is preceded by another of the group
 abbrev pub HaveOrder : Cut → Type 0
 HaveOrder cut = (some : List ℕ) → ArePrecededAmong cut some → some ≡ []
 

@@ -34,7 +34,7 @@ module _ (journal : List Entry) where
   WasPublishedAt section at =
       (answer : Answer) × (last_publication journal section ≡ Some (record { at = at; answer = answer }))
 
-  -- a later edit touches the section, the last one by this number
+  -- an edit after `at` touches the section, and `by` is the number of the last that does
   pub record IsTouchedSince (section : List ℕ) (at by : ℕ) : Type 0 where
     pub last : IsLastTouching journal section by
     pub later : at < by

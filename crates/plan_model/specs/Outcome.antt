@@ -72,7 +72,7 @@ pub record EditsNext (pass planner : ℕ) (found : List Entry) (made : Result �
   pub next : next_task found planner ≡ Some (task.Edit edit)
   pub edits : EditsTo pass planner edit found made after
 
--- a planner's next task is a question of a section, which gets its reply
+-- a planner's next task is a question about a section, which gets its reply
 pub record AsksNext (pass planner : ℕ) (found : List Entry) (a : Asked) (after : List Entry) : Type 0 where
   pub section : List ℕ
   pub next : next_task found planner ≡ Some (task.Ask section)
@@ -136,7 +136,7 @@ IsNotTaken journal done (not_taken.Stale by) = IsTouchedSince journal done.secti
 IsNotTaken journal done (not_taken.Current at) =
     IsUntouchedSince journal done.section done.at × IsCurrentSince journal done.section at
 
--- an answer is published, or it is not, and nothing is added
+-- an answer is published; or, for the reason given, it is not, and nothing is added
 abbrev pub PublishesTo : ℕ → Done → List Entry → Result (Unit {0}) NotTaken → List Entry → Type 0
 PublishesTo pass done found (Ok u) after = AddsEntry pass (act.Published done.section done.at done.answer) found after
 PublishesTo pass done found (Err why) after = (after ≡ found) × IsNotTaken found done why

@@ -32,7 +32,7 @@ has tables kind.Run n = is_named (λ r. r.name) tables.runs n
 has tables kind.Section n = is_named (λ s. s.name) tables.sections n
 has tables kind.Connection n = is_named (λ c. c.name) tables.connections n
 
--- the same of each kind
+-- the same for each kind
 abbrev pub has_block : Tables → List ℕ → Bool
 has_block tables n = has tables kind.Block n
 

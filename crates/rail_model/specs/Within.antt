@@ -43,7 +43,7 @@ is_within (item.Section s) =
     && nat_lt s.from_s s.to_s && nat_le s.add_percent GREATEST_RATE
 is_within (item.Connection c) = nat_le c.minimum_s GREATEST_TIME_S
 
--- the same of each kind
+-- the same for each kind
 abbrev pub is_block_within : Block → Bool
 is_block_within b = is_within (item.Block b)
 

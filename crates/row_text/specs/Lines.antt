@@ -57,8 +57,8 @@ run_legs version start times =
 abbrev pub legs_in : ℕ → ℕ → Row → Result (List Leg) Form
 legs_in version start fields = read_each (time_in version) fields >>= λ times. run_legs version start times
 
--- the item of a kind that a row spells, which has as many fields as it may, or the fault of the first field that isn't of
--- its sort
+-- the item that a row of an allowed number of fields spells; else the fault of its first field that isn't of its sort;
+-- else, for a run in version 2, `Order` where its times fall
 abbrev pub item_in : ℕ → Kind → Row → Result Item Form
 item_in version kind.Block row = do
   name ← name_in (field row 1)

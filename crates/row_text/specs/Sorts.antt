@@ -70,7 +70,7 @@ clock_of field = if has_clock_form field then clock_after (length field - 6) fie
 abbrev pub time_of : ℕ → List ℕ → Option ℕ
 time_of version field = if version == 2 then option_or (number_of field) (clock_of field) else number_of field
 
--- what a field says as a field of a sort, or its fault
+-- the name, number, rate or time that a field says; else `BadName` for a name, `Number` for the others
 abbrev pub name_in : List ℕ → Result (List ℕ) Form
 name_in field = ok_or (name_of field) form.BadName
 

@@ -1,4 +1,4 @@
--- The words that rows begin with, and the fields that follow each.
+-- The words that rows begin with, and how many fields may follow each.
 use Rattle.std.specs.Prelude.{ℕ, ◌*◌, ◌-◌, ◌%◌, Bool, ◌&&◌, ◌==◌, nat_lt, List, [], ◌∷◌, ◌++◌, map, find, codes, Option}
 use Rattle.rail_model.specs.Name.{is_same}
 use Rattle.rail_model.specs.Within.{is_from_one}
@@ -35,7 +35,7 @@ words = map word.Put kinds ++ map word.Change kinds ++ map word.Drop kinds ++ wo
 unfoldable pub word_of : List ℕ → Option Word
 word_of field = find (λ w. is_same field (word_text w)) words
 
--- how many fields may follow the word of a row that puts an item: a route ends with 1 to 256 names, and so does a section;
+-- whether so many fields may follow the word of a row that puts an item: a route ends with 1 to 256 names, and so does a section;
 -- a run ends with the times of 1 to 256 legs, a running and a dwell time each, but for the last, which has no dwell time
 abbrev pub kind_shape : Kind → ℕ → Bool
 kind_shape kind.Block n = n == 2
@@ -45,12 +45,12 @@ kind_shape kind.Run n = ((n - 5) % 2 == 1) && nat_lt (n - 5) (2 * PATH_HOPS)
 kind_shape kind.Section n = is_from_one (n - 4) PATH_HOPS
 kind_shape kind.Connection n = n == 4
 
--- a `change-` row has the fields of the row that puts the item; all other rows have one
+-- a `change-` row has as many fields as the row that puts the item; every other row has one after its word
 abbrev pub shape_of : Word → ℕ → Bool
 shape_of (word.Put k) n = kind_shape k n
 shape_of (word.Change k) n = kind_shape k n
 shape_of w n = n == 1
 
--- whether a row of such a shape may have this many fields, with the word
+-- whether a row of such a shape may have this many fields, its word counted
 abbrev pub allows : (ℕ → Bool) → ℕ → Bool
 allows shape fields = shape (fields - 1)

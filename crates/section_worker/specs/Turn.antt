@@ -69,14 +69,14 @@ module _ {w : Working} {old : Access} (reads : Reads w old) (seen : List Entry) 
     pub answer : Answer
     pub adds : AddsEntry old.pass (act.Published section at answer) before seen
 
-  -- a later edit touches the section that was read, the last one by this number, and nothing is added
+  -- a later edit touches the section that was read, the last one by this number, and the turn adds no entry
   pub record WasStale (section : List ℕ) (at by : ℕ) : Type 0 where
     pub of_section : section ≡ reads.cut.section.name
     pub at_reading : at ≡ reads.at
     pub goes_on : GoesOn old.numbers reads.found seen
     pub touched : IsTouchedSince seen section at by
 
-  -- the section that was read is current, since a publication that was made after the reading, and nothing is added
+  -- the section that was read is current, since a publication that was made after the reading, and the turn adds no entry
   pub record WasCurrent (section : List ℕ) (last : ℕ) : Type 0 where
     pub of_section : section ≡ reads.cut.section.name
     pub goes_on : GoesOn old.numbers reads.found seen
