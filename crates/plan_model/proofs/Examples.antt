@@ -422,7 +422,7 @@ three_blocks = record {
   connections = [];
 }
 
-abbrev circling : Cut
+abbrev pub circling : Cut
 circling = record {
   section = section (codes "K1" ∷ codes "K2" ∷ codes "K3" ∷ []);
   connections = [];

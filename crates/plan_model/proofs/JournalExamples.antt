@@ -205,7 +205,7 @@ first_at_8 scripts = record {
   };
 }
 
-moved_entry_3 : IsNext moved_2 (by_main (act.Edited 1 9 move))
+pub moved_entry_3 : IsNext moved_2 (by_main (act.Edited 1 9 move))
 unfolding last_number tables_of issued
 moved_entry_3 = record { pass = lit< tt; follows = (refl, refl) }
 
@@ -229,7 +229,7 @@ moved_entry_4 = record {
   };
 }
 
-moved_entry_5 : IsNext moved_4 (by_main (act.Asked 1 s (reply.Ready 9)))
+pub moved_entry_5 : IsNext moved_4 (by_main (act.Asked 1 s (reply.Ready 9)))
 unfolding last_number last_publication issued cut_at tables_at
 moved_entry_5 = record { pass = lit< tt; follows = ((λ e. cc), record { published = (at_9, refl); untouched = stays_at _ 9 }) }
 

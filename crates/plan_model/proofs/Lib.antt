@@ -4,6 +4,7 @@ mod TouchExamples
 mod SessionExamples
 mod RefusedEntries
 mod WrongCalls
+mod CallExamples
 pub mod Growing
 pub mod Changing
 pub mod Legality

@@ -143,7 +143,7 @@ drop_t2 = edit.Drop kind.Run (codes "T2")
 abbrev put_t2 : Edit
 put_t2 = edit.Put (item.Run t2)
 
-abbrev again : List Entry
+abbrev pub again : List Entry
 again = by_main (act.Opened two_runs 8 []) ∷ by_main (act.Edited 0 9 drop_t2) ∷ by_main (act.Edited 0 10 put_t2) ∷ []
 
 again_legal : IsLegal again
@@ -180,7 +180,7 @@ again_touches_10 : Touches again s 10
 unfolding cut_at tables_at
 again_touches_10 = apart_back trains _ _ (lit< tt)
 
-again_last_touching : IsLastTouching again s 10
+pub again_last_touching : IsLastTouching again s 10
 unfolding last_number
 again_last_touching = record {
   from_first = lit≤ tt;

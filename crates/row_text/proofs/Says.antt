@@ -15,7 +15,7 @@ use Rattle.rail_model.specs.declared.form.Form.{Form}
 use Rattle.rail_model.specs.declared.form.Form.TheVariants as form
 use Rattle.std.specs.Option.{option_or, ok_or}
 use Rattle.row_text.specs.Row.{Row}
-use Rattle.row_text.specs.Sorts.{Sort, Name, Number, Rate, Time, value_of, is_number, number_of, classes, class_rate, rate_of, has_clock_form, clock_after, clock_of, time_of, name_in, number_in, rate_in, time_in}
+use Rattle.row_text.specs.Sorts.{value_of, is_number, number_of, classes, class_rate, rate_of, has_clock_form, clock_after, clock_of, time_of, name_in, number_in, rate_in, time_in}
 use Rattle.row_text.specs.Lines.{◌>>=◌, read_each}
 
 -- the value before a read that goes on
@@ -132,6 +132,13 @@ name_in-again text n e = elim (cases_Bool (is_name text)) [
   | inl is ↦ let same : text ≡ n = cc (rw is at e) in subst (λ (t : List ℕ). name_in t ≡ Ok n) same e
   | inr other ↦ absurd (cc (rw other at e))
 ]
+
+-- what a field may be: a name; a number; a rate in per cent; a time in seconds
+pub data Sort : Type 0 where
+  Name : Sort
+  Number : Sort
+  Rate : Sort
+  Time : Sort
 
 -- what a field of a sort says can be said
 abbrev pub Read : Sort → Type 0

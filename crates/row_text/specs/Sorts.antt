@@ -1,4 +1,4 @@
--- The sorts of fields, and what a field of each sort says.
+-- What a field says as a name, a number, a rate in per cent or a time in seconds.
 use Rattle.std.specs.Prelude.{ℕ, ◌+◌, ◌-◌, ◌*◌, Bool, ◌&&◌, ◌==◌, nat_lt, nat_le, if◌then◌else◌, List, [], ◌∷◌, length, take, fold, codes, slice_range, slice_index, Option, Some, None, Result, option_and_then, find, option_map}
 use Rattle.std.specs.Option.{option_or, ok_or}
 use Rattle.std.specs.List.{list_all}
@@ -7,13 +7,6 @@ use Rattle.rail_model.specs.Name.{is_same, name_of}
 use Rattle.rail_model.specs.declared.form.Form.{Form}
 use Rattle.rail_model.specs.declared.form.Form.TheVariants as form
 use Rattle.row_text.specs.declared.read_field.TheConstants.{NUMBER_DIGITS, HOUR_DIGITS}
-
--- what a field may be: a name; a number; a rate in per cent; a time in seconds
-pub data Sort : Type 0 where
-  Name : Sort
-  Number : Sort
-  Rate : Sort
-  Time : Sort
 
 -- the number that digits write in decimal
 abbrev pub value_of : List ℕ → ℕ
