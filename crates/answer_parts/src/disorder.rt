@@ -2,7 +2,7 @@
 ghost use Rattle.std.specs.Prelude.{◌≡◌, [], ◌∷◌, length, OnOk, OnErr};
 ghost use Rattle.row_text.specs.SheetRows.{with_row};
 ghost use Rattle.row_text.specs.Adds.{Adds};
-ghost use Rattle.answer_parts.specs.Disorder as rows;
+ghost use Rattle.answer_parts.specs.Rows as rows;
 
 use crate::links::link_rows;
 use plan_model::Link;

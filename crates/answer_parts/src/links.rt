@@ -1,7 +1,7 @@
 //! The rows of links: of a ring, and of a chain.
 ghost use Rattle.std.specs.Prelude.{[], ◌∷◌, map};
 ghost use Rattle.row_text.specs.Adds.{Adds};
-ghost use Rattle.answer_parts.specs.Links as rows;
+ghost use Rattle.answer_parts.specs.Rows as rows;
 
 use plan_model::Link;
 use rail_model::OutOfMemory;

@@ -2,7 +2,7 @@
 ghost use Rattle.std.specs.Prelude.{◌≡◌, ◌<◌, ◌^◌, ◌++◌, codes, decimal, string_bytes};
 ghost use Rattle.std.specs.Prelude.{OnOk, OnErr, IfOk};
 ghost use Rattle.row_text.specs.SheetRows.{with_row, with_field, with_fields};
-ghost use Rattle.answer_parts.specs.Rates as rows;
+ghost use Rattle.answer_parts.specs.Rows as rows;
 
 use occupancy_rate::Fraction;
 use rail_model::{Name, OutOfMemory};

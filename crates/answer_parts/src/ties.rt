@@ -1,7 +1,7 @@
 //! What holds a train at its entry, as the last fields of its row.
 ghost use Rattle.std.specs.Prelude.{◌≡◌, OnOk, OnErr};
 ghost use Rattle.row_text.specs.SheetRows.{with_fields};
-ghost use Rattle.answer_parts.specs.Ties.{start_fields, after_fields};
+ghost use Rattle.answer_parts.specs.Rows.{start_fields, after_fields};
 
 use rail_model::{Name, OutOfMemory};
 use row_text::Sheet;

@@ -10,10 +10,9 @@ use Rattle.plan_model.specs.declared.answer.Tie.TheVariants as tie
 use Rattle.plan_model.specs.Rates.{Fraction, rate, consumption}
 use Rattle.critical_chain.specs.Chain.{train_at, chain_of}
 use Rattle.row_text.specs.Row.{Row}
-use Rattle.answer_parts.specs.Ties.{start_fields, after_fields}
-use Rattle.answer_parts.specs.Links.{link_row}
-use Rattle.answer_parts.specs.Rates as rates
-pub use Rattle.answer_parts.specs.Disorder.{opposite_row, ring_rows, crowded_row}
+use Rattle.answer_parts.specs.Rows.{start_fields, after_fields, link_row}
+use Rattle.answer_parts.specs.Rows as rates
+pub use Rattle.answer_parts.specs.Rows.{opposite_row, ring_rows, crowded_row}
 use Rattle.capacity_report.specs.declared.answers.Detail.{Detail}
 use Rattle.capacity_report.specs.declared.answers.Detail.TheVariants as detail
 

@@ -7,7 +7,7 @@ use Rattle.plan_model.specs.declared.answer.Tie.TheVariants as tie
 use Rattle.plan_model.specs.Places.{place_name, place_count}
 use Rattle.plan_model.specs.Members.{member, member_count, members}
 use Rattle.row_text.specs.Row.{Row}
-use Rattle.answer_parts.specs.Ties.{start_fields, after_fields}
+use Rattle.answer_parts.specs.Rows.{start_fields, after_fields}
 use Rattle.delay_spread.specs.declared.found.Held.{Held}
 use Rattle.delay_spread.specs.declared.found.Spread.{Spread}
 use Rattle.delay_spread.specs.Delayed.{later_by}

@@ -6,7 +6,7 @@ use Rattle.plan_model.specs.declared.cut.Cut.{Cut}
 use Rattle.plan_model.specs.declared.answer.Disorder.{Disorder}
 use Rattle.plan_model.specs.declared.answer.Disorder.TheVariants as disorder
 use Rattle.row_text.specs.Row.{Row}
-use Rattle.answer_parts.specs.Disorder.{opposite_row, ring_rows}
+use Rattle.answer_parts.specs.Rows.{opposite_row, ring_rows}
 use Rattle.line_cutter.specs.declared.found.Stretch.{Stretch}
 use Rattle.line_cutter.specs.declared.found.Cutting.{Cutting}
 

@@ -2,7 +2,7 @@
 use Rattle.std.specs.Prelude.{ℕ, ◌+◌, List, [], ◌∷◌, codes, decimal}
 use Rattle.rail_model.specs.declared.items.Section.{Section}
 use Rattle.row_text.specs.Row.{Row}
-use Rattle.answer_parts.specs.Rates.{consumption_fields}
+use Rattle.answer_parts.specs.Rows.{consumption_fields}
 use Rattle.path_fill.specs.declared.found.Fill.{Fill}
 use Rattle.path_fill.specs.declared.found.Fill.TheVariants as fill
 use Rattle.path_fill.specs.Filling.{consumption_of}

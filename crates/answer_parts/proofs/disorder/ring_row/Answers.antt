@@ -1,4 +1,4 @@
-use Rattle.answer_parts.specs.Disorder.{ring_row}
+use Rattle.answer_parts.specs.Rows.{ring_row}
 use Rattle.row_text.proofs.Adds.{adds_one}
 use Rattle.answer_parts.proofs.disorder.ring_row.Goals as goal
 

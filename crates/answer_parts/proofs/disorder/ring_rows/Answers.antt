@@ -1,7 +1,7 @@
 use Rattle.std.proofs.Common.{map}
 use Rattle.row_text.proofs.Adds.{adds_stopped, first_added}
 use Rattle.answer_parts.proofs.Added.{then_adds}
-use Rattle.answer_parts.specs.Links.{link_row}
+use Rattle.answer_parts.specs.Rows.{link_row}
 use Rattle.answer_parts.proofs.disorder.ring_rows.Goals as goal
 
 pub returns-in_err-ring_row : goal.returns-in_err-ring_row

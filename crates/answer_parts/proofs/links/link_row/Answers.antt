@@ -1,4 +1,4 @@
-use Rattle.answer_parts.specs.Links.{link_row}
+use Rattle.answer_parts.specs.Rows.{link_row}
 use Rattle.row_text.proofs.Adds.{adds_one}
 use Rattle.answer_parts.proofs.links.link_row.Goals as goal
 

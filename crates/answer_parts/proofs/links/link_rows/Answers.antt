@@ -2,7 +2,7 @@ use Rattle.std.proofs.Common.{[], ◌∷◌, map, ap}
 use Rattle.std.proofs.lemmas.List.{map-append}
 use Rattle.row_text.proofs.Adds.{adds_stopped}
 use Rattle.answer_parts.proofs.Added.{all_none, items_more, items_within, items_all}
-use Rattle.answer_parts.specs.Links.{link_row}
+use Rattle.answer_parts.specs.Rows.{link_row}
 use Rattle.answer_parts.proofs.links.link_rows.Goals as goal
 
 pub loop-link-init : goal.loop-link-init

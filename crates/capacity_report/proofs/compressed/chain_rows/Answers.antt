@@ -5,7 +5,7 @@ use Rattle.critical_chain.proofs.Walk.{read}
 use Rattle.row_text.specs.Adds.{AddsAll}
 use Rattle.row_text.proofs.Adds.{adds_none, adds_stopped}
 use Rattle.answer_parts.proofs.Added.{all_one, then_adds}
-use Rattle.answer_parts.specs.Links.{link_row}
+use Rattle.answer_parts.specs.Rows.{link_row}
 use Rattle.capacity_report.specs.Answers.{critical_row}
 use Rattle.capacity_report.proofs.compressed.chain_rows.Goals as goal
 
