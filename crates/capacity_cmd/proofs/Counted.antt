@@ -12,7 +12,7 @@ use Rattle.plan_model.specs.declared.journal.Entry.{Entry}
 use Rattle.plan_model.specs.Session.{IsSession}
 use Rattle.plan_model.specs.Journal.{opening, edits, last_number}
 use Rattle.row_text.specs.Row.{Row}
-use Rattle.capacity_report.specs.Report.{AreAnswers}
+use Rattle.capacity_report.specs.Answers.{AreAnswers}
 use Rattle.capacity_report.proofs.Reports.{total_more, answers_more, answers_count}
 use Rattle.made_line.specs.declared.counts.TheConstants.{BASE_EDITS}
 use Rattle.capacity_cmd.specs.declared.reply.Reply.{Reply}

@@ -10,9 +10,7 @@ use Rattle.plan_model.specs.Session.{IsSession}
 use Rattle.row_text.specs.Row.{Row}
 use Rattle.row_text.specs.SheetRows.{text_of_rows}
 use Rattle.capacity_report.specs.declared.answers.Detail.TheVariants as detail
-use Rattle.capacity_report.specs.Answers.{answer_rows}
-use Rattle.capacity_report.specs.Report.{AreAnswers, heads, report_rows}
-use Rattle.capacity_report.specs.Total.{Total, total_row, with_answer}
+use Rattle.capacity_report.specs.Answers.{answer_rows, AreAnswers, heads, report_rows, Total, total_row, with_answer}
 use Rattle.capacity_report.specs.Journal.{rows_of_journal}
 use Rattle.capacity_report.proofs.Reports.{total_more, heads_more, answers_more, answers_count}
 use Rattle.capacity_cmd.specs.Report.{IsReportText, AddsReport, AddsHead, HasHeads}

@@ -4,7 +4,7 @@ use Rattle.rail_model.specs.declared.tables.Tables.{Tables}
 use Rattle.rail_model.specs.Conflict.{Conflict, AreConflicts}
 use Rattle.rail_model.specs.Timetable.{timetable}
 use Rattle.row_text.specs.SheetRows.{text_of_rows}
-use Rattle.capacity_report.specs.Check.{check_rows}
+use Rattle.capacity_report.specs.Rows.{check_rows}
 
 -- the rows of the timetable's conflicts
 abbrev pub IsCheckText : Tables → List ℕ → Type 0

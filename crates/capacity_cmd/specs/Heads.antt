@@ -3,7 +3,7 @@ use Rattle.std.specs.Prelude.{◌≡◌, ℕ, ◌<◌, List, [], length, slice_i
 use Rattle.rail_model.specs.declared.items.Section.{Section}
 use Rattle.rail_model.specs.declared.tables.Tables.{Tables}
 use Rattle.rail_model.specs.Tables.{section_at}
-use Rattle.capacity_report.specs.Total.{total_of}
+use Rattle.capacity_report.specs.Answers.{total_of}
 use Rattle.capacity_cmd.specs.declared.heads.Head.{Head}
 use Rattle.capacity_cmd.specs.Report.{AddsHead}
 

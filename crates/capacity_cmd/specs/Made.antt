@@ -11,8 +11,7 @@ use Rattle.plan_model.specs.Journal.{tables_of, edits}
 use Rattle.plan_model.specs.Session.{IsSession}
 use Rattle.row_text.specs.Row.{Row}
 use Rattle.row_text.specs.SheetRows.{text_of_rows}
-use Rattle.capacity_report.specs.Report.{AreAnswers}
-use Rattle.capacity_report.specs.Total.{Total, total_of, total_row, with_answer}
+use Rattle.capacity_report.specs.Answers.{AreAnswers, Total, total_of, total_row, with_answer}
 use Rattle.made_line.specs.declared.counts.TheConstants.{BASE_EDITS, PLANNERS, WORKERS}
 use Rattle.made_line.specs.MadeScripts.{scripts_of_made}
 use Rattle.made_line.specs.Tables.{base_tables}

@@ -10,8 +10,7 @@ use Rattle.plan_model.specs.Answer.{IsAnswer}
 use Rattle.plan_model.specs.Journal.{Publication, last_publication, tables_of}
 use Rattle.row_text.specs.SheetRows.{text_of_rows}
 use Rattle.capacity_report.specs.Journal.{rows_of_journal}
-use Rattle.capacity_report.specs.Report.{report_rows}
-use Rattle.capacity_report.specs.Total.{IsAnswerOfSome}
+use Rattle.capacity_report.specs.Answers.{report_rows, IsAnswerOfSome}
 
 -- the answer of a section that was published last, if one was
 abbrev pub last_answer : List Entry → List ℕ → Option Answer

@@ -8,9 +8,7 @@ use Rattle.plan_model.specs.Answer.{IsAnswer}
 use Rattle.row_text.specs.Row.{Row}
 use Rattle.row_text.specs.SheetRows.{text_of_rows}
 use Rattle.capacity_report.specs.declared.answers.Detail.TheVariants as detail
-use Rattle.capacity_report.specs.Answers.{answer_rows}
-use Rattle.capacity_report.specs.Report.{AreAnswers, heads, report_rows}
-use Rattle.capacity_report.specs.Total.{Total, total_of, with_answer}
+use Rattle.capacity_report.specs.Answers.{answer_rows, AreAnswers, heads, report_rows, Total, total_of, with_answer}
 
 -- the heads of the answers of all sections, and their total
 abbrev pub IsReportText : Tables → List ℕ → Type 0

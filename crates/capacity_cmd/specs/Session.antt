@@ -8,7 +8,7 @@ use Rattle.plan_model.specs.Journal.{tables_of}
 use Rattle.plan_model.specs.Session.{IsSession, IsSessionAlone}
 use Rattle.row_text.specs.SheetRows.{text_of_rows}
 use Rattle.capacity_report.specs.Journal.{rows_of_journal}
-use Rattle.capacity_report.specs.Report.{AreAnswers, report_rows}
+use Rattle.capacity_report.specs.Answers.{AreAnswers, report_rows}
 
 -- a session with so many workers, over tables, the number of the last edit before it and planners' scripts, may have this
 -- journal; without workers there is one

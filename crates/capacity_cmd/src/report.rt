@@ -4,7 +4,7 @@ ghost use Rattle.rail_model.specs.Tables.{section_at};
 ghost use Rattle.rail_model.specs.Timetable.{timetable};
 ghost use Rattle.plan_model.specs.SectionCut.{section_cut};
 ghost use Rattle.plan_model.specs.Answer.{IsAnswer};
-ghost use Rattle.capacity_report.specs.Total.{total_of, IsAnswerOfSome};
+ghost use Rattle.capacity_report.specs.Answers.{total_of, IsAnswerOfSome};
 ghost use Rattle.capacity_cmd.specs.Report.{IsReportText, AddsReport, HasHeads, AddsHead};
 ghost use Rattle.capacity_cmd.specs.Heads.{AreHeads};
 ghost use Rattle.capacity_cmd.specs.Published.{HaveAnswers};

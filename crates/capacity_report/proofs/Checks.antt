@@ -14,7 +14,7 @@ use Rattle.conflict_finder.specs.declared.found.Conflicts.{Conflicts}
 use Rattle.conflict_finder.specs.declared.found.TheConstants.{LISTED}
 use Rattle.conflict_finder.specs.Found.{as_listed, IsFound}
 use Rattle.rail_model.specs.Timetable.{timetable}
-use Rattle.capacity_report.specs.Check.{conflict_row, found_rows, check_rows}
+use Rattle.capacity_report.specs.Rows.{conflict_row, found_rows, check_rows}
 
 pub listed_there : (tables : Tables) → IsSound tables → (found : Conflicts) → IsFound (timetable tables) found → (i : ℕ) (d : Conflict) → i < length found.list → (get_or found.list i d).block < length tables.blocks
 listed_there tables sound found f i d l =

@@ -15,10 +15,8 @@ use Rattle.plan_model.specs.Disorder.{Opposite, opposite, ring}
 use Rattle.row_text.specs.Row.{Row}
 use Rattle.capacity_report.specs.declared.answers.Detail.{Detail}
 use Rattle.capacity_report.specs.declared.answers.Detail.TheVariants as detail
-use Rattle.capacity_report.specs.Answers.{answer_rows, rate_row}
-use Rattle.capacity_report.specs.Headways.{headways_or_count}
-use Rattle.capacity_report.specs.Report.{report_rows}
-use Rattle.capacity_report.specs.Total.{total_of, total_row}
+use Rattle.capacity_report.specs.Answers.{answer_rows, rate_row, report_rows, total_of, total_row}
+use Rattle.capacity_report.specs.Rows.{headways_or_count}
 
 -- ---- rows, sections and trains
 

@@ -21,7 +21,7 @@ use Rattle.plan_model.specs.Answer.{placed_at, plan_of}
 use Rattle.plan_model.proofs.MemberTests.{filter-has, in_range}
 use Rattle.critical_chain.specs.Chain.{IsPlan}
 use Rattle.critical_chain.proofs.Ties.{bound, found}
-use Rattle.capacity_report.specs.Total.{IsAnswerOfSome}
+use Rattle.capacity_report.specs.Answers.{IsAnswerOfSome}
 use Rattle.capacity_report.specs.Shown.{IsTieOf, IsTrainOf, IsShown}
 
 module _ (cut : Cut) (entries : List ℤ) (sound : IsSoundCut cut) (schedule : IsSchedule cut entries) where

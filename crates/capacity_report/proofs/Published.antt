@@ -20,7 +20,7 @@ use Rattle.plan_model.specs.Touch.{cut_at}
 use Rattle.plan_model.specs.Legal.{IsAnswerAt, MayFollow, AllFollow, Opens, IsLegal}
 use Rattle.plan_model.proofs.Legality.{tables_are_sound, next_is_legal}
 use Rattle.section_cut.proofs.SoundCut.{sound_cut}
-use Rattle.capacity_report.specs.Total.{IsAnswerOfSome}
+use Rattle.capacity_report.specs.Answers.{IsAnswerOfSome}
 use Rattle.capacity_report.specs.Published.{PublishesAnswer}
 
 -- the cut of a section of sound tables is sound

@@ -8,9 +8,7 @@ use Rattle.plan_model.specs.declared.answer.Answer.{Answer}
 use Rattle.plan_model.specs.SectionCut.{section_cut}
 use Rattle.plan_model.specs.Answer.{IsAnswer}
 use Rattle.capacity_report.specs.declared.answers.Detail.TheVariants as detail
-use Rattle.capacity_report.specs.Answers.{answer_rows}
-use Rattle.capacity_report.specs.Total.{total_of, with_answer, joined, is_ordered, is_within_capacity, is_over_capacity, is_disordered, is_crowded}
-use Rattle.capacity_report.specs.Report.{AreAnswers, heads}
+use Rattle.capacity_report.specs.Answers.{answer_rows, total_of, with_answer, joined, is_ordered, is_within_capacity, is_over_capacity, is_disordered, is_crowded, AreAnswers, heads}
 
 count_both : (test : Answer → Bool) (xs ys : List Answer) → count_by test (xs ++ ys) ≡ count_by test xs + count_by test ys
 count_both test xs ys = sum_by-append (λ a. cond (test a) 1 0) xs ys

@@ -21,7 +21,7 @@ use Rattle.std.proofs.Math.ListN.{get_or-map as get_or-map-any}
 use Rattle.row_text.specs.Row.{Row}
 use Rattle.row_text.specs.SheetRows.{SheetRows}
 use Rattle.row_text.specs.Adds.{AddsFirst, Adds}
-use Rattle.capacity_report.specs.Stairs.{hop_row, run_rows, stairs_rows}
+use Rattle.capacity_report.specs.Rows.{hop_row, run_rows, stairs_rows}
 use Rattle.capacity_report.specs.Blockings.{blocking_row, named_row, rows_by_names, rows_at, names_of}
 
 -- the block of each blocking is among the names where that of each hop is

@@ -5,8 +5,7 @@ use Rattle.std.proofs.lemmas.List.Sums.{sum_by-cons}
 use Rattle.plan_model.specs.declared.answer.Answer.{Answer}
 use Rattle.plan_model.specs.declared.answer.Answer.TheVariants as answer
 use Rattle.plan_model.specs.Rates.{is_within}
-use Rattle.capacity_report.specs.Answers.{consumption_of}
-use Rattle.capacity_report.specs.Total.{is_ordered, is_within_capacity, is_over_capacity, is_disordered, is_crowded}
+use Rattle.capacity_report.specs.Answers.{consumption_of, is_ordered, is_within_capacity, is_over_capacity, is_disordered, is_crowded}
 use Rattle.capacity_report.specs.Laws.{TotalAddsUp}
 
 either : (b : Bool) → cond b 1 0 + cond (not b) 1 0 ≡ 1

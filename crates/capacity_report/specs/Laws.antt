@@ -1,7 +1,7 @@
 -- Laws of totals.
 use Rattle.std.specs.Prelude.{List}
 use Rattle.plan_model.specs.declared.answer.Answer.{Answer}
-use Rattle.capacity_report.specs.Total.{total_of, AddsUp}
+use Rattle.capacity_report.specs.Answers.{total_of, AddsUp}
 
 -- the counts of the total of any answers add up
 abbrev pub TotalAddsUp : Type 0

@@ -1,13 +1,9 @@
-pub mod Stairs
 pub mod Blockings
 pub mod Parts
-pub mod Check
 pub mod Answers
-pub mod Total
-pub mod Headways
 pub mod Pairs
-pub mod Report
 pub mod Journal
 pub mod Published
 pub mod Shown
 pub mod Laws
+pub mod Rows

@@ -2,7 +2,7 @@
 use Rattle.std.specs.Prelude.{⊤}
 use Rattle.plan_model.specs.declared.journal.Act.{Act}
 use Rattle.plan_model.specs.declared.journal.Act.TheVariants as act
-use Rattle.capacity_report.specs.Total.{IsAnswerOfSome}
+use Rattle.capacity_report.specs.Answers.{IsAnswerOfSome}
 
 -- an answer that is published is that of a sound cut
 abbrev pub PublishesAnswer : Act → Type 0

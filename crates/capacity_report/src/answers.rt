@@ -2,7 +2,7 @@
 ghost use Rattle.std.specs.Prelude.{◌≡◌, ◌++◌, ◌∷◌, [], OnOk, OnErr};
 ghost use Rattle.row_text.specs.Adds.{Adds, AddsFirst};
 ghost use Rattle.capacity_report.specs.Answers as rows;
-ghost use Rattle.capacity_report.specs.Total.{IsAnswerOfSome};
+ghost use Rattle.capacity_report.specs.Answers.{IsAnswerOfSome};
 
 use crate::compressed::plan_rows;
 use answer_parts::{crowded_row, opposite_row, ring_rows};

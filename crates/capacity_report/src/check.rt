@@ -5,7 +5,7 @@ ghost use Rattle.conflict_finder.specs.Found.{IsFound};
 ghost use Rattle.row_text.specs.SheetRows.{with_row};
 ghost use Rattle.row_text.specs.Adds.{Adds, AddsFirst};
 ghost use Rattle.rail_model.specs.Timetable.{timetable};
-ghost use Rattle.capacity_report.specs.Check as rows;
+ghost use Rattle.capacity_report.specs.Rows as rows;
 
 use conflict_finder::{Conflict, Conflicts};
 use line_tables::LineTables;

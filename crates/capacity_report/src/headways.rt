@@ -5,7 +5,7 @@ ghost use Rattle.plan_model.specs.Members.{member_count};
 ghost use Rattle.headway_table.specs.Table.{table_of};
 ghost use Rattle.row_text.specs.SheetRows.{with_row, text_of_rows};
 ghost use Rattle.row_text.specs.Adds.{Adds};
-ghost use Rattle.capacity_report.specs.Headways as rows;
+ghost use Rattle.capacity_report.specs.Rows as rows;
 ghost use Rattle.capacity_report.specs.Pairs as pairs;
 ghost use Rattle.capacity_report.specs.Parts.{text_between};
 

@@ -7,7 +7,7 @@ ghost use Rattle.row_text.specs.Adds.{Adds, AddsFirst};
 ghost use Rattle.row_text.specs.Spelling.{edit_row};
 ghost use Rattle.capacity_report.specs.Journal as rows;
 ghost use Rattle.capacity_report.specs.Published.{PublishesAnswer};
-ghost use Rattle.capacity_report.specs.Total.{IsAnswerOfSome};
+ghost use Rattle.capacity_report.specs.Answers.{IsAnswerOfSome};
 
 use crate::answers::{Detail, answer_rows};
 use crate::rule::rule_text;

@@ -5,7 +5,7 @@ ghost use Rattle.std.specs.List.{flat_map, range_with_len};
 ghost use Rattle.rail_model.specs.Path.{Fits};
 ghost use Rattle.row_text.specs.SheetRows.{with_row, text_of_rows};
 ghost use Rattle.row_text.specs.Adds.{Adds};
-ghost use Rattle.capacity_report.specs.Stairs as rows;
+ghost use Rattle.capacity_report.specs.Rows as rows;
 ghost use Rattle.capacity_report.specs.Blockings.{blocking_row, named_row, rows_by_names, rows_at, names_of, AreNamed};
 ghost use Rattle.capacity_report.specs.Parts.{text_between};
 

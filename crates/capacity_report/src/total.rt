@@ -1,7 +1,7 @@
 //! The total of a report.
 ghost use Rattle.std.specs.Prelude.{◌≡◌, ◌+◌, ◌<◌, [], OnOk, OnErr};
 ghost use Rattle.row_text.specs.SheetRows.{with_row};
-ghost use Rattle.capacity_report.specs.Total as totals;
+ghost use Rattle.capacity_report.specs.Answers as totals;
 
 use crate::rates::is_within;
 use plan_model::Answer;
@@ -22,7 +22,7 @@ pub struct Tally {
 }
 
 impl Model for Tally {
-    ghost use Rattle.capacity_report.specs.Total.{Total, IsTally};
+    ghost use Rattle.capacity_report.specs.Answers.{Total, IsTally};
 
     ghost Value = { Total };
 

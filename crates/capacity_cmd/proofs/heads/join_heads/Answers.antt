@@ -1,6 +1,6 @@
 use Rattle.std.proofs.Common.{◌<◌, [], length, sym, ap, subst, append-nil, arith}
 use Rattle.rail_model.specs.Tables.{section_at}
-use Rattle.capacity_report.specs.Total.{Total}
+use Rattle.capacity_report.specs.Answers.{Total}
 use Rattle.capacity_cmd.specs.Heads.{IsHead}
 use Rattle.capacity_cmd.proofs.Reports.{heads_added, sections_counted}
 use Rattle.capacity_cmd.proofs.SideBySide.{head_joined}

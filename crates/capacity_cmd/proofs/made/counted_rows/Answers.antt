@@ -1,7 +1,7 @@
 use Rattle.std.proofs.Common.{◌≡◌, ◌++◌, [], ◌∷◌, ap, ◌∙◌, append_assoc}
 use Rattle.std.proofs.lemmas.Result.{IfOk-weaker}
 use Rattle.row_text.specs.SheetRows.{SheetRows, with_row}
-use Rattle.capacity_report.specs.Total.{total_row}
+use Rattle.capacity_report.specs.Answers.{total_row}
 use Rattle.capacity_cmd.specs.Made.{occupancy_row, counted_rows, counted_by}
 use Rattle.capacity_cmd.proofs.made.counted_rows.Goals as goal
 

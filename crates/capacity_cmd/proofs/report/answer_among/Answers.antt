@@ -4,7 +4,7 @@ use Rattle.std.proofs.lemmas.Result.{IfOk-weaker}
 use Rattle.rail_model.specs.Tables.{section_at}
 use Rattle.plan_model.specs.declared.cut.Cut.{Cut}
 use Rattle.plan_model.specs.Answer.{IsAnswer}
-use Rattle.capacity_report.specs.Total.{IsAnswerOfSome}
+use Rattle.capacity_report.specs.Answers.{IsAnswerOfSome}
 use Rattle.capacity_cmd.proofs.Cuts.{stamped_none}
 use Rattle.capacity_cmd.proofs.report.answer_among.Goals as goal
 

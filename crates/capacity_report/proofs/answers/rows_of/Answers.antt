@@ -1,7 +1,6 @@
 use Rattle.std.proofs.Common.{subst}
 use Rattle.row_text.proofs.Adds.{adds_one}
-use Rattle.capacity_report.specs.Answers.{opposite_row, crowded_row}
-use Rattle.capacity_report.specs.Total.{IsAnswerOfSome}
+use Rattle.capacity_report.specs.Answers.{opposite_row, crowded_row, IsAnswerOfSome}
 use Rattle.capacity_report.proofs.Plans.{shown_in}
 use Rattle.capacity_report.proofs.answers.rows_of.Goals as goal
 

@@ -1,7 +1,7 @@
 use Rattle.std.proofs.Common.{◌++◌, ap, ◌∙◌}
 use Rattle.std.proofs.lemmas.Result.{on_ok_weaker, on_err_weaker}
 use Rattle.answer_parts.proofs.Added.{adds_rows, adds_closed, adds_first}
-use Rattle.capacity_report.specs.Check.{found_rows}
+use Rattle.capacity_report.specs.Rows.{found_rows}
 use Rattle.capacity_report.proofs.Checks.{all_there, rows_found}
 use Rattle.capacity_report.proofs.check.conflict_rows.Goals as goal
 

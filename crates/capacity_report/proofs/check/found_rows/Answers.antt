@@ -1,7 +1,7 @@
 use Rattle.std.proofs.Common.{[], ◌∷◌, length}
 use Rattle.row_text.proofs.Adds.{adds_one, adds_stopped, first_added}
 use Rattle.answer_parts.proofs.Added.{then_adds}
-use Rattle.capacity_report.specs.Check.{count_row}
+use Rattle.capacity_report.specs.Rows.{count_row}
 use Rattle.capacity_report.proofs.check.found_rows.Goals as goal
 
 pub returns-in_err-listed_rows : goal.returns-in_err-listed_rows

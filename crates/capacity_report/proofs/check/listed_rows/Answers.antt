@@ -2,7 +2,7 @@ use Rattle.std.proofs.Common.{[], ◌∷◌, map, ap}
 use Rattle.std.proofs.lemmas.List.{map-append}
 use Rattle.row_text.proofs.Adds.{adds_none, adds_stopped}
 use Rattle.answer_parts.proofs.Added.{all_none, all_one, items_more, items_within, items_all}
-use Rattle.capacity_report.specs.Check.{conflict_row}
+use Rattle.capacity_report.specs.Rows.{conflict_row}
 use Rattle.capacity_report.proofs.check.listed_rows.Goals as goal
 
 pub loop-conflict-init : goal.loop-conflict-init

@@ -3,7 +3,7 @@ use Rattle.std.specs.Prelude.{IfOk}
 use Rattle.std.specs.List.{flat_map, range_with_len}
 use Rattle.plan_model.specs.Members.{member_count}
 use Rattle.row_text.specs.SheetRows.{text_of_rows}
-use Rattle.capacity_report.specs.Headways.{rows_from}
+use Rattle.capacity_report.specs.Rows.{rows_from}
 use Rattle.capacity_report.proofs.headways.text_by_names.Goals as goal
 
 pub text_in_parts-requires-clause-accepts : goal.text_in_parts-requires-clause-accepts

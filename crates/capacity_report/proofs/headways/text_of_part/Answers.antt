@@ -1,6 +1,6 @@
 use Rattle.std.proofs.Common.{ap, ◌∙◌, arith}
 use Rattle.row_text.specs.SheetRows.{SheetRows, text_of_rows}
-use Rattle.capacity_report.specs.Headways.{rows_from}
+use Rattle.capacity_report.specs.Rows.{rows_from}
 use Rattle.capacity_report.specs.Parts.{text_between}
 use Rattle.capacity_report.proofs.PartTexts.{rows_none, rows_more}
 use Rattle.capacity_report.proofs.headways.text_of_part.Goals as goal

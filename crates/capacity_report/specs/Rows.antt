@@ -1,0 +1,76 @@
+-- The rows of `stairs`, `check` and `headways`.
+use Rattle.std.specs.Prelude.{ℕ, ℤ, List, ◌∷◌, map, codes, ◌-◌, [], ◌++◌, length, take, decimal, nat_lt, if◌then◌else◌, option_map}
+use Rattle.std.specs.List.{flat_map, range_with_len, filter_map}
+use Rattle.std.specs.Fmt.{signed_decimal}
+use Rattle.rail_model.specs.declared.tables.Tables.{Tables}
+use Rattle.rail_model.specs.declared.path.Path.{Path}
+use Rattle.rail_model.specs.Path.{hop, hop_count}
+use Rattle.rail_model.specs.Blocking.{blocking_start, blocking_end, parts}
+use Rattle.rail_model.specs.Tables.{block_name, path_in}
+use Rattle.row_text.specs.Row.{Row}
+use Rattle.rail_model.specs.Conflict as whole
+use Rattle.conflict_finder.specs.declared.found.Conflict.{Conflict}
+use Rattle.conflict_finder.specs.declared.found.Conflicts.{Conflicts}
+use Rattle.conflict_finder.specs.declared.found.TheConstants.{LISTED}
+use Rattle.conflict_finder.specs.Found.{as_listed}
+use Rattle.plan_model.specs.declared.limits.TheConstants.{MEMBERS}
+use Rattle.plan_model.specs.declared.cut.Cut.{Cut}
+use Rattle.plan_model.specs.Members.{member, members, member_count}
+use Rattle.headway_table.specs.Table.{between}
+use Rattle.capacity_report.specs.Answers.{crowded_row}
+
+-- use,RUN,BLOCK,START,END,FORM,WATCH,APPROACH,RUNNING,CLEARING,RELEASE
+abbrev pub use_row : List ℕ → List ℕ → List ℤ → Row
+use_row run block times = codes "use" ∷ run ∷ block ∷ map signed_decimal times
+
+-- the row of the k-th block of a run's path: the block's use, and its six parts
+abbrev pub hop_row : Tables → Path → ℕ → Row
+hop_row tables path k =
+    use_row path.run (block_name tables (hop path k).block) (blocking_start path k ∷ blocking_end path k ∷ parts path k)
+
+-- a run's rows, one for each block in the order of its path
+abbrev pub run_rows : Tables → Path → List Row
+run_rows tables path = map (hop_row tables path) (range_with_len 1 (hop_count path))
+
+-- the rows of all runs, in the order of their names
+abbrev pub stairs_rows : Tables → List Row
+stairs_rows tables = flat_map (λ run. run_rows tables (path_in tables run)) tables.runs
+
+-- conflict,BLOCK,FIRST,SECOND,FROM,TO
+abbrev pub conflict_row : Tables → Conflict → Row
+conflict_row tables c =
+    codes "conflict" ∷ block_name tables c.block ∷ c.first ∷ c.second ∷ signed_decimal c.from ∷ signed_decimal c.to ∷ []
+
+-- conflicts,LISTED,MORE
+abbrev pub count_row : ℕ → ℕ → Row
+count_row listed more = codes "conflicts" ∷ decimal listed ∷ decimal more ∷ []
+
+-- the rows of what was found: the conflicts that are listed, and the count
+abbrev pub found_rows : Tables → Conflicts → List Row
+found_rows tables found = map (conflict_row tables) found.list ++ count_row (length found.list) found.more ∷ []
+
+-- of all conflicts, in their order, the rows of those that are listed, and the count
+abbrev pub check_rows : Tables → List whole.Conflict → List Row
+check_rows tables all =
+    map (conflict_row tables) (map as_listed (take LISTED all))
+    ++ count_row (length (take LISTED all)) (length all - LISTED) ∷ []
+
+-- headway,FIRST,SECOND,SECONDS
+abbrev pub headway_row : Cut → ℕ → ℕ → ℤ → Row
+headway_row cut i j seconds =
+    codes "headway" ∷ (member cut i).name ∷ (member cut j).name ∷ signed_decimal seconds ∷ []
+
+-- the rows of the headways from one member to each other that shares a place with it
+abbrev pub rows_from : Cut → ℕ → List Row
+rows_from cut i = filter_map (λ j. option_map (headway_row cut i j) (between cut i j)) (members cut)
+
+-- the rows of all headways of a cut, by the names of the first and then the second
+abbrev pub headway_rows : Cut → List Row
+headway_rows cut = flat_map (rows_from cut) (members cut)
+
+-- what is written for a cut: of one with more members than are compressed, only how many they are
+abbrev pub headways_or_count : Cut → List Row
+headways_or_count cut =
+    if nat_lt MEMBERS (member_count cut)
+    then crowded_row cut.section.name (member_count cut) ∷ []
+    else headway_rows cut
