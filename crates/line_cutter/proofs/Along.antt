@@ -10,8 +10,7 @@ use Rattle.plan_model.specs.declared.answer.Disorder.TheVariants as disorder
 use Rattle.plan_model.specs.Places.{block_count}
 use Rattle.train_order.specs.Ordering.{IsOrdering}
 use Rattle.line_cutter.specs.declared.found.Stretch.{Stretch}
-use Rattle.line_cutter.specs.Piece.{piece, IsOrderly}
-use Rattle.line_cutter.specs.Cutting.{AreOrderly, IsStretch, AreStretches}
+use Rattle.line_cutter.specs.Cutting.{piece, IsOrderly, AreOrderly, IsStretch, AreStretches}
 use Rattle.line_cutter.specs.Laws.{NoFewerPieces, IsLongest, EachIsLongest, IsCutAmong, EachNeedsACut, AreDisjoint, StretchesAreDisjoint, OnePieceMore}
 use Rattle.line_cutter.proofs.Whole.{part_is_orderly}
 

@@ -20,7 +20,7 @@ use Rattle.plan_model.specs.Places.{place_count}
 use Rattle.plan_model.specs.Members.{no_member}
 use Rattle.plan_model.specs.SectionCut.{position_in_section, use_in_section, section_uses, entry_of, is_member, binding_connections, connection_use, uses_of_connections, row_of, section_cut}
 use Rattle.critical_chain.proofs.Opposite.{ordered_is_not_opposite}
-use Rattle.line_cutter.specs.Piece.{is_within, moved_use, piece_uses, uses_piece, piece_row, piece}
+use Rattle.line_cutter.specs.Cutting.{is_within, moved_use, piece_uses, uses_piece, piece_row, piece}
 use Rattle.line_cutter.specs.Laws.{IsOverPiece, OverPieceIsOrderly}
 use Rattle.line_cutter.proofs.Part.{within_from, from_within}
 use Rattle.line_cutter.proofs.Covered.{IsAmong, stays_in_order}

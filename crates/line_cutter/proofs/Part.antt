@@ -7,7 +7,7 @@ use Rattle.rail_model.specs.declared.stair.Use.{Use}
 use Rattle.plan_model.specs.declared.cut.CutRow.{CutRow}
 use Rattle.plan_model.specs.Members.{no_use}
 use Rattle.plan_model.specs.Precedence.{precedes}
-use Rattle.line_cutter.specs.Piece.{is_within, moved_use, piece_row}
+use Rattle.line_cutter.specs.Cutting.{is_within, moved_use, piece_row}
 
 pub within_from : (a b : ℕ) (u : Use) → a ≤ u.block → u.block < b → is_within a b u ≡ true
 within_from a b u from to = and_from (nat_le a u.block) (nat_lt u.block b) (le-leb a u.block from) (lt-ltb u.block b to)

@@ -17,7 +17,7 @@ use Rattle.plan_model.specs.Cut.{IsMoment, IsSoundCut}
 use Rattle.plan_model.proofs.MemberTests.{has}
 use Rattle.plan_model.proofs.Sound.{use_sound}
 use Rattle.critical_chain.proofs.Opposite.{ordered_is_not_opposite}
-use Rattle.line_cutter.specs.Piece.{IsOrderly}
+use Rattle.line_cutter.specs.Cutting.{IsOrderly}
 use Rattle.line_cutter.proofs.Remaining.{remaining_there, remaining_preceded}
 use Rattle.line_cutter.proofs.Whole.{some_below}
 

@@ -11,8 +11,7 @@ use Rattle.plan_model.specs.Cut.{IsSoundCut}
 use Rattle.plan_model.specs.Disorder.{Opposite, opposite, remaining, ring}
 use Rattle.train_order.specs.Ordering.{IsOrdering}
 use Rattle.line_cutter.specs.declared.found.Stretch.{Stretch}
-use Rattle.line_cutter.specs.Piece.{piece, IsOrderly}
-use Rattle.line_cutter.specs.Cutting.{AreOrderly, AreStretches}
+use Rattle.line_cutter.specs.Cutting.{piece, IsOrderly, AreOrderly, AreStretches}
 use Rattle.line_cutter.specs.Search.{IsFitting}
 use Rattle.line_cutter.specs.Laws.{CuttingIsThere}
 use Rattle.line_cutter.proofs.SoundPiece.{sound_piece, places_in}

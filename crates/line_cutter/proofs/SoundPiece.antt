@@ -20,7 +20,7 @@ use Rattle.plan_model.specs.Places.{block_count, place_count, place_names}
 use Rattle.plan_model.specs.Members.{member_count}
 use Rattle.plan_model.specs.Cut.{least, is_block, block_uses, connection_uses, IsSoundUse, IsSoundRow, IsSoundCut}
 use Rattle.plan_model.proofs.Sound.{least_most}
-use Rattle.line_cutter.specs.Piece.{is_within, moved_use, piece_uses, uses_piece, piece_row, piece}
+use Rattle.line_cutter.specs.Cutting.{is_within, moved_use, piece_uses, uses_piece, piece_row, piece}
 use Rattle.line_cutter.proofs.Part.{from_within}
 
 -- ---- what passes tests

@@ -3,8 +3,7 @@ use Rattle.std.proofs.Common.{◌≡◌, ℕ, ◌+◌, List, [], ◌∷◌, refl
 use Rattle.plan_model.specs.declared.cut.Cut.{Cut}
 use Rattle.train_order.proofs.Unique.{disorder_is_unique}
 use Rattle.line_cutter.specs.declared.found.Stretch.{Stretch}
-use Rattle.line_cutter.specs.Piece.{piece}
-use Rattle.line_cutter.specs.Cutting.{AreOrderly, IsStretch, AreStretches}
+use Rattle.line_cutter.specs.Cutting.{piece, AreOrderly, IsStretch, AreStretches}
 use Rattle.line_cutter.specs.Laws.{CuttingIsUnique}
 use Rattle.line_cutter.proofs.Along.{ends_by}
 

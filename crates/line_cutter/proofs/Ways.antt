@@ -9,7 +9,7 @@ use Rattle.rail_model.specs.declared.stair.Use.{Use}
 use Rattle.rail_model.proofs.Places.{filter_none}
 use Rattle.plan_model.specs.Members.{no_use}
 use Rattle.plan_model.specs.declared.cut.CutRow.{CutRow}
-use Rattle.line_cutter.specs.Piece.{is_within, moved_use, uses_piece, piece_row}
+use Rattle.line_cutter.specs.Cutting.{is_within, moved_use, uses_piece, piece_row}
 use Rattle.line_cutter.specs.Ways.{nth, RiseUpTo, FallUpTo, IsOneWay, IsBeginning}
 use Rattle.line_cutter.proofs.Part.{from_within, within_from}
 

@@ -14,7 +14,7 @@ use Rattle.plan_model.proofs.MemberTests.{has, has-range, has_any, in_range}
 use Rattle.plan_model.proofs.Preceded.{remain}
 use Rattle.train_order.proofs.Find.{find_some}
 use Rattle.critical_chain.proofs.Opposite.{ordered_is_not_opposite}
-use Rattle.line_cutter.specs.Piece.{piece, piece_row, uses_piece}
+use Rattle.line_cutter.specs.Cutting.{piece, piece_row, uses_piece}
 use Rattle.line_cutter.specs.Laws.{PartIsOrderly}
 use Rattle.line_cutter.proofs.Part.{same_precedence, used_within, wider}
 use Rattle.line_cutter.proofs.Remaining.{remaining_there, remaining_preceded}

@@ -7,8 +7,7 @@ use Rattle.plan_model.specs.Cut.{IsSoundCut}
 use Rattle.plan_model.specs.SectionCut.{is_member, binding_connections, section_cut}
 use Rattle.line_cutter.specs.declared.found.Stretch.{Stretch}
 use Rattle.line_cutter.specs.declared.found.Cutting.{Cutting}
-use Rattle.line_cutter.specs.Piece.{piece, IsOrderly}
-use Rattle.line_cutter.specs.Cutting.{AreOrderly, IsCutting}
+use Rattle.line_cutter.specs.Cutting.{piece, IsOrderly, AreOrderly, IsCutting}
 
 -- a part of an orderly piece is orderly
 abbrev pub PartIsOrderly : Type 0

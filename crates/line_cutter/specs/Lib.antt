@@ -1,4 +1,3 @@
-pub mod Piece
 pub mod Cutting
 pub mod Laws
 pub mod Rows

@@ -6,8 +6,7 @@ use Rattle.plan_model.specs.Places.{block_count}
 use Rattle.train_order.specs.Ordering.{IsOrdering}
 use Rattle.line_cutter.specs.declared.found.Stretch.{Stretch}
 use Rattle.line_cutter.specs.declared.longest.Longest.{Longest}
-use Rattle.line_cutter.specs.Piece.{piece, IsOrderly}
-use Rattle.line_cutter.specs.Cutting.{IsStretch}
+use Rattle.line_cutter.specs.Cutting.{piece, IsOrderly, IsStretch}
 
 -- a piece is orderly, or this is its disorder
 abbrev pub IsTried : Cut → ℕ → ℕ → Option Disorder → Type 0

@@ -4,7 +4,7 @@ use Rattle.std.specs.List.{AllZip}
 use Rattle.rail_model.specs.declared.stair.Use.{Use}
 use Rattle.plan_model.specs.declared.cut.CutRow.{CutRow}
 use Rattle.plan_model.specs.Members.{no_use}
-use Rattle.line_cutter.specs.Piece.{is_within}
+use Rattle.line_cutter.specs.Cutting.{is_within}
 
 -- the use at a place of a list
 abbrev pub nth : List Use → ℕ → Use

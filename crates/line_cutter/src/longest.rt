@@ -2,7 +2,7 @@
 ghost use Rattle.std.specs.Prelude.{◌<◌, ◌≤◌, IfOk, Err};
 ghost use Rattle.plan_model.specs.Places.{block_count};
 ghost use Rattle.train_order.specs.Ordering.{IsOrdering};
-ghost use Rattle.line_cutter.specs.Piece as pieces;
+ghost use Rattle.line_cutter.specs.Cutting as pieces;
 ghost use Rattle.line_cutter.specs.Search.{IsFitting, IsLongestFrom, IsTried};
 
 use crate::line::Line;

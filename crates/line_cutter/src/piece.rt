@@ -4,7 +4,7 @@ ghost use Rattle.plan_model.specs.declared.limits.TheConstants.{MEMBERS};
 ghost use Rattle.plan_model.specs.Cut.{IsSoundCut, least};
 ghost use Rattle.plan_model.specs.Members.{member_count};
 ghost use Rattle.plan_model.specs.Places.{block_count};
-ghost use Rattle.line_cutter.specs.Piece as pieces;
+ghost use Rattle.line_cutter.specs.Cutting as pieces;
 ghost use Rattle.line_cutter.specs.Ways.{IsOneWay, AreOneWay, IsBeginning};
 
 use crate::line::Line;

@@ -4,7 +4,7 @@ use Rattle.std.proofs.lemmas.Bool.{both_ways}
 use Rattle.rail_model.specs.declared.stair.Use.{Use}
 use Rattle.plan_model.specs.declared.cut.CutRow.{CutRow}
 use Rattle.plan_model.specs.Cut.{least}
-use Rattle.line_cutter.specs.Piece.{is_within, moved_use, piece_row}
+use Rattle.line_cutter.specs.Cutting.{is_within, moved_use, piece_row}
 use Rattle.line_cutter.proofs.Ways.{none_added, one_added}
 use Rattle.line_cutter.proofs.piece.add_row.Goals as goal
 

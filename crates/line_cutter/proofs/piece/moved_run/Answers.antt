@@ -1,5 +1,5 @@
 use Rattle.std.proofs.Common.{map, sym, ap, ◌∙◌}
-use Rattle.line_cutter.specs.Piece.{moved_use}
+use Rattle.line_cutter.specs.Cutting.{moved_use}
 use Rattle.line_cutter.proofs.Ways.{none_earlier, none_later, no_more}
 use Rattle.line_cutter.proofs.piece.moved_run.Goals as goal
 

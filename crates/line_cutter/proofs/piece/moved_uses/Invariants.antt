@@ -1,6 +1,6 @@
 use Rattle.std.proofs.Common.{◌≡◌, map, take}
 use Rattle.std.specs.Prelude.{filter}
-use Rattle.line_cutter.specs.Piece.{is_within, moved_use}
+use Rattle.line_cutter.specs.Cutting.{is_within, moved_use}
 use Rattle.line_cutter.proofs.piece.moved_uses.Given as goal
 
 abbrev pub invariant-loop-one : goal.invariant-loop-one
