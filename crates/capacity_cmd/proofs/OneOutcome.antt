@@ -23,7 +23,7 @@ use Rattle.capacity_report.specs.Journal.{rows_of_journal}
 use Rattle.line_cutter.specs.Rows.{cutting_rows}
 use Rattle.line_cutter.proofs.Unique.{cutting_is_unique}
 use Rattle.cycle_time.proofs.Repeated.{cycles_are_alike}
-use Rattle.delay_spread.specs.Rows.{spread_rows}
+use Rattle.delay_spread.specs.Spreading.{spread_rows}
 use Rattle.delay_spread.proofs.Unique.{spread_is_unique}
 use Rattle.path_fill.specs.Filling.{IsOrdered}
 use Rattle.path_fill.specs.Rows.{fill_rows}

@@ -8,8 +8,7 @@ use Rattle.row_text.specs.Lines.{◌>>=◌}
 use Rattle.plan_model.specs.declared.cut.Cut.{Cut}
 use Rattle.delay_spread.specs.declared.spreading.TheConstants.{GREATEST_DELAY_S}
 use Rattle.delay_spread.specs.declared.found.Spread.{Spread}
-use Rattle.delay_spread.specs.Spreading.{IsSpread}
-use Rattle.delay_spread.specs.Rows.{spread_rows}
+use Rattle.delay_spread.specs.Spreading.{IsSpread, spread_rows}
 use Rattle.path_fill.specs.Filling.{IsOrdered}
 use Rattle.capacity_cmd.specs.declared.given_delay.GivenDelay.{GivenDelay}
 use Rattle.capacity_cmd.specs.declared.status.Cause.{Cause}

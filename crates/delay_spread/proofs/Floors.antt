@@ -12,7 +12,7 @@ use Rattle.plan_model.specs.Schedule.{entry_at}
 use Rattle.plan_model.proofs.Sound.{usable}
 use Rattle.train_placing.specs.Placing.{IsFloor}
 use Rattle.delay_spread.specs.declared.spreading.TheConstants.{GREATEST_DELAY_S}
-use Rattle.delay_spread.specs.Delayed.{delay_at, delayed_floor}
+use Rattle.delay_spread.specs.Spreading.{delay_at, delayed_floor}
 
 near : (planned : ℤ) (delay : ℕ) → IsMoment planned → delay ≤ GREATEST_DELAY_S → IsFloor (planned +ℤ pos delay)
 near planned delay moment limit = record {

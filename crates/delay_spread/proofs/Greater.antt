@@ -4,7 +4,7 @@ use Rattle.std.specs.Prelude.{ℤ, pos, ◌+ℤ◌, ◌≤ℤ◌}
 use Rattle.std.proofs.lemmas.Int.{ints}
 use Rattle.plan_model.specs.Members.{member}
 use Rattle.plan_model.specs.Schedule.{entry_at}
-use Rattle.delay_spread.specs.Delayed.{delay_at}
+use Rattle.delay_spread.specs.Spreading.{delay_at}
 use Rattle.delay_spread.specs.Laws.{NoneIsEarlier}
 
 above_less : (planned entry : ℤ) (less more : ℕ) → less ≤ more → (planned +ℤ pos more) ≤ℤ entry

@@ -11,7 +11,7 @@ use Rattle.plan_model.specs.Cut.{IsBounded, IsMoment}
 use Rattle.plan_model.specs.Schedule.{entry_at, IsScheduleFrom}
 use Rattle.plan_model.specs.Planned.{planned_entries}
 use Rattle.delay_spread.specs.declared.spreading.TheConstants.{GREATEST_DELAY_S}
-use Rattle.delay_spread.specs.Delayed.{delay_at, delayed_floor, later_by}
+use Rattle.delay_spread.specs.Spreading.{delay_at, delayed_floor, later_by}
 use Rattle.delay_spread.specs.Laws.{NoneIsKnockedOn, EntersByItsKnockOn}
 
 abs_is : (z : ℤ) → pos 0 ≤ℤ z → pos (nat_abs z) ≡ z

@@ -7,8 +7,7 @@ use Rattle.plan_model.specs.declared.answer.Disorder.TheVariants as disorder
 use Rattle.plan_model.specs.Cut.{IsSoundCut}
 use Rattle.plan_model.specs.Disorder.{Opposite, opposite, remaining, ring}
 use Rattle.delay_spread.specs.declared.found.Spread.{Spread}
-use Rattle.delay_spread.specs.Delayed.{delayed_floor}
-use Rattle.delay_spread.specs.Spreading.{spread_by, IsSpreading}
+use Rattle.delay_spread.specs.Spreading.{delayed_floor, spread_by, IsSpreading}
 use Rattle.delay_spread.specs.Laws.{SpreadIsThere, SpreadingIsThere}
 use Rattle.delay_spread.proofs.SomeLeast.{some_least}
 

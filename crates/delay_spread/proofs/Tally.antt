@@ -7,7 +7,7 @@ use Rattle.std.proofs.lemmas.List.FromFn.{length-range_with_len, get_or-range_wi
 use Rattle.std.proofs.lemmas.List.Sums.{count_by-le-length, count_by_more_yes, count_by_more_no, sum_by_more}
 use Rattle.plan_model.specs.declared.cut.Cut.{Cut}
 use Rattle.plan_model.specs.Members.{member_count, members}
-use Rattle.delay_spread.specs.Delayed.{knock_on}
+use Rattle.delay_spread.specs.Spreading.{knock_on}
 
 above : (n : ℕ) → 0 < n → nat_lt 0 n ≡ true
 above n l = grind (arith, nat_tests, l)

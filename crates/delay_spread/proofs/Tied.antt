@@ -16,10 +16,8 @@ use Rattle.plan_model.specs.Tie.{touches, touching_member, touching_place, tie_f
 use Rattle.plan_model.proofs.MemberTests.{filter-has, in_range}
 use Rattle.train_order.proofs.Find.{found}
 use Rattle.delay_spread.specs.declared.found.Held.{Held}
-use Rattle.delay_spread.specs.Delayed.{delayed_floor}
-use Rattle.delay_spread.specs.Spreading.{held_at, IsSpreadOf}
+use Rattle.delay_spread.specs.Spreading.{delayed_floor, held_at, IsSpreadOf, IsTieOf, AreHeld}
 use Rattle.delay_spread.specs.declared.found.Spread.{Spread}
-use Rattle.delay_spread.specs.Rows.{IsTieOf, AreHeld}
 
 module _ (cut : Cut) (entries : List ℤ) (j : ℕ) where
   member_there : (i : ℕ) → touching_member cut entries j ≡ Some i → i < member_count cut

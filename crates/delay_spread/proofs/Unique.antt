@@ -8,8 +8,7 @@ use Rattle.plan_model.specs.Disorder.{opposite, remaining}
 use Rattle.plan_model.proofs.Unique.{least_is_unique}
 use Rattle.train_order.specs.Ordering.{IsOrdering}
 use Rattle.train_order.proofs.Unique.{disorder_is_unique}
-use Rattle.delay_spread.specs.Delayed.{delayed_floor}
-use Rattle.delay_spread.specs.Spreading.{spread_by}
+use Rattle.delay_spread.specs.Spreading.{delayed_floor, spread_by}
 use Rattle.delay_spread.specs.Laws.{SpreadIsUnique, SpreadingIsUnique}
 
 pub spread_is_unique : SpreadIsUnique

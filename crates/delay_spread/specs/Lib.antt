@@ -1,4 +1,2 @@
-pub mod Delayed
 pub mod Spreading
 pub mod Laws
-pub mod Rows

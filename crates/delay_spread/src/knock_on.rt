@@ -3,7 +3,7 @@ ghost use Rattle.std.specs.Prelude.{◌≡◌, ◌≤◌, ◌<◌, ◌^◌, ℕ,
 ghost use Rattle.plan_model.specs.declared.limits.TheConstants.{MEMBERS};
 ghost use Rattle.plan_model.specs.Cut.{IsMoment};
 ghost use Rattle.plan_model.specs.Members.{member_count};
-ghost use Rattle.delay_spread.specs.Delayed as delayed;
+ghost use Rattle.delay_spread.specs.Spreading as delayed;
 ghost use Rattle.delay_spread.specs.Spreading as spreading;
 
 use plan_model::{FitCut, SoundCut};

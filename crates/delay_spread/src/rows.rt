@@ -4,9 +4,8 @@ ghost use Rattle.plan_model.specs.Cut.{IsSoundCut};
 ghost use Rattle.plan_model.specs.Members.{member_count};
 ghost use Rattle.row_text.specs.SheetRows.{with_row, with_fields};
 ghost use Rattle.row_text.specs.Adds.{Adds};
-ghost use Rattle.delay_spread.specs.Spreading.{IsSpreadOf};
-ghost use Rattle.delay_spread.specs.Rows as rows;
-ghost use Rattle.delay_spread.specs.Rows.{AreHeld, IsTieOf};
+ghost use Rattle.delay_spread.specs.Spreading.{IsSpreadOf, AreHeld, IsTieOf};
+ghost use Rattle.delay_spread.specs.Spreading as rows;
 
 use crate::found::{Held, Spread};
 use crate::knock_on::later_by;

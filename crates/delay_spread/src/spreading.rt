@@ -7,8 +7,7 @@ ghost use Rattle.plan_model.specs.Disorder.{remaining};
 ghost use Rattle.plan_model.specs.Tie.{tie_from};
 ghost use Rattle.train_order.specs.Ordering.{IsOrder};
 ghost use Rattle.delay_spread.specs.declared.spreading.TheConstants.{GREATEST_DELAY_S};
-ghost use Rattle.delay_spread.specs.Delayed.{delayed_floor, knock_on};
-ghost use Rattle.delay_spread.specs.Spreading.{IsSpread, IsSpreading, held_at, spread_by};
+ghost use Rattle.delay_spread.specs.Spreading.{delayed_floor, knock_on, IsSpread, IsSpreading, held_at, spread_by};
 
 use crate::found::{Held, Spread};
 use crate::knock_on::{late, sum};

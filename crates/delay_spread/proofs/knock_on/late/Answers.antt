@@ -1,7 +1,7 @@
 use Rattle.std.proofs.Common.{◌+◌, ◌<◌, sym, ap, ◌∙◌, arith, subst}
 use Rattle.std.specs.Prelude.{◌≤◌, nat_lt, count_by}
 use Rattle.plan_model.specs.Members.{member_count}
-use Rattle.delay_spread.specs.Delayed.{knock_on}
+use Rattle.delay_spread.specs.Spreading.{knock_on}
 use Rattle.delay_spread.proofs.Tally.{all, few, late_more, late_same}
 use Rattle.delay_spread.proofs.knock_on.late.Goals.{then-knock_on-gt0, else-knock_on-gt0}
 use Rattle.delay_spread.proofs.knock_on.late.Goals as goal

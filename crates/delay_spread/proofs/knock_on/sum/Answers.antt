@@ -1,7 +1,7 @@
 use Rattle.std.proofs.Common.{◌≡◌, ℕ, ◌+◌, ◌*◌, ◌<◌, ◌≤◌, sym, ap, ◌∙◌, arith}
 use Rattle.std.specs.Prelude.{◌^◌, sum_by}
 use Rattle.plan_model.specs.Members.{member_count}
-use Rattle.delay_spread.specs.Delayed.{knock_on}
+use Rattle.delay_spread.specs.Spreading.{knock_on}
 use Rattle.delay_spread.proofs.Tally.{all, sum_more}
 use Rattle.delay_spread.proofs.knock_on.sum.Goals as goal
 

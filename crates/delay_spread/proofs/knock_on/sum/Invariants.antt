@@ -1,7 +1,7 @@
 use Rattle.std.proofs.Common.{◌≡◌, ◌*◌, ◌≤◌, take}
 use Rattle.std.specs.Prelude.{◌^◌, sum_by}
 use Rattle.plan_model.specs.Members.{members}
-use Rattle.delay_spread.specs.Delayed.{knock_on}
+use Rattle.delay_spread.specs.Spreading.{knock_on}
 use Rattle.delay_spread.proofs.knock_on.sum.Given as goal
 
 abbrev pub invariant-loop-i : goal.invariant-loop-i

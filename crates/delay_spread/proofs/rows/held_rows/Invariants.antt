@@ -1,7 +1,7 @@
 use Rattle.std.proofs.Common.{map, take}
 use Rattle.plan_model.specs.Members.{members}
 use Rattle.row_text.specs.Adds.{AddsAll}
-use Rattle.delay_spread.specs.Rows.{held_row}
+use Rattle.delay_spread.specs.Spreading.{held_row}
 use Rattle.delay_spread.proofs.rows.held_rows.Given as goal
 
 abbrev pub invariant-loop-i : goal.invariant-loop-i

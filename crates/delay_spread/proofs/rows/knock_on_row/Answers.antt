@@ -1,7 +1,7 @@
 use Rattle.std.proofs.Common.{[], ◌∷◌, subst}
 use Rattle.row_text.specs.Adds.{Adds}
 use Rattle.row_text.proofs.Adds.{adds_one}
-use Rattle.delay_spread.specs.Rows.{knock_on_row}
+use Rattle.delay_spread.specs.Spreading.{knock_on_row}
 use Rattle.delay_spread.proofs.rows.knock_on_row.Goals as goal
 
 pub returns : goal.returns

@@ -3,7 +3,7 @@ use Rattle.row_text.specs.Adds.{AddsAll, AddsFirst}
 use Rattle.row_text.proofs.Adds.{adds_stopped, first_added}
 use Rattle.answer_parts.proofs.Added.{then_adds}
 use Rattle.plan_model.specs.declared.cut.Cut.{Cut}
-use Rattle.delay_spread.specs.Rows.{held_rows, knock_on_row, AreHeld}
+use Rattle.delay_spread.specs.Spreading.{held_rows, knock_on_row, AreHeld}
 use Rattle.delay_spread.proofs.Tied.{are_held}
 use Rattle.delay_spread.proofs.rows.spread_rows.Goals as goal
 

@@ -2,7 +2,7 @@ use Rattle.std.proofs.Common.{◌≡◌, List, [], ◌∷◌, ◌++◌, map, rul
 use Rattle.std.specs.Prelude.{ℤ}
 use Rattle.std.specs.List.{range_with_len}
 use Rattle.std.proofs.lemmas.List.FromFn.{map-range_with_len_more}
-use Rattle.delay_spread.specs.Delayed.{delayed_floor}
+use Rattle.delay_spread.specs.Spreading.{delayed_floor}
 use Rattle.delay_spread.proofs.spreading.floors.Goals as goal
 
 pub loop-i-preserved : goal.loop-i-preserved

@@ -1,6 +1,6 @@
 use Rattle.std.proofs.Common.{◌≡◌, map}
 use Rattle.std.specs.List.{range_with_len}
-use Rattle.delay_spread.specs.Delayed.{delayed_floor}
+use Rattle.delay_spread.specs.Spreading.{delayed_floor}
 use Rattle.delay_spread.proofs.spreading.floors.Given as goal
 
 abbrev pub invariant-loop-i : goal.invariant-loop-i

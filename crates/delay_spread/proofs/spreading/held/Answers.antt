@@ -8,8 +8,7 @@ use Rattle.plan_model.specs.Members.{member, member_count}
 use Rattle.plan_model.specs.Schedule.{entry_at}
 use Rattle.plan_model.specs.Tie.{tie_from}
 use Rattle.delay_spread.specs.declared.found.Held.{Held}
-use Rattle.delay_spread.specs.Delayed.{delay_at, delayed_floor}
-use Rattle.delay_spread.specs.Spreading.{held_at}
+use Rattle.delay_spread.specs.Spreading.{delay_at, delayed_floor, held_at}
 use Rattle.delay_spread.proofs.spreading.held.Goals as goal
 
 long : (T : ℕ → Tie) (n : ℕ) (ties : List Tie) → ties ≡ map T (range_with_len 0 n) → length ties ≡ n

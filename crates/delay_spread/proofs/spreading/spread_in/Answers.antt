@@ -10,8 +10,7 @@ use Rattle.train_order.proofs.Next.{is_there, count}
 use Rattle.train_placing.specs.Placing.{IsFloor, ArePlaced}
 use Rattle.train_placing.proofs.Moments.{entry_within}
 use Rattle.delay_spread.specs.declared.found.Spread.{Spread}
-use Rattle.delay_spread.specs.Delayed.{delayed_floor, delay_at, knock_on}
-use Rattle.delay_spread.specs.Spreading.{IsSpread, spread_by}
+use Rattle.delay_spread.specs.Spreading.{delayed_floor, delay_at, knock_on, IsSpread, spread_by}
 use Rattle.delay_spread.proofs.Floors.{floors, long, same_floors, floor_near, all_floors}
 use Rattle.delay_spread.proofs.Later.{small}
 use Rattle.delay_spread.proofs.spreading.spread_in.Goals as goal
