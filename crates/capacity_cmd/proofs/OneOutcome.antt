@@ -25,8 +25,7 @@ use Rattle.line_cutter.proofs.Unique.{cutting_is_unique}
 use Rattle.cycle_time.proofs.Repeated.{cycles_are_alike}
 use Rattle.delay_spread.specs.Spreading.{spread_rows}
 use Rattle.delay_spread.proofs.Unique.{spread_is_unique}
-use Rattle.path_fill.specs.Filling.{IsOrdered}
-use Rattle.path_fill.specs.Rows.{fill_rows}
+use Rattle.path_fill.specs.Filling.{IsOrdered, fill_rows}
 use Rattle.path_fill.proofs.OneFill.{not_headed, fill_is_unique}
 use Rattle.capacity_cmd.specs.declared.command.Command.{Command}
 use Rattle.capacity_cmd.specs.declared.command.Command.TheVariants as command

@@ -7,8 +7,7 @@ use Rattle.row_text.specs.Lines.{◌>>=◌}
 use Rattle.plan_model.specs.declared.cut.Cut.{Cut}
 use Rattle.plan_model.specs.Members.{member}
 use Rattle.path_fill.specs.declared.found.Fill.{Fill}
-use Rattle.path_fill.specs.Filling.{IsOrdered, IsFill}
-use Rattle.path_fill.specs.Rows.{fill_rows}
+use Rattle.path_fill.specs.Filling.{IsOrdered, IsFill, fill_rows}
 use Rattle.capacity_cmd.specs.declared.status.Cause.{Cause}
 use Rattle.capacity_cmd.specs.declared.status.Cause.TheVariants as cause
 use Rattle.capacity_cmd.specs.Named.{cut_named, row_named}

@@ -18,7 +18,7 @@ use Rattle.plan_model.proofs.MemberTests.{has, in_range, filter-has, some_member
 use Rattle.plan_model.proofs.Uses.{takes_time}
 use Rattle.plan_model.proofs.Users.{is_user, user, is_used}
 use Rattle.plan_model.proofs.Greatest.{above_each, greatest_within, below_each, least_within, longest_above, longest_within}
-use Rattle.path_fill.specs.Copies.{with_copies}
+use Rattle.path_fill.specs.Filling.{with_copies}
 use Rattle.path_fill.specs.Search.{kept_to, IsGreatest}
 use Rattle.path_fill.proofs.FirstCopy.{IsFirstCopy}
 use Rattle.path_fill.proofs.Least.{IsOwnHeadway, copy_entry, copy_entries, at}

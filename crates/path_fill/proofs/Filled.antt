@@ -12,8 +12,7 @@ use Rattle.plan_model.specs.Occupancy.{occupancy}
 use Rattle.plan_model.proofs.Uses.{takes_time}
 use Rattle.path_fill.specs.declared.found.Fill.{Fill}
 use Rattle.path_fill.specs.declared.found.Fill.TheVariants as fill
-use Rattle.path_fill.specs.Copies.{IsFilledOccupancy, with_copies}
-use Rattle.path_fill.specs.Filling.{IsFill, has_room}
+use Rattle.path_fill.specs.Filling.{IsFilledOccupancy, with_copies, IsFill, has_room}
 use Rattle.path_fill.specs.Search.{time_at, kept_to, filled_time, IsGreatest, IsFillBy}
 use Rattle.path_fill.proofs.BlockUses.{some_block}
 use Rattle.path_fill.proofs.FirstCopy.{IsFirstCopy}

@@ -10,7 +10,7 @@ use Rattle.plan_model.specs.Places.{block_count}
 use Rattle.plan_model.specs.Members.{member, member_count, uses_place, use_at}
 use Rattle.plan_model.specs.Schedule.{window_start, entry_at, start_at, end_by, IsLeast}
 use Rattle.plan_model.specs.Closing.{IsAfterAll}
-use Rattle.path_fill.specs.Copies.{IsFilled, IsLeastFilled, FollowsCopy}
+use Rattle.path_fill.specs.Filling.{IsFilled, IsLeastFilled, FollowsCopy}
 use Rattle.path_fill.specs.Search.{time_at}
 use Rattle.path_fill.proofs.FirstCopy.{IsFirstCopy}
 

@@ -7,7 +7,7 @@ use Rattle.std.proofs.lemmas.List.FromFn.{length-map-range_with_len, get_or-map-
 use Rattle.plan_model.specs.declared.cut.Cut.{Cut}
 use Rattle.plan_model.specs.Members.{member, member_count, members, use_at}
 use Rattle.plan_model.specs.Schedule.{window_start, entry_at, start_at, end_at, start_by, IsSchedule}
-use Rattle.path_fill.specs.Copies.{IsFilled}
+use Rattle.path_fill.specs.Filling.{IsFilled}
 use Rattle.path_fill.specs.Laws.{MembersEnterAsCompressed}
 
 -- ---- moments

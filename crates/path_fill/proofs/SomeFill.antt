@@ -9,7 +9,7 @@ use Rattle.plan_model.specs.Cut.{IsSoundCut}
 use Rattle.plan_model.specs.Schedule.{window_start, window_floor, start_at, end_by, IsLeast}
 use Rattle.plan_model.specs.Occupancy.{occupancy}
 use Rattle.compression.proofs.SomeLeast.{least_is_there}
-use Rattle.path_fill.specs.Copies.{IsFilledOccupancy}
+use Rattle.path_fill.specs.Filling.{IsFilledOccupancy}
 use Rattle.path_fill.specs.Laws.{FilledOccupancyIsThere}
 use Rattle.path_fill.specs.Search.{where_used, greater, time_at, kept_to, filled_time, IsGreatest}
 use Rattle.path_fill.proofs.Best.{none_yet, one_more}

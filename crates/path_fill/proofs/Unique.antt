@@ -7,7 +7,7 @@ use Rattle.plan_model.specs.declared.cut.Cut.{Cut}
 use Rattle.plan_model.specs.Members.{member_count}
 use Rattle.plan_model.specs.Schedule.{entry_at}
 use Rattle.plan_model.specs.Occupancy.{occupancy}
-use Rattle.path_fill.specs.Copies.{IsLeastFilled, with_copies}
+use Rattle.path_fill.specs.Filling.{IsLeastFilled, with_copies}
 use Rattle.path_fill.specs.Laws.{FilledOccupancyIsUnique}
 
 module _ (cut : Cut) (r count : ℕ) (entries copies other others : List ℤ)

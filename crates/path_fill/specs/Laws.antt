@@ -8,8 +8,7 @@ use Rattle.plan_model.specs.Disorder.{remaining}
 use Rattle.plan_model.specs.Schedule.{IsLeast}
 use Rattle.plan_model.specs.Rates.{Fraction}
 use Rattle.path_fill.specs.declared.found.Fill.{Fill}
-use Rattle.path_fill.specs.Copies.{IsLeastFilled, IsFilledOccupancy}
-use Rattle.path_fill.specs.Filling.{consumption_of, IsFill, IsFilling}
+use Rattle.path_fill.specs.Filling.{IsLeastFilled, IsFilledOccupancy, consumption_of, IsFill, IsFilling}
 
 -- with so many copies there is at most one filled occupancy
 abbrev pub FilledOccupancyIsUnique : Type 0

@@ -2,7 +2,7 @@
 ghost use Rattle.std.specs.Prelude.{◌≡◌, ◌<◌, [], ◌∷◌, OnOk, OnErr, IfOk, decimal, string_bytes};
 ghost use Rattle.row_text.specs.SheetRows.{with_row};
 ghost use Rattle.row_text.specs.Adds.{Adds};
-ghost use Rattle.path_fill.specs.Rows as rows;
+ghost use Rattle.path_fill.specs.Filling as rows;
 
 use crate::found::Fill;
 use answer_parts::push_consumption;

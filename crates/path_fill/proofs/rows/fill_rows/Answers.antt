@@ -3,7 +3,7 @@ use Rattle.row_text.specs.Adds.{AddsAll, Adds}
 use Rattle.row_text.proofs.Adds.{adds_one}
 use Rattle.answer_parts.proofs.Added.{all_one, all_then, then_adds}
 use Rattle.path_fill.specs.declared.found.Fill.{Fill}
-use Rattle.path_fill.specs.Rows.{at_row, fill_rows}
+use Rattle.path_fill.specs.Filling.{at_row, fill_rows}
 use Rattle.path_fill.proofs.rows.fill_rows.Goals as goal
 
 pub returns-in_ok-at_row-in-Fits : goal.returns-in_ok-at_row-in-Fits
