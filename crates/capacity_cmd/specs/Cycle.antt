@@ -4,8 +4,7 @@ use Rattle.row_text.specs.SheetRows.{text_of_rows}
 use Rattle.plan_model.specs.declared.cut.Cut.{Cut}
 use Rattle.path_fill.specs.Filling.{IsOrdered}
 use Rattle.cycle_time.specs.declared.found.Cycle.{Cycle}
-use Rattle.cycle_time.specs.Cycle.{IsCycle}
-use Rattle.cycle_time.specs.Rows.{cycle_rows}
+use Rattle.cycle_time.specs.Cycle.{IsCycle, cycle_rows}
 use Rattle.capacity_cmd.specs.Head.{IsHeadText}
 
 -- the rows of the least cycle time of the section's trains

@@ -3,7 +3,7 @@ use Rattle.std.specs.Prelude.{◌≡◌, ◌<◌}
 use Rattle.row_text.specs.SheetRows.{text_of_rows}
 use Rattle.plan_model.specs.declared.cut.Cut.{Cut}
 use Rattle.cycle_time.specs.declared.found.Cycle.{Cycle}
-use Rattle.cycle_time.specs.Rows.{cycle_rows}
+use Rattle.cycle_time.specs.Cycle.{cycle_rows}
 use Rattle.cycle_time.specs.Laws.{AreAlike}
 use Rattle.capacity_cmd.specs.declared.command.Command.{Command}
 use Rattle.capacity_cmd.specs.declared.command.Command.TheVariants as command

@@ -27,7 +27,7 @@ use Rattle.train_order.proofs.Users.{users}
 use Rattle.cycle_time.specs.declared.edge.Edge.{Edge}
 use Rattle.cycle_time.specs.declared.stay.Stay.{Stay}
 use Rattle.cycle_time.specs.declared.stay.Ends.{Ends}
-use Rattle.cycle_time.specs.Ring.{IsStep, weight}
+use Rattle.cycle_time.specs.Cycle.{IsStep, weight}
 use Rattle.cycle_time.specs.Edges.{step_on, IsSpan, IsLight, IsEdge, Keeps, KeepsPlace, AreEnough}
 use Rattle.cycle_time.specs.Laying.{stay_by, with_stay, edge_to, IsAdded, IsLedTo, IsLedOn, HaveSpans, IsStayOf, KeepSome, AreEnds, AreSeen, ends_at, AreLaid, gone, AreLaidSoFar, AreLaidAgain}
 

@@ -8,9 +8,8 @@ use Rattle.cycle_time.specs.declared.edge.Edge.{Edge}
 use Rattle.cycle_time.specs.declared.found.Step.{Step}
 use Rattle.cycle_time.specs.declared.found.Cycle.{Cycle}
 use Rattle.cycle_time.specs.declared.least_period.Found.{Found}
-use Rattle.cycle_time.specs.Repeating.{IsRepeating}
+use Rattle.cycle_time.specs.Cycle.{IsRepeating, Shows, IsStill, IsShownOf, IsCycle}
 use Rattle.cycle_time.specs.Rings.{IsTurned, IsFound}
-use Rattle.cycle_time.specs.Cycle.{Shows, IsStill, IsShownOf, IsCycle}
 use Rattle.cycle_time.proofs.Refused.{no_lesser_period}
 
 shown_of : (cut : Cut) (cycle : Cycle) (n : ℕ) → 0 < n → Shows cut cycle → IsShownOf n cut cycle

@@ -11,7 +11,7 @@ use Rattle.plan_model.specs.Schedule.{entry_at, window_start}
 use Rattle.plan_model.proofs.Uses.{place_there}
 use Rattle.train_order.specs.declared.visits.Visit.{Visit}
 use Rattle.train_order.specs.Visits.{no_visit}
-use Rattle.cycle_time.specs.Repeating.{IsRepeating}
+use Rattle.cycle_time.specs.Cycle.{IsRepeating}
 use Rattle.cycle_time.specs.Edges.{edge_on, Keeps, KeepsPlace}
 use Rattle.cycle_time.specs.declared.edge.Edge.{Edge}
 use Rattle.cycle_time.specs.Laying.{IsVisitOf, train_at, AreTurns, KeepsTurn, KeepTurns, KeepsAgain}

@@ -5,7 +5,7 @@ use Rattle.std.proofs.lemmas.Int.{ints}
 use Rattle.std.proofs.lemmas.List.{take_more, drop_more, drop_all}
 use Rattle.plan_model.specs.declared.cut.Cut.{Cut}
 use Rattle.cycle_time.specs.declared.found.Step.{Step}
-use Rattle.cycle_time.specs.Ring.{no_step, IsStep, weight, total, Leads}
+use Rattle.cycle_time.specs.Cycle.{no_step, IsStep, weight, total, Leads}
 use Rattle.cycle_time.specs.Checking.{IsStepFrom}
 
 -- steps lead from one train to another where those from the place k on lead there from a third

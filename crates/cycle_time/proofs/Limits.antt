@@ -14,7 +14,7 @@ use Rattle.plan_model.specs.Cut.{IsSoundCut, is_block, block_uses, connection_us
 use Rattle.plan_model.specs.Schedule.{entry_at}
 use Rattle.plan_model.proofs.Uses.{takes_time}
 use Rattle.cycle_time.specs.declared.edge.Edge.{Edge}
-use Rattle.cycle_time.specs.Repeating.{IsRepeating, IsLeastRepeating}
+use Rattle.cycle_time.specs.Cycle.{IsRepeating, IsLeastRepeating}
 use Rattle.cycle_time.specs.Edges.{IsLight}
 use Rattle.cycle_time.proofs.Refused.{nat_times}
 use Rattle.cycle_time.proofs.Allowed.{greater}

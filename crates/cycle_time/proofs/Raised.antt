@@ -8,7 +8,7 @@ use Rattle.plan_model.specs.declared.cut.Cut.{Cut}
 use Rattle.plan_model.specs.Members.{member_count}
 use Rattle.plan_model.specs.Schedule.{entry_at}
 use Rattle.cycle_time.specs.declared.edge.Edge.{Edge}
-use Rattle.cycle_time.specs.Repeating.{IsRepeating}
+use Rattle.cycle_time.specs.Cycle.{IsRepeating}
 use Rattle.cycle_time.specs.Edges.{IsEdge, asks, Keeps}
 use Rattle.cycle_time.specs.Raising.{cause_at, IsCause, IsWhy, AreRaisedAt, AreRaised, IsRaisedBy}
 use Rattle.cycle_time.proofs.Refused.{keeps_step, step_asks}

@@ -8,8 +8,7 @@ use Rattle.plan_model.specs.declared.cut.Cut.{Cut}
 use Rattle.plan_model.specs.Members.{member, use_at}
 use Rattle.plan_model.specs.Schedule.{entry_at}
 use Rattle.cycle_time.specs.declared.found.Step.{Step}
-use Rattle.cycle_time.specs.Repeating.{IsRepeating}
-use Rattle.cycle_time.specs.Ring.{IsStep, weight, total, patterns, Leads, first_train}
+use Rattle.cycle_time.specs.Cycle.{IsRepeating, IsStep, weight, total, patterns, Leads, first_train}
 use Rattle.cycle_time.specs.Laws.{NoLesserPeriod, ShorterIsRefused}
 
 -- how much a step asks for in a period

@@ -11,8 +11,7 @@ use Rattle.plan_model.specs.Occupancy.{users, used_blocks, first_start, last_end
 use Rattle.plan_model.proofs.Users.{is_user, is_used}
 use Rattle.plan_model.proofs.Greatest.{above_each, below_each, longest_above}
 use Rattle.cycle_time.specs.declared.found.Cycle.{Cycle}
-use Rattle.cycle_time.specs.Repeating.{IsRepeating}
-use Rattle.cycle_time.specs.Cycle.{IsShownOf, IsCycle}
+use Rattle.cycle_time.specs.Cycle.{IsRepeating, IsShownOf, IsCycle}
 use Rattle.cycle_time.specs.Laws.{LongerRepeats, ScheduleRepeats, PeriodIsWithinOccupancy, AreAlike, CyclesAreAlike}
 use Rattle.cycle_time.proofs.Answered.{no_lesser}
 

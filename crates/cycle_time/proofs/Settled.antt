@@ -19,7 +19,7 @@ use Rattle.plan_model.proofs.Preceded.{preceded_remain}
 use Rattle.train_order.proofs.Whole.{whole_length}
 use Rattle.train_order.proofs.Users.{users, somewhere}
 use Rattle.cycle_time.specs.declared.edge.Edge.{Edge}
-use Rattle.cycle_time.specs.Repeating.{IsLeastRepeating}
+use Rattle.cycle_time.specs.Cycle.{IsLeastRepeating}
 use Rattle.cycle_time.specs.Edges.{IsEdge, Keeps, AreEnough}
 use Rattle.cycle_time.specs.Raising.{cause_at, IsWhy, AreRaised, IsEarly, AreEarly, IsSettled, IsHigher}
 use Rattle.cycle_time.specs.Rings.{to_of, EndsAt, GoesRound, Back, weights, laps, IsLoop, IsRefusal}

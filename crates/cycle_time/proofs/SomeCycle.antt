@@ -19,7 +19,7 @@ use Rattle.cycle_time.specs.declared.edge.Edge.{Edge}
 use Rattle.cycle_time.specs.declared.found.Step.{Step}
 use Rattle.cycle_time.specs.declared.least_period.Found.{Found}
 use Rattle.cycle_time.specs.Edges.{IsEdge, asks}
-use Rattle.cycle_time.specs.Repeating.{IsLeastRepeating}
+use Rattle.cycle_time.specs.Cycle.{IsLeastRepeating}
 use Rattle.cycle_time.specs.Raising.{cause_at, AreRaised, IsRaisedBy}
 use Rattle.cycle_time.specs.Rings.{to_of, step_of, no_edge, AreCauses, IsBehind, IsTurned, weights, laps, IsLoop, IsLimit, IsFound}
 use Rattle.cycle_time.specs.Laws.{CycleIsThere}

@@ -13,9 +13,8 @@ use Rattle.plan_model.proofs.Sound.{usable, use_sound}
 use Rattle.plan_model.proofs.Uses.{place_there}
 use Rattle.train_order.proofs.Users.{users}
 use Rattle.cycle_time.specs.declared.edge.Edge.{Edge}
-use Rattle.cycle_time.specs.Ring.{IsStep}
+use Rattle.cycle_time.specs.Cycle.{IsStep, IsRepeating}
 use Rattle.cycle_time.specs.Edges.{step_on, edge_on, IsLight, IsEdge, asks}
-use Rattle.cycle_time.specs.Repeating.{IsRepeating}
 
 -- each of the first numbers has a property, or something else holds
 each_or : (P : ℕ → Type 0) (Other : Type 0) (n : ℕ) → ((k : ℕ) → k < n → P k ⊎ Other) → ((k : ℕ) → k < n → P k) ⊎ Other

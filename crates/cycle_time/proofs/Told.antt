@@ -8,9 +8,7 @@ use Rattle.plan_model.specs.Cut.{IsSoundCut}
 use Rattle.plan_model.proofs.Uses.{place_there}
 use Rattle.cycle_time.specs.declared.found.Step.{Step}
 use Rattle.cycle_time.specs.declared.found.Cycle.{Cycle}
-use Rattle.cycle_time.specs.Ring.{IsStep, Leads, first_train}
-use Rattle.cycle_time.specs.Cycle.{IsShown, IsShownOf}
-use Rattle.cycle_time.specs.Rows.{IsStepWithin}
+use Rattle.cycle_time.specs.Cycle.{IsStep, Leads, first_train, IsShown, IsShownOf, IsStepWithin}
 
 module _ (cut : Cut) (sound : IsSoundCut cut) where
   step_within : (s : Step) → IsStep cut s → IsStepWithin cut s

@@ -14,7 +14,7 @@ use Rattle.train_order.proofs.Among.{among_at}
 use Rattle.train_order.proofs.Apart.{Differ, not_twice}
 use Rattle.cycle_time.specs.declared.edge.Edge.{Edge}
 use Rattle.cycle_time.specs.declared.found.Step.{Step}
-use Rattle.cycle_time.specs.Ring.{IsStep, total, patterns, Leads, first_train, Refuses}
+use Rattle.cycle_time.specs.Cycle.{IsStep, total, patterns, Leads, first_train, Refuses}
 use Rattle.cycle_time.specs.Edges.{IsEdge}
 use Rattle.cycle_time.specs.Rings.{to_of, step_of, no_edge, IsTurned, Back, weights, laps, IsLoop}
 

@@ -8,7 +8,7 @@ use Rattle.train_order.specs.declared.visits.Visit.{Visit}
 use Rattle.cycle_time.specs.Edges.{KeepsPlace}
 use Rattle.cycle_time.specs.Laying.{KeepTurns, KeepsAgain}
 use Rattle.cycle_time.specs.declared.found.Step.{Step}
-use Rattle.cycle_time.specs.Ring.{IsStep, no_step}
+use Rattle.cycle_time.specs.Cycle.{IsStep, no_step}
 
 -- entries keep all places
 abbrev pub KeepPlaces : Cut → ℕ → List ℤ → Type 0

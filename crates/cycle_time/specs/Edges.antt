@@ -7,7 +7,7 @@ use Rattle.plan_model.specs.Precedence.{precedes}
 use Rattle.plan_model.specs.Schedule.{entry_at, start_by, end_by}
 use Rattle.cycle_time.specs.declared.edge.Edge.{Edge}
 use Rattle.cycle_time.specs.declared.found.Step.{Step}
-use Rattle.cycle_time.specs.Ring.{IsStep, weight}
+use Rattle.cycle_time.specs.Cycle.{IsStep, weight}
 
 -- the step from member i to member j on a place
 abbrev pub step_on : ℕ → ℕ → ℕ → Bool → Step

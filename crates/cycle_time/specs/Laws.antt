@@ -8,9 +8,7 @@ use Rattle.plan_model.specs.Schedule.{IsSchedule}
 use Rattle.plan_model.specs.Occupancy.{occupancy}
 use Rattle.cycle_time.specs.declared.found.Step.{Step}
 use Rattle.cycle_time.specs.declared.found.Cycle.{Cycle}
-use Rattle.cycle_time.specs.Repeating.{IsRepeating}
-use Rattle.cycle_time.specs.Ring.{Refuses}
-use Rattle.cycle_time.specs.Cycle.{IsCycle, IsCycleOf, IsAnswered}
+use Rattle.cycle_time.specs.Cycle.{IsRepeating, Refuses, IsCycle, IsCycleOf, IsAnswered}
 
 -- the ring alone refuses each lesser period: no list of entries repeats in one
 abbrev pub NoLesserPeriod : Type 0

@@ -1,5 +1,3 @@
-pub mod Repeating
-pub mod Ring
 pub mod Cycle
 pub mod Laws
 pub mod Edges
@@ -7,5 +5,4 @@ pub mod Raising
 pub mod Laying
 pub mod Rings
 pub mod Settling
-pub mod Rows
 pub mod Checking

@@ -5,7 +5,7 @@ use Rattle.plan_model.specs.Members.{member_count}
 use Rattle.plan_model.specs.Schedule.{window_start, entry_at}
 use Rattle.cycle_time.specs.declared.edge.Edge.{Edge}
 use Rattle.cycle_time.specs.Edges.{IsEdge, asks, Keeps}
-use Rattle.cycle_time.specs.Repeating.{IsRepeating}
+use Rattle.cycle_time.specs.Cycle.{IsRepeating}
 
 -- the edge along which a train was raised last, if it was raised
 abbrev pub cause_at : List (Option Edge) → ℕ → Option Edge

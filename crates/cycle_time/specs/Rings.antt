@@ -9,9 +9,8 @@ use Rattle.cycle_time.specs.declared.settling.Settled.{Settled}
 use Rattle.cycle_time.specs.declared.settling.Settled.TheVariants as settled
 use Rattle.cycle_time.specs.declared.found.Step.{Step}
 use Rattle.cycle_time.specs.declared.least_period.Found.{Found}
-use Rattle.cycle_time.specs.Ring.{no_step, Refuses}
+use Rattle.cycle_time.specs.Cycle.{no_step, Refuses, IsLeastRepeating}
 use Rattle.cycle_time.specs.Edges.{IsEdge}
-use Rattle.cycle_time.specs.Repeating.{IsLeastRepeating}
 use Rattle.cycle_time.specs.Raising.{cause_at}
 
 -- the train to which an edge leads

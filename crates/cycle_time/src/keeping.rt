@@ -9,7 +9,7 @@ ghost use Rattle.cycle_time.specs.Edges.{Keeps, KeepsPlace, asks};
 ghost use Rattle.cycle_time.specs.Laying as given;
 ghost use Rattle.cycle_time.specs.Laying.{AreTurns};
 ghost use Rattle.cycle_time.specs.Checking.{KeepPlaces, KeepAll, KeepInTurn};
-ghost use Rattle.cycle_time.specs.Repeating.{IsRepeating};
+ghost use Rattle.cycle_time.specs.Cycle.{IsRepeating};
 
 use crate::edge::{Edge, edge_between};
 use plan_model::{FitCut, MEMBERS, SoundCut};

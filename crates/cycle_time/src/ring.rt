@@ -1,8 +1,8 @@
 //! Whether a ring refuses each period below one.
 ghost use Rattle.std.specs.Prelude.{◌≡◌, ◌≢◌, ◌<◌, ◌≤◌, ◌↔◌, ◌^◌, ◌≤ℤ◌, ◌+ℤ◌, ◌-ℤ◌, pos, All, AllPairs, IsTrue, length, slice_index_or};
 ghost use Rattle.cycle_time.specs.Checking.{Differs, IsMore};
-ghost use Rattle.cycle_time.specs.Ring as rings;
-ghost use Rattle.cycle_time.specs.Ring.{IsRing, IsStep, Leads, Refuses};
+ghost use Rattle.cycle_time.specs.Cycle as rings;
+ghost use Rattle.cycle_time.specs.Cycle.{IsRing, IsStep, Leads, Refuses};
 
 use crate::found::Step;
 use crate::steps::{leads_on, weight};

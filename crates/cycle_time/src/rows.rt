@@ -3,9 +3,8 @@ ghost use Rattle.std.specs.Prelude.{◌≡◌, ◌<◌, [], ◌∷◌, All, leng
 ghost use Rattle.plan_model.specs.Cut.{IsSoundCut};
 ghost use Rattle.plan_model.specs.Members.{member_count};
 ghost use Rattle.row_text.specs.Adds.{Adds};
-ghost use Rattle.cycle_time.specs.Cycle.{IsShown};
-ghost use Rattle.cycle_time.specs.Rows as rows;
-ghost use Rattle.cycle_time.specs.Rows.{IsStepWithin};
+ghost use Rattle.cycle_time.specs.Cycle.{IsShown, IsStepWithin};
+ghost use Rattle.cycle_time.specs.Cycle as rows;
 
 use crate::found::{Cycle, Step};
 use plan_model::{Cut, SoundCut};

@@ -5,8 +5,8 @@ ghost use Rattle.plan_model.specs.Members as members;
 ghost use Rattle.plan_model.specs.Precedence as given;
 ghost use Rattle.cycle_time.specs.Checking.{IsStepFrom};
 ghost use Rattle.cycle_time.specs.Edges.{IsLight};
-ghost use Rattle.cycle_time.specs.Ring as rings;
-ghost use Rattle.cycle_time.specs.Ring.{AreUsers, IsStep};
+ghost use Rattle.cycle_time.specs.Cycle as rings;
+ghost use Rattle.cycle_time.specs.Cycle.{AreUsers, IsStep};
 
 use crate::edge::{headway, since};
 use crate::found::Step;

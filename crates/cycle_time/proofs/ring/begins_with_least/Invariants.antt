@@ -1,5 +1,5 @@
 use Rattle.std.proofs.Common.{ℕ, ◌<◌, ◌≤◌, get_or}
-use Rattle.cycle_time.specs.Ring.{no_step}
+use Rattle.cycle_time.specs.Cycle.{no_step}
 use Rattle.cycle_time.proofs.ring.begins_with_least.Given as goal
 
 abbrev pub invariant-loop-k : goal.invariant-loop-k

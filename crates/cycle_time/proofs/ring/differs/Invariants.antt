@@ -1,6 +1,6 @@
 use Rattle.std.proofs.Common.{ℕ, ◌<◌, get_or}
 use Rattle.std.specs.Prelude.{◌≢◌}
-use Rattle.cycle_time.specs.Ring.{no_step}
+use Rattle.cycle_time.specs.Cycle.{no_step}
 use Rattle.cycle_time.proofs.ring.differs.Given as goal
 
 abbrev pub invariant-loop-j : goal.invariant-loop-j

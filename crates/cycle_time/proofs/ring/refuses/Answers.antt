@@ -1,4 +1,4 @@
-use Rattle.cycle_time.specs.Ring.{first_train}
+use Rattle.cycle_time.specs.Cycle.{first_train}
 use Rattle.cycle_time.proofs.Led.{all_steps}
 use Rattle.cycle_time.proofs.ring.refuses.Goals as goal
 

@@ -2,7 +2,7 @@ use Rattle.std.proofs.Common.{◌≡◌, get_or, rules, arith, to_z, of_z}
 use Rattle.std.specs.Int.{w128}
 use Rattle.std.specs.Prelude.{◌+ℤ◌}
 use Rattle.std.proofs.lemmas.Int.{ints}
-use Rattle.cycle_time.specs.Ring.{no_step, weight}
+use Rattle.cycle_time.specs.Cycle.{no_step, weight}
 use Rattle.cycle_time.proofs.Led.{total_more}
 use Rattle.cycle_time.proofs.ring.total.Goals as goal
 

@@ -1,6 +1,6 @@
 use Rattle.std.proofs.Common.{◌≡◌, ◌*◌, take}
 use Rattle.std.specs.Prelude.{pos, ◌-ℤ◌, ◌≤ℤ◌}
-use Rattle.cycle_time.specs.Ring.{total}
+use Rattle.cycle_time.specs.Cycle.{total}
 use Rattle.cycle_time.proofs.ring.total.Given as goal
 
 abbrev pub invariant-loop-k : goal.invariant-loop-k

@@ -5,7 +5,7 @@ use Rattle.row_text.proofs.Adds.{adds_stopped, first_added}
 use Rattle.answer_parts.proofs.Added.{then_adds}
 use Rattle.plan_model.specs.declared.cut.Cut.{Cut}
 use Rattle.plan_model.specs.Members.{member_count}
-use Rattle.cycle_time.specs.Rows.{period_row, train_rows, IsStepWithin}
+use Rattle.cycle_time.specs.Cycle.{period_row, train_rows, IsStepWithin}
 use Rattle.cycle_time.proofs.Told.{told}
 use Rattle.cycle_time.proofs.rows.cycle_rows.Goals as goal
 

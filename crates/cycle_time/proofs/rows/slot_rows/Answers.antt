@@ -5,7 +5,7 @@ use Rattle.std.proofs.lemmas.List.FromFn.{length-range_with_len, get_or-range_wi
 use Rattle.row_text.proofs.Adds.{adds_stopped}
 use Rattle.answer_parts.proofs.Added.{all_none, items_more, items_within, items_all}
 use Rattle.plan_model.specs.Members.{member_count, members}
-use Rattle.cycle_time.specs.Rows.{slot_row}
+use Rattle.cycle_time.specs.Cycle.{slot_row}
 use Rattle.cycle_time.proofs.rows.slot_rows.Goals as goal
 
 -- a number of a range is its place

@@ -2,7 +2,7 @@ use Rattle.std.proofs.Common.{map, refl}
 use Rattle.std.proofs.lemmas.List.{map-append}
 use Rattle.row_text.proofs.Adds.{adds_stopped}
 use Rattle.answer_parts.proofs.Added.{all_none, items_more, items_within, items_all}
-use Rattle.cycle_time.specs.Rows.{step_row}
+use Rattle.cycle_time.specs.Cycle.{step_row}
 use Rattle.cycle_time.proofs.rows.step_rows.Goals as goal
 
 pub loop-step-init : goal.loop-step-init

@@ -1,7 +1,7 @@
 use Rattle.std.proofs.Common.{map}
 use Rattle.row_text.proofs.Adds.{adds_stopped, first_added}
 use Rattle.answer_parts.proofs.Added.{then_adds}
-use Rattle.cycle_time.specs.Rows.{step_row}
+use Rattle.cycle_time.specs.Cycle.{step_row}
 use Rattle.cycle_time.proofs.rows.train_rows.Goals as goal
 
 pub returns-in_err-slot_rows : goal.returns-in_err-slot_rows

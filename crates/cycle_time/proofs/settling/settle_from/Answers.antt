@@ -1,5 +1,5 @@
 use Rattle.std.proofs.Common.{sym, subst}
-use Rattle.cycle_time.specs.Repeating.{IsLeastRepeating}
+use Rattle.cycle_time.specs.Cycle.{IsLeastRepeating}
 use Rattle.cycle_time.specs.Rings.{IsBehind}
 use Rattle.cycle_time.proofs.Settled.{repeats_at, early_again, refused}
 use Rattle.cycle_time.proofs.settling.settle_from.Goals as goal
