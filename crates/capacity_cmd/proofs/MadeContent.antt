@@ -20,9 +20,7 @@ use Rattle.row_text.specs.SheetRows.{text_of_row, text_of_rows}
 use Rattle.row_text.specs.Versions.{has_version_row}
 use Rattle.row_text.proofs.Records.{Reached-length, records_from-Reached, records_from-end}
 use Rattle.row_text.proofs.Says.{Each}
-use Rattle.made_line.specs.Base.{block_of, first_blocks, first_signals, first_runs, first_sections, base_edits}
-use Rattle.made_line.specs.MadeScripts.{first_tasks, first_scripts, scripts_of_made}
-use Rattle.made_line.specs.Tables.{base_tables}
+use Rattle.made_line.specs.Base.{block_of, first_blocks, first_signals, first_runs, first_sections, base_edits, first_tasks, first_scripts, scripts_of_made, base_tables}
 use Rattle.made_line.specs.Text.{made_lines, rows_of, made_text}
 use Rattle.made_line.proofs.Written.{has_word}
 use Rattle.made_line.proofs.Accepted.{base_made}

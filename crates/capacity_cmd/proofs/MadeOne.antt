@@ -3,7 +3,7 @@ use Rattle.std.proofs.Common.{◌≡◌, ℕ, List, sym, ap, ◌∙◌, subst}
 use Rattle.rail_model.specs.declared.tables.Tables.{Tables}
 use Rattle.row_text.specs.SheetRows.{text_of_rows}
 use Rattle.made_line.specs.declared.counts.TheConstants.{BASE_EDITS, WORKERS, SCRIPT_EDITS}
-use Rattle.made_line.specs.Tables.{base_tables}
+use Rattle.made_line.specs.Base.{base_tables}
 use Rattle.made_line.specs.Later.{later_tables}
 use Rattle.made_line.proofs.Sessions.{each_session_makes_all}
 use Rattle.capacity_cmd.specs.Made.{Counted, counted_of, IsCounted, made_rows, IsMadeText}

@@ -28,10 +28,7 @@ use Rattle.row_text.specs.Spelling.{leg_times, time_text, item_fields, row_in}
 use Rattle.row_text.proofs.Numbers.{number_in-decimal, rate_in-decimal}
 use Rattle.row_text.proofs.Says.{Says, Each}
 use Rattle.plan_model.specs.declared.scripts.Task.{Task}
-use Rattle.made_line.specs.Draws.{next_number, draw, after_draws}
-use Rattle.made_line.specs.Names.{is_printed, digit, block_name, signal_name, run_name, section_name}
-use Rattle.made_line.specs.Base.{block_of, first_blocks, made_blocks, made_signal, first_signals, made_signals, signal_names, made_route, made_leg, first_legs, made_run, run_from, first_runs, made_runs, block_names, made_section, first_sections, made_sections, put_block, put_signal, put_route, put_run, put_section, base_edits}
-use Rattle.made_line.specs.MadeScripts.{change_run, change_task, ask_task, first_tasks, script_over, first_scripts, scripts_of_made}
+use Rattle.made_line.specs.Base.{next_number, draw, after_draws, is_printed, digit, block_name, signal_name, run_name, section_name, block_of, first_blocks, made_blocks, made_signal, first_signals, made_signals, signal_names, made_route, made_leg, first_legs, made_run, run_from, first_runs, made_runs, block_names, made_section, first_sections, made_sections, put_block, put_signal, put_route, put_run, put_section, base_edits, change_run, change_task, ask_task, first_tasks, script_over, first_scripts, scripts_of_made}
 use Rattle.made_line.specs.Text.{line_of, script_lines, lines_of_scripts, made_lines}
 use Rattle.made_line.proofs.NameTests.{digit_is_printed, named}
 use Rattle.made_line.proofs.Lists.{joined_base}

@@ -7,9 +7,7 @@ use Rattle.plan_model.specs.declared.journal.Entry.{Entry}
 use Rattle.plan_model.specs.Journal.{tables_of}
 use Rattle.plan_model.specs.Session.{IsSession}
 use Rattle.plan_book.specs.declared.book.TheConstants.{PLANNERS}
-use Rattle.made_line.specs.Base.{base_edits}
-use Rattle.made_line.specs.MadeScripts.{scripts_of_made}
-use Rattle.made_line.specs.Tables.{base_tables}
+use Rattle.made_line.specs.Base.{base_edits, scripts_of_made, base_tables}
 use Rattle.made_line.specs.Text.{made_text}
 use Rattle.capacity_cmd.specs.declared.command.Command.{Command}
 use Rattle.capacity_cmd.specs.Input.{content_of_input}

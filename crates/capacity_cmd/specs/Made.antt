@@ -13,8 +13,7 @@ use Rattle.row_text.specs.Row.{Row}
 use Rattle.row_text.specs.SheetRows.{text_of_rows}
 use Rattle.capacity_report.specs.Answers.{AreAnswers, Total, total_of, total_row, with_answer}
 use Rattle.made_line.specs.declared.counts.TheConstants.{BASE_EDITS, PLANNERS, WORKERS}
-use Rattle.made_line.specs.MadeScripts.{scripts_of_made}
-use Rattle.made_line.specs.Tables.{base_tables}
+use Rattle.made_line.specs.Base.{scripts_of_made, base_tables}
 
 -- ---- what is counted of answers
 

@@ -2,7 +2,7 @@
 use Rattle.std.specs.Prelude.{◌≡◌, ℕ, List}
 use Rattle.row_text.specs.SheetRows.{text_of_rows}
 use Rattle.made_line.specs.declared.counts.TheConstants.{SCRIPT_EDITS}
-use Rattle.made_line.specs.Tables.{base_tables}
+use Rattle.made_line.specs.Base.{base_tables}
 use Rattle.made_line.specs.Later.{later_tables}
 use Rattle.capacity_cmd.specs.Made.{Counted, IsCounted, made_rows, IsMadeText}
 

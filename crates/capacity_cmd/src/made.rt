@@ -7,8 +7,7 @@ ghost use Rattle.plan_model.specs.Session.{IsSession, AllAreCurrent};
 ghost use Rattle.row_text.specs.SheetRows.{text_of_rows, with_row};
 ghost use Rattle.capacity_report.specs.Answers.{IsAnswerOfSome};
 ghost use Rattle.made_line.specs.declared.counts.TheConstants.{BASE_EDITS, WORKERS};
-ghost use Rattle.made_line.specs.MadeScripts.{scripts_of_made};
-ghost use Rattle.made_line.specs.Tables.{base_tables};
+ghost use Rattle.made_line.specs.Base.{scripts_of_made, base_tables};
 ghost use Rattle.capacity_cmd.specs.Made as made;
 ghost use Rattle.capacity_cmd.specs.Made.{IsMadeText, AreCounted, CountsSection};
 

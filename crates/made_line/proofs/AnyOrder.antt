@@ -13,10 +13,7 @@ use Rattle.rail_model.specs.declared.items.Run.{Run}
 use Rattle.rail_model.specs.declared.edit.Edit.{Edit}
 use Rattle.rail_model.specs.Tables.{no_run}
 use Rattle.rail_model.proofs.Lists.{map_same}
-use Rattle.made_line.specs.Draws.{after_draws}
-use Rattle.made_line.specs.Names.{run_name}
-use Rattle.made_line.specs.Base.{run_of, run_from, first_runs, made_runs}
-use Rattle.made_line.specs.MadeScripts.{change_run, first_tasks, first_scripts, scripts_of_made}
+use Rattle.made_line.specs.Base.{after_draws, run_name, run_of, run_from, first_runs, made_runs, change_run, first_tasks, first_scripts, scripts_of_made}
 use Rattle.made_line.specs.Later.{edits_in, is_changed, later_tables}
 use Rattle.made_line.specs.Laws.{Make, AnyOrderMakesOne}
 use Rattle.made_line.proofs.Rising.{tested}

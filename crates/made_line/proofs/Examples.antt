@@ -1,8 +1,6 @@
 -- The definitions, evaluated where the draws were worked out by hand or by a generator of its own.
 use Rattle.std.proofs.Common.{◌≡◌, codes, refl}
-use Rattle.made_line.specs.Draws.{next_number, after_draws}
-use Rattle.made_line.specs.Names.{run_name}
-use Rattle.made_line.specs.Base.{block_of}
+use Rattle.made_line.specs.Base.{next_number, after_draws, run_name, block_of}
 
 next_of_one : next_number 1 ≡ 1103527590
 next_of_one = refl

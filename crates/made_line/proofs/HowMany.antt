@@ -3,8 +3,7 @@ use Rattle.std.proofs.Common.{◌≡◌, ℕ, length, sum_by, refl, length-appen
 use Rattle.std.specs.Prelude.{count_by}
 use Rattle.std.proofs.lemmas.List.{length-map}
 use Rattle.std.proofs.lemmas.List.FromFn.{length-map-range_with_len}
-use Rattle.made_line.specs.Base.{block_of, first_blocks, made_signal, first_signals, made_runs, made_section, first_sections, base_edits}
-use Rattle.made_line.specs.MadeScripts.{script_over, first_tasks, first_scripts, scripts_of_made, is_edit}
+use Rattle.made_line.specs.Base.{block_of, first_blocks, made_signal, first_signals, made_runs, made_section, first_sections, base_edits, script_over, first_tasks, first_scripts, scripts_of_made, is_edit}
 use Rattle.made_line.proofs.Images.{length-first_runs}
 
 length_blocks : (n count : ℕ) → length (first_blocks n count) ≡ count

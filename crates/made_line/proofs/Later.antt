@@ -19,11 +19,7 @@ use Rattle.rail_model.specs.Edits.{with_changed, after}
 use Rattle.rail_model.specs.Rules.{rule_of, rule_of_change, is_there, is_named, refers_to_known, repeats, makes_repeat, miscounts_legs, makes_miscount}
 use Rattle.rail_model.proofs.Lists.{map_same}
 use Rattle.rail_model.proofs.NameOrder.{is_same-from, is_same-before, is_same-after}
-use Rattle.made_line.specs.Draws.{after_draws}
-use Rattle.made_line.specs.Names.{run_name}
-use Rattle.made_line.specs.Base.{run_of, first_runs}
-use Rattle.made_line.specs.MadeScripts.{later_run, change_run}
-use Rattle.made_line.specs.Tables.{base_tables}
+use Rattle.made_line.specs.Base.{after_draws, run_name, run_of, first_runs, later_run, change_run, base_tables}
 use Rattle.made_line.specs.Later.{runs_where_later, tables_where_later}
 use Rattle.made_line.specs.Laws.{Make}
 use Rattle.made_line.proofs.Rising.{runs_rise}

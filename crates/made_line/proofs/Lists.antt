@@ -3,9 +3,7 @@ use Rattle.std.proofs.Common.{◌≡◌, ℕ, ◌+◌, List, [], ◌∷◌, ◌+
 use Rattle.std.proofs.lemmas.List.{map-append}
 use Rattle.std.proofs.lemmas.List.FromFn.{map-range_with_len_more}
 use Rattle.rail_model.specs.declared.edit.Edit.{Edit}
-use Rattle.made_line.specs.Draws.{after_draws}
-use Rattle.made_line.specs.Names.{block_name, signal_name}
-use Rattle.made_line.specs.Base.{block_of, first_blocks, made_blocks, made_signal, first_signals, made_signals, signal_names, made_route, made_leg, first_legs, run_from, first_runs, made_runs, block_names, made_section, first_sections, made_sections, put_block, put_signal, put_route, put_run, put_section, base_edits}
+use Rattle.made_line.specs.Base.{after_draws, block_name, signal_name, block_of, first_blocks, made_blocks, made_signal, first_signals, made_signals, signal_names, made_route, made_leg, first_legs, run_from, first_runs, made_runs, block_names, made_section, first_sections, made_sections, put_block, put_signal, put_route, put_run, put_section, base_edits}
 
 pub no_blocks : (n : ℕ) → first_blocks n 0 ≡ []
 unfolding first_blocks

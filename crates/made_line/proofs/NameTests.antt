@@ -9,7 +9,7 @@ use Rattle.std.proofs.lemmas.Bool.Decides.{nat_tests}
 use Rattle.std.proofs.lemmas.Str.{is_utf8-from_IsUtf8, IsUtf8-from_ascii}
 use Rattle.rail_model.specs.declared.name.TheConstants.{NAME_BYTES}
 use Rattle.rail_model.specs.Name.{is_name, is_name_byte}
-use Rattle.made_line.specs.Names.{is_printed, digit}
+use Rattle.made_line.specs.Base.{is_printed, digit}
 
 pub digit_is_printed : (n : ℕ) → n < 10 → IsTrue (is_printed (digit n))
 digit_is_printed n small = both_true (le-leb 32 (digit n) (omega arith)) (lt-ltb (digit n) 127 (omega arith))

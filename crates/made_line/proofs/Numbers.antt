@@ -1,6 +1,6 @@
 -- The numbers that draws go through.
 use Rattle.std.proofs.Common.{◌≡◌, ℕ, zero, suc, ◌+◌, ◌*◌, refl, sym, ap, ◌∙◌, add-one, arith}
-use Rattle.made_line.specs.Draws.{next_number, after_draws}
+use Rattle.made_line.specs.Base.{next_number, after_draws}
 
 pub after_none : (x : ℕ) → after_draws x 0 ≡ x
 unfolding after_draws

@@ -5,7 +5,7 @@ use Rattle.std.proofs.lemmas.List.FromFn.{length-range_with_len, get_or-range_wi
 use Rattle.std.proofs.lemmas.List.Sums.{AllPass-from_list_all}
 use Rattle.rail_model.specs.Name.{IsBefore, is_before}
 use Rattle.rail_model.proofs.NameOrder.{IsBefore-from, IsBefore-trans}
-use Rattle.made_line.specs.Names.{block_name, signal_name, run_name, section_name}
+use Rattle.made_line.specs.Base.{block_name, signal_name, run_name, section_name}
 
 -- what is tested for all numbers below a limit
 pub tested : (test : ℕ → Bool) (count : ℕ) → list_all test (range_with_len 0 count) ≡ true

@@ -17,8 +17,7 @@ use Rattle.plan_model.specs.Legal.{IsLegal}
 use Rattle.plan_model.specs.Session.{actors, opened, entered}
 use Rattle.plan_model.proofs.Growing.{edits-more, tables_of-more, done_by-more}
 use Rattle.plan_model.proofs.Touching.{legal_later}
-use Rattle.made_line.specs.MadeScripts.{scripts_of_made}
-use Rattle.made_line.specs.Tables.{base_tables}
+use Rattle.made_line.specs.Base.{scripts_of_made, base_tables}
 use Rattle.made_line.specs.Later.{edit_in, edits_in}
 use Rattle.made_line.specs.Laws.{EachSessionMakesAll}
 use Rattle.made_line.proofs.Later.{MakesLater, and_times, where_counted, none_is_later, makes_one_later}

@@ -6,7 +6,7 @@ use Rattle.rail_model.specs.declared.items.Run.{Run}
 use Rattle.rail_model.proofs.Lists.{flat_map-range_more}
 use Rattle.plan_model.specs.declared.scripts.Task.{Task}
 use Rattle.plan_model.specs.Scripts.{with_task}
-use Rattle.made_line.specs.MadeScripts.{change_task, ask_task, first_tasks, script_over, first_scripts}
+use Rattle.made_line.specs.Base.{change_task, ask_task, first_tasks, script_over, first_scripts}
 
 last_script : (scripts : List (List Task)) (tasks : List Task)
     → slice_index_or (scripts ++ tasks ∷ []) (length scripts) [] ≡ tasks

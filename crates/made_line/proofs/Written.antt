@@ -9,8 +9,7 @@ use Rattle.row_text.specs.declared.line.Line.TheVariants as line
 use Rattle.row_text.specs.Row.{Row}
 use Rattle.row_text.specs.Spelling.{row_in}
 use Rattle.row_text.specs.SheetRows.{text_of_rows}
-use Rattle.made_line.specs.Base.{base_edits}
-use Rattle.made_line.specs.MadeScripts.{scripts_of_made}
+use Rattle.made_line.specs.Base.{base_edits, scripts_of_made}
 use Rattle.made_line.specs.Text.{line_of, script_lines, lines_of_scripts, made_lines, rows_of, made_text}
 
 -- a row has its word at least

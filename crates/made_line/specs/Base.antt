@@ -1,7 +1,6 @@
--- The edits of the made line's base: 64 blocks, a signal at each, one route over them all, 300 runs on it and 8 sections
--- of 8 blocks. The lengths and running times are drawn from the number n, one after the other.
-use Rattle.std.specs.Prelude.{ℕ, ◌+◌, ◌*◌, List, [], ◌∷◌, ◌++◌, map}
-use Rattle.std.specs.List.{range_with_len}
+-- The made line: what is drawn from its number, its names, its base and the scripts of its planners.
+use Rattle.std.specs.Prelude.{ℕ, zero, suc, ◌+◌, ◌*◌, ◌/◌, ◌%◌, Bool, ◌&&◌, nat_lt, nat_le, List, [], ◌∷◌, ◌++◌, codes, map, true, false, slice_index_or}
+use Rattle.std.specs.List.{range_with_len, flat_map}
 use Rattle.rail_model.specs.declared.items.Block.{Block}
 use Rattle.rail_model.specs.declared.items.Signal.{Signal}
 use Rattle.rail_model.specs.declared.items.Route.{Route}
@@ -11,8 +10,50 @@ use Rattle.rail_model.specs.declared.items.Section.{Section}
 use Rattle.rail_model.specs.declared.items.Item.TheVariants as item
 use Rattle.rail_model.specs.declared.edit.Edit.{Edit}
 use Rattle.rail_model.specs.declared.edit.Edit.TheVariants as edit
-use Rattle.made_line.specs.Draws.{next_number, draw, after_draws}
-use Rattle.made_line.specs.Names.{block_name, signal_name, route_name, run_name, section_name}
+use Rattle.rail_model.specs.declared.tables.Tables.{Tables}
+use Rattle.rail_model.specs.Tables.{no_run}
+use Rattle.plan_model.specs.declared.scripts.Task.{Task}
+use Rattle.plan_model.specs.declared.scripts.Task.TheVariants as task
+
+-- each draw goes on from a number to the next
+abbrev pub next_number : ℕ → ℕ
+next_number x = (x * 1103515245 + 12345) % 2147483648
+
+-- what is drawn below a limit where the numbers have come to x
+abbrev pub draw : ℕ → ℕ → ℕ
+draw x below = next_number x / 65536 % below
+
+-- the number after so many draws
+unfoldable pub after_draws : ℕ → ℕ → ℕ
+after_draws x zero = x
+after_draws x (suc count) = next_number (after_draws x count)
+
+-- a byte of ASCII that is printed
+abbrev pub is_printed : ℕ → Bool
+is_printed b = nat_le 32 b && nat_lt b 127
+
+-- a digit, as it is written
+abbrev pub digit : ℕ → ℕ
+digit n = 48 + n
+
+-- b00 to b63
+abbrev pub block_name : ℕ → List ℕ
+block_name i = codes "b" ++ digit (i / 10) ∷ digit (i % 10) ∷ []
+
+-- s00 to s63
+abbrev pub signal_name : ℕ → List ℕ
+signal_name i = codes "s" ++ digit (i / 10) ∷ digit (i % 10) ∷ []
+
+abbrev pub route_name : List ℕ
+route_name = codes "line"
+
+-- r000 to r299
+abbrev pub run_name : ℕ → List ℕ
+run_name i = codes "r" ++ digit (i / 100) ∷ digit (i / 10 % 10) ∷ digit (i % 10) ∷ []
+
+-- q0 to q7
+abbrev pub section_name : ℕ → List ℕ
+section_name j = codes "q" ++ digit j ∷ []
 
 -- ---- blocks, by one draw each
 
@@ -130,3 +171,46 @@ base_edits n =
     ++ put_route made_route ∷ []
     ++ map put_run (made_runs n)
     ++ map put_section made_sections
+
+abbrev pub base_tables : ℕ → Tables
+base_tables n = record {
+  blocks = made_blocks n;
+  signals = made_signals;
+  routes = made_route ∷ [];
+  runs = made_runs n;
+  sections = made_sections;
+  connections = [];
+}
+
+-- a run that starts 30 s later
+abbrev pub later_run : Run → Run
+later_run run = record run { start_s = run.start_s + 30 }
+
+abbrev pub change_run : Run → Edit
+change_run run = edit.Change (item.Run (later_run run))
+
+-- the two tasks of planner p, from 1, at k, from 0 to 15: a run of these runs starts later, and a section is asked for
+abbrev pub change_task : List Run → ℕ → ℕ → Task
+change_task runs p k = task.Edit (change_run (slice_index_or runs (60 * p + k) no_run))
+
+abbrev pub ask_task : ℕ → Task
+ask_task k = task.Ask (section_name (k % 8))
+
+-- the first tasks of planner p: two for each k
+unfoldable pub first_tasks : List Run → ℕ → ℕ → List Task
+first_tasks runs p count = flat_map (λ k. change_task runs p k ∷ ask_task k ∷ []) (range_with_len 0 count)
+
+abbrev pub script_over : List Run → ℕ → List Task
+script_over runs p = first_tasks runs p 16
+
+-- the scripts of the first planners
+unfoldable pub first_scripts : List Run → ℕ → List (List Task)
+first_scripts runs count = map (script_over runs) (range_with_len 1 count)
+
+abbrev pub scripts_of_made : ℕ → List (List Task)
+scripts_of_made n = first_scripts (made_runs n) 4
+
+-- a task is an edit, and no question
+abbrev pub is_edit : Task → Bool
+is_edit (task.Edit e) = true
+is_edit (task.Ask section) = false

@@ -6,9 +6,7 @@ use Rattle.rail_model.specs.declared.edit.Edit.{Edit}
 use Rattle.rail_model.specs.declared.tables.Tables.{Tables}
 use Rattle.plan_model.specs.declared.scripts.Task.{Task}
 use Rattle.plan_model.specs.declared.scripts.Task.TheVariants as task
-use Rattle.made_line.specs.Base.{run_of}
-use Rattle.made_line.specs.MadeScripts.{later_run}
-use Rattle.made_line.specs.Tables.{base_tables}
+use Rattle.made_line.specs.Base.{run_of, later_run, base_tables}
 
 -- the edit of a task, if it is one
 abbrev pub edit_in : Task → Option Edit

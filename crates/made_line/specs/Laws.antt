@@ -8,8 +8,7 @@ use Rattle.plan_model.specs.declared.journal.Entry.{Entry}
 use Rattle.plan_model.specs.Journal.{tables_of, edits}
 use Rattle.plan_model.specs.Session.{IsSession}
 use Rattle.made_line.specs.declared.counts.TheConstants.{SCRIPT_EDITS}
-use Rattle.made_line.specs.MadeScripts.{scripts_of_made}
-use Rattle.made_line.specs.Tables.{base_tables}
+use Rattle.made_line.specs.Base.{scripts_of_made, base_tables}
 use Rattle.made_line.specs.Later.{edits_in, later_tables}
 
 -- no rule refuses one of the edits, and they leave these tables

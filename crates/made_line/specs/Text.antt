@@ -8,8 +8,7 @@ use Rattle.row_text.specs.declared.line.Line.TheVariants as line
 use Rattle.row_text.specs.Row.{Row}
 use Rattle.row_text.specs.Spelling.{row_in}
 use Rattle.row_text.specs.SheetRows.{text_of_rows}
-use Rattle.made_line.specs.Base.{base_edits}
-use Rattle.made_line.specs.MadeScripts.{scripts_of_made}
+use Rattle.made_line.specs.Base.{base_edits, scripts_of_made}
 
 abbrev pub line_of : Task → Line
 line_of (task.Edit e) = line.Edit e

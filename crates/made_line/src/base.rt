@@ -1,6 +1,6 @@
 //! The edits of the made line's base.
 ghost use Rattle.std.specs.Prelude.{◌≡◌, ◌++◌, ◌<◌, ◌*◌, map, IfOk, OnOk};
-ghost use Rattle.made_line.specs.Draws.{next_number, after_draws};
+ghost use Rattle.made_line.specs.Base.{next_number, after_draws};
 ghost use Rattle.made_line.specs.Base as base;
 
 use crate::draws::Draws;

@@ -1,7 +1,6 @@
 //! How much there is of the made line.
 ghost use Rattle.std.specs.Prelude.{◌≡◌, length, count_by, sum_by};
-ghost use Rattle.made_line.specs.Base.{base_edits};
-ghost use Rattle.made_line.specs.MadeScripts.{scripts_of_made, is_edit};
+ghost use Rattle.made_line.specs.Base.{base_edits, scripts_of_made, is_edit};
 
 /// How many edits put the base together: 64 blocks, 64 signals, a route, 300 runs and 8 sections.
 /// It is the number of the last edit before the scripts.

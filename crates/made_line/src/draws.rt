@@ -1,6 +1,6 @@
 //! Numbers that are drawn one after the other.
 ghost use Rattle.std.specs.Prelude.{◌≡◌, ◌<◌};
-ghost use Rattle.made_line.specs.Draws as draws;
+ghost use Rattle.made_line.specs.Base as draws;
 
 // A source of numbers that look like chance and are the same for the same first number.
 #[derive(Drop)]

@@ -1,7 +1,7 @@
 //! The names of the made line.
 ghost use Rattle.std.specs.Prelude.{◌≡◌, ◌<◌, IsTrue};
 ghost use Rattle.rail_model.specs.Name.{is_name};
-ghost use Rattle.made_line.specs.Names as names;
+ghost use Rattle.made_line.specs.Base as names;
 
 use rail_model::Name;
 

@@ -1,6 +1,6 @@
 //! The runs of the made line.
 ghost use Rattle.std.specs.Prelude.{◌≡◌, ◌<◌, IfOk, OnOk};
-ghost use Rattle.made_line.specs.Draws.{next_number, after_draws};
+ghost use Rattle.made_line.specs.Base.{next_number, after_draws};
 ghost use Rattle.made_line.specs.Base as base;
 
 use crate::draws::Draws;

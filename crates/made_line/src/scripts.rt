@@ -2,7 +2,7 @@
 ghost use Rattle.std.specs.Prelude.{◌≡◌, ◌<◌, ◌≤◌, ◌++◌, ◌∷◌, [], length, All, IfOk, OnOk};
 ghost use Rattle.plan_model.specs.Scripts.{with_task};
 ghost use Rattle.plan_model.specs.declared.scripts.Task.TheVariants as task;
-ghost use Rattle.made_line.specs.MadeScripts as made;
+ghost use Rattle.made_line.specs.Base as made;
 
 use crate::base::BLOCKS;
 use crate::counts::PLANNERS;

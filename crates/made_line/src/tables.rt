@@ -4,7 +4,7 @@ ghost use Rattle.rail_model.specs.Rules.{rule_of};
 ghost use Rattle.rail_model.specs.Edits.{no_tables, after};
 ghost use Rattle.rail_model.specs.Edited.{after_edits, AreAccepted};
 ghost use Rattle.made_line.specs.Base as base;
-ghost use Rattle.made_line.specs.Tables.{base_tables};
+ghost use Rattle.made_line.specs.Base.{base_tables};
 
 use crate::base::base_edits;
 use line_tables::LineTables;

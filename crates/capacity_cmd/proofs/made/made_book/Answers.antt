@@ -4,7 +4,7 @@ use Rattle.rail_model.specs.declared.tables.Tables.{Tables}
 use Rattle.plan_model.specs.declared.scripts.Task.{Task}
 use Rattle.plan_model.specs.Session.{IsSession}
 use Rattle.made_line.specs.declared.counts.TheConstants.{BASE_EDITS, WORKERS}
-use Rattle.made_line.specs.MadeScripts.{scripts_of_made}
+use Rattle.made_line.specs.Base.{scripts_of_made}
 use Rattle.capacity_cmd.proofs.made.made_book.Goals as goal
 
 pub returns : goal.returns

@@ -1,6 +1,5 @@
 use Rattle.std.proofs.Common.{sym, ap, ◌∙◌}
-use Rattle.made_line.specs.Draws.{next_number}
-use Rattle.made_line.specs.Base.{put_block}
+use Rattle.made_line.specs.Base.{next_number, put_block}
 use Rattle.made_line.proofs.Numbers.{after_none, after_draws-more}
 use Rattle.made_line.proofs.Lists.{no_edits, more_edits, no_blocks, first_blocks-more}
 use Rattle.made_line.proofs.base.put_blocks.Goals as goal

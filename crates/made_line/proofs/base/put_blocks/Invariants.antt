@@ -1,6 +1,5 @@
 use Rattle.std.proofs.Common.{◌≡◌, ◌++◌, map}
-use Rattle.made_line.specs.Draws.{after_draws}
-use Rattle.made_line.specs.Base.{first_blocks, put_block}
+use Rattle.made_line.specs.Base.{after_draws, first_blocks, put_block}
 use Rattle.made_line.proofs.base.put_blocks.Given as goal
 
 abbrev pub invariant-loop-i : goal.invariant-loop-i

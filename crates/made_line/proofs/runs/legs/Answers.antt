@@ -1,5 +1,5 @@
 use Rattle.std.proofs.Common.{sym, ap, ◌∙◌}
-use Rattle.made_line.specs.Draws.{next_number}
+use Rattle.made_line.specs.Base.{next_number}
 use Rattle.made_line.proofs.Numbers.{after_none, after_draws-more}
 use Rattle.made_line.proofs.Lists.{no_legs, first_legs-more}
 use Rattle.made_line.proofs.runs.legs.Goals as goal

@@ -1,6 +1,5 @@
 use Rattle.std.proofs.Common.{◌≡◌}
-use Rattle.made_line.specs.Draws.{after_draws}
-use Rattle.made_line.specs.Base.{first_legs}
+use Rattle.made_line.specs.Base.{after_draws, first_legs}
 use Rattle.made_line.proofs.runs.legs.Given as goal
 
 abbrev pub invariant-loop : goal.invariant-loop

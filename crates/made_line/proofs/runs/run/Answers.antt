@@ -1,5 +1,5 @@
 use Rattle.std.proofs.Common.{◌∙◌, ap, refl}
-use Rattle.made_line.specs.Draws.{after_draws}
+use Rattle.made_line.specs.Base.{after_draws}
 use Rattle.made_line.proofs.Numbers.{after_draws-first}
 use Rattle.made_line.proofs.runs.run.Goals as goal
 

@@ -1,6 +1,5 @@
 use Rattle.std.proofs.Common.{◌≡◌, ◌*◌}
-use Rattle.made_line.specs.Draws.{after_draws}
-use Rattle.made_line.specs.Base.{first_runs}
+use Rattle.made_line.specs.Base.{after_draws, first_runs}
 use Rattle.made_line.proofs.runs.runs.Given as goal
 
 abbrev pub invariant-loop-i : goal.invariant-loop-i

@@ -1,5 +1,5 @@
 use Rattle.std.proofs.Common.{◌≡◌}
-use Rattle.made_line.specs.Draws.{after_draws}
+use Rattle.made_line.specs.Base.{after_draws}
 use Rattle.made_line.proofs.draws.Draws.skip.Given as goal
 
 abbrev pub invariant-loop : goal.invariant-loop
