@@ -6,8 +6,7 @@ use Rattle.std.proofs.lemmas.List.{take_all}
 use Rattle.rail_model.specs.Name.{is_same, name_of}
 use Rattle.capacity_cmd.specs.declared.command.Command.{Command}
 use Rattle.capacity_cmd.specs.declared.command.Command.TheVariants as command
-use Rattle.capacity_cmd.specs.GivenDelays.{are_delays, delays_of}
-use Rattle.capacity_cmd.specs.Command.{IsRead, command_of, short_command_of, workers_asked}
+use Rattle.capacity_cmd.specs.Command.{are_delays, delays_of, IsRead, command_of, short_command_of, workers_asked}
 use Rattle.capacity_cmd.proofs.GivenDelays.{rest}
 
 pub none_read : (E : Type 0) (found : Option Command) → found ≡ None → IsRead {E = E} found None

@@ -10,7 +10,7 @@ use Rattle.plan_model.specs.Cut.{stamped_row, stamped}
 use Rattle.plan_model.specs.SectionCut.{is_member, row_of, section_cut, cut_of}
 use Rattle.capacity_cmd.specs.declared.status.Cause.{Cause}
 use Rattle.capacity_cmd.specs.Outcome.{Writes, Refuses}
-use Rattle.capacity_cmd.specs.Named.{EndsOnNamed}
+use Rattle.capacity_cmd.specs.Ends.{EndsOnNamed}
 
 -- the cut as it is defined has the stamp 0 in each row
 pub stamped_none : (tables : Tables) (section : Section) → stamped 0 (section_cut tables section) ≡ section_cut tables section

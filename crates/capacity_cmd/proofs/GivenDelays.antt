@@ -4,7 +4,7 @@ use Rattle.std.specs.Prelude.{◌/◌, ◌&&◌, not, is_some, option_map}
 use Rattle.std.specs.List.{range_with_len}
 use Rattle.std.proofs.lemmas.List.{take_all, length-map, get_or-map}
 use Rattle.std.proofs.lemmas.List.FromFn.{length-range_with_len, get_or-range_with_len}
-use Rattle.capacity_cmd.specs.GivenDelays.{seconds_of, is_among_runs, are_pairs, pair_at, all_of, delays_of}
+use Rattle.capacity_cmd.specs.Command.{seconds_of, is_among_runs, are_pairs, pair_at, all_of, delays_of}
 
 -- ---- words that are pairs
 

@@ -27,7 +27,7 @@ use Rattle.plan_model.proofs.Legality.{tables_are_sound}
 use Rattle.plan_model.proofs.Touching.{same_one, current_is_answered}
 use Rattle.plan_model.proofs.Unique.{answer_is_unique}
 use Rattle.capacity_report.specs.Answers.{AreAnswers, IsAnswerOfSome}
-use Rattle.capacity_cmd.specs.Session.{IsJournalText}
+use Rattle.capacity_cmd.specs.Ends.{IsJournalText}
 use Rattle.capacity_cmd.specs.Published.{last_answer, last_answers, IsAnsweredLast, WerePublishedLast, ReportsLast, HasAnswer, HaveAnswers}
 
 -- without entries there is none

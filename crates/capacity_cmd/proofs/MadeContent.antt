@@ -27,8 +27,7 @@ use Rattle.made_line.proofs.Accepted.{base_made}
 use Rattle.plan_book.specs.declared.book.TheConstants.{PLANNERS}
 use Rattle.capacity_cmd.specs.declared.limit.TheConstants.{INPUT_BYTES}
 use Rattle.capacity_cmd.specs.declared.status.Cause.{Cause}
-use Rattle.capacity_cmd.specs.Spelling.{Spelling, nothing, with_line}
-use Rattle.capacity_cmd.specs.Input.{spelling_from, content_of_rows}
+use Rattle.capacity_cmd.specs.Input.{Spelling, nothing, with_line, spelling_from, content_of_rows}
 use Rattle.capacity_cmd.specs.Laws.{SaysMadeLine}
 use Rattle.capacity_cmd.proofs.Outcomes.{content_of_short}
 use Rattle.capacity_cmd.proofs.MadeRows.{IsPlain, made_plain}

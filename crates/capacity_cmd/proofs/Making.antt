@@ -27,8 +27,7 @@ use Rattle.capacity_cmd.specs.declared.refusal.Refusal.{Refusal}
 use Rattle.capacity_cmd.specs.declared.accepted.Accepted.{Accepted}
 use Rattle.capacity_cmd.specs.declared.input.BaseSoFar.{BaseSoFar}
 use Rattle.capacity_cmd.specs.declared.input.InputSoFar.{InputSoFar}
-use Rattle.capacity_cmd.specs.Spelling.{Spelling, nothing, takes_planner, takes_task, where_it_stands, with_one_task, with_line}
-use Rattle.capacity_cmd.specs.Input.{refused, unless_refused, tables_from, content_in}
+use Rattle.capacity_cmd.specs.Input.{Spelling, nothing, takes_planner, takes_task, where_it_stands, with_one_task, with_line, refused, unless_refused, tables_from, content_in}
 use Rattle.capacity_cmd.specs.InputSoFar.{accepted_in, IsWithin, or_refused, tables_so_far, by_rule, after_one_more, TakesIf, IsNothing, Holds, accepted_so_far, TakesLine, TakesRow, TakesEach, said_by, goes_on, HasTaken}
 
 -- ---- one edit more

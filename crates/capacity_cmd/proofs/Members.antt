@@ -19,9 +19,7 @@ use Rattle.plan_model.specs.Cut.{IsSoundCut}
 use Rattle.plan_model.specs.Members.{no_member, member_count}
 use Rattle.capacity_cmd.specs.declared.given_delay.GivenDelay.{GivenDelay}
 use Rattle.capacity_cmd.specs.declared.status.Cause.TheVariants as cause
-use Rattle.capacity_cmd.specs.Named.{row_named}
-use Rattle.capacity_cmd.specs.Delays.{are_members, delay_of, delays_in, with_delays, SetsDelay}
-use Rattle.capacity_cmd.specs.Fill.{with_member}
+use Rattle.capacity_cmd.specs.Ends.{row_named, are_members, delay_of, delays_in, with_delays, SetsDelay, with_member}
 
 abbrev label : CutRow → List ℕ
 label r = r.name

@@ -35,19 +35,7 @@ use Rattle.capacity_cmd.specs.declared.status.Cause.{Cause}
 use Rattle.capacity_cmd.specs.Command.{planners_of}
 use Rattle.capacity_cmd.specs.Input.{Content, accepted_of, content_of_input}
 use Rattle.capacity_cmd.specs.Outcome.{Outcome, Writes, EndsInText}
-use Rattle.capacity_cmd.specs.Named.{cut_named, EndsOnNamed}
-use Rattle.capacity_cmd.specs.Head.{IsHeadText}
-use Rattle.capacity_cmd.specs.Stairs.{IsStairsText}
-use Rattle.capacity_cmd.specs.Check.{IsCheckText}
-use Rattle.capacity_cmd.specs.Compress.{IsCompressText}
-use Rattle.capacity_cmd.specs.Report.{IsReportText}
-use Rattle.capacity_cmd.specs.Headways.{IsHeadwaysText}
-use Rattle.capacity_cmd.specs.Cut.{IsCutText}
-use Rattle.capacity_cmd.specs.Cycle.{IsCycleText}
-use Rattle.capacity_cmd.specs.Delays.{delayed_named, IsSpreadText, IsDelaysText}
-use Rattle.capacity_cmd.specs.Fill.{member_named, IsFilledText, IsFillText}
-use Rattle.capacity_cmd.specs.Session.{IsJournalText, IsSessionText}
-use Rattle.capacity_cmd.specs.Ends.{EndsOnAccepted, Ends}
+use Rattle.capacity_cmd.specs.Ends.{cut_named, EndsOnNamed, IsHeadText, IsStairsText, IsCheckText, IsCompressText, IsReportText, IsHeadwaysText, IsCutText, IsCycleText, delayed_named, IsSpreadText, IsDelaysText, member_named, IsFilledText, IsFillText, IsJournalText, IsSessionText, EndsOnAccepted, Ends}
 use Rattle.capacity_cmd.specs.OneOutcome.{IsLeftOpen, DifferInCircuit}
 use Rattle.capacity_cmd.specs.Laws.{OutcomeIsOne}
 

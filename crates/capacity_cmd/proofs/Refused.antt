@@ -22,16 +22,12 @@ use Rattle.capacity_cmd.specs.declared.command.Command.TheVariants as command
 use Rattle.capacity_cmd.specs.declared.refusal.Refusal.{Refusal}
 use Rattle.capacity_cmd.specs.declared.status.Cause.{Cause}
 use Rattle.capacity_cmd.specs.declared.status.Cause.TheVariants as cause
-use Rattle.capacity_cmd.specs.Spelling.{Spelling, nothing, takes_planner, takes_task, where_it_stands, with_one_task, with_line}
+use Rattle.capacity_cmd.specs.Input.{Spelling, nothing, takes_planner, takes_task, where_it_stands, with_one_task, with_line, Content, accepted_of, at_row, in_form, spelling_from, unless_refused, content_of_rows}
 use Rattle.capacity_cmd.specs.declared.accepted.Accepted.{Accepted}
-use Rattle.capacity_cmd.specs.Input.{Content, accepted_of, at_row, in_form, spelling_from, unless_refused, content_of_rows}
 use Rattle.capacity_cmd.specs.Command.{planners_of}
 use Rattle.capacity_cmd.specs.Outcome.{Outcome, Writes, Refuses, EndsInText}
 use Rattle.capacity_cmd.specs.declared.given_delay.GivenDelay.{GivenDelay}
-use Rattle.capacity_cmd.specs.Named.{cut_named, row_named, EndsOnNamed}
-use Rattle.capacity_cmd.specs.Delays.{are_members, delays_in, with_delays, delayed_named}
-use Rattle.capacity_cmd.specs.Fill.{member_named}
-use Rattle.capacity_cmd.specs.Ends.{EndsOnAccepted, Ends}
+use Rattle.capacity_cmd.specs.Ends.{cut_named, row_named, EndsOnNamed, are_members, delays_in, with_delays, delayed_named, member_named, EndsOnAccepted, Ends}
 use Rattle.capacity_cmd.specs.Promise.{IsReadFor}
 
 -- an outcome is no refusal of an input that is too long

@@ -13,8 +13,8 @@ use Rattle.capacity_report.specs.declared.answers.Detail.TheVariants as detail
 use Rattle.capacity_report.specs.Answers.{answer_rows, AreAnswers, heads, report_rows, Total, total_row, with_answer}
 use Rattle.capacity_report.specs.Journal.{rows_of_journal}
 use Rattle.capacity_report.proofs.Reports.{total_more, heads_more, answers_more, answers_count}
-use Rattle.capacity_cmd.specs.Report.{IsReportText, AddsReport, AddsHead, HasHeads}
-use Rattle.capacity_cmd.specs.Session.{IsJournalWith, IsJournalText}
+use Rattle.capacity_cmd.specs.Ends.{IsReportText, IsJournalWith, IsJournalText}
+use Rattle.capacity_cmd.specs.Heads.{AddsReport, AddsHead, HasHeads}
 
 -- the heads of the first sections, and that of the next
 pub heads_added : (tables : Tables) (count : ℕ) (before rows more : List Row) (total greater : Total) → count < length tables.sections → HasHeads tables count before rows total → AddsHead tables (section_at tables count) rows more total greater → HasHeads tables (count + 1) before more greater

@@ -19,8 +19,7 @@ use Rattle.capacity_cmd.specs.declared.status.Status.TheVariants.{Done}
 use Rattle.capacity_cmd.specs.Command.{command_of, workers_in}
 use Rattle.capacity_cmd.specs.Outcome.{Writes}
 use Rattle.capacity_cmd.specs.Input.{Content, content_of_input}
-use Rattle.capacity_cmd.specs.Ends.{Ends}
-use Rattle.capacity_cmd.specs.Session.{IsJournalWith, IsJournalText}
+use Rattle.capacity_cmd.specs.Ends.{Ends, IsJournalWith, IsJournalText}
 use Rattle.capacity_cmd.specs.Promise.{RejectsWords, RunsCommand, Answers}
 use Rattle.capacity_cmd.specs.SessionCall.{IsSessionJournal, WritesJournal}
 

@@ -1,23 +1,183 @@
--- What each command ends with, by its input.
-use Rattle.std.specs.Prelude.{◌≡◌, ℕ, List, Result, Ok, Err}
+-- What each command ends with, by its input: its text, in the order of the commands, or a refusal.
+use Rattle.std.specs.Prelude.{◌≡◌, ℕ, List, Option, None, Some, option_and_then, position, Result, Ok, Err, ◌++◌, ◌⊎◌, ◌<◌, ◌≤◌, [], ◌∷◌, Bool, if◌then◌else◌, map, fold, All, slice_set, is_some, zero, suc}
+use Rattle.std.specs.Option.{ok_or}
+use Rattle.rail_model.specs.Name.{is_same}
+use Rattle.rail_model.specs.declared.tables.Tables.{Tables}
+use Rattle.plan_model.specs.declared.cut.Cut.{Cut}
+use Rattle.plan_model.specs.SectionCut.{cut_of}
+use Rattle.capacity_cmd.specs.declared.status.Cause.{Cause}
+use Rattle.capacity_cmd.specs.declared.status.Cause.TheVariants as cause
+use Rattle.capacity_cmd.specs.Outcome.{Outcome, Refuses, EndsInText}
+use Rattle.row_text.specs.SheetRows.{text_of_rows}
+use Rattle.capacity_report.specs.Rows.{stairs_rows, check_rows, headways_or_count}
+use Rattle.rail_model.specs.Conflict.{Conflict, AreConflicts}
+use Rattle.rail_model.specs.Timetable.{timetable}
+use Rattle.plan_model.specs.declared.answer.Answer.{Answer}
+use Rattle.plan_model.specs.Answer.{IsAnswer}
+use Rattle.capacity_report.specs.declared.answers.Detail.TheVariants as detail
+use Rattle.capacity_report.specs.Answers.{answer_rows, AreAnswers, report_rows, crowded_row}
+use Rattle.path_fill.specs.Filling.{IsNoPlan, IsOrdered, IsFill, fill_rows}
+use Rattle.plan_model.specs.declared.limits.TheConstants.{MEMBERS}
+use Rattle.plan_model.specs.Members.{member_count, member}
+use Rattle.line_cutter.specs.declared.found.Cutting.{Cutting}
+use Rattle.line_cutter.specs.Cutting.{IsCutting}
+use Rattle.line_cutter.specs.Rows.{cutting_rows}
+use Rattle.cycle_time.specs.declared.found.Cycle.{Cycle}
+use Rattle.cycle_time.specs.Cycle.{IsCycle, cycle_rows}
+use Rattle.std.specs.List.{list_all}
+use Rattle.row_text.specs.Lines.{◌>>=◌}
+use Rattle.delay_spread.specs.declared.spreading.TheConstants.{GREATEST_DELAY_S}
+use Rattle.delay_spread.specs.declared.found.Spread.{Spread}
+use Rattle.delay_spread.specs.Spreading.{IsSpread, spread_rows}
+use Rattle.capacity_cmd.specs.declared.given_delay.GivenDelay.{GivenDelay}
+use Rattle.path_fill.specs.declared.found.Fill.{Fill}
+use Rattle.plan_model.specs.declared.scripts.Task.{Task}
+use Rattle.plan_model.specs.declared.journal.Entry.{Entry}
+use Rattle.plan_model.specs.Journal.{tables_of}
+use Rattle.plan_model.specs.Session.{IsSession, IsSessionAlone}
+use Rattle.capacity_report.specs.Journal.{rows_of_journal}
 use Rattle.capacity_cmd.specs.declared.command.Command.{Command}
 use Rattle.capacity_cmd.specs.declared.command.Command.TheVariants as command
 use Rattle.capacity_cmd.specs.declared.refusal.Refusal.{Refusal}
 use Rattle.capacity_cmd.specs.declared.accepted.Accepted.{Accepted}
 use Rattle.capacity_cmd.specs.Input.{Content, accepted_of, content_of_input}
 use Rattle.capacity_cmd.specs.Command.{planners_of}
-use Rattle.capacity_cmd.specs.Outcome.{Outcome, Refuses, EndsInText}
-use Rattle.capacity_cmd.specs.Named.{cut_named, EndsOnNamed}
-use Rattle.capacity_cmd.specs.Stairs.{IsStairsText}
-use Rattle.capacity_cmd.specs.Check.{IsCheckText}
-use Rattle.capacity_cmd.specs.Compress.{IsCompressText}
-use Rattle.capacity_cmd.specs.Report.{IsReportText}
-use Rattle.capacity_cmd.specs.Headways.{IsHeadwaysText}
-use Rattle.capacity_cmd.specs.Cut.{IsCutText}
-use Rattle.capacity_cmd.specs.Cycle.{IsCycleText}
-use Rattle.capacity_cmd.specs.Delays.{delayed_named, IsDelaysText}
-use Rattle.capacity_cmd.specs.Fill.{member_named, IsFillText}
-use Rattle.capacity_cmd.specs.Session.{IsSessionText}
+
+-- the cut of the section that is named; none where the word is no name or no section has it
+abbrev pub cut_named : Tables → Option (List ℕ) → Result Cut Cause
+cut_named tables section = ok_or (option_and_then (cut_of tables) section) cause.NoSection
+
+-- the position of the member that is named; none where the word is no name or no member has it
+abbrev pub row_named : Cut → Option (List ℕ) → Option ℕ
+row_named cut None = None
+row_named cut (Some run) = position (λ r. is_same r.name run) cut.rows
+
+-- a text is written for what is named, and where it isn't found the input as a whole is refused
+abbrev pub EndsOnNamed : {X : Type 0} → (X → List ℕ → Type 0) → Result X Cause → Outcome → Type 0
+EndsOnNamed IsText (Ok found) outcome = EndsInText (IsText found) outcome
+EndsOnNamed IsText (Err why) outcome = outcome ≡ Refuses 0 why
+
+-- the rows of every run's stairway
+abbrev pub IsStairsText : Tables → List ℕ → Type 0
+IsStairsText tables text = text ≡ text_of_rows (stairs_rows tables)
+
+-- the rows of the timetable's conflicts
+abbrev pub IsCheckText : Tables → List ℕ → Type 0
+IsCheckText tables text =
+    (all : List Conflict) × AreConflicts (timetable tables) all × (text ≡ text_of_rows (check_rows tables all))
+
+-- the rows of a cut's answer in full
+abbrev pub IsCompressText : Cut → List ℕ → Type 0
+IsCompressText cut text =
+    (a : Answer) × IsAnswer cut a × (text ≡ text_of_rows (answer_rows cut.section.name a detail.Full))
+
+-- the heads of the answers of all sections, and their total
+abbrev pub IsReportText : Tables → List ℕ → Type 0
+IsReportText tables text =
+    (answers : List Answer) × AreAnswers tables tables.sections answers
+    × (text ≡ text_of_rows (report_rows tables.sections answers))
+
+-- the rows of the headways of a cut's trains
+abbrev pub IsHeadwaysText : Cut → List ℕ → Type 0
+IsHeadwaysText cut text = text ≡ text_of_rows (headways_or_count cut)
+
+-- the rows of its answer: that its trains have no order, or are more than are compressed
+abbrev pub IsHeadText : Cut → List ℕ → Type 0
+IsHeadText cut text =
+    (a : Answer) × IsAnswer cut a × IsNoPlan a × (text ≡ text_of_rows (answer_rows cut.section.name a detail.Head))
+
+-- of a cut with more members than are compressed only their number is told
+abbrev pub IsCountText : Cut → List ℕ → Type 0
+IsCountText cut text =
+    (MEMBERS < member_count cut)
+    × (text ≡ text_of_rows (crowded_row cut.section.name (member_count cut) ∷ []))
+
+-- of another the rows of its cutting
+abbrev pub IsCuttingText : Cut → List ℕ → Type 0
+IsCuttingText cut text =
+    (member_count cut ≤ MEMBERS)
+    × (cutting : Cutting) × IsCutting cut cutting × (text ≡ text_of_rows (cutting_rows cut cutting))
+
+abbrev pub IsCutText : Cut → List ℕ → Type 0
+IsCutText cut text = IsCountText cut text ⊎ IsCuttingText cut text
+
+-- the rows of the least cycle time of the section's trains
+abbrev pub IsPeriodText : Cut → List ℕ → Type 0
+IsPeriodText cut text =
+    IsOrdered cut × (cycle : Cycle) × IsCycle cut cycle × (text ≡ text_of_rows (cycle_rows cut cycle))
+
+abbrev pub IsCycleText : Cut → List ℕ → Type 0
+IsCycleText cut text = IsHeadText cut text ⊎ IsPeriodText cut text
+
+-- each delay is given to a member
+abbrev pub are_members : Cut → List GivenDelay → Bool
+are_members cut given = list_all (λ d. is_some (row_named cut (Some d.run))) given
+
+-- the delay that is given to the train of a name: 0 where none is; no run is given two
+abbrev pub delay_of : List GivenDelay → List ℕ → ℕ
+delay_of given name = fold (λ so_far d. if is_same name d.run then d.delay else so_far) 0 given
+
+-- the delay of each member
+abbrev pub delays_in : Cut → List GivenDelay → List ℕ
+delays_in cut given = map (λ r. delay_of given r.name) cut.rows
+
+-- the cut of the section that is named, with these delays, where all are given to members; none is where the word of a
+-- run is no name
+abbrev pub with_delays : Option (List GivenDelay) → Cut → Result (Cut × List ℕ) Cause
+with_delays None cut = Err cause.NoMember
+with_delays (Some given) cut = if are_members cut given then Ok (cut, delays_in cut given) else Err cause.NoMember
+
+abbrev pub delayed_named : Tables → Option (List ℕ) → Option (List GivenDelay) → Result (Cut × List ℕ) Cause
+delayed_named tables section given = cut_named tables section >>= with_delays given
+
+-- one delay is set, where it is given to a member; all that are set are within the limit
+pub record SetsDelay (cut : Cut) (d : GivenDelay) (done : Bool) (delays more : List ℕ) : Type 0 where
+  pub member : done ≡ is_some (row_named cut (Some d.run))
+  pub set : (row : ℕ) → row_named cut (Some d.run) ≡ Some row → more ≡ slice_set delays row d.delay
+  pub limit : All (λ s. s ≤ GREATEST_DELAY_S) delays → All (λ s. s ≤ GREATEST_DELAY_S) more
+
+-- the rows of the delays that are spread
+abbrev pub IsSpreadText : Cut → List ℕ → List ℕ → Type 0
+IsSpreadText cut delays text =
+    IsOrdered cut × (spread : Spread) × IsSpread cut delays spread × (text ≡ text_of_rows (spread_rows cut spread))
+
+abbrev pub IsDelaysText : Cut × List ℕ → List ℕ → Type 0
+IsDelaysText (cut, delays) text = IsHeadText cut text ⊎ IsSpreadText cut delays text
+
+-- the cut of the section that is named, with the position of the member that is named
+abbrev pub with_member : Option (List ℕ) → Cut → Result (Cut × ℕ) Cause
+with_member run cut = do
+  row ← ok_or (row_named cut run) cause.NoMember
+  Ok (cut, row)
+
+abbrev pub member_named : Tables → Option (List ℕ) → Option (List ℕ) → Result (Cut × ℕ) Cause
+member_named tables section run = cut_named tables section >>= with_member run
+
+-- the rows of the section that is filled with copies of the member
+abbrev pub IsFilledText : Cut → ℕ → List ℕ → Type 0
+IsFilledText cut row text =
+    IsOrdered cut × (fill : Fill) × IsFill cut row fill
+    × (text ≡ text_of_rows (fill_rows cut.section (member cut row).name fill))
+
+abbrev pub IsFillText : Cut × ℕ → List ℕ → Type 0
+IsFillText (cut, row) text = IsHeadText cut text ⊎ IsFilledText cut row text
+
+-- a session with so many workers, over tables, the number of the last edit before it and planners' scripts, may have this
+-- journal; without workers there is one
+abbrev pub IsJournalWith : ℕ → Tables → ℕ → List (List Task) → List Entry → Type 0
+IsJournalWith zero tables at scripts journal = IsSessionAlone tables at scripts journal
+IsJournalWith (suc workers) tables at scripts journal = IsSession tables at scripts (suc workers) journal
+
+-- the rows of a journal, and then the report of the tables at its end
+abbrev pub IsJournalText : List Entry → List ℕ → Type 0
+IsJournalText journal text =
+    (answers : List Answer) × AreAnswers (tables_of journal) (tables_of journal).sections answers
+    × (text ≡ text_of_rows (rows_of_journal journal ++ report_rows (tables_of journal).sections answers))
+
+-- the text of a journal of a session with so many workers
+abbrev pub IsSessionText : Tables → ℕ → List (List Task) → ℕ → List ℕ → Type 0
+IsSessionText tables at scripts workers text =
+    (journal : List Entry) × IsJournalWith workers tables at scripts journal × IsJournalText journal text
 
 -- the outcome of each command on the tables of a line, and that of a session on the planners' scripts besides
 abbrev pub EndsOnAccepted : Command → Accepted → Outcome → Type 0

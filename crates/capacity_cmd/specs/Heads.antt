@@ -1,11 +1,35 @@
--- The heads of the answers of a line's sections, each on a sheet of its own.
-use Rattle.std.specs.Prelude.{◌≡◌, ℕ, ◌<◌, List, [], length, slice_index_or}
+-- The text of `report` while the heads of its sections' answers are added, one after the other or each on a sheet of its own.
+use Rattle.std.specs.Prelude.{◌≡◌, ℕ, List, ◌++◌, take, ◌<◌, [], length, slice_index_or}
 use Rattle.rail_model.specs.declared.items.Section.{Section}
 use Rattle.rail_model.specs.declared.tables.Tables.{Tables}
+use Rattle.plan_model.specs.declared.answer.Answer.{Answer}
+use Rattle.plan_model.specs.SectionCut.{section_cut}
+use Rattle.plan_model.specs.Answer.{IsAnswer}
+use Rattle.row_text.specs.Row.{Row}
+use Rattle.capacity_report.specs.declared.answers.Detail.TheVariants as detail
+use Rattle.capacity_report.specs.Answers.{answer_rows, AreAnswers, heads, report_rows, Total, total_of, with_answer}
 use Rattle.rail_model.specs.Tables.{section_at}
-use Rattle.capacity_report.specs.Answers.{total_of}
 use Rattle.capacity_cmd.specs.declared.heads.Head.{Head}
-use Rattle.capacity_cmd.specs.Report.{AddsHead}
+
+-- after some rows come the heads of the answers of all sections, and their total
+abbrev pub AddsReport : Tables → List Row → List Row → Type 0
+AddsReport tables rows more =
+    (answers : List Answer) × AreAnswers tables tables.sections answers
+    × (more ≡ rows ++ report_rows tables.sections answers)
+
+-- the head of a section's answer comes to the rows, and the answer to the total
+pub record AddsHead (tables : Tables) (section : Section) (rows more : List Row) (total greater : Total) : Type 0 where
+  pub answer : Answer
+  pub is : IsAnswer (section_cut tables section) answer
+  pub head : more ≡ rows ++ answer_rows section.name answer detail.Head
+  pub counted : greater ≡ with_answer total answer
+
+-- after some rows come the heads of the answers of the first sections, and the total is theirs
+pub record HasHeads (tables : Tables) (count : ℕ) (before rows : List Row) (total : Total) : Type 0 where
+  pub answers : List Answer
+  pub are : AreAnswers tables (take count tables.sections) answers
+  pub written : rows ≡ before ++ heads (take count tables.sections) answers
+  pub counted : total ≡ total_of answers
 
 -- the head of a section's answer alone, and the total of this answer alone
 abbrev pub IsHead : Tables → Section → Head → Type 0

@@ -19,8 +19,7 @@ use Rattle.capacity_cmd.specs.declared.refusal.Refusal.{Refusal}
 use Rattle.capacity_cmd.specs.declared.accepted.Accepted.{Accepted}
 use Rattle.capacity_cmd.specs.declared.input.BaseSoFar.{BaseSoFar}
 use Rattle.capacity_cmd.specs.declared.input.InputSoFar.{InputSoFar}
-use Rattle.capacity_cmd.specs.Spelling.{Spelling, with_line}
-use Rattle.capacity_cmd.specs.Input.{Content, accepted_of, refused, spelling_from, tables_from, content_in}
+use Rattle.capacity_cmd.specs.Input.{Spelling, with_line, Content, accepted_of, refused, spelling_from, tables_from, content_in}
 
 -- what an input gives to a command, or its refusal
 abbrev pub accepted_in : Result Content Refusal → Result Accepted Refusal

@@ -13,9 +13,8 @@ use Rattle.capacity_cmd.specs.declared.command.Command.{Command}
 use Rattle.capacity_cmd.specs.Input.{content_of_input}
 use Rattle.capacity_cmd.specs.Outcome.{Outcome}
 use Rattle.capacity_cmd.specs.OneOutcome.{IsLeftOpen}
-use Rattle.capacity_cmd.specs.Ends.{EndsOn}
+use Rattle.capacity_cmd.specs.Ends.{EndsOn, IsJournalText}
 use Rattle.capacity_cmd.specs.Promise.{IsEnd}
-use Rattle.capacity_cmd.specs.Session.{IsJournalText}
 use Rattle.capacity_cmd.specs.Published.{IsAnsweredLast, ReportsLast}
 use Rattle.capacity_cmd.specs.Made.{IsMadeText}
 use Rattle.capacity_cmd.specs.MadeOne.{IsOneText}

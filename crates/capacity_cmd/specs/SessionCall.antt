@@ -14,7 +14,7 @@ use Rattle.plan_book.specs.declared.book.TheConstants.{PLANNERS}
 use Rattle.capacity_cmd.specs.declared.status.Status.TheVariants.{Done}
 use Rattle.capacity_cmd.specs.Command.{workers_in}
 use Rattle.capacity_cmd.specs.Input.{Content, content_of_input}
-use Rattle.capacity_cmd.specs.Session.{IsJournalText}
+use Rattle.capacity_cmd.specs.Ends.{IsJournalText}
 use Rattle.capacity_cmd.specs.Promise.{Answers}
 
 -- where an entry does a task, it is made by the pass of the planner whose task it is; without workers all are made by pass 0

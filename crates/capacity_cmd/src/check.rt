@@ -1,6 +1,6 @@
 //! The command `check`.
 ghost use Rattle.std.specs.Prelude.{◌≡◌, IfOk};
-ghost use Rattle.capacity_cmd.specs.Check.{IsCheckText};
+ghost use Rattle.capacity_cmd.specs.Ends.{IsCheckText};
 
 use capacity_report::{conflict_rows, stairways};
 use conflict_finder::conflicts;

@@ -3,9 +3,8 @@ ghost use Rattle.std.specs.Prelude.{◌≡◌, ◌≤◌, map, IfOk, IfSome};
 ghost use Rattle.std.specs.String.{string_bytes};
 ghost use Rattle.rail_model.specs.Name.{name_of};
 ghost use Rattle.session_run.specs.declared.threads.TheConstants.{WORKERS};
-ghost use Rattle.capacity_cmd.specs.Command.{command_of, short_command_of, workers_in, workers_of, workers_asked, planners_of, made_of, IsRead};
+ghost use Rattle.capacity_cmd.specs.Command.{command_of, short_command_of, workers_in, workers_of, workers_asked, planners_of, made_of, IsRead, delays_of};
 ghost use Rattle.capacity_cmd.specs.declared.command.Command.TheVariants as command;
-ghost use Rattle.capacity_cmd.specs.GivenDelays.{delays_of};
 
 use crate::given_delay::{GivenDelay, are_delays, delays_of};
 use plan_book::PLANNERS;

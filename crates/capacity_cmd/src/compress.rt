@@ -3,8 +3,7 @@ ghost use Rattle.std.specs.Prelude.{◌≡◌, IfOk, MatchResult};
 ghost use Rattle.plan_model.specs.Cut.{IsSoundCut};
 ghost use Rattle.plan_model.specs.Answer.{IsAnswer};
 ghost use Rattle.capacity_cmd.specs.Outcome.{Writes, Refuses};
-ghost use Rattle.capacity_cmd.specs.Named.{cut_named, EndsOnNamed};
-ghost use Rattle.capacity_cmd.specs.Compress.{IsCompressText};
+ghost use Rattle.capacity_cmd.specs.Ends.{cut_named, EndsOnNamed, IsCompressText};
 
 use crate::named::cut_named;
 use crate::{Cause, Told};

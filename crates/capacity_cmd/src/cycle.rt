@@ -4,8 +4,7 @@ ghost use Rattle.plan_model.specs.Cut.{IsSoundCut};
 ghost use Rattle.path_fill.specs.Filling.{IsOrdered};
 ghost use Rattle.cycle_time.specs.Cycle.{IsCycle};
 ghost use Rattle.capacity_cmd.specs.Outcome.{Writes, Refuses};
-ghost use Rattle.capacity_cmd.specs.Named.{cut_named, EndsOnNamed};
-ghost use Rattle.capacity_cmd.specs.Cycle.{IsPeriodText, IsCycleText};
+ghost use Rattle.capacity_cmd.specs.Ends.{cut_named, EndsOnNamed, IsPeriodText, IsCycleText};
 
 use crate::Cause;
 use crate::head::{crowded_text, head_text, is_crowded};

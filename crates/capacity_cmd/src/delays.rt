@@ -7,8 +7,7 @@ ghost use Rattle.plan_model.specs.Members.{member_count};
 ghost use Rattle.delay_spread.specs.Spreading.{IsSpread};
 ghost use Rattle.path_fill.specs.Filling.{IsOrdered};
 ghost use Rattle.capacity_cmd.specs.Outcome.{Writes, Refuses};
-ghost use Rattle.capacity_cmd.specs.Named.{EndsOnNamed};
-ghost use Rattle.capacity_cmd.specs.Delays.{delays_in, are_members, delayed_named, with_delays, IsDelaysText, IsSpreadText, SetsDelay};
+ghost use Rattle.capacity_cmd.specs.Ends.{EndsOnNamed, delays_in, are_members, delayed_named, with_delays, IsDelaysText, IsSpreadText, SetsDelay};
 
 use crate::given_delay::GivenDelay;
 use crate::head::{crowded_text, head_text, is_crowded};

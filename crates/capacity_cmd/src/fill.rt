@@ -4,8 +4,7 @@ ghost use Rattle.plan_model.specs.Cut.{IsSoundCut};
 ghost use Rattle.plan_model.specs.Members.{member_count};
 ghost use Rattle.path_fill.specs.Filling.{IsOrdered, IsFill};
 ghost use Rattle.capacity_cmd.specs.Outcome.{Writes, Refuses};
-ghost use Rattle.capacity_cmd.specs.Named.{EndsOnNamed};
-ghost use Rattle.capacity_cmd.specs.Fill.{member_named, with_member, IsFillText, IsFilledText};
+ghost use Rattle.capacity_cmd.specs.Ends.{EndsOnNamed, member_named, with_member, IsFillText, IsFilledText};
 
 use crate::head::{crowded_text, head_text, is_crowded};
 use crate::named::{cut_named, row_named};

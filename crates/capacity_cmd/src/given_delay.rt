@@ -3,7 +3,7 @@ ghost use Rattle.std.specs.Prelude.{◌≡◌, ◌+◌, ◌*◌, ◌<◌, ◌≤
 ghost use Rattle.std.specs.String.{string_bytes};
 ghost use Rattle.delay_spread.specs.declared.spreading.TheConstants.{GREATEST_DELAY_S};
 ghost use Rattle.capacity_cmd.specs.declared.given_delay.TheConstants.{DELAY_DIGITS};
-ghost use Rattle.capacity_cmd.specs.GivenDelays.{seconds_of, is_among_runs, are_pairs, are_delays, given_delay, pair_at, delays_of};
+ghost use Rattle.capacity_cmd.specs.Command.{seconds_of, is_among_runs, are_pairs, are_delays, given_delay, pair_at, delays_of};
 
 use delay_spread::GREATEST_DELAY_S;
 use rail_model::{List, Name, OutOfMemory};

@@ -6,7 +6,7 @@ ghost use Rattle.plan_model.specs.Cut.{IsSoundCut};
 ghost use Rattle.plan_model.specs.Members.{member_count};
 ghost use Rattle.plan_model.specs.Answer.{IsAnswer};
 ghost use Rattle.path_fill.specs.Filling.{IsNoPlan};
-ghost use Rattle.capacity_cmd.specs.Head.{IsHeadText};
+ghost use Rattle.capacity_cmd.specs.Ends.{IsHeadText};
 
 use capacity_report::{Detail, answer_rows};
 use plan_model::{Answer, Cut, MEMBERS};

@@ -4,8 +4,7 @@ ghost use Rattle.std.specs.Prelude.{◌≡◌, ◌<◌, [], length, IfOk, OnOk};
 ghost use Rattle.rail_model.specs.Tables.{section_at};
 ghost use Rattle.rail_model.specs.Timetable.{timetable};
 ghost use Rattle.capacity_report.specs.Answers.{total_of};
-ghost use Rattle.capacity_cmd.specs.Report.{HasHeads};
-ghost use Rattle.capacity_cmd.specs.Heads.{IsHead, AreHeads};
+ghost use Rattle.capacity_cmd.specs.Heads.{HasHeads, IsHead, AreHeads};
 
 use crate::report::{add_head, answer_among};
 use capacity_report::Tally;

@@ -4,8 +4,7 @@ ghost use Rattle.plan_model.specs.declared.limits.TheConstants.{MEMBERS};
 ghost use Rattle.plan_model.specs.Cut.{IsSoundCut};
 ghost use Rattle.plan_model.specs.Members.{member_count};
 ghost use Rattle.capacity_cmd.specs.Outcome.{Writes, Refuses};
-ghost use Rattle.capacity_cmd.specs.Named.{cut_named, EndsOnNamed};
-ghost use Rattle.capacity_cmd.specs.Headways.{IsHeadwaysText};
+ghost use Rattle.capacity_cmd.specs.Ends.{cut_named, EndsOnNamed, IsHeadwaysText};
 
 use crate::Cause;
 use crate::named::cut_named;

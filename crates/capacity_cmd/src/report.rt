@@ -5,8 +5,8 @@ ghost use Rattle.rail_model.specs.Timetable.{timetable};
 ghost use Rattle.plan_model.specs.SectionCut.{section_cut};
 ghost use Rattle.plan_model.specs.Answer.{IsAnswer};
 ghost use Rattle.capacity_report.specs.Answers.{total_of, IsAnswerOfSome};
-ghost use Rattle.capacity_cmd.specs.Report.{IsReportText, AddsReport, HasHeads, AddsHead};
-ghost use Rattle.capacity_cmd.specs.Heads.{AreHeads};
+ghost use Rattle.capacity_cmd.specs.Ends.{IsReportText};
+ghost use Rattle.capacity_cmd.specs.Heads.{AddsReport, HasHeads, AddsHead, AreHeads};
 ghost use Rattle.capacity_cmd.specs.Published.{HaveAnswers};
 
 use crate::compress::answer_of;

@@ -2,7 +2,7 @@
 ghost use Rattle.std.specs.Prelude.{◌≡◌, ◌≤◌, ◌↔◌, ◌∷◌, ◌++◌, [], length, sum_by, IsTrue, IfOk};
 ghost use Rattle.plan_model.specs.Scripts.{with_task};
 ghost use Rattle.plan_book.specs.declared.book.TheConstants.{TASKS};
-ghost use Rattle.capacity_cmd.specs.Spelling.{takes_planner, takes_task};
+ghost use Rattle.capacity_cmd.specs.Input.{takes_planner, takes_task};
 ghost use Rattle.capacity_cmd.specs.InputSoFar.{TakesIf};
 
 use crate::Cause;

@@ -3,7 +3,7 @@ ghost use Rattle.std.specs.Prelude.{◌≡◌, ◌≤◌, IfOk};
 ghost use Rattle.plan_model.specs.Session.{AllAreCurrent};
 ghost use Rattle.session_run.specs.declared.threads.TheConstants.{WORKERS};
 ghost use Rattle.capacity_cmd.specs.InputSoFar.{IsWithin};
-ghost use Rattle.capacity_cmd.specs.Session.{IsSessionText, IsJournalText};
+ghost use Rattle.capacity_cmd.specs.Ends.{IsSessionText, IsJournalText};
 ghost use Rattle.capacity_cmd.specs.declared.limit.TheConstants.{INPUT_BYTES};
 ghost use Rattle.plan_book.specs.declared.book.TheConstants.{PLANNERS};
 

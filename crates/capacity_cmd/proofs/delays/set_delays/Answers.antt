@@ -5,8 +5,7 @@ use Rattle.std.proofs.lemmas.List.Folds.{list_all_more}
 use Rattle.delay_spread.specs.declared.spreading.TheConstants.{GREATEST_DELAY_S}
 use Rattle.plan_model.specs.Members.{member_count}
 use Rattle.capacity_cmd.specs.declared.given_delay.GivenDelay.{GivenDelay}
-use Rattle.capacity_cmd.specs.Named.{row_named}
-use Rattle.capacity_cmd.specs.Delays.{SetsDelay}
+use Rattle.capacity_cmd.specs.Ends.{row_named, SetsDelay}
 use Rattle.capacity_cmd.proofs.Members.{none_given, set_more}
 use Rattle.capacity_cmd.proofs.delays.set_delays.Goals as goal
 

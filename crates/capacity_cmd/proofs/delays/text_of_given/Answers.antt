@@ -1,7 +1,7 @@
 use Rattle.std.proofs.Common.{◌≡◌, true, Some, length, sym, ap, ◌∙◌, rules}
 use Rattle.std.proofs.lemmas.List.{length-map}
 use Rattle.headway_table.proofs.Filled.{written}
-use Rattle.capacity_cmd.specs.Delays.{with_delays, IsDelaysText}
+use Rattle.capacity_cmd.specs.Ends.{with_delays, IsDelaysText}
 use Rattle.capacity_cmd.proofs.Cuts.{writes_for_named}
 use Rattle.capacity_cmd.proofs.Members.{given_to_members}
 use Rattle.capacity_cmd.proofs.delays.text_of_given.Goals as goal

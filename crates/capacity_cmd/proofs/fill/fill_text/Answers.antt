@@ -4,8 +4,7 @@ use Rattle.row_text.specs.Lines.{◌>>=◌}
 use Rattle.plan_model.specs.declared.cut.Cut.{Cut}
 use Rattle.capacity_cmd.specs.declared.status.Cause.{Cause}
 use Rattle.capacity_cmd.specs.Outcome.{Writes, Refuses}
-use Rattle.capacity_cmd.specs.Named.{EndsOnNamed}
-use Rattle.capacity_cmd.specs.Fill.{member_named, with_member, IsFillText}
+use Rattle.capacity_cmd.specs.Ends.{EndsOnNamed, member_named, with_member, IsFillText}
 use Rattle.capacity_cmd.proofs.Cuts.{refuses_unnamed}
 use Rattle.capacity_cmd.proofs.fill.fill_text.Goals as goal
 

@@ -1,6 +1,6 @@
 use Rattle.std.proofs.Common.{◌≡◌, ℕ, false, List, map, sym, ap, rules, ◌∙◌}
 use Rattle.std.specs.String.{string_bytes}
-use Rattle.capacity_cmd.specs.GivenDelays.{is_among_runs}
+use Rattle.capacity_cmd.specs.Command.{is_among_runs}
 use Rattle.capacity_cmd.proofs.GivenDelays.{rest, run_twice, no_pair, by_rest}
 use Rattle.capacity_cmd.proofs.given_delay.+are_pairs.Goals as goal
 

@@ -2,7 +2,7 @@ use Rattle.std.proofs.Common.{Some, map, sym, ap, ◌∙◌, arith}
 use Rattle.std.specs.List.{range_with_len}
 use Rattle.std.specs.String.{string_bytes}
 use Rattle.std.proofs.lemmas.List.FromFn.{map-range_with_len_more}
-use Rattle.capacity_cmd.specs.GivenDelays.{pair_at, all_of}
+use Rattle.capacity_cmd.specs.Command.{pair_at, all_of}
 use Rattle.capacity_cmd.proofs.GivenDelays.{all_of_more, nothing_given}
 use Rattle.capacity_cmd.proofs.given_delay.delays_of.Goals as goal
 

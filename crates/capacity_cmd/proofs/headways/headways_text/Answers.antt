@@ -1,6 +1,5 @@
 use Rattle.std.proofs.Common.{sym, ◌∙◌}
-use Rattle.capacity_cmd.specs.Named.{cut_named}
-use Rattle.capacity_cmd.specs.Headways.{IsHeadwaysText}
+use Rattle.capacity_cmd.specs.Ends.{cut_named, IsHeadwaysText}
 use Rattle.capacity_cmd.proofs.Cuts.{writes_for_named, refuses_unnamed}
 use Rattle.capacity_cmd.proofs.headways.headways_text.Goals as goal
 

@@ -2,7 +2,7 @@ use Rattle.std.proofs.Common.{List, sym, ap, ◌∙◌}
 use Rattle.std.specs.Prelude.{position}
 use Rattle.rail_model.specs.Name.{is_same}
 use Rattle.plan_model.specs.declared.cut.CutRow.{CutRow}
-use Rattle.capacity_cmd.specs.Named.{row_named}
+use Rattle.capacity_cmd.specs.Ends.{row_named}
 use Rattle.capacity_cmd.proofs.named.row_named.Goals as goal
 
 pub returns-in-Some-clause-row : goal.returns-in-Some-clause-row

@@ -1,4 +1,4 @@
-use Rattle.capacity_cmd.specs.Report.{HasHeads}
+use Rattle.capacity_cmd.specs.Heads.{HasHeads}
 use Rattle.capacity_cmd.proofs.report.add_heads.Given as goal
 
 -- the heads of the sections so far

@@ -2,7 +2,7 @@ use Rattle.std.proofs.Common.{◌≡◌, ap}
 use Rattle.std.proofs.lemmas.Result.{IfOk-weaker}
 use Rattle.row_text.specs.SheetRows.{SheetRows, with_row}
 use Rattle.capacity_report.specs.Answers.{total_row}
-use Rattle.capacity_cmd.specs.Report.{AddsReport}
+use Rattle.capacity_cmd.specs.Heads.{AddsReport}
 use Rattle.capacity_cmd.proofs.Reports.{report_added}
 use Rattle.capacity_cmd.proofs.report.add_report.Goals as goal
 

@@ -1,5 +1,5 @@
 use Rattle.std.proofs.lemmas.Result.{IfOk-weaker}
-use Rattle.capacity_cmd.specs.Session.{IsSessionText, IsJournalText}
+use Rattle.capacity_cmd.specs.Ends.{IsSessionText, IsJournalText}
 use Rattle.capacity_cmd.proofs.session.text_alone.Goals as goal
 
 pub text_of_book-requires : goal.text_of_book-requires

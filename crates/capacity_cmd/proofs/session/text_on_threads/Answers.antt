@@ -1,5 +1,5 @@
 use Rattle.std.proofs.lemmas.Result.{IfOk-weaker}
-use Rattle.capacity_cmd.specs.Session.{IsSessionText, IsJournalText}
+use Rattle.capacity_cmd.specs.Ends.{IsSessionText, IsJournalText}
 use Rattle.capacity_cmd.proofs.Reports.{journal_with}
 use Rattle.capacity_cmd.proofs.session.text_on_threads.Goals as goal
 
