@@ -1,7 +1,7 @@
 -- Rows, and parts of rows, that several commands write.
 use Rattle.std.specs.Prelude.{[], ◌∷◌, codes, ℕ, List, length, map, decimal, ◌/◌, ◌%◌, if◌then◌else◌, ◌++◌}
-use Rattle.plan_model.specs.declared.answer.Link.{Link}
 use Rattle.row_text.specs.Row.{Row}
+use Rattle.plan_model.specs.declared.answer.Link.{Link}
 use Rattle.plan_model.specs.Rates.{Fraction, is_within, hundredths_up}
 
 -- link,TRAIN,BLOCK,NEXT
@@ -25,7 +25,6 @@ opposite_row section first second block1 block2 =
 abbrev pub ring_row : List ℕ → ℕ → Row
 ring_row section links = codes "ring" ∷ section ∷ decimal links ∷ []
 
--- a ring and its links
 abbrev pub ring_rows : List ℕ → List Link → List Row
 ring_rows section links = ring_row section (length links) ∷ map link_row links
 
@@ -37,13 +36,10 @@ crowded_row section count = codes "crowded" ∷ section ∷ decimal count ∷ []
 abbrev pub fraction_text : Fraction → List ℕ
 fraction_text f = decimal f.num ++ codes "/" ++ decimal f.den
 
--- so many hundredths, with a point before the last two digits
-abbrev pub hundredths_text : ℕ → List ℕ
-hundredths_text n = decimal (n / 100) ++ codes "." ++ decimal (n % 100 / 10) ++ decimal (n % 10)
-
 -- a fraction in per cent, rounded up to two digits behind the point
 abbrev pub percent_text : Fraction → List ℕ
-percent_text f = hundredths_text (hundredths_up f)
+percent_text f =
+    let n = hundredths_up f in decimal (n / 100) ++ codes "." ++ decimal (n % 100 / 10) ++ decimal (n % 10)
 
 -- a consumption of at most 1 is within the capacity
 abbrev pub verdict_text : Fraction → List ℕ
