@@ -1,20 +1,20 @@
 -- Delays that are spread over the trains of a cut, and the rows that tell them.
 use Rattle.std.specs.Prelude.{ℕ, ℤ, pos, ◌+ℤ◌, ◌-ℤ◌, nat_abs, List, slice_index_or, ◌≡◌, nat_lt, [], map, count_by, sum_by, Result, Ok, Err, None, ◌<◌, ◌∷◌, ◌++◌, length, All, codes, decimal, ⊤}
+use Rattle.std.specs.Fmt.{signed_decimal}
+use Rattle.row_text.specs.Row.{Row}
 use Rattle.plan_model.specs.declared.cut.Cut.{Cut}
 use Rattle.plan_model.specs.Members.{member, members, member_count}
 use Rattle.plan_model.specs.Schedule.{entry_at, IsScheduleFrom, IsLeastFrom}
 use Rattle.plan_model.specs.declared.answer.Disorder.{Disorder}
 use Rattle.plan_model.specs.Disorder.{opposite, remaining}
 use Rattle.plan_model.specs.Tie.{tie_from}
-use Rattle.train_order.specs.Ordering.{IsOrdering}
-use Rattle.delay_spread.specs.declared.found.Held.{Held}
-use Rattle.delay_spread.specs.declared.found.Spread.{Spread}
-use Rattle.std.specs.Fmt.{signed_decimal}
 use Rattle.plan_model.specs.declared.answer.Tie.{Tie}
 use Rattle.plan_model.specs.declared.answer.Tie.TheVariants as tie
 use Rattle.plan_model.specs.Places.{place_name, place_count}
-use Rattle.row_text.specs.Row.{Row}
+use Rattle.train_order.specs.Ordering.{IsOrdering}
 use Rattle.answer_parts.specs.Rows.{start_fields, after_fields}
+use Rattle.delay_spread.specs.declared.found.Held.{Held}
+use Rattle.delay_spread.specs.declared.found.Spread.{Spread}
 
 -- the delay of member i, in seconds
 abbrev pub delay_at : List ℕ → ℕ → ℕ
@@ -50,23 +50,14 @@ held_at cut delays entries i = record {
   tie = tie_from cut (delayed_floor cut delays) entries i;
 }
 
--- how many trains have a knock-on delay
-abbrev pub late : Cut → List ℕ → List ℤ → ℕ
-late cut delays entries = count_by (λ i. nat_lt 0 (knock_on cut delays entries i)) (members cut)
-
--- all knock-on delays together
-abbrev pub sum : Cut → List ℕ → List ℤ → ℕ
-sum cut delays entries = sum_by (knock_on cut delays entries) (members cut)
-
--- the delays spread by a list of entries
+-- the delays spread by a list of entries: each member, how many have a knock-on delay, and the sum of these delays
 abbrev pub spread_by : Cut → List ℕ → List ℤ → Spread
 spread_by cut delays entries = record {
   held = map (held_at cut delays entries) (members cut);
-  late = late cut delays entries;
-  sum = sum cut delays entries;
+  late = count_by (λ i. nat_lt 0 (knock_on cut delays entries i)) (members cut);
+  sum = sum_by (knock_on cut delays entries) (members cut);
 }
 
--- the delays spread: by the least delayed schedule
 abbrev pub IsSpread : Cut → List ℕ → Spread → Type 0
 IsSpread cut delays spread =
     (entries : List ℤ) × IsLeastDelayed cut delays entries × (spread ≡ spread_by cut delays entries)

@@ -1,10 +1,9 @@
 //! Knock-on delays: how much later a train enters than its planned entry and its own delay say.
-ghost use Rattle.std.specs.Prelude.{◌≡◌, ◌≤◌, ◌<◌, ◌^◌, ℕ, length};
+ghost use Rattle.std.specs.Prelude.{◌≡◌, ◌≤◌, ◌<◌, ◌^◌, ℕ, nat_lt, length, count_by, sum_by};
 ghost use Rattle.plan_model.specs.declared.limits.TheConstants.{MEMBERS};
 ghost use Rattle.plan_model.specs.Cut.{IsMoment};
-ghost use Rattle.plan_model.specs.Members.{member_count};
+ghost use Rattle.plan_model.specs.Members.{member_count, members};
 ghost use Rattle.delay_spread.specs.Spreading as delayed;
-ghost use Rattle.delay_spread.specs.Spreading as spreading;
 
 use plan_model::{FitCut, SoundCut};
 
@@ -30,7 +29,8 @@ fn knock_on(cut: &SoundCut, delays: &[u32], entries: &[i64], i: u32) -> u64
 pub(crate) fn late(cut: &SoundCut, delays: &[u32], entries: &[i64]) -> u32
     requires delays { length delays.now ≡ member_count cut.now }
     requires entries { length entries.now ≡ member_count cut.now }
-    ensures { result ≡ spreading.late cut.now delays.now entries.now }
+    ensures { result
+        ≡ count_by (λ i. nat_lt 0 (delayed.knock_on cut.now delays.now entries.now i)) (members cut.now) }
 {
     let mut count = 0;
     for i in 0..cut.member_count() {
@@ -47,7 +47,7 @@ pub(crate) fn sum(cut: &FitCut, delays: &[u32], entries: &[i64]) -> u64
     requires entries { length entries.now ≡ member_count cut.now }
     requires small { (i : ℕ) → i < member_count cut.now
         → delayed.knock_on cut.now delays.now entries.now i ≤ 2 ^ 51 }
-    ensures { result ≡ spreading.sum cut.now delays.now entries.now }
+    ensures { result ≡ sum_by (delayed.knock_on cut.now delays.now entries.now) (members cut.now) }
 {
     let mut sum = 0;
     for i in 0..cut.member_count() {
