@@ -1,22 +1,22 @@
 -- How many copies of a train a section can take, behind all its trains, and the rows that tell it.
 use Rattle.std.specs.Prelude.{◌≡◌, ℕ, ◌<◌, ℤ, ◌≤ℤ◌, List, ◌++◌, length, replicate, All, AllPairs, IsTrue, ◌+◌, ◌≤◌, Bool, true, false, [], Result, Ok, Err, None, ⊤, ◌∷◌, codes, decimal}
+use Rattle.rail_model.specs.declared.items.Section.{Section}
+use Rattle.row_text.specs.Row.{Row}
 use Rattle.plan_model.specs.declared.cut.Cut.{Cut}
 use Rattle.plan_model.specs.Places.{block_count}
 use Rattle.plan_model.specs.Members.{member, member_count, uses_place}
 use Rattle.plan_model.specs.Schedule.{window_start, entry_at, start_at, end_at, IsSchedule}
 use Rattle.plan_model.specs.Closing.{IsAfterAll}
 use Rattle.plan_model.specs.Occupancy.{occupancy}
-use Rattle.rail_model.specs.declared.items.Section.{Section}
 use Rattle.plan_model.specs.declared.limits.TheConstants.{MEMBERS}
 use Rattle.plan_model.specs.declared.answer.Answer.{Answer}
 use Rattle.plan_model.specs.declared.answer.Answer.TheVariants as answer
 use Rattle.plan_model.specs.Disorder.{opposite, remaining}
 use Rattle.plan_model.specs.Answer.{IsAnswer}
 use Rattle.plan_model.specs.Rates.{Fraction, period, consumption, is_within}
+use Rattle.answer_parts.specs.Rows.{consumption_fields}
 use Rattle.path_fill.specs.declared.found.Fill.{Fill}
 use Rattle.path_fill.specs.declared.found.Fill.TheVariants as fill
-use Rattle.row_text.specs.Row.{Row}
-use Rattle.answer_parts.specs.Rows.{consumption_fields}
 
 -- one copy of member r comes after another: on each block that the member uses, the first ends its use before the later
 -- starts, or as it starts
@@ -97,13 +97,9 @@ abbrev pub IsFilling : Cut → ℕ → Result Fill Answer → Type 0
 IsFilling cut r (Ok fill) = IsOrdered cut × IsFill cut r fill
 IsFilling cut r (Err answer) = IsAnswer cut answer × IsNoPlan answer
 
--- fill,SECTION,RUN,COPIES
-abbrev pub fill_row : Section → List ℕ → ℕ → Row
-fill_row section run copies = codes "fill" ∷ section.name ∷ run ∷ decimal copies ∷ []
-
--- fill,SECTION,RUN,none
-abbrev pub none_row : Section → List ℕ → Row
-none_row section run = codes "fill" ∷ section.name ∷ run ∷ codes "none" ∷ []
+-- fill,SECTION,RUN,COPIES or fill,SECTION,RUN,none
+abbrev pub fill_row : Section → List ℕ → List ℕ → Row
+fill_row section run copies = codes "fill" ∷ section.name ∷ run ∷ copies ∷ []
 
 -- at,COPIES,OCCUPANCY,CONSUMPTION,PERCENT,VERDICT
 abbrev pub at_row : Section → ℕ → ℕ → Row
@@ -112,6 +108,6 @@ at_row section copies time =
 
 -- the number of copies, and the consumption with it and with one more; or that there is room for none
 abbrev pub fill_rows : Section → List ℕ → Fill → List Row
-fill_rows section run (fill.Over time) = none_row section run ∷ at_row section 0 time ∷ []
+fill_rows section run (fill.Over time) = fill_row section run (codes "none") ∷ at_row section 0 time ∷ []
 fill_rows section run (fill.Fits copies time next) =
-    fill_row section run copies ∷ at_row section copies time ∷ at_row section (copies + 1) next ∷ []
+    fill_row section run (decimal copies) ∷ at_row section copies time ∷ at_row section (copies + 1) next ∷ []

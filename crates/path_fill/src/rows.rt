@@ -1,5 +1,5 @@
 //! The rows of a section that is filled.
-ghost use Rattle.std.specs.Prelude.{◌≡◌, ◌<◌, [], ◌∷◌, OnOk, OnErr, IfOk, decimal, string_bytes};
+ghost use Rattle.std.specs.Prelude.{◌≡◌, ◌<◌, [], ◌∷◌, OnOk, OnErr, IfOk, codes, decimal, string_bytes};
 ghost use Rattle.row_text.specs.SheetRows.{with_row};
 ghost use Rattle.row_text.specs.Adds.{Adds};
 ghost use Rattle.path_fill.specs.Filling as rows;
@@ -50,7 +50,7 @@ fn fill_row<'a>(
     copies: u64,
 ) -> Result<(), OutOfMemory>
     ensures ok { OnOk result (sheet.new
-        ≡ with_row sheet.old (rows.fill_row section.now run.now copies)) }
+        ≡ with_row sheet.old (rows.fill_row section.now run.now (decimal copies))) }
     ensures err { OnErr result (sheet.new.rows ≡ sheet.old.rows) }
 {
     sheet.write(&[
@@ -62,7 +62,8 @@ fn fill_row<'a>(
 }
 
 fn none_row<'a>(sheet: &mut Sheet, section: &'a Section, run: &'a Name) -> Result<(), OutOfMemory>
-    ensures ok { OnOk result (sheet.new ≡ with_row sheet.old (rows.none_row section.now run.now)) }
+    ensures ok { OnOk result (sheet.new
+        ≡ with_row sheet.old (rows.fill_row section.now run.now (codes "none"))) }
     ensures err { OnErr result (sheet.new.rows ≡ sheet.old.rows) }
 {
     sheet.write(&[
