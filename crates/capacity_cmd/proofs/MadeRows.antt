@@ -28,7 +28,7 @@ use Rattle.row_text.specs.Spelling.{leg_times, time_text, item_fields, row_in}
 use Rattle.row_text.proofs.Numbers.{number_in-decimal, rate_in-decimal}
 use Rattle.row_text.proofs.Says.{Says, Each}
 use Rattle.plan_model.specs.declared.scripts.Task.{Task}
-use Rattle.made_line.specs.Base.{next_number, draw, after_draws, is_printed, digit, block_name, signal_name, run_name, section_name, block_of, first_blocks, made_blocks, made_signal, first_signals, made_signals, signal_names, made_route, made_leg, first_legs, made_run, run_from, first_runs, made_runs, block_names, made_section, first_sections, made_sections, put_block, put_signal, put_route, put_run, put_section, base_edits, change_run, change_task, ask_task, first_tasks, script_over, first_scripts, scripts_of_made}
+use Rattle.made_line.specs.Base.{next_number, draw, after_draws, is_printed, digit, block_name, signal_name, run_name, section_name, block_of, first_blocks, made_signal, first_signals, signal_names, made_route, made_leg, first_legs, made_run, run_from, first_runs, made_runs, block_names, made_section, first_sections, put_block, put_signal, put_route, put_run, put_section, base_edits, change_run, change_task, ask_task, first_tasks, first_scripts, scripts_of_made}
 use Rattle.made_line.specs.Text.{line_of, script_lines, lines_of_scripts, made_lines}
 use Rattle.made_line.proofs.NameTests.{digit_is_printed, named}
 use Rattle.made_line.proofs.Lists.{joined_base}
@@ -272,7 +272,7 @@ planner_plain planner small = record {
 abbrev AreTasks : List Task → Type 0
 AreTasks tasks = Each (λ t. IsPlain (line_of t)) tasks
 
-tasks_plain : (n p : ℕ) → p ≤ 4 → AreTasks (script_over (made_runs n) p)
+tasks_plain : (n p : ℕ) → p ≤ 4 → AreTasks (first_tasks (made_runs n) p 16)
 unfolding first_tasks
 tasks_plain n p last =
     each_flat_map (λ t. IsPlain (line_of t)) (λ k. change_task (made_runs n) p k ∷ ask_task k ∷ []) (range_with_len 0 16)
@@ -289,7 +289,7 @@ scripts_plain first (s ∷ scripts) few each =
 
 made_scripts_plain : (n : ℕ) → Each AreTasks (scripts_of_made n)
 unfolding first_scripts
-made_scripts_plain n = each_image AreTasks (script_over (made_runs n)) 1 4 (λ p above below. tasks_plain n p (omega (arith, below)))
+made_scripts_plain n = each_image AreTasks (λ p. first_tasks (made_runs n) p 16) 1 4 (λ p above below. tasks_plain n p (omega (arith, below)))
 
 -- ---- all rows
 
@@ -303,12 +303,12 @@ base_plain : (n : ℕ) → Each IsPlainEdit (base_edits n)
 unfolding first_blocks first_signals first_runs first_sections
 base_plain n =
     let x = after_draws n 64 in
-    let blocks = map put_block (made_blocks n) in
-    let signals = map put_signal made_signals in
+    let blocks = map put_block (first_blocks n 64) in
+    let signals = map put_signal (first_signals 64) in
     let route = put_route made_route ∷ [] in
     let runs = map put_run (made_runs n) in
     subst (Each IsPlainEdit) (joined_base n)
-    (each_append IsPlainEdit (((blocks ++ signals) ++ route) ++ runs) (map put_section made_sections)
+    (each_append IsPlainEdit (((blocks ++ signals) ++ route) ++ runs) (map put_section (first_sections 8))
     (each_append IsPlainEdit ((blocks ++ signals) ++ route) runs
     (each_append IsPlainEdit (blocks ++ signals) route
     (each_append IsPlainEdit blocks signals

@@ -18,7 +18,7 @@ use Rattle.rail_model.specs.Name.{has_repeat}
 use Rattle.rail_model.specs.Within.{no_leg, is_block_within, is_leg_within, is_run_within, last_dwell, is_section_within, is_within}
 use Rattle.rail_model.specs.Edits.{no_tables}
 use Rattle.rail_model.specs.Rules.{rule_of, rule_of_put, is_taken, is_full, refers_to_known, repeats, miscounts_legs, repeats_block, is_named}
-use Rattle.made_line.specs.Base.{next_number, draw, after_draws, block_name, signal_name, made_block, block_of, first_blocks, made_blocks, made_signal, first_signals, made_signals, signal_names, made_route, made_leg, first_legs, made_run, run_from, first_runs, made_runs, block_names, made_section, first_sections, made_sections, put_block, put_signal, put_route, put_run, put_section, base_edits, base_tables}
+use Rattle.made_line.specs.Base.{next_number, draw, after_draws, block_name, signal_name, made_block, block_of, first_blocks, made_signal, first_signals, signal_names, made_route, made_leg, first_legs, made_run, run_from, first_runs, made_runs, block_names, made_section, first_sections, put_block, put_signal, put_route, put_run, put_section, base_edits, base_tables}
 use Rattle.made_line.proofs.Lists.{joined_base}
 use Rattle.made_line.proofs.Images.{All-images, All-images_from}
 use Rattle.made_line.proofs.Rising.{tested, blocks_rise, signals_rise, runs_rise, sections_rise}
@@ -70,10 +70,10 @@ known_block n count i below = named_image (λ (b : Block). b.name) (block_of n) 
 -- ---- signals
 
 abbrev with_signals : ℕ → List Signal → Tables
-with_signals n signals = record no_tables { blocks = made_blocks n; signals = signals }
+with_signals n signals = record no_tables { blocks = first_blocks n 64; signals = signals }
 
 signals_put : (n count : ℕ) → count ≤ 64
-    → Make (with_blocks (made_blocks n)) (map put_signal (first_signals count)) (with_signals n (first_signals count))
+    → Make (with_blocks (first_blocks n 64)) (map put_signal (first_signals count)) (with_signals n (first_signals count))
 unfolding first_signals
 signals_put n count most =
     make_first_items (λ (s : Signal). s.name) made_signal 64 signals_rise put_signal (with_signals n) (λ items x. refl)
@@ -96,13 +96,13 @@ length_signal_names count = length-map-range_with_len signal_name 0 count
 
 -- ---- the route
 
-route_once : (n : ℕ) → repeats_block (with_signals n made_signals) made_route ≡ false
+route_once : (n : ℕ) → repeats_block (with_signals n (first_signals 64)) made_route ≡ false
 unfolding first_signals signal_names
 route_once n = refl
 
-route_put : (n : ℕ) → rule_of (with_signals n made_signals) (put_route made_route) ≡ None
+route_put : (n : ℕ) → rule_of (with_signals n (first_signals 64)) (put_route made_route) ≡ None
 route_put n =
-    accepted_put (with_signals n made_signals) (item.Route made_route) (rw (length_signal_names 64) refl) refl refl
+    accepted_put (with_signals n (first_signals 64)) (item.Route made_route) (rw (length_signal_names 64) refl) refl refl
     (known_signals 64 64 (omega arith)) (route_once n) refl
 
 -- ---- runs
@@ -147,7 +147,7 @@ run_within : (x i : ℕ) → i < 300 → is_run_within (made_run x i) ≡ true
 run_within x i below = run_from_within x i (1000 + 300 * i) (omega (arith, below))
 
 abbrev with_runs : ℕ → List Run → Tables
-with_runs n runs = record no_tables { blocks = made_blocks n; signals = made_signals; routes = made_route ∷ []; runs = runs }
+with_runs n runs = record no_tables { blocks = first_blocks n 64; signals = first_signals 64; routes = made_route ∷ []; runs = runs }
 
 pub run_counted : (n x i : ℕ) (runs : List Run) → miscounts_legs (with_runs n runs) (item.Run (made_run x i)) ≡ false
 run_counted n x i runs = rw (length_legs (next_number x) 64, length_signal_names 64) refl
@@ -170,11 +170,11 @@ unfolding block_names
 length_block_names first count = length-map-range_with_len block_name first count
 
 known_blocks : (n first count : ℕ) → first + count ≤ 64
-    → list_all (is_named (λ b. b.name) (made_blocks n)) (block_names first count) ≡ true
+    → list_all (is_named (λ b. b.name) (first_blocks n 64)) (block_names first count) ≡ true
 unfolding block_names
 known_blocks n first count within =
-    list_all-from_AllPass (is_named (λ (b : Block). b.name) (made_blocks n)) (map block_name (range_with_len first count))
-    (All-images_from (λ m. is_named (λ (b : Block). b.name) (made_blocks n) m ≡ true) block_name first count
+    list_all-from_AllPass (is_named (λ (b : Block). b.name) (first_blocks n 64)) (map block_name (range_with_len first count))
+    (All-images_from (λ m. is_named (λ (b : Block). b.name) (first_blocks n 64) m ≡ true) block_name first count
     (λ k below. known_block n 64 (first + k) (omega (arith, within, below))))
 
 names_once : (j : ℕ) → j < 8 → has_repeat (block_names (8 * j) 8) ≡ false
@@ -202,16 +202,16 @@ sections_put n count most =
 
 pub base_made : (n : ℕ) → Make no_tables (base_edits n) (base_tables n)
 base_made n =
-    let blocks = map put_block (made_blocks n) in
-    let signals = map put_signal made_signals in
+    let blocks = map put_block (first_blocks n 64) in
+    let signals = map put_signal (first_signals 64) in
     let route = put_route made_route ∷ [] in
     let runs = map put_run (made_runs n) in
     subst (λ edits. Make no_tables edits (base_tables n)) (joined_base n)
-    (make_then no_tables (((blocks ++ signals) ++ route) ++ runs) (map put_section made_sections) (with_sections n []) (base_tables n)
+    (make_then no_tables (((blocks ++ signals) ++ route) ++ runs) (map put_section (first_sections 8)) (with_sections n []) (base_tables n)
     (make_then no_tables ((blocks ++ signals) ++ route) runs (with_runs n []) (with_sections n [])
-    (make_then no_tables (blocks ++ signals) route (with_signals n made_signals) (with_runs n [])
-    (make_then no_tables blocks signals (with_blocks (made_blocks n)) (with_signals n made_signals) (blocks_put n 64 (omega arith))
+    (make_then no_tables (blocks ++ signals) route (with_signals n (first_signals 64)) (with_runs n [])
+    (make_then no_tables blocks signals (with_blocks (first_blocks n 64)) (with_signals n (first_signals 64)) (blocks_put n 64 (omega arith))
     (signals_put n 64 (omega arith)))
-    (make_first (with_signals n made_signals) (put_route made_route) [] (with_runs n []) (route_put n) (make_none (with_runs n []))))
+    (make_first (with_signals n (first_signals 64)) (put_route made_route) [] (with_runs n []) (route_put n) (make_none (with_runs n []))))
     (runs_put n (after_draws n 64) 300 (omega arith)))
     (sections_put n 8 (omega arith)))

@@ -3,7 +3,7 @@ use Rattle.std.proofs.Common.{◌≡◌, ℕ, length, sum_by, refl, length-appen
 use Rattle.std.specs.Prelude.{count_by}
 use Rattle.std.proofs.lemmas.List.{length-map}
 use Rattle.std.proofs.lemmas.List.FromFn.{length-map-range_with_len}
-use Rattle.made_line.specs.Base.{block_of, first_blocks, made_signal, first_signals, made_runs, made_section, first_sections, base_edits, script_over, first_tasks, first_scripts, scripts_of_made, is_edit}
+use Rattle.made_line.specs.Base.{block_of, first_blocks, made_signal, first_signals, made_runs, made_section, first_sections, base_edits, first_tasks, first_scripts, scripts_of_made, is_edit}
 use Rattle.made_line.proofs.Images.{length-first_runs}
 
 length_blocks : (n count : ℕ) → length (first_blocks n count) ≡ count
@@ -25,7 +25,7 @@ length_base n =
 
 pub length_scripts : (n : ℕ) → length (scripts_of_made n) ≡ 4
 unfolding first_scripts
-length_scripts n = length-map-range_with_len (script_over (made_runs n)) 1 4
+length_scripts n = length-map-range_with_len (λ p. first_tasks (made_runs n) p 16) 1 4
 
 pub all_tasks : (n : ℕ) → sum_by length (scripts_of_made n) ≡ 128
 unfolding first_scripts first_tasks

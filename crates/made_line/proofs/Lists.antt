@@ -3,7 +3,7 @@ use Rattle.std.proofs.Common.{◌≡◌, ℕ, ◌+◌, List, [], ◌∷◌, ◌+
 use Rattle.std.proofs.lemmas.List.{map-append}
 use Rattle.std.proofs.lemmas.List.FromFn.{map-range_with_len_more}
 use Rattle.rail_model.specs.declared.edit.Edit.{Edit}
-use Rattle.made_line.specs.Base.{after_draws, block_name, signal_name, block_of, first_blocks, made_blocks, made_signal, first_signals, made_signals, signal_names, made_route, made_leg, first_legs, run_from, first_runs, made_runs, block_names, made_section, first_sections, made_sections, put_block, put_signal, put_route, put_run, put_section, base_edits}
+use Rattle.made_line.specs.Base.{after_draws, block_name, signal_name, block_of, first_blocks, made_signal, first_signals, signal_names, made_route, made_leg, first_legs, run_from, first_runs, made_runs, block_names, made_section, first_sections, put_block, put_signal, put_route, put_run, put_section, base_edits}
 
 pub no_blocks : (n : ℕ) → first_blocks n 0 ≡ []
 unfolding first_blocks
@@ -79,8 +79,8 @@ in_turn : (blocks signals runs sections : List Edit) (route : Edit)
 in_turn blocks signals runs sections route = simp append_assoc
 
 pub joined_base : (n : ℕ)
-    → (((map put_block (made_blocks n) ++ map put_signal made_signals) ++ put_route made_route ∷ []) ++ map put_run (made_runs n)) ++ map put_section made_sections ≡ base_edits n
+    → (((map put_block (first_blocks n 64) ++ map put_signal (first_signals 64)) ++ put_route made_route ∷ []) ++ map put_run (made_runs n)) ++ map put_section (first_sections 8) ≡ base_edits n
 unfolding base_edits
 joined_base n =
-    in_turn (map put_block (made_blocks n)) (map put_signal made_signals) (map put_run (made_runs n))
-    (map put_section made_sections) (put_route made_route)
+    in_turn (map put_block (first_blocks n 64)) (map put_signal (first_signals 64)) (map put_run (made_runs n))
+    (map put_section (first_sections 8)) (put_route made_route)

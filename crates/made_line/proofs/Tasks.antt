@@ -6,7 +6,7 @@ use Rattle.rail_model.specs.declared.items.Run.{Run}
 use Rattle.rail_model.proofs.Lists.{flat_map-range_more}
 use Rattle.plan_model.specs.declared.scripts.Task.{Task}
 use Rattle.plan_model.specs.Scripts.{with_task}
-use Rattle.made_line.specs.Base.{change_task, ask_task, first_tasks, script_over, first_scripts}
+use Rattle.made_line.specs.Base.{change_task, ask_task, first_tasks, first_scripts}
 
 last_script : (scripts : List (List Task)) (tasks : List Task)
     → slice_index_or (scripts ++ tasks ∷ []) (length scripts) [] ≡ tasks
@@ -44,6 +44,6 @@ unfolding first_scripts
 no_scripts runs = refl
 
 pub first_scripts-more : (runs : List Run) (k : ℕ)
-    → first_scripts runs (k + 1) ≡ first_scripts runs k ++ script_over runs (k + 1) ∷ []
+    → first_scripts runs (k + 1) ≡ first_scripts runs k ++ first_tasks runs (k + 1) 16 ∷ []
 unfolding first_scripts
-first_scripts-more runs k = map-range_with_len_more (script_over runs) 1 k (k + 1) (omega arith)
+first_scripts-more runs k = map-range_with_len_more (λ p. first_tasks runs p 16) 1 k (k + 1) (omega arith)

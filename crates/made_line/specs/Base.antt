@@ -32,7 +32,6 @@ after_draws x (suc count) = next_number (after_draws x count)
 abbrev pub is_printed : ℕ → Bool
 is_printed b = nat_le 32 b && nat_lt b 127
 
--- a digit, as it is written
 abbrev pub digit : ℕ → ℕ
 digit n = 48 + n
 
@@ -67,9 +66,6 @@ block_of n i = made_block (after_draws n i) i
 unfoldable pub first_blocks : ℕ → ℕ → List Block
 first_blocks n count = map (block_of n) (range_with_len 0 count)
 
-abbrev pub made_blocks : ℕ → List Block
-made_blocks n = first_blocks n 64
-
 -- ---- signals and the route
 
 abbrev pub made_signal : ℕ → Signal
@@ -85,9 +81,6 @@ made_signal i = record {
 
 unfoldable pub first_signals : ℕ → List Signal
 first_signals count = map made_signal (range_with_len 0 count)
-
-abbrev pub made_signals : List Signal
-made_signals = first_signals 64
 
 unfoldable pub signal_names : ℕ → List (List ℕ)
 signal_names count = map signal_name (range_with_len 0 count)
@@ -144,9 +137,6 @@ made_section j = record {
 unfoldable pub first_sections : ℕ → List Section
 first_sections count = map made_section (range_with_len 0 count)
 
-abbrev pub made_sections : List Section
-made_sections = first_sections 8
-
 -- ---- the base
 
 abbrev pub put_block : Block → Edit
@@ -166,19 +156,19 @@ put_section s = edit.Put (item.Section s)
 
 unfoldable pub base_edits : ℕ → List Edit
 base_edits n =
-    map put_block (made_blocks n)
-    ++ map put_signal made_signals
+    map put_block (first_blocks n 64)
+    ++ map put_signal (first_signals 64)
     ++ put_route made_route ∷ []
     ++ map put_run (made_runs n)
-    ++ map put_section made_sections
+    ++ map put_section (first_sections 8)
 
 abbrev pub base_tables : ℕ → Tables
 base_tables n = record {
-  blocks = made_blocks n;
-  signals = made_signals;
+  blocks = first_blocks n 64;
+  signals = first_signals 64;
   routes = made_route ∷ [];
   runs = made_runs n;
-  sections = made_sections;
+  sections = first_sections 8;
   connections = [];
 }
 
@@ -200,12 +190,9 @@ ask_task k = task.Ask (section_name (k % 8))
 unfoldable pub first_tasks : List Run → ℕ → ℕ → List Task
 first_tasks runs p count = flat_map (λ k. change_task runs p k ∷ ask_task k ∷ []) (range_with_len 0 count)
 
-abbrev pub script_over : List Run → ℕ → List Task
-script_over runs p = first_tasks runs p 16
-
--- the scripts of the first planners
+-- the scripts of the first planners: for each 16 changes
 unfoldable pub first_scripts : List Run → ℕ → List (List Task)
-first_scripts runs count = map (script_over runs) (range_with_len 1 count)
+first_scripts runs count = map (λ p. first_tasks runs p 16) (range_with_len 1 count)
 
 abbrev pub scripts_of_made : ℕ → List (List Task)
 scripts_of_made n = first_scripts (made_runs n) 4

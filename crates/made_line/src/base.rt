@@ -32,7 +32,7 @@ pub(crate) fn base_edits(alloc: Global, n: u32) -> Result<List<Edit>, OutOfMemor
 
 fn put_blocks(edits: &mut List<Edit>, draws: &mut Draws) -> Result<(), OutOfMemory>
     ensures put { OnOk result (edits.new
-        ≡ edits.old ++ map base.put_block (base.made_blocks draws.old.x)) }
+        ≡ edits.old ++ map base.put_block (base.first_blocks draws.old.x 64)) }
     ensures drawn { OnOk result (draws.new.x ≡ after_draws draws.old.x 64) }
 {
     for i in 0..BLOCKS {
@@ -53,7 +53,7 @@ fn block(draws: &mut Draws, i: u32) -> Block
 }
 
 fn put_signals(edits: &mut List<Edit>) -> Result<(), OutOfMemory>
-    ensures { OnOk result (edits.new ≡ edits.old ++ map base.put_signal base.made_signals) }
+    ensures { OnOk result (edits.new ≡ edits.old ++ map base.put_signal (base.first_signals 64)) }
 {
     for i in 0..BLOCKS {
         edits.push(Edit::Put(Item::Signal(signal(i))))?;
@@ -100,7 +100,7 @@ fn put_runs(alloc: Global, edits: &mut List<Edit>, draws: &mut Draws) -> Result<
 }
 
 fn put_sections(alloc: Global, edits: &mut List<Edit>) -> Result<(), OutOfMemory>
-    ensures { OnOk result (edits.new ≡ edits.old ++ map base.put_section base.made_sections) }
+    ensures { OnOk result (edits.new ≡ edits.old ++ map base.put_section (base.first_sections 8)) }
 {
     for j in 0..SECTIONS {
         edits.push(Edit::Put(Item::Section(section(alloc, j)?)))?;

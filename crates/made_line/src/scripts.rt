@@ -45,7 +45,7 @@ fn put_script(alloc: Global, scripts: &mut Scripts, runs: &[Run], p: u32) -> Res
     requires last { p ≤ 4 }
     requires count { length runs.now ≡ 300 }
     requires starts { All (λ r. r.start_s < 1000000) runs.now }
-    ensures { OnOk result (scripts.new ≡ scripts.old ++ made.script_over runs.now p ∷ []) }
+    ensures { OnOk result (scripts.new ≡ scripts.old ++ made.first_tasks runs.now p 16 ∷ []) }
 {
     scripts.begin()?;
     for k in 0..CHANGES {
