@@ -33,8 +33,7 @@ uses_piece a b row = list_any (is_within a b) row.uses
 abbrev pub piece_row : ℕ → ℕ → CutRow → CutRow
 piece_row a b row = record row { entry = least (map (λ u. u.start) (piece_uses a b row)); uses = piece_uses a b row }
 
--- these blocks, with a window that ends a second after the greatest moment: no train is left out for entering the piece
--- late
+-- these blocks, with a window that ends a second after the greatest moment: no train enters too late to be counted
 abbrev pub piece_section : Section → ℕ → ℕ → Section
 piece_section section a b = record section { to_s = nat_abs GREATEST_MOMENT_S + 1; blocks = drop a (take b section.blocks) }
 
@@ -69,7 +68,6 @@ AreStretches cut a (b ∷ ends) [] = (b ≡ block_count cut) × (ends ≡ [])
 AreStretches cut a (b ∷ ends) (stretch ∷ stretches) =
     (b < block_count cut) × IsStretch cut a b stretch × AreStretches cut b ends stretches
 
--- the cutting of a cut
 pub record IsCutting (cut : Cut) (cutting : Cutting) : Type 0 where
   pub orderly : AreOrderly cut 0 cutting.ends
   pub stretches : AreStretches cut 0 cutting.ends cutting.stretches

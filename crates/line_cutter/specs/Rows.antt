@@ -37,7 +37,6 @@ disorder_rows section (disorder.Ring links) = ring_rows section links
 abbrev pub stretch_row : Section → Stretch → Row
 stretch_row section s = codes "stretch" ∷ block_at section s.first ∷ block_at section s.last ∷ []
 
--- a stretch and its disorder
 abbrev pub stretch_rows : Section → Stretch → List Row
 stretch_rows section s = stretch_row section s ∷ disorder_rows section.name s.disorder
 
