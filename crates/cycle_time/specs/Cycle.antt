@@ -1,18 +1,18 @@
 -- The least cycle time of a cut: entries that repeat, the ring that refuses each lesser period, and the rows that tell both.
 use Rattle.std.specs.Prelude.{ℕ, ◌<◌, ℤ, pos, ◌+ℤ◌, ◌≤ℤ◌, List, IsTrue, ◌≡◌, ◌≢◌, ◌≤◌, ◌-ℤ◌, ◌*ℤ◌, ◌<ℤ◌, true, false, [], ◌∷◌, All, AllPairs, count_by, slice_index_or, zero, suc, ⊤, Result, Ok, Err, None, Bool, if◌then◌else◌, ◌++◌, length, map, codes, decimal}
+use Rattle.std.specs.Fmt.{signed_decimal}
+use Rattle.row_text.specs.Row.{Row}
 use Rattle.plan_model.specs.declared.cut.Cut.{Cut}
 use Rattle.plan_model.specs.Places.{block_count, place_name, place_count}
 use Rattle.plan_model.specs.Members.{member, member_count, uses_place, members}
 use Rattle.plan_model.specs.Schedule.{entry_at, start_by, end_by, IsSchedule}
 use Rattle.plan_model.specs.Precedence.{precedes}
 use Rattle.plan_model.specs.Headway.{headway_at}
-use Rattle.cycle_time.specs.declared.found.Step.{Step}
 use Rattle.plan_model.specs.declared.answer.Disorder.{Disorder}
 use Rattle.plan_model.specs.Disorder.{opposite, remaining}
 use Rattle.train_order.specs.Ordering.{IsOrdering}
+use Rattle.cycle_time.specs.declared.found.Step.{Step}
 use Rattle.cycle_time.specs.declared.found.Cycle.{Cycle}
-use Rattle.std.specs.Fmt.{signed_decimal}
-use Rattle.row_text.specs.Row.{Row}
 
 -- a list of entries repeats in a period: it is a schedule, and each train has left each block that it uses before any
 -- train of the next pattern, itself too, starts there, or as it starts. Connections bind within one pattern alone
@@ -28,7 +28,6 @@ pub record IsLeastRepeating (cut : Cut) (period : ℕ) (entries : List ℤ) : Ty
   pub least : (other : List ℤ) → IsRepeating cut period other → (i : ℕ) → i < member_count cut
       → entry_at entries i ≤ℤ entry_at other i
 
--- both trains use a block
 pub record AreUsers (cut : Cut) (i j block : ℕ) : Type 0 where
   pub block_there : block < block_count cut
   pub one : IsTrue (uses_place (member cut i) block)
@@ -90,7 +89,6 @@ pub record IsStill (cycle : Cycle) : Type 0 where
   pub entries : cycle.entries ≡ []
   pub ring : cycle.ring ≡ []
 
--- what a cycle shows of a cut with so many members
 abbrev pub IsShownOf : ℕ → Cut → Cycle → Type 0
 IsShownOf zero cut cycle = IsStill cycle
 IsShownOf (suc more) cut cycle = Shows cut cycle
@@ -131,7 +129,6 @@ slot_row cut entries i = codes "slot" ∷ (member cut i).name ∷ signed_decimal
 abbrev pub slot_rows : Cut → List ℤ → List Row
 slot_rows cut entries = map (slot_row cut entries) (members cut)
 
--- same or next
 abbrev pub pattern_word : Bool → List ℕ
 pattern_word next = if next then codes "next" else codes "same"
 
@@ -144,7 +141,6 @@ step_row cut s =
 abbrev pub train_rows : Cut → List ℤ → List Step → List Row
 train_rows cut entries steps = slot_rows cut entries ++ map (step_row cut) steps
 
--- the period, the trains and the steps
 abbrev pub cycle_rows : Cut → Cycle → List Row
 cycle_rows cut cycle =
     period_row cut.section.name cycle.period (length cycle.ring) ∷ train_rows cut cycle.entries cycle.ring
