@@ -6,7 +6,6 @@ use Rattle.std.proofs.lemmas.List.{length-map, get_or-map, get_or-take, length-t
 use Rattle.std.proofs.lemmas.List.Elements.{Contains-get_or}
 use Rattle.rail_model.specs.declared.tables.Tables.{Tables}
 use Rattle.rail_model.specs.Conflict as whole
-use Rattle.rail_model.specs.Conflict.{AreConflicts}
 use Rattle.rail_model.specs.Sound.{IsSound}
 use Rattle.rail_model.proofs.Timetables.{conflict_there}
 use Rattle.conflict_finder.specs.declared.found.Conflict.{Conflict}

@@ -1,6 +1,10 @@
 -- The rows of a section's answer, and those of `report`: the heads of all answers and their total.
-use Rattle.std.specs.Prelude.{ℕ, ◌-◌, ◌-ℤ◌, List, [], ◌∷◌, ◌++◌, length, map, codes, decimal, Option, Some, None, slice_index_or, ◌≡◌, ◌+◌, ◌≤◌, Bool, true, false, not, cond, count_by, zip, ⊤}
+use Rattle.std.specs.Prelude.{ℕ, ◌-◌, ◌-ℤ◌, List, [], ◌∷◌, ◌++◌, length, map, codes, decimal, Option, Some, None, slice_index_or, ◌≡◌, ◌+◌, ◌≤◌, Bool, true, false, not, cond, count_by, zip}
 use Rattle.std.specs.Fmt.{signed_decimal}
+use Rattle.std.specs.List.{flat_map, AllZip}
+use Rattle.rail_model.specs.declared.items.Section.{Section}
+use Rattle.rail_model.specs.declared.tables.Tables.{Tables}
+use Rattle.row_text.specs.Row.{Row}
 use Rattle.plan_model.specs.declared.answer.Answer.{Answer}
 use Rattle.plan_model.specs.declared.answer.Answer.TheVariants as answer
 use Rattle.plan_model.specs.declared.answer.Placed.{Placed}
@@ -8,32 +12,24 @@ use Rattle.plan_model.specs.declared.answer.Plan.{Plan}
 use Rattle.plan_model.specs.declared.answer.Tie.{Tie}
 use Rattle.plan_model.specs.declared.answer.Tie.TheVariants as tie
 use Rattle.plan_model.specs.Rates.{Fraction, rate, consumption, is_within}
+use Rattle.plan_model.specs.declared.cut.Cut.{Cut}
+use Rattle.plan_model.specs.Cut.{IsSoundCut}
+use Rattle.plan_model.specs.Answer.{IsAnswer}
+use Rattle.plan_model.specs.SectionCut.{section_cut}
 use Rattle.critical_chain.specs.Chain.{train_at, chain_of}
-use Rattle.row_text.specs.Row.{Row}
 use Rattle.answer_parts.specs.Rows.{start_fields, after_fields, link_row}
 use Rattle.answer_parts.specs.Rows as rates
 pub use Rattle.answer_parts.specs.Rows.{opposite_row, ring_rows, crowded_row}
 use Rattle.capacity_report.specs.declared.answers.Detail.{Detail}
 use Rattle.capacity_report.specs.declared.answers.Detail.TheVariants as detail
-use Rattle.plan_model.specs.declared.cut.Cut.{Cut}
-use Rattle.plan_model.specs.Cut.{IsSoundCut}
-use Rattle.plan_model.specs.Answer.{IsAnswer}
-use Rattle.std.specs.List.{flat_map}
-use Rattle.rail_model.specs.declared.items.Section.{Section}
-use Rattle.rail_model.specs.declared.tables.Tables.{Tables}
-use Rattle.plan_model.specs.SectionCut.{section_cut}
 
--- the length of a plan's window, its occupancy time rate and its capacity consumption
-abbrev pub period_of : Plan → ℕ
-period_of plan = plan.to_s - plan.from_s
-
+-- a plan's occupancy time rate and its capacity consumption, by the length of its window
 abbrev pub rate_of : Plan → Fraction
-rate_of plan = rate plan.occupancy (period_of plan)
+rate_of plan = rate plan.occupancy (plan.to_s - plan.from_s)
 
 abbrev pub consumption_of : Plan → Fraction
-consumption_of plan = consumption plan.occupancy plan.add_percent (period_of plan)
+consumption_of plan = consumption plan.occupancy plan.add_percent (plan.to_s - plan.from_s)
 
--- the name of a plan's place
 abbrev pub place_of : Plan → ℕ → List ℕ
 place_of plan place = slice_index_or plan.blocks place []
 
@@ -84,8 +80,7 @@ plan_rows section plan detail.Head = head_rows section plan
 plan_rows section plan detail.Trains = head_rows section plan ++ train_rows plan
 plan_rows section plan detail.Full = head_rows section plan ++ train_rows plan ++ critical_rows plan plan.critical
 
--- the rows of an answer: of a compressed timetable those above; that two trains are opposite; a ring and its links; or
--- that the section is crowded
+-- the rows of an answer: a compressed timetable, two opposite trains, a ring and its links, or a crowded section
 abbrev pub answer_rows : List ℕ → Answer → Detail → List Row
 answer_rows section (answer.Ordered plan) detail = plan_rows section plan detail
 answer_rows section (answer.Opposite first second block1 block2) detail =
@@ -127,7 +122,6 @@ abbrev pub is_crowded : Answer → Bool
 is_crowded (answer.Crowded count) = true
 is_crowded a = false
 
--- the total of some answers
 abbrev pub total_of : List Answer → Total
 total_of answers = record {
   sections = length answers;
@@ -189,15 +183,11 @@ pub record IsAnswerOfSome (a : Answer) : Type 0 where
 
 -- the answers of some sections of a line: for each that of its cut
 abbrev pub AreAnswers : Tables → List Section → List Answer → Type 0
-AreAnswers tables [] [] = ⊤
-AreAnswers tables [] (a ∷ answers) = ⊥
-AreAnswers tables (s ∷ sections) [] = ⊥
-AreAnswers tables (s ∷ sections) (a ∷ answers) = IsAnswer (section_cut tables s) a × AreAnswers tables sections answers
+AreAnswers tables sections answers = AllZip (λ section a. IsAnswer (section_cut tables section) a) sections answers
 
 -- the heads of the answers, in the order of the sections' names
 abbrev pub heads : List Section → List Answer → List Row
 heads sections answers = flat_map (λ p. answer_rows p.0.name p.1 detail.Head) (zip sections answers)
 
--- these and the total
 abbrev pub report_rows : List Section → List Answer → List Row
 report_rows sections answers = heads sections answers ++ total_row (total_of answers) ∷ []

@@ -15,7 +15,6 @@ use Rattle.row_text.specs.Spelling.{edit_row}
 use Rattle.capacity_report.specs.declared.answers.Detail.TheVariants as detail
 use Rattle.capacity_report.specs.Answers.{answer_rows}
 
--- the text of a rule that refuses an edit
 abbrev pub rule_text : Rule → List ℕ
 rule_text rule.Range = codes "range"
 rule_text rule.Twice = codes "twice"
@@ -67,6 +66,5 @@ act_rows (act.Refused planner why edit) = rejected_row planner why edit ∷ []
 act_rows (act.Asked planner section reply) = asked_row planner section reply ∷ []
 act_rows (act.Published section at answer) = published_rows section at answer
 
--- the rows of a journal: of each entry, in their order
 abbrev pub rows_of_journal : List Entry → List Row
 rows_of_journal journal = flat_map (λ e. act_rows e.act) journal

@@ -7,8 +7,8 @@ use Rattle.rail_model.specs.declared.path.Path.{Path}
 use Rattle.rail_model.specs.Path.{hop, hop_count}
 use Rattle.rail_model.specs.Blocking.{blocking_start, blocking_end, parts}
 use Rattle.rail_model.specs.Tables.{block_name, path_in}
-use Rattle.row_text.specs.Row.{Row}
 use Rattle.rail_model.specs.Conflict as whole
+use Rattle.row_text.specs.Row.{Row}
 use Rattle.conflict_finder.specs.declared.found.Conflict.{Conflict}
 use Rattle.conflict_finder.specs.declared.found.Conflicts.{Conflicts}
 use Rattle.conflict_finder.specs.declared.found.TheConstants.{LISTED}
@@ -19,14 +19,11 @@ use Rattle.plan_model.specs.Members.{member, members, member_count}
 use Rattle.headway_table.specs.Table.{between}
 use Rattle.capacity_report.specs.Answers.{crowded_row}
 
--- use,RUN,BLOCK,START,END,FORM,WATCH,APPROACH,RUNNING,CLEARING,RELEASE
-abbrev pub use_row : List ℕ → List ℕ → List ℤ → Row
-use_row run block times = codes "use" ∷ run ∷ block ∷ map signed_decimal times
-
--- the row of the k-th block of a run's path: the block's use, and its six parts
+-- use,RUN,BLOCK,START,END,FORM,WATCH,APPROACH,RUNNING,CLEARING,RELEASE: of the k-th block of a run's path
 abbrev pub hop_row : Tables → Path → ℕ → Row
 hop_row tables path k =
-    use_row path.run (block_name tables (hop path k).block) (blocking_start path k ∷ blocking_end path k ∷ parts path k)
+    codes "use" ∷ path.run ∷ block_name tables (hop path k).block
+    ∷ map signed_decimal (blocking_start path k ∷ blocking_end path k ∷ parts path k)
 
 -- a run's rows, one for each block in the order of its path
 abbrev pub run_rows : Tables → Path → List Row
