@@ -249,7 +249,8 @@ pub(crate) fn put_reserved(
     end
 }
 
-// The place past fields of a length after so many bytes.
+// The place past fields of a length after so many bytes, if 32 bits have it. `None` says nothing:
+// it becomes want of memory.
 pub(crate) fn end_after(used: usize, field: usize) -> Option<usize>
     ensures { IfSome result (λ end. (end ≡ used + field + 1) × (end < 2 ^ 32)) }
 {

@@ -52,7 +52,8 @@ fn parts_of(rt: &impl Threads, len: usize) -> usize
     current_num_threads(rt).min(most).max(1)
 }
 
-// The rows of a text that is split into so many parts. None where there is a double quote.
+// The rows of a text that is split into so many parts. `None`, as where there is a double quote,
+// says nothing: a reader of CSV follows.
 fn rows_in_parts<'a>(
     rt: &(impl Threads + Sync),
     alloc: Global,
@@ -133,7 +134,7 @@ fn cut_part(alloc: Global, text: &[u8], ends: &[u32], i: usize) -> Part
     cut_from(alloc, &text[..to], from)
 }
 
-// The rows of a text from what is cut from its parts.
+// The rows of a text from what is cut from its parts. `None` says nothing: a reader of CSV follows.
 fn joined<'a>(
     alloc: Global,
     text: &'a [u8],
@@ -154,8 +155,8 @@ fn joined<'a>(
     Ok(Some(RowList::of_cuts(text, places.cuts, places.ends)))
 }
 
-// Puts the places of a part after those of the parts before it. False where it has a double quote.
-// The part goes, so that not all places are there twice.
+// Puts the places of a part after those of the parts before it. `false`, as where it has a double
+// quote, says nothing. The part goes, so that not all places are there twice.
 fn put_part(places: &mut Places, part: Part) -> Result<bool, OutOfMemory>
     requires { EndsRise part }
     ensures { IfOk result (λ plain. IsTrue plain → PutsPart places.old places.new part) }

@@ -23,8 +23,8 @@ pub(crate) struct CutFields {
     first: usize,
 }
 
-// The rows of a text, as CSV reads them. None for a text that is left to a reader of CSV: one with
-// a double quote, one that may start with a byte order mark, or one that is too long.
+// The rows of a text, as CSV reads them. `None` says nothing: a reader of CSV follows, as for a
+// text with a double quote, one that may start with a byte order mark, or one that is too long.
 pub(crate) fn plain_rows(alloc: Global, text: &[u8]) -> Result<Option<RowList<'_>>, OutOfMemory>
     ensures { IfOk result (λ found. IfSome found (λ rows. rows ≡ rows_of text.now)) }
 {
@@ -37,7 +37,8 @@ pub(crate) fn plain_rows(alloc: Global, text: &[u8]) -> Result<Option<RowList<'_
     }
 }
 
-// What is cut from a text from a place on. None where there is a double quote.
+// What is cut from a text from a place on. `None`, as where there is a double quote, says nothing:
+// a reader of CSV follows.
 pub(crate) fn cut_from(
     alloc: Global,
     text: &[u8],
@@ -67,7 +68,7 @@ pub(crate) fn starts_with_mark(text: &[u8]) -> bool
     !text.is_empty() && text[0] == 0xEF
 }
 
-// Cuts a text from a place on. False where there is a double quote.
+// Cuts a text from a place on. `false`, as where there is a double quote, says nothing.
 fn cut_text(cut: &mut CutFields, text: &[u8], from: usize) -> Result<bool, OutOfMemory>
     requires small { length text.now + 1 < 2 ^ 32 }
     requires from { from ≤ length text.now }
@@ -92,7 +93,7 @@ fn cut_text(cut: &mut CutFields, text: &[u8], from: usize) -> Result<bool, OutOf
     Ok(true)
 }
 
-// Takes a byte that is below the comma in ASCII. False for a double quote.
+// Takes a byte that is below the comma in ASCII. `false`, as for a double quote, says nothing.
 #[inline(never)]
 fn take_below_comma(cut: &mut CutFields, i: usize, byte: u8) -> Result<bool, OutOfMemory>
     requires order { cut.old.start ≤ i }
