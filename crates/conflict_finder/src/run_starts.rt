@@ -38,7 +38,8 @@ pub(crate) fn by_start(
     Ok(starts)
 }
 
-// When a run's visit to the first block of its path starts.
+// When a run's visit to the first block of its path starts. No clause says so: by it visits are
+// laid nearly in order, and put in order later.
 fn first_start(uses: &[Use]) -> i64 {
     if uses.is_empty() {
         return 0;

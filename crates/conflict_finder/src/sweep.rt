@@ -108,7 +108,8 @@ fn count_met(one: &Visit, later: &[Visit]) -> usize
     later.partition_point(|other| meets(one, other))
 }
 
-// Whether a visit meets the first of the later ones.
+// Whether a visit may meet the first of the later ones: `false` says that it meets none of them,
+// and `true` says nothing.
 #[inline]
 fn meets_next(one: &Visit, later: &[Visit]) -> bool
     ensures { result ≡ false → take_while (swept.meets one.now) later.now ≡ [] }
