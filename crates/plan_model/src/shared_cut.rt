@@ -49,8 +49,8 @@ impl SharedCut {
         }
     }
 
-    /// The cut itself, where nobody else holds it, so that it can be changed; else the same shared
-    /// cut.
+    /// The cut itself, so that it can be changed, where nobody else holds it; else the same shared
+    /// cut. Which of the two comes, no clause says: a caller does right with either.
     pub fn into_own(self) -> Result<Cut, SharedCut>
         ensures same { MatchResult result (λ own. own ≡ self) (λ shared. shared ≡ self) }
         ensures sound { IsSoundCut self }
