@@ -70,7 +70,8 @@ fn joins(connection: &Connection, name: &Name) -> bool
 
 // Whether each of a run's connections binds in a section by the tables after an edit of the run
 // exactly where it is one of those that bind before it. The run's row after the edit is given, if
-// it is a member, and the rows before it, which stay but for its own.
+// it is a member, and the rows before it, which stay but for its own. `false` says nothing: the
+// slow way follows.
 pub(crate) fn bind_as_before(
     tables: &LineTables,
     old: &Cut,

@@ -172,7 +172,8 @@ fn cut_after_section(
 }
 
 // What the edit of a number makes of the cut of the section that it changes, where the section's
-// window and its blocks stay: then the rows do, too. Otherwise `None`.
+// window and its blocks stay: then the rows do, too. Otherwise `None`, which says nothing: the cut is
+// made anew.
 fn cut_of_same_rows(
     alloc: Global,
     both: BothTables<'_>,

@@ -56,7 +56,8 @@ pub(crate) fn connection_named(tables: &LineTables, name: &Name) -> Option<Conne
     None
 }
 
-// Whether a connection, if there is one of its name, has the same two runs as that.
+// Whether a connection, if there is one of its name, has the same two runs as that. `false` says
+// nothing: the slow way follows.
 pub(crate) fn keeps_runs(tables: &LineTables, connection: &Connection) -> bool
     ensures { result ≡ true → All (IsOfSameRuns connection.now) tables.now.connections }
 {
@@ -68,7 +69,8 @@ pub(crate) fn keeps_runs(tables: &LineTables, connection: &Connection) -> bool
     true
 }
 
-// Whether another connection, if it has a connection's name, is of the same runs.
+// Whether another connection, if it has a connection's name, is of the same runs. `false` says
+// nothing.
 fn is_of_same_runs(connection: &Connection, other: &Connection) -> bool
     ensures { result ≡ true → IsOfSameRuns connection.now other.now }
 {

@@ -165,6 +165,7 @@ fn row_by_stair(
 }
 
 // Whether the first use of a stair is of one of a section's blocks and starts before its window.
+// `false` says nothing: the slow way follows.
 fn enters_early(tables: &LineTables, section: &Section, stair: &TimedStair) -> bool
     requires { All (λ u. u.block < length tables.now.blocks) stair.now.uses }
     ensures { result ≡ true
@@ -176,7 +177,7 @@ fn enters_early(tables: &LineTables, section: &Section, stair: &TimedStair) -> b
     has_name(section.blocks.slice(), &tables.block(block).name)
 }
 
-// Whether a name is one of these.
+// Whether a name is one of these. `false` says nothing.
 fn has_name(names: &[Name], name: &Name) -> bool
     ensures { result ≡ true → number_of (λ n. n) names.now name.now < length names.now }
 {
@@ -188,7 +189,8 @@ fn has_name(names: &[Name], name: &Name) -> bool
     false
 }
 
-// Whether the run of a name, if it is there, passes a block of the section of a number.
+// Whether the run of a name, if it is there, passes a block of the section of a number. `true` says
+// nothing: the slow way follows.
 fn passes(tables: &LineTables, name: &Name, section: u32) -> bool
     requires { section < length tables.now.sections }
     ensures { result ≡ false → PassesBy tables.now (section_at tables.now section) name.now }
@@ -242,8 +244,8 @@ fn stair_named(
     Ok(Some(TimedStair::of(stairs(alloc, &path)?)))
 }
 
-// Whether the run of a name is on one route by both tables; `false` also where one of them doesn't
-// have the run.
+// Whether the run of a name is on one route by both tables. `false`, as where one of them doesn't
+// have the run, says nothing: the slow way follows.
 fn keeps_route(before: &LineTables, after: &LineTables, name: &Name) -> bool
     ensures { result ≡ true → KeepsRoute before.now after.now name.now }
 {

@@ -78,7 +78,7 @@ pub(crate) fn same_placed(uses: &[Use], positions: &[u32], stairway: &[Use]) -> 
 }
 
 // How many of these uses are those of a stairway of as many by their positions, up to the first
-// that isn't.
+// that isn't. Fewer may be told.
 pub(crate) fn same_first(uses: &[Use], positions: &[u32], stairway: &[Use]) -> usize
     requires there { All (λ u. u.block < length positions.now) stairway.now }
     requires long { length uses.now ≡ length stairway.now }
@@ -93,7 +93,7 @@ pub(crate) fn same_first(uses: &[Use], positions: &[u32], stairway: &[Use]) -> u
 }
 
 // How many are so, four by four, up to the first four of which one isn't, so that fewer steps are
-// taken.
+// taken. Fewer may be told.
 fn same_fours(uses: &[Use], positions: &[u32], stairway: &[Use]) -> usize
     requires there { All (λ u. u.block < length positions.now) stairway.now }
     requires long { length uses.now ≡ length stairway.now }
@@ -111,7 +111,7 @@ fn same_fours(uses: &[Use], positions: &[u32], stairway: &[Use]) -> usize
     uses.len() / 4 * 4
 }
 
-// Whether the two uses from a place on are so, where those before them are.
+// Whether the two uses from a place on are so, where those before them are. `false` says nothing.
 fn same_two(uses: &[Use], positions: &[u32], stairway: &[Use], at: usize) -> bool
     requires there { All (λ u. u.block < length positions.now) stairway.now }
     requires long { length uses.now ≡ length stairway.now }
@@ -132,7 +132,7 @@ fn is_placed(one: &Use, positions: &[u32], other: &Use) -> bool
 }
 
 // The uses of a stairway by their positions in a section, if all are in it, where these are as
-// many, all in it, and the same up to a place.
+// many, all in it, and the same up to a place. `None` says nothing: the slow way follows.
 pub(crate) fn placed(
     alloc: Global,
     table: SectionTable<'_>,
@@ -157,7 +157,7 @@ pub(crate) fn placed(
 }
 
 // Makes uses from a place on those of a stairway of as many by their positions in a section of this
-// many blocks, if all are in it; otherwise some of them.
+// many blocks, if all are in it. `false` says nothing, nor what the uses are then.
 fn place_from(
     uses: &mut [Use],
     positions: &[u32],
@@ -180,7 +180,7 @@ fn place_from(
 }
 
 // Makes one use this one by its position in a section of this many blocks, if it is in it. One that
-// is the same already isn't written.
+// is the same already isn't written. `false` says nothing.
 fn place_use(uses: &mut [Use], i: usize, positions: &[u32], blocks: u32, one: &Use) -> bool
     requires at { i < length uses.old }
     requires there { one.now.block < length positions.now }

@@ -117,6 +117,7 @@ fn section_edited(edit: &Edit) -> Option<Name>
 
 // Whether an edit puts a block that isn't there or a route that no run is on, or drops a block, a
 // signal or a route. What is dropped is in no run's way, since the tables after the edit are sound.
+// `false` says nothing: the slow way follows.
 fn reaches_no_run(tables: &LineTables, edit: &Edit) -> bool
     ensures { result ≡ true → ReachesNoRun tables.now edit.now }
 {
@@ -128,7 +129,7 @@ fn reaches_no_run(tables: &LineTables, edit: &Edit) -> bool
     }
 }
 
-// Whether no run is on the route of a name.
+// Whether no run is on the route of a name. `false` says nothing.
 fn has_no_run(tables: &LineTables, route: &Name) -> bool
     ensures { result ≡ true → All (λ r. r.route ≢ route.now) tables.now.runs }
 {
@@ -140,7 +141,8 @@ fn has_no_run(tables: &LineTables, route: &Name) -> bool
     true
 }
 
-// Whether an edit puts a signal or a route, or changes a block, a signal or a route.
+// Whether an edit puts a signal or a route, or changes a block, a signal or a route. `false` says
+// nothing: the slow way follows.
 fn keeps_blocks(edit: &Edit) -> bool
     ensures { result ≡ true → KeepsBlocks edit.now }
 {
@@ -171,7 +173,7 @@ fn reach_of_runs(
     Ok(Reach::Runs { stairs, joined })
 }
 
-// Whether one of these stairs is there.
+// Whether one of these stairs is there. `true` says nothing: the slow way follows.
 fn reaches_some(stairs: &[Option<TimedStair>]) -> bool
     ensures { result ≡ false → All (λ s. s ≡ None) stairs.now }
 {

@@ -44,7 +44,8 @@ pub(crate) fn row_stays(
     Ok(is_same(&row, own))
 }
 
-// Whether a row is there, and has a stair's uses, all of them.
+// Whether a row is there, and has a stair's uses, all of them. `false` says nothing: the slow way
+// follows.
 fn has_uses(own: Option<&CutRow>, table: SectionTable<'_>, stair: &TimedStair) -> bool
     requires uses { All (λ u. u.block < length table.positions.now) stair.now.uses }
     requires own { IfSome (option_copied own) (IsOwnRow table.section.now stair.now.run) }
@@ -138,9 +139,9 @@ fn row_by_stair(
     Ok(with_own_stamp(row, own, number))
 }
 
-// This row, where the one before the edit has as many uses of blocks as the stair: it is copied where
-// it has the same, and otherwise those that differ are written in a copy of them. `None` where it
-// hasn't as many, or a block isn't in the section.
+// This row, where the one before the edit has as many uses of blocks as the stair: it is copied
+// where it has the same, and otherwise those that differ are written in a copy of them. `None`, as
+// where it hasn't as many, or a block isn't in the section, says nothing: the slow way follows.
 fn whole_row(
     alloc: Global,
     table: SectionTable<'_>,
@@ -230,6 +231,7 @@ fn row_made(
 }
 
 // Whether the first use of a stair is of one of a section's blocks and starts before its window.
+// `false` says nothing: the slow way follows.
 fn enters_early(table: SectionTable<'_>, stair: &TimedStair) -> bool
     requires { All (λ u. u.block < length table.positions.now) stair.now.uses }
     ensures { result ≡ true

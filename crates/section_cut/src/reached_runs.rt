@@ -125,7 +125,8 @@ fn all_runs(alloc: Global, after: &LineTables) -> Result<Vec<bool>, OutOfMemory>
     Ok(told)
 }
 
-// The paths of all runs, where more than a few of them are wanted.
+// The paths of all runs, where more than a few of them are wanted. `None` says nothing: each run
+// then gets a path of its own.
 fn paths_for<'a>(after: &'a LineTables, passing: &[bool]) -> Result<Option<Paths<'a>>, OutOfMemory>
     ensures { IfOk result (λ paths. IfSome paths (λ all. all ≡ paths_of after.now)) }
 {
@@ -135,7 +136,7 @@ fn paths_for<'a>(after: &'a LineTables, passing: &[bool]) -> Result<Option<Paths
     Ok(Some(after.paths()?))
 }
 
-// Whether no more than a few of these are `true`.
+// Whether no more than a few of these are `true`. No clause says so: either way is right.
 fn are_few(passing: &[bool]) -> bool {
     let mut left = FEW;
     for passes in passing {
@@ -254,8 +255,8 @@ fn rows_stay(
     Ok(true)
 }
 
-// The rows after the edit of a number: their values and their stamps. `None` where a run that has a
-// connection doesn't enter as before.
+// The rows after the edit of a number: their values and their stamps. `None`, as where a run that
+// has a connection doesn't enter as before, says nothing: the slow way follows.
 fn rows_after(
     alloc: Global,
     both: BothTables<'_>,
@@ -285,7 +286,7 @@ fn rows_after(
     Ok(Some(rows))
 }
 
-// Whether a row has the entry of another, or neither is there.
+// Whether a row has the entry of another, or neither is there. `false` says nothing.
 fn enters_as(row: &Option<CutRow>, own: Option<&CutRow>) -> bool
     ensures { result ≡ true → option_map (λ r. r.entry) row.now
         ≡ option_map (λ r. r.entry) (option_copied own.entry) }

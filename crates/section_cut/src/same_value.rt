@@ -70,7 +70,8 @@ fn same_section(a: &Section, b: &Section) -> bool
         && same_names(a.blocks.slice(), b.blocks.slice())
 }
 
-// Whether two sections have the same window and the same blocks.
+// Whether two sections have the same window and the same blocks. `false` says nothing: the slow way
+// follows.
 pub(crate) fn has_same_rows(a: &Section, b: &Section) -> bool
     ensures { result ≡ true → HasSameRows a.now b.now }
 {

@@ -54,14 +54,16 @@ impl TimedStair {
         self.entry
     }
 
-    // Whether all uses start before a section's window, or all after it.
+    // Whether all uses start before a section's window, or all after it. `false` says nothing: the
+    // slow way follows.
     pub(crate) fn passes_by(&self, section: &Section) -> bool
         ensures { result ≡ true → StartsOutside section.now self.now.uses }
     {
         is_outside(self.starts, section)
     }
 
-    // The block of the first use, if that starts before a section's window.
+    // The block of the first use, if that starts before a section's window. `None` says nothing:
+    // the slow way follows.
     pub(crate) fn early_block(&self, section: &Section) -> Option<u32>
         ensures { IfSome result (StartsEarly section.now self.now.uses) }
     {
