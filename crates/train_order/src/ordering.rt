@@ -46,7 +46,8 @@ pub fn order(alloc: Global, cut: &Cut) -> Result<Result<Order, Disorder>, OutOfM
     Ok(Err(told))
 }
 
-// That two trains are opposite, where few are out of turn and it is so.
+// That two trains are opposite, where few are out of turn and it is so. `None` says nothing: the
+// slow way follows.
 fn disorder_by_turn(alloc: Global, cut: &SoundCut) -> Result<Option<Disorder>, OutOfMemory>
     requires { member_count cut.now ≤ MEMBERS }
     ensures { IfOk result (λ found. IfSome found (λ disorder. IsOrdering cut.now (Err disorder))) }

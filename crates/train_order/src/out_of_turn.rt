@@ -20,8 +20,8 @@ use std::alloc::Global;
 // From so many members on that are out of turn, sets of all members take less time.
 const FEW: u32 = 8;
 
-// The least opposite pair, the lesser member first, if it is found. Where `FEW` members or more
-// are out of turn, none is looked for.
+// The least opposite pair, the lesser member first, if it is found. Where `FEW` members or more are
+// out of turn, none is looked for. `None` says nothing: the slow way follows.
 pub(crate) fn pair_by_turn(alloc: Global, cut: &SoundCut) -> Result<Option<(u32, u32)>, OutOfMemory>
     requires { member_count cut.now ≤ MEMBERS }
     ensures { IfOk result (λ found. IfSome found (λ pair. opposite_pair cut.now ≡ Some pair)) }
@@ -39,7 +39,8 @@ pub(crate) fn pair_by_turn(alloc: Global, cut: &SoundCut) -> Result<Option<(u32,
 }
 
 // The members that are out of turn along an order, if they are few: each starts somewhere before
-// one that is in turn and stands before it. The table has a moment for each place.
+// one that is in turn and stands before it. The table has a moment for each place. `None` says
+// nothing.
 fn out_of_turn(cut: &SoundCut, positions: &[u32], last: &mut [Moment]) -> Option<MemberSet>
     requires sound { IsSoundCut cut.now }
     requires few { member_count cut.now ≤ MEMBERS }
