@@ -30,7 +30,8 @@ use std::alloc::Global;
 /// gone, are looked at. There is no net where a member whose edges are made anew doesn't follow its
 /// nearest: at one of its places, who stands nearest before it in the order starts later than it,
 /// or at the same moment and has the greater name. So it is where a fresh member doesn't fit in
-/// among the kept ones by its entry. The caller then makes the net from all uses.
+/// among the kept ones by its entry. No clause says when there is none: the caller then makes the
+/// net from all uses.
 pub fn mend(
     alloc: Global,
     cut: &SoundCut,
@@ -98,7 +99,7 @@ fn put_position(now: &mut [Option<u32>], old: Option<u32>, i: u32)
     }
 }
 
-// The edges to each member, in its order now.
+// The edges to each member, in its order now. `None` says nothing: the net is made from all uses.
 fn edges_in(
     alloc: Global,
     cut: &SoundCut,
@@ -118,7 +119,7 @@ fn edges_in(
 }
 
 // The edges to each member, in its order now, where those that stand nearest after a fresh one are
-// marked.
+// marked. `None` says nothing.
 fn remade(
     alloc: Global,
     cut: &SoundCut,
@@ -148,7 +149,8 @@ fn remade(
     Ok(Some(edges))
 }
 
-// The edges to who stands at a position: the ones kept, or else edges made anew.
+// The edges to who stands at a position: the ones kept, or else edges made anew. `None` says
+// nothing.
 fn edges_at(
     alloc: Global,
     cut: &SoundCut,
@@ -168,7 +170,7 @@ fn edges_at(
 }
 
 // The edges that a member had, if it may keep them: it isn't marked, and is kept, and so are all
-// members from which it had an edge.
+// members from which it had an edge. `None` says nothing: they are made anew.
 fn edges_kept(
     alloc: Global,
     old: &[List<Edge>],
@@ -198,7 +200,7 @@ fn edges_kept(
 }
 
 // Edges of the earlier cut with the positions that their first members have now, if all of these
-// are kept.
+// are kept. `None` says nothing.
 fn moved_edges(
     alloc: Global,
     edges: &[Edge],
@@ -217,6 +219,7 @@ fn moved_edges(
 }
 
 // An edge of the earlier cut with the position that its first member has now, if that one is kept.
+// `None` says nothing.
 fn moved_edge(edge: Edge, now: &[Option<u32>]) -> Option<Edge>
     ensures { IfSome result (IsMoved now.now edge) }
 {
@@ -231,7 +234,7 @@ fn moved_edge(edge: Edge, now: &[Option<u32>]) -> Option<Edge>
 }
 
 // The edges to who stands at a position, made anew, if it follows, at each of its places, the
-// nearest before it.
+// nearest before it. `None` says nothing: the net is made from all uses.
 fn edges_anew(
     alloc: Global,
     cut: &SoundCut,

@@ -22,7 +22,8 @@ pub(crate) struct Stand {
 }
 
 // An order of a later cut's members, if kept members stand in it as they stood before. `now` has
-// the present position of each member of before that is kept.
+// the present position of each member of before that is kept. `None` says nothing: the net is made
+// from all uses.
 pub(crate) fn reorder(
     alloc: Global,
     cut: &SoundCut,
@@ -124,8 +125,8 @@ fn members_of(alloc: Global, stands: &[Stand]) -> Result<Vec<u32>, OutOfMemory>
     Ok(members)
 }
 
-// Whether kept members stand in an order as they stood before. Both orders are gone through side
-// by side.
+// Whether kept members stand in an order as they stood before. Both orders are gone through side by
+// side. `false` says nothing.
 fn agrees(order: &[u32], before: &[u32], origin: &[Option<u32>]) -> bool
     ensures { IsTrue result → AgreeInOrder origin.now before.now order.now }
 {
@@ -140,8 +141,8 @@ fn agrees(order: &[u32], before: &[u32], origin: &[Option<u32>]) -> bool
 }
 
 // Where to look on in the earlier order, after a member of the later one: behind the place at which
-// the member stood, or at the same place if it is fresh. None, if the member stood before that
-// place.
+// the member stood, or at the same place if it is fresh. `None`, as where the member stood before
+// that place, says nothing.
 fn next_from(before: &[u32], from: usize, origin: &[Option<u32>], member: u32) -> Option<usize>
     requires { from ≤ length before.now }
     ensures within { IfSome result (λ next. (from ≤ next) × (next ≤ length before.now)) }
@@ -169,7 +170,7 @@ pub(crate) fn position_of(positions: &[Option<u32>], member: u32) -> Option<u32>
     }
 }
 
-// The first place from one on at which a member stands.
+// The first place from one on at which a member stands. `None` says nothing.
 fn find_from(before: &[u32], from: usize, member: u32) -> Option<usize>
     requires { from ≤ length before.now }
     ensures { IfSome result (λ place. (from ≤ place) × (place < length before.now)
