@@ -78,7 +78,7 @@ fn by_net(alloc: Global, cut: &Cut, held: Held) -> Result<(Answer, Option<Held>)
 }
 
 // What was held before, mended to what is held of a cut: if at most a quarter of the rows is fresh,
-// the places are the same, and it can be.
+// the places are the same, and it can be. `None` says nothing: the net is made anew.
 fn mended(
     alloc: Global,
     cut: &SoundCut,

@@ -78,7 +78,8 @@ fn renewed_rows<R: Rows>(
 }
 
 // The row at a position: the kept one of its name and stamp, with its place among so many kept
-// rows, or else the one that is taken.
+// rows, or else the one that is taken. No clause says when the place is told: a row without one is
+// taken for fresh.
 fn next_row<R: Rows>(
     alloc: Global,
     left: &mut VecDeque<CutRow>,
