@@ -75,7 +75,8 @@ impl TwinTables {
     }
 }
 
-// The tables after an edit, if there is memory for it and no rule refuses it.
+// The tables after an edit, if there is memory for it and no rule refuses it. `None` says nothing:
+// then there are no spare tables.
 fn after_edit(tables: LineTables, edit: Edit) -> Option<LineTables>
     ensures { IfSome result (λ after. after ≡ edits.after tables edit) }
 {
