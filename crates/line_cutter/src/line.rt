@@ -71,7 +71,8 @@ impl<'a> Line<'a> {
         &self.one_way
     }
 
-    // Where the longest orderly piece from a block on is likely to end.
+    // Where the longest orderly piece from a block on is likely to end. No clause says so: it is
+    // where the search starts.
     pub(crate) fn likely_end(&self, a: u32) -> u32
         requires { a < block_count self.now }
         ensures some { a < result }
@@ -98,7 +99,8 @@ fn one_ways(alloc: Global, rows: &[CutRow]) -> Result<Vec<bool>, OutOfMemory>
     Ok(ways)
 }
 
-// Whether the blocks of some uses rise all along, or fall.
+// Whether the blocks of some uses rise all along, or fall. `false` says nothing: the slow way
+// follows.
 fn is_one_way(uses: &[Use]) -> bool
     ensures { IsTrue result → IsOneWay uses.now }
 {

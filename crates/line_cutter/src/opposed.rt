@@ -26,7 +26,7 @@ pub(crate) struct Span {
 }
 
 // The least two opposite trains of a cut, as its disorder, if there are any and they are found
-// soon.
+// soon. `None` says nothing: the slow way follows.
 pub(crate) fn soon_opposite(alloc: Global, cut: &SoundCut) -> Result<Option<Disorder>, OutOfMemory>
     ensures { IfOk result (λ found. IfSome found (λ disorder. IsOrdering cut.now (Err disorder))) }
 {
@@ -53,7 +53,7 @@ fn told(cut: &SoundCut, i: u32, j: u32) -> Disorder
     }
 }
 
-// The least pair of opposite members, where it is found soon.
+// The least pair of opposite members, where it is found soon. `None` says nothing.
 fn soon_opposed(cut: &SoundCut, spans: &[Span]) -> Option<(u32, u32)>
     requires { AreSpans cut.now.rows spans.now }
     ensures least { IfSome result (λ pair. opposite_pair cut.now ≡ Some pair) }
@@ -68,8 +68,8 @@ fn soon_opposed(cut: &SoundCut, spans: &[Span]) -> Option<(u32, u32)>
     None
 }
 
-// The first member after member i that is opposite to it, or the number of members; or nothing,
-// where the search is given up.
+// The first member after member i that is opposite to it, or the number of members. `None`, as
+// where the search is given up, says nothing.
 fn next_opposite(cut: &SoundCut, spans: &[Span], i: u32) -> Option<u32>
     requires spans { AreSpans cut.now.rows spans.now }
     requires there { i < member_count cut.now }

@@ -148,7 +148,8 @@ fn one_way_uses(alloc: Global, uses: &[Use], a: u32, b: u32) -> Result<List<Use>
     }
 }
 
-// Whether the first and the last use are both before the piece, or both behind it.
+// Whether the first and the last use are both before the piece, or both behind it. `false` says
+// nothing: the slow way follows.
 fn is_aside(uses: &[Use], a: u32, b: u32) -> bool
     requires { IsOneWay uses.now }
     ensures { IsTrue result → filter (pieces.is_within a b) uses.now ≡ [] }
@@ -164,7 +165,8 @@ fn is_aside(uses: &[Use], a: u32, b: u32) -> bool
     b <= first && b <= last
 }
 
-// Where the first use of the piece stands, if the path has no gaps.
+// Where the first use of the piece stands, if the path has no gaps. No clause says so: `begins`
+// looks there first.
 fn likely_first(uses: &[Use], a: u32, b: u32) -> usize {
     if uses.is_empty() {
         return 0;
@@ -179,7 +181,8 @@ fn likely_first(uses: &[Use], a: u32, b: u32) -> usize {
     before as usize
 }
 
-// Whether the use at a position is of the piece, and the one before it isn't.
+// Whether the use at a position is of the piece, and the one before it isn't. `false` says nothing:
+// the slow way follows.
 fn begins(uses: &[Use], first: usize, a: u32, b: u32) -> bool
     ensures { IsTrue result → IsBeginning uses.now a b first }
 {
