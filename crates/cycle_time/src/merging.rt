@@ -19,7 +19,8 @@ pub(crate) fn add(edges: &mut Vec<Edge>, edge: Edge) -> Result<(), OutOfMemory>
     Ok(())
 }
 
-// Whether edges are between the same trains, of the same patterns.
+// Whether edges are between the same trains, of the same patterns. `false` says nothing: then both
+// edges stay.
 fn are_between_same(one: Edge, other: Edge) -> bool
     ensures { result ≡ true → AreBetweenSame one other }
 {
