@@ -9,7 +9,8 @@ use std::alloc::Global;
 // Rows that are read at once have at most so many fields together, where they are several.
 const FIELDS_AT_ONCE: usize = 32_768;
 
-// Whether the rows are more than are read at once.
+// Whether the rows are more than are read at once. No clause says so: read ahead or not, they say
+// the same.
 pub(crate) fn are_many(rows: &RowList<'_>) -> bool {
     let first = rows.first_line();
     first < rows.len() && end_of_batch(rows, first) < rows.len()
