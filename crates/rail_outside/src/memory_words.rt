@@ -1,7 +1,8 @@
 //! Words in memory.
-ghost use Rattle.std.specs.Prelude.{◌≡◌, Some, IfOk, OnErr};
+ghost use Rattle.std.specs.Prelude.{◌≡◌, ◌↔◌, Some, IfOk, OnErr, IsTrue, IsFalse, All};
 ghost use Rattle.std.specs.String.{string_bytes};
 ghost use Rattle.std.specs.Str.{IsUtf8};
+ghost use Rattle.rail_outside.specs.Words.{HasNoText};
 
 use crate::{NotText, Words};
 use rail_model::{List, OutOfMemory};
@@ -27,13 +28,15 @@ impl MemoryWords {
 
 impl Words for MemoryWords {
     ghost use Rattle.rail_outside.specs.MemoryWords.{memory_words};
-    ghost use Rattle.rail_outside.specs.Words.{HasNoText};
 
     ghost told = { λ w. Some (memory_words w) };
 
     ghost not_text = { λ w. HasNoText (memory_words w) };
 
     fn take(&self, alloc: Global) -> Result<Result<Vec<String>, NotText>, OutOfMemory> {
+        if has_no_text(self.words.slice()) {
+            return Ok(Err(NotText));
+        }
         let mut words = Vec::new(alloc);
         for word in self.words.slice() {
             match text_of(alloc, word.slice())? {
@@ -43,6 +46,25 @@ impl Words for MemoryWords {
         }
         Ok(Ok(words))
     }
+}
+
+// Whether one of the words isn't UTF-8.
+fn has_no_text(words: &[List<u8>]) -> bool
+    ensures no_text { IsTrue result → HasNoText words.now }
+    ensures texts { IsFalse result → All IsUtf8 words.now }
+{
+    for word in words {
+        if !is_text(word.slice()) {
+            return true;
+        }
+    }
+    false
+}
+
+fn is_text(bytes: &[u8]) -> bool
+    ensures { IsTrue result ↔ IsUtf8 bytes.now }
+{
+    str::from_utf8(bytes).is_ok()
 }
 
 // The text that bytes are, if they are one.

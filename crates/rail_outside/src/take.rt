@@ -43,10 +43,15 @@ pub fn take_all<S: Source>(
         × (Consumes (S.left source.old) (S.left source.new) bytes
         × (S.given source.new ≡ S.given source.old ++ bytes)))) }
 
-    // One read failed, and none came after it. Unless it says so, no read failed.
+    // One read failed, after no more bytes than the limit, and none came after it. Unless it says so,
+    // no read failed.
     ensures failed { IfOk result (λ taken. IsErrOf taken Taken.Failed →
         RoseByOne (S.faults source.old) (S.faults source.new)) }
     ensures last { IfOk result (λ taken. IsErrOf taken Taken.Failed → S.at_fault source.new) }
+    ensures failed_within { IfOk result (λ taken. IsErrOf taken Taken.Failed →
+        ((bytes : List ℕ) × (length bytes ≤ limit)
+        × (Consumes (S.left source.old) (S.left source.new) bytes
+        × (S.given source.new ≡ S.given source.old ++ bytes)))) }
     ensures no_fault { result ≢ Ok (Err Taken.Failed) → S.faults source.new ≡ S.faults source.old }
     ensures later { S.faults source.old ≤ S.faults source.new }
 {
