@@ -10,11 +10,12 @@ mod sentence;
 
 use program::{Ended, end_of_call};
 use rail_outside::{StdSink, StdSource, StdWords};
+use std::env;
 
 fn main(rt: HostRuntime) -> Ended {
     end_of_call(
         &rt,
-        &StdWords::of(&rt),
+        &StdWords::of(rt.alloc(), env::args(&rt)),
         &mut StdSource::of(rt.stdin()),
         &mut StdSink::of(rt.stdout()),
     )

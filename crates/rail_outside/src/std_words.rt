@@ -10,9 +10,8 @@ use crate::{NotText, Words};
 use rail_model::OutOfMemory;
 use std::alloc::Global;
 use std::env::Args;
+use std::io;
 use std::io::{Error, ErrorKind};
-use std::rt::Env;
-use std::{env, io};
 
 /// The words that the process had when this was made. They are told, unless one of them isn't UTF-8
 /// or there was no memory for them.
@@ -23,10 +22,28 @@ pub struct StdWords {
 }
 
 impl StdWords {
-    /// The words of the process that has this runtime.
-    pub fn of<R: AllocGlobal + Env>(rt: &R) -> Self {
-        StdWords {
-            words: words_of(rt.alloc(), env::args(rt)),
+    /// The words that the process was given, `env::args(&rt)`, of which the first names the program.
+    pub fn of(alloc: Global, given: io::Result<Args>) -> Self
+        ensures all { IfOk given (λ args. IfOk result.words (λ read. IfOk read (λ words.
+            AreAllOf into_iter_items into_iter_len args words.items))) }
+        ensures some { IfOk given (λ _. IfOk result.words IsOk) }
+        ensures not_text { IfErr given (λ error.
+            error_kind error ≢ kind.OutOfMemory → IsOkAnd result.words IsErr) }
+        ensures no_memory { IfErr given (λ error.
+            error_kind error ≡ kind.OutOfMemory → IsErr result.words) }
+    {
+        match given {
+            Ok(args) => match all_of(alloc, args) {
+                Ok(words) => StdWords {
+                    words: Ok(Ok(words)),
+                },
+                Err(OutOfMemory) => StdWords {
+                    words: Err(OutOfMemory),
+                },
+            },
+            Err(error) => StdWords {
+                words: why_not(&error).map(Err),
+            },
         }
     }
 }
@@ -44,24 +61,6 @@ impl Words for StdWords {
             Ok(Err(NotText)) => Ok(Err(NotText)),
             Err(OutOfMemory) => Err(OutOfMemory),
         }
-    }
-}
-
-// The words that the process was given, of which the program's name is the first.
-fn words_of(
-    alloc: Global,
-    given: io::Result<Args>,
-) -> Result<Result<Vec<String>, NotText>, OutOfMemory>
-    ensures all { IfOk given (λ args. IfOk result (λ read. IfOk read (λ words.
-        AreAllOf into_iter_items into_iter_len args words.items))) }
-    ensures some { IfOk given (λ _. IfOk result IsOk) }
-    ensures not_text { IfErr given (λ error.
-        error_kind error ≢ kind.OutOfMemory → IsOkAnd result IsErr) }
-    ensures no_memory { IfErr given (λ error. error_kind error ≡ kind.OutOfMemory → IsErr result) }
-{
-    match given {
-        Ok(args) => Ok(Ok(all_of(alloc, args)?)),
-        Err(error) => Ok(Err(why_not(&error)?)),
     }
 }
 

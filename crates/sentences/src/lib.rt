@@ -1,8 +1,9 @@
 //! Lines for people about a call, to be written on standard error: why a row is refused, which run
 //! is no train of its section, and what the answer of a section leaves out.
 //!
-//! No answer rests on these lines, so no contract speaks of them: what is proved is that they are
-//! made without a fault, and end. Their texts are tested. Without memory for a line nothing is told.
+//! No answer rests on these lines. Contracts say what a person can rely on: no byte is a control
+//! character of ASCII but the line feeds, whatever the input has, and a refused row is told by its
+//! own number. What else the lines say is tested. Without memory for a line nothing is told.
 //!
 //! What a sentence may need is read first: the fields of the refused row, and the tables that the
 //! rows above it make. Deciding on the sentence then takes no memory, and ends in one call of `tell`,

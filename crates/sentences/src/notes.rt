@@ -1,5 +1,6 @@
 //! What an answer leaves out, and what it finds in the given timetable: lines for people.
-ghost use Rattle.std.specs.Prelude.{◌<◌, length};
+ghost use Rattle.std.specs.Prelude.{◌≡◌, ◌<◌, true, length};
+ghost use Rattle.sentences.specs.Told.{is_plain};
 
 use crate::Told;
 use crate::clashes::clashing_places;
@@ -12,21 +13,23 @@ use rail_model::{Hop, Name, OutOfMemory, Section, Use};
 use std::alloc::Global;
 
 /// What is told of a section's cut beside its answer.
-pub fn told_of_cut(alloc: Global, tables: &LineTables, cut: &Cut) -> Told {
-    let mut text = String::new(alloc);
-    let written = tell_notes(alloc, &mut text, tables, cut);
-    Told::of(text, written)
+pub fn told_of_cut(alloc: Global, tables: &LineTables, cut: &Cut) -> Told
+    ensures { is_plain result ≡ true }
+{
+    Told::of(notes(alloc, tables, cut))
 }
 
-fn tell_notes(alloc: Global, text: &mut String, tables: &LineTables, cut: &Cut) -> Written {
+fn notes(alloc: Global, tables: &LineTables, cut: &Cut) -> Result<String, OutOfMemory> {
     let outsiders = outsiders(alloc, tables, cut)?;
     let idle = idle_connections(tables, cut);
     let (blocks, connections) = clashes(alloc, cut)?;
     let (from, to) = (cut.section.from_s, cut.section.to_s);
-    tell_found(text, OUTSIDERS, (from, to), &outsiders)?;
-    tell_found(text, IDLE, (from, to), &idle)?;
-    tell_found(text, CONFLICTS, (from, to), &blocks)?;
-    tell_found(text, NOT_KEPT, (from, to), &connections)
+    let mut text = String::new(alloc);
+    tell_found(&mut text, OUTSIDERS, (from, to), &outsiders)?;
+    tell_found(&mut text, IDLE, (from, to), &idle)?;
+    tell_found(&mut text, CONFLICTS, (from, to), &blocks)?;
+    tell_found(&mut text, NOT_KEPT, (from, to), &connections)?;
+    Ok(text)
 }
 
 const OUTSIDERS: &str = "trains left out, since they enter outside the window from @ to @";

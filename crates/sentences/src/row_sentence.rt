@@ -1,15 +1,18 @@
 //! Why a row is refused, in a sentence for people.
+ghost use Rattle.std.specs.Prelude.{◌≡◌, Some, None, IfOk};
+ghost use Rattle.std.specs.String.{string_bytes};
+ghost use Rattle.sentences.specs.Told.{IsOfRow, of_row};
+
 use crate::Told;
 use crate::form_sentence::form_sentence;
 use crate::line_number::line_of;
-use crate::piece::Piece::Number;
-use crate::piece::{Written, tell};
+use crate::piece::Written;
 use crate::row_at::RowAt;
 use crate::rule_sentence::rule_sentence;
 use crate::said::said_by;
 use crate::script_sentence::script_sentence;
 use crate::standing::tables_above;
-use rail_model::{Form, Rule};
+use rail_model::{Form, OutOfMemory, Rule};
 use row_text::RowList;
 use std::alloc::Global;
 
@@ -29,22 +32,48 @@ pub fn told_of_row(
     rows: &RowList<'_>,
     number: u64,
     fault: Fault,
-) -> Told {
-    let mut text = String::new(alloc);
-    let line = line_of(input, number);
-    let written = row_sentence(alloc, &mut text, rows, (number, line), fault);
-    Told::of(text, written)
+) -> Told
+    ensures { IsOfRow number result }
+{
+    Told::of(row_text(alloc, rows, number, line_of(input, number), fault))
 }
 
-// Says in which row and line a fault is, reads all that a sentence on it may need, and writes it.
+fn row_text(
+    alloc: Global,
+    rows: &RowList<'_>,
+    number: u64,
+    line: Option<u64>,
+    fault: Fault,
+) -> Result<String, OutOfMemory>
+    ensures { IfOk result (λ text. IsOfRow number (string_bytes text)) }
+{
+    let why = row_sentence(alloc, rows, number, fault)?;
+    match line {
+        Some(line) if line != number => in_line(alloc, number, line, &why),
+        _ => in_row(alloc, number, &why),
+    }
+}
+
+fn in_line(alloc: Global, number: u64, line: u64, why: &String) -> Result<String, OutOfMemory>
+    ensures { IfOk result (λ text. string_bytes text
+        ≡ of_row number (Some line) (string_bytes why.now)) }
+{
+    Ok(format!(in alloc; "row {number}, in line {line}: {why}")?)
+}
+
+fn in_row(alloc: Global, number: u64, why: &String) -> Result<String, OutOfMemory>
+    ensures { IfOk result (λ text. string_bytes text ≡ of_row number None (string_bytes why.now)) }
+{
+    Ok(format!(in alloc; "row {number}: {why}")?)
+}
+
+// Reads all that a sentence on a row's fault may need, and writes it.
 fn row_sentence(
     alloc: Global,
-    text: &mut String,
     rows: &RowList<'_>,
-    (number, line): (u64, Option<u64>),
+    number: u64,
     fault: Fault,
-) -> Written {
-    tell_place(text, number, line)?;
+) -> Result<String, OutOfMemory> {
     let place = number.saturating_sub(1) as usize;
     let version = rows.version().unwrap_or(1);
     let said = said_by(alloc, rows, place)?;
@@ -57,7 +86,9 @@ fn row_sentence(
         said: &said,
         tables: &tables,
     };
-    fault_sentence(text, &row, fault)
+    let mut text = String::new(alloc);
+    fault_sentence(&mut text, &row, fault)?;
+    Ok(text)
 }
 
 fn fault_sentence(text: &mut String, row: &RowAt<'_>, fault: Fault) -> Written {
@@ -65,14 +96,5 @@ fn fault_sentence(text: &mut String, row: &RowAt<'_>, fault: Fault) -> Written {
         Fault::Form(form) => form_sentence(text, row, form),
         Fault::Rule(rule) => rule_sentence(text, row, rule),
         Fault::Script { planners, tasks } => script_sentence(text, row, planners, tasks),
-    }
-}
-
-fn tell_place(text: &mut String, number: u64, line: Option<u64>) -> Written {
-    match line {
-        Some(line) if line != number => {
-            tell(text, "row @, in line @: ", &[Number(number), Number(line)])
-        }
-        _ => tell(text, "row @: ", &[Number(number)]),
     }
 }

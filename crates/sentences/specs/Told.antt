@@ -1,0 +1,31 @@
+-- Lines for people: what holds of them, whatever they say.
+use Rattle.std.specs.Prelude.{◌≡◌, ℕ, Bool, true, ◌||◌, ◌==◌, ◌⊎◌, List, [], ◌++◌, Option, None, Some, codes, decimal}
+use Rattle.std.specs.List.{list_all}
+use Rattle.rail_model.specs.Name.{is_name_byte}
+
+-- the bytes of a text, if there is one
+abbrev pub bytes_of : {X : Type 0} → (X → List ℕ) → Option X → List ℕ
+bytes_of bytes None = []
+bytes_of bytes (Some text) = bytes text
+
+-- no byte is a control character of ASCII but the line feeds between lines
+abbrev pub is_plain : List ℕ → Bool
+is_plain told = list_all (λ b. b == 10 || is_name_byte b) told
+
+-- nothing is told, or a text that begins with these words
+abbrev pub BeginsWith : List ℕ → List ℕ → Type 0
+BeginsWith words told = (told ≡ []) ⊎ ((rest : List ℕ) × (told ≡ words ++ rest))
+
+-- why the row of a number is refused, after its number, and its line where that is given
+abbrev pub of_row : ℕ → Option ℕ → List ℕ → List ℕ
+of_row row None why = codes "row " ++ decimal row ++ codes ": " ++ why
+of_row row (Some line) why = codes "row " ++ decimal row ++ codes ", in line " ++ decimal line ++ codes ": " ++ why
+
+-- nothing is told, or a text about the row of this number
+abbrev pub IsOfRow : ℕ → List ℕ → Type 0
+IsOfRow row told = (told ≡ []) ⊎ ((line : Option ℕ) × ((why : List ℕ) × (told ≡ of_row row line why)))
+
+-- nothing is told, or a text about a run that is named, or about a word that is no name
+abbrev pub IsOfRun : {X : Type 0} → Option X → List ℕ → Type 0
+IsOfRun None told = BeginsWith (codes "the word of a run is no name") told
+IsOfRun (Some run) told = BeginsWith (codes "run ") told
