@@ -21,9 +21,11 @@ pub mod Walks
 pub mod Cycle
 pub mod Ringed
 pub mod Opposed
+pub mod Ordered
 pub mod InOrder
 pub mod Answered
 pub mod Next
 pub mod Unique
 pub mod Turn
 pub mod Beside
+pub mod Least

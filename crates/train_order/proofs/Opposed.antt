@@ -44,13 +44,18 @@ module _ (cut : Cut) where
   n = member_count cut
 
   -- no two members are opposite
+  pub no_pair : ((i j : ℕ) → i < j → j < n → are_opposite cut i j ≡ true → ⊥) → opposite_pair cut ≡ None
+  no_pair never =
+      find_none (λ (p : ℕ × ℕ). are_opposite cut p.0 p.1) (pairs n)
+      (All-weaker (AreBelow n) (λ (p : ℕ × ℕ). are_opposite cut p.0 p.1 ≡ false)
+      (λ p below. false_from_ne_true _ (never p.0 p.1 below.0 below.1)) (pairs n) (pairs_below n))
+
   pub none_opposite : ((i j : ℕ) → i < n → j < n → precedes_somewhere cut i j ≡ true → precedes_somewhere cut j i ≡ true → ⊥)
       → opposite_pair cut ≡ None
   none_opposite never =
-      find_none (λ (p : ℕ × ℕ). are_opposite cut p.0 p.1) (pairs n)
-      (All-weaker (AreBelow n) (λ (p : ℕ × ℕ). are_opposite cut p.0 p.1 ≡ false) (λ p below. false_from_ne_true _ (λ t.
-      let parts = and_parts (precedes_somewhere cut p.0 p.1) (precedes_somewhere cut p.1 p.0) t in
-      never p.0 p.1 (omega (arith, below.0, below.1)) below.1 parts.0 parts.1)) (pairs n) (pairs_below n))
+      no_pair (λ i j lt lj h.
+      let parts = and_parts (precedes_somewhere cut i j) (precedes_somewhere cut j i) h in
+      never i j (omega (arith, lt, lj)) lj parts.0 parts.1)
 
   pub pair_opposed : (i j : ℕ) → opposite_pair cut ≡ Some (i, j) → AreOpposed cut i j
   pair_opposed i j e =

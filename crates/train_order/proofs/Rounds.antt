@@ -111,9 +111,6 @@ module _ (cut : Cut) (sets : List MemberSet) (told : ArePreceded cut sets) (take
     none_left : left_of n taken ≡ []
     none_left = nothing (left_of n taken) (omega (arith, few, whole, told.count))
 
-    pub none_remain : remaining cut ≡ []
-    none_remain = remaining_is ∙ none_left
-
     each_there : (j : ℕ) → j < n → is_among taken j ≡ true
     each_there j l =
         elim (cases_Bool (is_among taken j)) [
@@ -140,22 +137,3 @@ module _ (cut : Cut) (sets : List MemberSet) (told : ArePreceded cut sets) (take
           (subst (λ k. IsPermutation (range_with_len 0 k) (taken ++ left_of k taken)) told.count (all_there (length sets) taken up.sound.within up.sound.once));
       before = stand;
     }
-
-    one_place : (a b : ℕ) → a < b → b < length taken → get_or taken a 0 ≡ get_or taken b 0 → ⊥
-    one_place a b l lb e = both_ways _ (not_before taken b up.sound.once lb) (among_first taken b a _ (omega arith) l e)
-
-    same_place : (a b : ℕ) → a < length taken → b < length taken → get_or taken a 0 ≡ get_or taken b 0 → a ≡ b
-    same_place a b la lb e =
-        elim (cases_order a b) [
-          | inl s ↦ s
-          | inr d ↦ elim d [ inl l ↦ absurd (one_place a b l lb e) | inr g ↦ absurd (one_place b a g la (sym e)) ]
-        ]
-
-    -- no two members stand before each other
-    pub not_both : (i j : ℕ) → i < n → j < n → precedes_somewhere cut i j ≡ true → precedes_somewhere cut j i ≡ true → ⊥
-    not_both i j li lj p q =
-        let a = stand i j li lj p in
-        let b = stand j i lj li q in
-        let first = same_place a.at b.next (omega (arith, a.before, a.within)) b.within (a.one ∙ sym b.other) in
-        let second = same_place a.next b.at a.within (omega (arith, b.before, b.within)) (a.other ∙ sym b.one) in
-        omega (arith, first, second, a.before, b.before)

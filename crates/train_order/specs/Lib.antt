@@ -8,3 +8,4 @@ pub mod Walk
 pub mod EntryOrder
 pub mod Laws
 pub mod OutOfTurn
+pub mod Pairs

@@ -1,17 +1,14 @@
-//! Whether a cut's trains keep at each place the order in which they enter the section.
-ghost use Rattle.std.specs.Prelude.{◌≡◌, ◌<◌, ◌↔◌, All, IsTrue, length, map, IfOk, IfSome, Ok};
-ghost use Rattle.std.specs.Option.{is_some};
+//! A cut's members in the order in which they enter the section, and the last start at each place
+//! along an order.
+ghost use Rattle.std.specs.Prelude.{◌≡◌, ◌<◌, All, IsTrue, length, map, IfOk};
 ghost use Rattle.std.specs.List.Sorted.{IsPermutation};
-ghost use Rattle.plan_model.specs.Cut.{AreOfOtherPlaces, IsSoundCut};
-ghost use Rattle.plan_model.specs.Places.{place_count};
-ghost use Rattle.plan_model.specs.Members.{member, members};
-ghost use Rattle.train_order.specs.Ordering.{IsOrdering};
+ghost use Rattle.plan_model.specs.Members.{members};
 ghost use Rattle.train_order.specs.Visits.{is_earlier};
-ghost use Rattle.train_order.specs.EntryOrder.{KeepEntryOrder, AreInOrder, AreByEntry, AreLater, AreLast, IsBeforeAll, pair_of};
+ghost use Rattle.train_order.specs.EntryOrder.{pair_of};
+ghost use Rattle.train_order.specs.OutOfTurn.{ComesLast, Rise};
 
-use crate::found::Order;
 use plan_model::SoundCut;
-use rail_model::{List, OutOfMemory, Use};
+use rail_model::{OutOfMemory, Use};
 use std::alloc::Global;
 
 // A member's entry, or its start at a place.
@@ -23,29 +20,10 @@ pub(crate) struct Moment {
     pub(crate) member: u32,
 }
 
-// The order of a cut's trains by their entries, if they keep it at each place.
-pub(crate) fn order_by_entry(alloc: Global, cut: &SoundCut) -> Result<Option<Order>, OutOfMemory>
-    ensures order { IfOk result (λ found.
-        IfSome found (λ order. IsOrdering cut.now (Ok order))) }
-    ensures answers { IfOk result (λ found. IsTrue (is_some found) ↔ KeepEntryOrder cut.now) }
-{
-    let none = Moment {
-        time: i64::MIN,
-        member: 0,
-    };
-    let positions = by_entry(alloc, cut)?;
-    let mut last = vec![in alloc; none; cut.place_count() as usize]?;
-    if are_in_order(cut, &positions, &mut last) {
-        let positions = List::from_vec(positions);
-        return Ok(Some(Order { positions }));
-    }
-    Ok(None)
-}
-
-// The positions of the members by their entries and, at one moment, by their names.
+// The positions of the members by their entries and, at one moment, by their names. It is only a
+// guess at their order, so the contract says no more than that each is there once.
 pub(crate) fn by_entry(alloc: Global, cut: &SoundCut) -> Result<Vec<u32>, OutOfMemory>
-    ensures order { IfOk result (λ positions. AreByEntry cut.now positions.items) }
-    ensures sound { IsSoundCut cut.now }
+    ensures { IfOk result (λ positions. IsPermutation (members cut.now) positions.items) }
 {
     let mut entries = entries(alloc, cut)?;
     entries.sort_unstable_by_key(|entry| (entry.time, entry.member));
@@ -54,11 +32,9 @@ pub(crate) fn by_entry(alloc: Global, cut: &SoundCut) -> Result<Vec<u32>, OutOfM
 
 // The entry of each member.
 fn entries(alloc: Global, cut: &SoundCut) -> Result<Vec<Moment>, OutOfMemory>
-    ensures each { IfOk result (λ entries. entries.items
-        ≡ map (λ i. record { time = (member cut.now i).entry; member = i }) (members cut.now)) }
-    ensures sound { IsSoundCut cut.now }
+    ensures { IfOk result (λ entries. map (λ m. m.member) entries.items ≡ members cut.now) }
 {
-    let mut entries = Vec::new(alloc);
+    let mut entries = Vec::with_capacity(alloc, cut.member_count() as usize)?;
     for member in 0..cut.member_count() {
         let time = cut.row(member).entry;
         entries.push(Moment { time, member })?;
@@ -69,37 +45,20 @@ fn entries(alloc: Global, cut: &SoundCut) -> Result<Vec<Moment>, OutOfMemory>
 fn members_of(alloc: Global, moments: &[Moment]) -> Result<Vec<u32>, OutOfMemory>
     ensures { IfOk result (λ members. members.items ≡ map (λ m. m.member) moments.now) }
 {
-    let mut members = Vec::new(alloc);
+    let mut members = Vec::with_capacity(alloc, moments.len())?;
     for moment in moments {
         members.push(moment.member)?;
     }
     Ok(members)
 }
 
-// Whether no member precedes one that stands before it in this order. The table has a moment for
-// each place: at first one that is before all others.
-fn are_in_order(cut: &SoundCut, positions: &[u32], last: &mut [Moment]) -> bool
-    requires once { IsPermutation (members cut.now) positions.now }
-    requires places { length last.old ≡ place_count cut.now }
-    requires none { All IsBeforeAll last.old }
-    ensures { IsTrue result ↔ AreInOrder cut.now positions.now }
-{
-    for i in positions {
-        if !come_last(last, *i, cut.row(*i).uses.slice()) {
-            return false;
-        }
-    }
-    true
-}
-
-// Whether a member's starts by some uses come after the last ones of their places. If so, they are
-// the last ones from then on.
+// Whether a member's starts by some uses come after the last ones of their places. They are the
+// last ones from then on, up to the first that doesn't.
 pub(crate) fn come_last(last: &mut [Moment], member: u32, uses: &[Use]) -> bool
-    requires there { All (λ u. u.block < length last.old) uses.now }
-    requires differ { AreOfOtherPlaces uses.now }
+    requires { All (λ u. u.block < length last.old) uses.now }
     ensures count { length last.new ≡ length last.old }
-    ensures later { IsTrue result ↔ AreLater last.old member uses.now }
-    ensures last { IsTrue result → AreLast last.old last.new member uses.now }
+    ensures rise { Rise last.old last.new }
+    ensures last { IsTrue result → ComesLast last.old last.new member uses.now }
 {
     for one in uses {
         let time = one.start;
@@ -114,7 +73,7 @@ pub(crate) fn come_last(last: &mut [Moment], member: u32, uses: &[Use]) -> bool
 
 // Whether a moment comes after another. At one moment the names decide, and members stand in the
 // order of their names.
-pub(crate) fn comes_after(time: i64, member: u32, last: Moment) -> bool
+fn comes_after(time: i64, member: u32, last: Moment) -> bool
     ensures { result ≡ is_earlier (pair_of last) (time, member) }
 {
     last.time < time || last.time == time && last.member < member

@@ -1,5 +1,5 @@
 //! Sets of members, a bit for each.
-ghost use Rattle.std.specs.Prelude.{◌≡◌, ◌≢◌, ℕ, ◌+◌, ◌*◌, ◌<◌, ◌≤◌, ◌==◌, ◌||◌, false, length};
+ghost use Rattle.std.specs.Prelude.{◌≡◌, ◌≢◌, ℕ, ◌+◌, ◌*◌, ◌<◌, ◌≤◌, ◌==◌, ◌||◌, false, IsTrue, length};
 ghost use Rattle.std.specs.Int.{bit_at};
 ghost use Rattle.train_order.specs.Sets.{IsFirstBit, IsFirstMember, holds};
 
@@ -68,6 +68,13 @@ impl MemberSet {
             return WORD * place + bit;
         }
         self.first_after(place)
+    }
+
+    // Whether it has no member below a number.
+    pub(crate) fn is_above(&self, count: u32) -> bool
+        ensures { IsTrue result → (k : ℕ) → k < count → holds self.now.words k ≡ false }
+    {
+        self.next(0) >= count as usize
     }
 
     // The first member of the words after a place.

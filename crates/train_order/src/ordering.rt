@@ -1,14 +1,19 @@
 //! The order of a cut's trains, or their disorder.
 ghost use Rattle.std.specs.Prelude.{◌≡◌, ◌≤◌, IfOk, IfSome, Some, Err};
-ghost use Rattle.plan_model.specs.Members.{member_count};
+ghost use Rattle.std.specs.List.Sorted.{IsPermutation};
+ghost use Rattle.plan_model.specs.declared.limits.TheConstants.{MEMBERS};
+ghost use Rattle.plan_model.specs.Members.{member_count, members};
 ghost use Rattle.plan_model.specs.Cut.{IsSoundCut};
 ghost use Rattle.plan_model.specs.Disorder.{opposite_pair};
 ghost use Rattle.train_order.specs.Ordering.{IsOrdering};
+ghost use Rattle.train_order.specs.OutOfTurn.{KeepTurn};
 
 use crate::disorder::find_disorder;
-use crate::entry_order::order_by_entry;
+use crate::entry_order::by_entry;
 use crate::found::Order;
-use crate::out_of_turn::pair_by_turn;
+use crate::member_set::MemberSet;
+use crate::out_of_turn::out_of_turn;
+use crate::pairs::first_pair;
 use crate::precedence::precedence_sets;
 use crate::taking::take_up_all;
 use crate::told::{opposite, tell};
@@ -28,13 +33,9 @@ pub fn order(alloc: Global, cut: &Cut) -> Result<Result<Order, Disorder>, OutOfM
     ensures { IfOk result (λ answer. IsOrdering cut.now answer) }
 {
     let cut = FitCut::of(cut);
-    // Where trains keep the order of their entries at each place, it takes no sets to find it.
-    if let Some(order) = order_by_entry(alloc, cut.sound())? {
-        return Ok(Ok(order));
-    }
-    // Where few trains are out of turn, it takes no sets to find that two are opposite.
-    if let Some(disorder) = disorder_by_turn(alloc, cut.sound())? {
-        return Ok(Err(disorder));
+    // Where few trains are out of turn, it takes no sets to find the order, or an opposite pair.
+    if let Some(answer) = answer_by_turn(alloc, cut.sound())? {
+        return Ok(answer);
     }
     let sets = precedence_sets(alloc, &cut)?;
     let taken = take_up_all(&sets);
@@ -46,14 +47,41 @@ pub fn order(alloc: Global, cut: &Cut) -> Result<Result<Order, Disorder>, OutOfM
     Ok(Err(told))
 }
 
-// That two trains are opposite, where few are out of turn and it is so. `None` says nothing: the
-// slow way follows.
-fn disorder_by_turn(alloc: Global, cut: &SoundCut) -> Result<Option<Disorder>, OutOfMemory>
+// The order of the trains by their entries, where each place keeps it; or that two are opposite,
+// where few trains are out of turn and it is so. `None` says nothing: the slow way follows.
+fn answer_by_turn(
+    alloc: Global,
+    cut: &SoundCut,
+) -> Result<Option<Result<Order, Disorder>>, OutOfMemory>
     requires { member_count cut.now ≤ MEMBERS }
-    ensures { IfOk result (λ found. IfSome found (λ disorder. IsOrdering cut.now (Err disorder))) }
+    ensures { IfOk result (λ found. IfSome found (λ answer. IsOrdering cut.now answer)) }
 {
-    match pair_by_turn(alloc, cut)? {
-        Some(pair) => Ok(Some(told_pair(cut, pair))),
+    let positions = by_entry(alloc, cut)?;
+    match out_of_turn(alloc, cut, &positions)? {
+        Some(apart) => by_turn(alloc, cut, positions, &apart),
+        None => Ok(None),
+    }
+}
+
+// The order, where no member is out of turn along it; else that two trains are opposite, if it is
+// so.
+fn by_turn(
+    alloc: Global,
+    cut: &SoundCut,
+    positions: Vec<u32>,
+    apart: &MemberSet,
+) -> Result<Option<Result<Order, Disorder>>, OutOfMemory>
+    requires few { member_count cut.now ≤ MEMBERS }
+    requires once { IsPermutation (members cut.now) positions.items }
+    requires turn { KeepTurn cut.now positions.items apart.now.words }
+    ensures { IfOk result (λ found. IfSome found (λ answer. IsOrdering cut.now answer)) }
+{
+    if apart.is_above(cut.member_count()) {
+        let positions = List::from_vec(positions);
+        return Ok(Some(Ok(Order { positions })));
+    }
+    match first_pair(alloc, cut, apart)? {
+        Some(pair) => Ok(Some(Err(told_pair(cut, pair)))),
         None => Ok(None),
     }
 }
