@@ -1,3 +1,4 @@
+mod Parts
 mod Standing
 mod Nearest
 mod Solved

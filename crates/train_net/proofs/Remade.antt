@@ -1,12 +1,12 @@
 -- The edges to all trains, made anew or carried over, and the net that they make.
-use Rattle.std.proofs.Common.{◌≡◌, ◌≢◌, ℕ, ◌+◌, ◌<◌, Bool, true, List, [], ◌∷◌, length, set, inl, inr, sym, ap, subst, ◌∙◌, arith, length-set}
+use Rattle.std.proofs.Common.{◌≡◌, ◌⊎◌, ℕ, ◌+◌, ◌<◌, Bool, true, List, [], ◌∷◌, ◌++◌, length, inl, inr, refl, sym, subst, ◌∙◌, arith}
 use Rattle.std.specs.Prelude.{Option, None, Some, Ok, slice_index}
-use Rattle.std.specs.List.{AllZip}
+use Rattle.std.specs.List.{AllZip, range_with_len}
 use Rattle.std.specs.List.Sorted.{IsPermutation}
 use Rattle.std.proofs.lemmas.Bool.{both_ways, cases_eq}
-use Rattle.std.proofs.lemmas.List.{get_or-set_other, get_or-set_same}
+use Rattle.std.proofs.lemmas.List.{get_or_append_left, get_or_push, length_push}
 use Rattle.plan_model.specs.declared.cut.Cut.{Cut}
-use Rattle.plan_model.specs.Members.{members, member_count}
+use Rattle.plan_model.specs.Members.{members}
 use Rattle.plan_model.specs.Cut.{IsSoundCut}
 use Rattle.train_order.specs.Ordering.{IsOrdering}
 use Rattle.train_order.proofs.Apart.{below}
@@ -15,56 +15,34 @@ use Rattle.train_net.specs.declared.net.Net.{Net}
 use Rattle.train_net.specs.Net.{edges_to, IsNet, FollowInTurn}
 use Rattle.train_net.specs.Held.{IsNetOf}
 use Rattle.train_net.specs.Mended.{stood, IsOrigin, AgreeInOrder, IsRenumbered, AreCompared, is_marked}
-use Rattle.train_net.specs.Mending.{AreNow, IsMoved, AreAnew, AreRemade, AreAllMended}
+use Rattle.train_net.specs.Mending.{AreNow, IsMoved, AreAnew, AreMoved, AreRemade, AreRemadeUpto, AreAllMended, KeepPositions, StandAsBefore, IsMended, MendsIn}
 use Rattle.train_net.proofs.Standing.{one_standing}
 use Rattle.train_net.proofs.Compared.{compared_follow, unmarked_has_none_fresh}
 use Rattle.train_net.proofs.Carried.{mended_is_net}
 
 -- ---- all trains
 
--- the edges to the first n of an order
-pub record HasRemade (cut : Cut) (origin now : List (Option ℕ)) (marks : List Bool) (order : List ℕ) (old : List (List Edge)) (n : ℕ)
-    (edges : List (List Edge)) : Type 0 where
-  pub lists : length edges ≡ member_count cut
-  pub each : (at : ℕ) → at < n → AreRemade cut origin now marks order old at (edges_to edges (slice_index order at))
+module _ (cut : Cut) (origin now : List (Option ℕ)) (marks : List Bool) (order : List ℕ) (old : List (List Edge)) where
+  pub none_remade : AreRemadeUpto cut origin now marks order old 0 []
+  none_remade = record { lists = refl; each = λ j l. absurd (omega (arith, l)) }
 
-module _ (cut : Cut) (origin now : List (Option ℕ)) (marks : List Bool) (order : List ℕ) (old : List (List Edge))
-    (once : IsPermutation (members cut) order) where
-  pub none_remade : (edges : List (List Edge)) → length edges ≡ member_count cut → HasRemade cut origin now marks order old 0 edges
-  none_remade edges lists = record { lists = lists; each = λ at l. absurd (omega (arith, l)) }
-
-  pub next_remade : (n : ℕ) (edges : List (List Edge)) (to : List Edge) → n < length order
-      → HasRemade cut origin now marks order old n edges → AreRemade cut origin now marks order old n to
-      → HasRemade cut origin now marks order old (n + 1) (set edges (slice_index order n) to)
-  next_remade n edges to ln has is =
-      let j = slice_index order n in
-      let lj = below cut order once n 0 ln in
-      record {
-        lists = length-set edges j to ∙ has.lists;
-        each = λ at l.
-            elim (cases_eq at n) [
-              | inl e ↦
-                  let same : edges_to (set edges j to) (slice_index order at) ≡ to =
-                  ap (λ k. edges_to (set edges j to) (slice_index order k)) e ∙ get_or-set_same edges j to [] (omega (arith, lj, has.lists)) in
-                  subst (AreRemade cut origin now marks order old at) (sym same)
-                  (subst (λ k. AreRemade cut origin now marks order old k to) (sym e) is)
-              | inr ne ↦
-                  let lt : at < n = omega (arith, l, ne) in
-                  let differ : slice_index order at ≢ j = λ e. ne (one_standing cut order once at n (omega (arith, lt, ln)) ln e) in
-                  subst (AreRemade cut origin now marks order old at) (sym (get_or-set_other edges j (slice_index order at) to [] differ))
-                  (has.each at lt)
-            ];
-      }
+  pub next_remade : (n : ℕ) (edges : List (List Edge)) (to : List Edge) → AreRemadeUpto cut origin now marks order old n edges
+      → AreRemade cut origin now marks order old n to → AreRemadeUpto cut origin now marks order old (n + 1) (edges ++ to ∷ [])
+  next_remade n edges to are is = record {
+    lists = omega (arith, length_push edges to, are.lists);
+    each = λ j l.
+        elim (cases_eq j n) [
+          | inl e ↦
+              subst (AreRemade cut origin now marks order old j) (sym (get_or_push edges to [] j (omega (arith, e, are.lists))))
+              (subst (λ k. AreRemade cut origin now marks order old k to) (sym e) is)
+          | inr ne ↦
+              let lt : j < n = omega (arith, l, ne) in
+              subst (AreRemade cut origin now marks order old j)
+              (sym (get_or_append_left edges (to ∷ []) [] j (omega (arith, lt, are.lists)))) (are.each j lt)
+        ];
+  }
 
 -- ---- the mended net
-
-pub mended_as : (cut : Cut) (origin now now_as : List (Option ℕ)) (order order_as : List ℕ) (old old_as edges : List (List Edge))
-    → now ≡ now_as → order ≡ order_as → old ≡ old_as → AreAllMended cut origin now order old edges
-    → AreAllMended cut origin now_as order_as old_as edges
-mended_as cut origin now now_as order order_as old old_as edges is_now is_order is_old mended =
-    subst (λ ns. AreAllMended cut origin ns order_as old_as edges) is_now
-    (subst (λ os. AreAllMended cut origin now os old_as edges) is_order
-    (subst (λ es. AreAllMended cut origin now order es edges) is_old mended))
 
 renumbered : (origin now : List (Option ℕ)) → AreNow origin now → (xs ys : List Edge) → AllZip (IsMoved now) xs ys
     → AllZip (IsRenumbered origin) xs ys
@@ -81,17 +59,26 @@ module _ (old new : Cut) (origin now : List (Option ℕ)) (net : Net) (order : L
   abbrev to : ℕ → List Edge
   to at = edges_to edges (slice_index order at)
 
+  each : (at : ℕ) → at < length order
+      → AreAnew new order at (to at) ⊎ AreMoved origin now mended.marks net.edges (slice_index order at) (to at)
+  each at l =
+      elim (mended.remade.each (slice_index order at) (below new order once at 0 l)) [
+        | inl made ↦
+            inl (subst (λ k. AreAnew new order k (to at)) (one_standing new order once made.at at made.within l made.is) made.anew)
+        | inr moved ↦ inr moved
+      ]
+
   -- a fresh member and one that is marked have edges that are made anew
   anew_if_fresh : (at : ℕ) → at < length order → stood origin (slice_index order at) ≡ None → AreAnew new order at (to at)
   anew_if_fresh at l fresh =
-      elim (mended.each at l) [
+      elim (each at l) [
         | inl made ↦ made
         | inr moved ↦ absurd (let e : None ≡ Some moved.before = sym fresh ∙ moved.kept in cc)
       ]
 
   anew_if_marked : (at : ℕ) → at < length order → is_marked mended.marks (slice_index order at) ≡ true → AreAnew new order at (to at)
   anew_if_marked at l mark =
-      elim (mended.each at l) [
+      elim (each at l) [
         | inl made ↦ made
         | inr moved ↦ absurd (both_ways _ moved.unmarked mark)
       ]
@@ -116,7 +103,7 @@ module _ (old new : Cut) (origin now : List (Option ℕ)) (net : Net) (order : L
         agree = agree;
         follow = follow;
         each = λ at l.
-            elim (mended.each at l) [
+            elim (each at l) [
               | inl made ↦ inl made.edges_are
               | inr moved ↦
                   inr (record {
@@ -128,8 +115,26 @@ module _ (old new : Cut) (origin now : List (Option ℕ)) (net : Net) (order : L
             ];
       })
 
-  pub mended_net : length edges ≡ member_count new → IsNetOf new (record { order = order; edges = edges })
-  mended_net lists = record { net = both.0; lists = lists }
+  pub is_mended : IsMended new (record { order = order; edges = edges })
+  is_mended = record { net = record { net = both.0; lists = mended.remade.lists }; ordering = both.1 }
 
-  pub mended_order : IsOrdering new (Ok (record { positions = order }))
-  mended_order = both.1
+-- ---- the order of before
+
+agree_as_before : (origin : List (Option ℕ)) (order : List ℕ) → KeepPositions origin → AgreeInOrder origin order order
+agree_as_before origin order keep k l a b lt ll kept_k kept_l = record {
+  at = k;
+  next = l;
+  before = lt;
+  within = ll;
+  one = sym (keep (slice_index order k) a kept_k);
+  other = sym (keep (slice_index order l) b kept_l);
+}
+
+-- where members stand as before, their order serves again
+pub mends_as_before : (cut : Cut) (origin : List (Option ℕ)) (before later : Net) → StandAsBefore cut origin before
+    → MendsIn cut origin before before.order later
+    → (old : Cut) → IsSoundCut old → IsNetOf old before → IsOrigin old cut origin → IsMended cut later
+mends_as_before cut origin before later stand mends old sound is_net is =
+    mends old sound is_net is
+    (subst (λ n. IsPermutation (range_with_len 0 n) before.order) (sym is_net.lists ∙ stand.lists) is_net.net.in_order.each_once)
+    (agree_as_before origin before.order stand.keep)

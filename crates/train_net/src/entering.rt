@@ -9,8 +9,9 @@ ghost use Rattle.train_net.specs.Read.{by_edge, IsSolved, AreSolved};
 ghost use Rattle.train_net.specs.Reading.{IsShort};
 
 use crate::edge::Edge;
+use crate::edge_lists::EdgeLists;
 use plan_model::FitCut;
-use rail_model::{List, OutOfMemory};
+use rail_model::OutOfMemory;
 use std::alloc::Global;
 
 // The entries of the compressed timetable by a net: its order, and the edges to each train.
@@ -18,7 +19,7 @@ pub(crate) fn entries(
     alloc: Global,
     cut: &FitCut,
     order: &[u32],
-    edges: &[List<Edge>],
+    edges: &EdgeLists,
 ) -> Result<Vec<i64>, OutOfMemory>
     requires net { IsNet cut.now order.now edges.now }
     requires lists { length edges.now ≡ member_count cut.now }
@@ -35,7 +36,7 @@ pub(crate) fn entries(
 
 // Lets one train after the other enter, in the order. Those that haven't entered yet stand at the
 // window's start.
-fn enter_each(cut: &FitCut, order: &[u32], edges: &[List<Edge>], entries: &mut [i64])
+fn enter_each(cut: &FitCut, order: &[u32], edges: &EdgeLists, entries: &mut [i64])
     requires net { IsNet cut.now order.now edges.now }
     requires lists { length edges.now ≡ member_count cut.now }
     requires count { length entries.old ≡ member_count cut.now }
@@ -46,7 +47,7 @@ fn enter_each(cut: &FitCut, order: &[u32], edges: &[List<Edge>], entries: &mut [
 {
     let start = cut.sound().window_start();
     for train in order {
-        let to = edges[*train as usize].slice();
+        let to = edges.of(*train as usize);
         entries[*train as usize] = earliest(start, to, entries);
     }
 }

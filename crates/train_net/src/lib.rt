@@ -8,7 +8,8 @@
 //!
 //! `mend` makes the net of a later cut from that of an earlier one, where few trains are fresh:
 //!
-//! 1. Kept trains stand as before, and fresh ones by their entries.
+//! 1. Kept trains stand as before. Where each also has the position that it had, fresh ones are
+//!    tried at their old places first; else they stand by their entries.
 //! 2. A kept train has the edges that it had, unless a train from which one came is gone, or a
 //!    fresh train stands nearest before it at a place.
 //! 3. The edges to every other train are made from its uses, and it is compared with its nearest at
@@ -27,6 +28,7 @@
 #![tactic(auto)]
 
 mod edge;
+mod edge_lists;
 mod edges;
 mod ends;
 mod entering;
@@ -41,6 +43,7 @@ mod reordered;
 mod tying;
 
 pub use edge::Edge;
+pub use edge_lists::EdgeLists;
 pub use laws::{
     along_are_spans, carried_are_edges, compared_follow, following_is_order, mended_is_net,
     read_are_placed, solved_is_least, unmarked_has_none_fresh,

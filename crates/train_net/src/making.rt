@@ -8,6 +8,7 @@ ghost use Rattle.train_net.specs.Net.{AreEdges, edges_to};
 ghost use Rattle.train_net.specs.Held.{IsNetOf};
 
 use crate::edge::Edge;
+use crate::edge_lists::EdgeLists;
 use crate::edges::edges_from;
 use crate::near::{Near, pass};
 use crate::net::Net;
@@ -21,11 +22,9 @@ pub fn net_of(alloc: Global, cut: &SoundCut, order: List<u32>) -> Result<Net, Ou
     ensures order { IfOk result (λ net. net.order ≡ order) }
     ensures net { IfOk result (λ net. IsNetOf cut.now net) }
 {
-    let edges = all_edges(alloc, cut, order.slice())?;
-    Ok(Net {
-        order,
-        edges: List::from_vec(edges),
-    })
+    let lists = all_edges(alloc, cut, order.slice())?;
+    let edges = EdgeLists::of_lists(alloc, &lists)?;
+    Ok(Net { order, edges })
 }
 
 // The edges to each train.
@@ -67,7 +66,7 @@ fn put_edges(
 }
 
 // Empty lists of edges.
-pub(crate) fn no_edges(alloc: Global, count: u32) -> Result<Vec<List<Edge>>, OutOfMemory>
+fn no_edges(alloc: Global, count: u32) -> Result<Vec<List<Edge>>, OutOfMemory>
     ensures { IfOk result (λ edges. length edges.items ≡ count) }
 {
     let mut edges = Vec::with_capacity(alloc, count as usize)?;

@@ -9,15 +9,15 @@ ghost use Rattle.train_order.specs.Ordering.{IsOrdering};
 ghost use Rattle.train_net.specs.Net.{edges_to};
 ghost use Rattle.train_net.specs.Held.{IsNetOf};
 ghost use Rattle.train_net.specs.Mended.{IsOrigin};
-ghost use Rattle.train_net.specs.Mending.{AreNow, IsMoved, AreMoved, AreAnew, AreRemade, AreAllMended, comes_ahead};
+ghost use Rattle.train_net.specs.Mending.{AreNow, IsMoved, AreMoved, AreAnew, AreAnewTo, AreRemadeUpto, AreAllMended, StandAsBefore, KeepPositions, MendsIn, comes_ahead};
 
 use crate::edge::Edge;
+use crate::edge_lists::EdgeLists;
 use crate::edges::edges_from;
-use crate::making::no_edges;
 use crate::marking::marks_after_fresh;
 use crate::near::{Near, near_at};
 use crate::net::Net;
-use crate::reordered::{position_of, reorder};
+use crate::reordered::{find_from, position_of, reorder};
 use plan_model::SoundCut;
 use rail_model::{List, OutOfMemory, Use};
 use std::alloc::Global;
@@ -29,9 +29,9 @@ use std::alloc::Global;
 /// Only the places of fresh members, and of those that stand next to them or next to where one is
 /// gone, are looked at. There is no net where a member whose edges are made anew doesn't follow its
 /// nearest: at one of its places, who stands nearest before it in the order starts later than it,
-/// or at the same moment and has the greater name. So it is where a fresh member doesn't fit in
-/// among the kept ones by its entry. No clause says when there is none: the caller then makes the
-/// net from all uses.
+/// or at the same moment and has the greater name. So it is where a fresh member fits in among the
+/// kept ones neither at its old place nor by its entry. No clause says when there is none: the caller
+/// then makes the net from all uses.
 pub fn mend(
     alloc: Global,
     cut: &SoundCut,
@@ -48,14 +48,66 @@ pub fn mend(
         IsOrdering cut.now (Ok (record { positions = net.order })))) }
 {
     let now = positions_now(alloc, origin, cut.member_count(), net.edges.len())?;
-    let Some(order) = reorder(alloc, cut, net.order.slice(), origin, &now)? else {
-        return Ok(None);
-    };
-    match edges_in(alloc, cut, &order, net.edges.slice(), origin, &now)? {
-        Some(edges) => Ok(Some(Net {
-            order: List::from_vec(order),
-            edges: List::from_vec(edges),
-        })),
+    if stand_as_before(cut, net, origin) {
+        let order = net.order.copy(alloc)?;
+        if let Some(later) = mended_in(alloc, cut, net, order, origin, &now)? {
+            return Ok(Some(later));
+        }
+    }
+    match reorder(alloc, cut, net.order.slice(), origin, &now)? {
+        Some(order) => mended_in(alloc, cut, net, List::from_vec(order), origin, &now),
+        None => Ok(None),
+    }
+}
+
+// Whether the later cut has as many members as the earlier one, and each that is kept has the
+// position that it had.
+fn stand_as_before(cut: &SoundCut, net: &Net, origin: &[Option<u32>]) -> bool
+    ensures { IsTrue result → StandAsBefore cut.now origin.now net.now }
+{
+    let count = cut.member_count();
+    net.edges.len() == count as usize
+        && net.order.slice().iter().all(|member| *member < count)
+        && keep_positions(origin)
+}
+
+// Whether each member that is kept has the position that it had.
+fn keep_positions(origin: &[Option<u32>]) -> bool
+    ensures { IsTrue result → KeepPositions origin.now }
+{
+    for i in 0..origin.len() {
+        if !keeps_position(origin[i], i) {
+            return false;
+        }
+    }
+    true
+}
+
+fn keeps_position(old: Option<u32>, i: usize) -> bool
+    ensures { IsTrue result → IfSome old (λ a. a ≡ i) }
+{
+    match old {
+        Some(old) => old as usize == i,
+        None => true,
+    }
+}
+
+// The net with this order, if there is one.
+fn mended_in(
+    alloc: Global,
+    cut: &SoundCut,
+    net: &Net,
+    order: List<u32>,
+    origin: &[Option<u32>],
+    now: &[Option<u32>],
+) -> Result<Option<Net>, OutOfMemory>
+    requires sound { IsSoundCut cut.now }
+    requires there { All (λ i. i < member_count cut.now) order }
+    requires now { AreNow origin.now now.now }
+    ensures { IfOk result (λ r. IfSome r (MendsIn cut.now origin.now net.now order)) }
+{
+    match edges_in(alloc, cut, order.slice(), &net.edges, origin, now)? {
+        Some(edges) => Ok(Some(Net { order, edges })),
         None => Ok(None),
     }
 }
@@ -99,123 +151,100 @@ fn put_position(now: &mut [Option<u32>], old: Option<u32>, i: u32)
     }
 }
 
-// The edges to each member, in its order now. `None` says nothing: the net is made from all uses.
+// The edges to each member, in an order. `None` says nothing: the net is made from all uses.
 fn edges_in(
     alloc: Global,
     cut: &SoundCut,
     order: &[u32],
-    old: &[List<Edge>],
+    old: &EdgeLists,
     origin: &[Option<u32>],
     now: &[Option<u32>],
-) -> Result<Option<Vec<List<Edge>>>, OutOfMemory>
-    requires once { IsPermutation (members cut.now) order.now }
-    ensures lists { IfOk result (λ r. IfSome r (λ edges.
-        length edges.items ≡ member_count cut.now)) }
-    ensures mended { IfOk result (λ r. IfSome r (λ edges.
-        AreAllMended cut.now origin.now now.now order.now old.now edges.items)) }
+) -> Result<Option<EdgeLists>, OutOfMemory>
+    requires there { All (λ i. i < member_count cut.now) order.now }
+    ensures { IfOk result (λ r. IfSome r (AreAllMended cut.now origin.now now.now order.now old.now)) }
 {
     let marks = marks_after_fresh(alloc, cut, order, origin)?;
     remade(alloc, cut, order, old, origin, now, &marks)
 }
 
-// The edges to each member, in its order now, where those that stand nearest after a fresh one are
+// The edges to each member, in an order, where those that stand nearest after a fresh one are
 // marked. `None` says nothing.
 fn remade(
     alloc: Global,
     cut: &SoundCut,
     order: &[u32],
-    old: &[List<Edge>],
+    old: &EdgeLists,
     origin: &[Option<u32>],
     now: &[Option<u32>],
     marks: &[bool],
-) -> Result<Option<Vec<List<Edge>>>, OutOfMemory>
-    requires once { IsPermutation (members cut.now) order.now }
+) -> Result<Option<EdgeLists>, OutOfMemory>
+    requires there { All (λ i. i < member_count cut.now) order.now }
     requires marks { length marks.now ≡ member_count cut.now }
-    ensures lists { IfOk result (λ r. IfSome r (λ edges.
-        length edges.items ≡ member_count cut.now)) }
-    ensures each { IfOk result (λ r. IfSome r (λ edges. (at : ℕ) → at < length order.now
-        → AreRemade cut.now origin.now now.now marks.now order.now old.now at
-        (edges_to edges.items (slice_index order.now at)))) }
+    ensures { IfOk result (λ r. IfSome r (AreRemadeUpto cut.now origin.now now.now marks.now order.now old.now (member_count cut.now))) }
 {
-    let mut edges = no_edges(alloc, cut.member_count())?;
-    for at in 0..order.len() {
-        let member = order[at];
-        let kept = edges_kept(alloc, old, origin, now, marks, member)?;
-        match edges_at(alloc, cut, order, at, kept)? {
-            Some(to) => edges[member as usize] = to,
-            None => return Ok(None),
+    let mut edges = EdgeLists::with_room(alloc, cut.member_count() as usize)?;
+    let mut kept = Vec::new(alloc);
+    for member in 0..cut.member_count() {
+        if keep_edges(old, origin, now, marks, member, &mut kept)? {
+            edges.push(&kept)?;
+            continue;
         }
+        let Some(to) = edges_anew(alloc, cut, order, member)? else {
+            return Ok(None);
+        };
+        edges.push(to.slice())?;
     }
     Ok(Some(edges))
 }
 
-// The edges to who stands at a position: the ones kept, or else edges made anew. `None` says
-// nothing.
-fn edges_at(
-    alloc: Global,
-    cut: &SoundCut,
-    order: &[u32],
-    at: usize,
-    kept: Option<List<Edge>>,
-) -> Result<Option<List<Edge>>, OutOfMemory>
-    requires there { All (λ i. i < member_count cut.now) order.now }
-    requires within { at < length order.now }
-    ensures { IfOk result (λ r. IfSome r (λ edges.
-        AreAnew cut.now order.now at edges ⊎ (kept ≡ Some edges))) }
-{
-    match kept {
-        Some(edges) => Ok(Some(edges)),
-        None => edges_anew(alloc, cut, order, at),
-    }
-}
-
-// The edges that a member had, if it may keep them: it isn't marked, and is kept, and so are all
-// members from which it had an edge. `None` says nothing: they are made anew.
-fn edges_kept(
-    alloc: Global,
-    old: &[List<Edge>],
+// Puts into `kept` the edges that a member had, if it may keep them: it isn't marked, and is kept,
+// and so are all members from which it had an edge. `false` says nothing: they are made anew.
+fn keep_edges(
+    old: &EdgeLists,
     origin: &[Option<u32>],
     now: &[Option<u32>],
     marks: &[bool],
     member: u32,
-) -> Result<Option<List<Edge>>, OutOfMemory>
+    kept: &mut Vec<Edge>,
+) -> Result<bool, OutOfMemory>
     requires { member < length marks.now }
-    ensures { IfOk result (λ r. IfSome r
-        (AreMoved origin.now now.now marks.now old.now member)) }
+    ensures { IfOk result (λ keeps. IsTrue keeps
+        → AreMoved origin.now now.now marks.now old.now member kept.new.items) }
 {
     if marks[member as usize] {
-        return Ok(None);
+        return Ok(false);
     }
     match position_of(origin, member) {
         Some(before) => {
             let at = before as usize;
             if at < old.len() {
-                moved_edges(alloc, old[at].slice(), now)
+                move_edges(old.of(at), now, kept)
             } else {
-                Ok(None)
+                Ok(false)
             }
         }
-        None => Ok(None),
+        None => Ok(false),
     }
 }
 
-// Edges of the earlier cut with the positions that their first members have now, if all of these
-// are kept. `None` says nothing.
-fn moved_edges(
-    alloc: Global,
+// Puts into `moved` edges of the earlier cut with the positions that their first members have now,
+// if all of these are kept. `false` says nothing.
+fn move_edges(
     edges: &[Edge],
     now: &[Option<u32>],
-) -> Result<Option<List<Edge>>, OutOfMemory>
-    ensures { IfOk result (λ r. IfSome r (AllZip (IsMoved now.now) edges.now)) }
+    moved: &mut Vec<Edge>,
+) -> Result<bool, OutOfMemory>
+    ensures { IfOk result (λ all. IsTrue all
+        → AllZip (IsMoved now.now) edges.now moved.new.items) }
 {
-    let mut moved = List::from_vec(Vec::with_capacity(alloc, edges.len())?);
+    moved.clear();
     for edge in edges {
         match moved_edge(*edge, now) {
             Some(edge) => moved.push(edge)?,
-            None => return Ok(None),
+            None => return Ok(false),
         }
     }
-    Ok(Some(moved))
+    Ok(true)
 }
 
 // An edge of the earlier cut with the position that its first member has now, if that one is kept.
@@ -233,9 +262,25 @@ fn moved_edge(edge: Edge, now: &[Option<u32>]) -> Option<Edge>
     }
 }
 
-// The edges to who stands at a position, made anew, if it follows, at each of its places, the
-// nearest before it. `None` says nothing: the net is made from all uses.
+// The edges to a member, made anew, if it follows, at each of its places, the nearest before it.
+// `None` says nothing.
 fn edges_anew(
+    alloc: Global,
+    cut: &SoundCut,
+    order: &[u32],
+    member: u32,
+) -> Result<Option<List<Edge>>, OutOfMemory>
+    requires { All (λ i. i < member_count cut.now) order.now }
+    ensures { IfOk result (λ r. IfSome r (AreAnewTo cut.now order.now member)) }
+{
+    match find_from(order, 0, member) {
+        Some(at) => edges_at(alloc, cut, order, at),
+        None => Ok(None),
+    }
+}
+
+// The edges to who stands at a position, made anew, if it follows its nearest.
+fn edges_at(
     alloc: Global,
     cut: &SoundCut,
     order: &[u32],

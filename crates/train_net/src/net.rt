@@ -1,5 +1,5 @@
 //! A net.
-use crate::edge::Edge;
+use crate::edge_lists::EdgeLists;
 use rail_model::List;
 
 /// A net tells when each train of a cut may enter. It is an order of the trains, and for each train
@@ -10,5 +10,5 @@ pub struct Net {
     /// The positions of the cut's members, each once: each comes after all that precede it.
     pub order: List<u32>,
     /// By the members' positions.
-    pub edges: List<List<Edge>>,
+    pub edges: EdgeLists,
 }

@@ -62,9 +62,8 @@ fn placing(
         net.now.edges placing.entries.items placing.ties.items placing.last.items) }
 {
     let order = net.order.slice();
-    let edges = net.edges.slice();
-    let entries = entries(alloc, cut, order, edges)?;
-    let ties = ties(alloc, cut, order, edges, &entries)?;
+    let entries = entries(alloc, cut, order, &net.edges)?;
+    let ties = ties(alloc, cut, order, &net.edges, &entries)?;
     let last = lasts(alloc, cut.sound(), &entries, last)?;
     Ok(Placing {
         entries,

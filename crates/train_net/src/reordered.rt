@@ -171,7 +171,7 @@ pub(crate) fn position_of(positions: &[Option<u32>], member: u32) -> Option<u32>
 }
 
 // The first place from one on at which a member stands. `None` says nothing.
-fn find_from(before: &[u32], from: usize, member: u32) -> Option<usize>
+pub(crate) fn find_from(before: &[u32], from: usize, member: u32) -> Option<usize>
     requires { from ≤ length before.now }
     ensures { IfSome result (λ place. (from ≤ place) × (place < length before.now)
         × (slice_index before.now place ≡ member)) }

@@ -10,9 +10,10 @@ ghost use Rattle.train_net.specs.Read.{IsSolved, AreSolved, IsTieBy};
 ghost use Rattle.train_net.specs.Reading.{IsShort, tight_of, first_of_two, IsFirstOf};
 
 use crate::edge::Edge;
+use crate::edge_lists::EdgeLists;
 use crate::entering::by_edge;
 use plan_model::{FitCut, SoundCut, Tie};
-use rail_model::{List, OutOfMemory};
+use rail_model::OutOfMemory;
 use std::alloc::Global;
 
 // The ties of all trains by a net, with the entries that it gives them.
@@ -20,7 +21,7 @@ pub(crate) fn ties(
     alloc: Global,
     cut: &FitCut,
     order: &[u32],
-    edges: &[List<Edge>],
+    edges: &EdgeLists,
     entries: &[i64],
 ) -> Result<Vec<Tie>, OutOfMemory>
     requires net { IsNet cut.now order.now edges.now }
@@ -38,7 +39,7 @@ pub(crate) fn ties(
     let mut ties = Vec::new(alloc);
     for train in 0..cut.member_count() as usize {
         let entry = entries[train];
-        ties.push(tie(sound, start, edges[train].slice(), entry, entries))?;
+        ties.push(tie(sound, start, edges.of(train), entry, entries))?;
     }
     Ok(ties)
 }

@@ -1,6 +1,5 @@
-use Rattle.std.proofs.Common.{◌≡◌, ◌+◌, ◌<◌, set, List, [], length, get_or, rules, sym, ap, subst, ◌∙◌, arith, to_z, of_z, w64}
+use Rattle.std.proofs.Common.{◌≡◌, ◌+◌, ◌<◌, set, List, length, get_or, rules, sym, ap, subst, ◌∙◌, arith, to_z, of_z, w64}
 use Rattle.std.specs.Prelude.{All}
-use Rattle.std.proofs.lemmas.List.{get_or_default}
 use Rattle.plan_model.specs.Schedule.{window_start}
 use Rattle.train_order.proofs.Next.{count}
 use Rattle.train_net.specs.declared.edge.Edge.{Edge}
@@ -10,8 +9,8 @@ use Rattle.train_net.specs.Reading.{IsShort}
 use Rattle.train_net.proofs.Entered.{AreEntered, train_there, from_there, all_short, next_entered, all_near, all_solved}
 use Rattle.train_net.proofs.entering.enter_each.Goals as goal
 
-pub bounds-edges-train : goal.bounds-edges-train
-bounds-edges-train c =
+pub of-to-requires : goal.of-to-requires
+of-to-requires c =
     let l = train_there c.args.cut.now c.args.order.now c.args.edges.now c.sound.ensures.sound c.requires.net c.loop-train.train-index
     c.loop-train-test.true in
     omega (arith, l, c.requires.lists)
@@ -37,8 +36,7 @@ earliest-requires-clause-there c =
     let n = c.loop-train.train-index in
     let j = get_or order n 0 in
     let lj = train_there cut order edges c.sound.ensures.sound c.requires.net n c.loop-train-test.true in
-    let to : c.slice-to.result.now ≡ edges_to edges j =
-    c.slice-to.ensures ∙ c.index-edges-train.is ∙ get_or_default edges j _ [] (omega (arith, lj, c.requires.lists)) in
+    let to = c.of-to.ensures in
     subst (λ (es : List Edge). All (λ e. e.from < length c.loop-train.entries) es) (sym to)
     (subst (λ m. All (λ e. e.from < m) (edges_to edges j)) (sym c.loop-train.invariant.count)
     (from_there cut order edges c.sound.ensures.sound c.requires.net j lj))
@@ -51,8 +49,7 @@ earliest-requires-clause-short c =
     let n = c.loop-train.train-index in
     let j = get_or order n 0 in
     let lj = train_there cut order edges c.sound.ensures.sound c.requires.net n c.loop-train-test.true in
-    let to : c.slice-to.result.now ≡ edges_to edges j =
-    c.slice-to.ensures ∙ c.index-edges-train.is ∙ get_or_default edges j _ [] (omega (arith, lj, c.requires.lists)) in
+    let to = c.of-to.ensures in
     subst (λ (es : List Edge). All (λ e. IsShort e.weight) es) (sym to)
     (all_short cut order edges c.sound.ensures.sound c.requires.net j lj)
 
@@ -65,8 +62,7 @@ loop-train-preserved c =
     let n = c.loop-train.train-index in
     let j = get_or order n 0 in
     let lj = train_there cut order edges c.sound.ensures.sound c.requires.net n c.loop-train-test.true in
-    let to : c.slice-to.result.now ≡ edges_to edges j =
-    c.slice-to.ensures ∙ c.index-edges-train.is ∙ get_or_default edges j _ [] (omega (arith, lj, c.requires.lists)) in
+    let to = c.of-to.ensures in
     let next = c.earliest.result in
     let fits : to_z w64 (of_z w64 next) ≡ next = search rules in
     let start : to_z w64 (of_z w64 c.window_start-start.result) ≡ window_start cut =

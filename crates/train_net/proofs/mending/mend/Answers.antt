@@ -1,43 +1,39 @@
-use Rattle.std.proofs.Common.{◌≡◌, List, ℕ, length, sym, subst}
-use Rattle.std.specs.Prelude.{IfSome, Ok}
+use Rattle.std.proofs.Common.{◌<◌, sym, subst}
+use Rattle.std.specs.Prelude.{All, IfSome}
 use Rattle.std.specs.List.Sorted.{IsPermutation}
 use Rattle.plan_model.specs.Members.{members, member_count}
-use Rattle.train_order.specs.Ordering.{IsOrdering}
-use Rattle.train_net.specs.declared.edge.Edge.{Edge}
-use Rattle.train_net.specs.Held.{IsNetOf}
-use Rattle.train_net.specs.Mended.{AgreeInOrder}
-use Rattle.train_net.specs.Mending.{AreAllMended}
-use Rattle.train_net.proofs.Remade.{mended_as, mended_net, mended_order}
+use Rattle.train_order.proofs.Apart.{below}
+use Rattle.train_net.specs.Mending.{MendsIn}
+use Rattle.train_net.proofs.Remade.{mends_as_before}
 use Rattle.train_net.proofs.mending.mend.Goals as goal
 
-pub returns-in-Some-2 : goal.returns-in-Some-2
-returns-in-Some-2 c =
+pub returns-in-Some-clause-net : goal.returns-in-Some-clause-net
+returns-in-Some-clause-net c =
     let cut = c.args.cut.now in
     let origin = c.args.origin.now in
     let net = c.args.net.now in
-    let now = c.in_ok-now.now.items in
-    let order = c.in-Some.order.items in
-    let edges = c.in-Some-2.edges.items in
-    let once : IsPermutation (members cut) order =
-    subst (λ o. IfSome o (λ v. IsPermutation (members cut) v.items)) c.in-Some.is c.in_ok-order.ensures.once in
-    let agree : AgreeInOrder origin net.order order =
-    subst (λ before. AgreeInOrder origin before order) c.slice.ensures
-    (subst (λ o. IfSome o (λ v. AgreeInOrder origin c.slice.result.now v.items)) c.in-Some.is c.in_ok-order.ensures.agree) in
-    let mended : AreAllMended cut origin now order net.edges edges =
-    mended_as cut origin c.deref-3.result.now now c.deref-2.result.now order c.slice-2.result.now net.edges edges
-    c.deref-3.ensures.value c.deref-2.ensures.value c.slice-2.ensures
-    (subst (λ o. IfSome o (λ v. AreAllMended cut origin c.deref-3.result.now c.deref-2.result.now c.slice-2.result.now v.items))
-    c.in-Some-2.is c.in_ok-edges.ensures.mended) in
-    let lists : length edges ≡ member_count cut =
-    subst (λ o. IfSome o (λ v. length v.items ≡ member_count cut)) c.in-Some-2.is c.in_ok-edges.ensures.lists in
-    record {
-      net = λ old sound is_net is.
-          subst (λ (os : List ℕ). IsNetOf cut (record { order = os; edges = c.from_vec-in-Some-2.result })) (sym c.from_vec.ensures)
-          (subst (λ (es : List (List Edge)). IsNetOf cut (record { order = order; edges = es })) (sym c.from_vec-in-Some-2.ensures)
-          (mended_net old cut origin now net order edges sound c.member_count.ensures.sound is_net is once agree c.in_ok-now.ensures
-          mended lists));
-      order = λ old sound is_net is.
-          subst (λ (os : List ℕ). IsOrdering cut (Ok (record { positions = os }))) (sym c.from_vec.ensures)
-          (mended_order old cut origin now net order edges sound c.member_count.ensures.sound is_net is once agree c.in_ok-now.ensures
-          mended);
-    }
+    let later = c.in-Some.later in
+    let mends : MendsIn cut origin net net.order later =
+    subst (λ os. MendsIn cut origin net os later) c.in_ok-order.ensures
+    (subst (λ o. IfSome o (MendsIn cut origin net c.in_ok-order.order)) c.in-Some.is c.in_ok-later.ensures) in
+    λ old sound is_net is.
+    (mends_as_before cut origin net later (c.stand_as_before.ensures c.if-stand_as_before.true) mends old sound is_net is).net
+
+pub returns-in-Some-clause-order : goal.returns-in-Some-clause-order
+returns-in-Some-clause-order c =
+    let cut = c.args.cut.now in
+    let origin = c.args.origin.now in
+    let net = c.args.net.now in
+    let later = c.in-Some.later in
+    let mends : MendsIn cut origin net net.order later =
+    subst (λ os. MendsIn cut origin net os later) c.in_ok-order.ensures
+    (subst (λ o. IfSome o (MendsIn cut origin net c.in_ok-order.order)) c.in-Some.is c.in_ok-later.ensures) in
+    λ old sound is_net is.
+    (mends_as_before cut origin net later (c.stand_as_before.ensures c.if-stand_as_before.true) mends old sound is_net is).ordering
+
+pub mended_in-requires-in-Some-2-clause-there : goal.mended_in-requires-in-Some-2-clause-there
+mended_in-requires-in-Some-2-clause-there c =
+    let cut = c.args.cut.now in
+    subst (All (λ i. i < member_count cut)) (sym c.from_vec.ensures)
+    (below cut c.in-Some-2.order.items
+    (subst (λ o. IfSome o (λ v. IsPermutation (members cut) v.items)) c.in-Some-2.is c.in_ok-order-2.ensures.once))

@@ -8,7 +8,6 @@ use Rattle.plan_model.specs.Members.{member_count}
 use Rattle.plan_model.specs.Schedule.{window_floor, window_start, entry_at}
 use Rattle.train_order.proofs.Apart.{below}
 use Rattle.train_placing.specs.declared.last.Last.{Last}
-use Rattle.train_net.specs.declared.edge.Edge.{Edge}
 use Rattle.train_net.specs.Net.{edges_to}
 use Rattle.train_net.specs.Read.{AreSolved, IsTieBy, IsLeftAlong}
 use Rattle.train_net.specs.Reading.{IsReal, last_by}
@@ -32,14 +31,12 @@ returns-clause-read c =
     let e = c.in_ok-entries.entries.items in
     let ties = c.in_ok-ties.ties.items in
     let solved : AreSolved cut (window_floor cut) edges e =
-    subst (λ (es : List (List Edge)). AreSolved cut (window_floor cut) es e) c.slice-edges.ensures c.in_ok-entries.ensures.solved in
+    c.in_ok-entries.ensures.solved in
     let tied : (j : ℕ) → j < member_count cut
     → IsTieBy cut (window_start cut) (edges_to edges j) e (entry_at e j) (slice_index_or ties j Start) =
     subst (λ (xs : List ℤ). (j : ℕ) → j < member_count cut
     → IsTieBy cut (window_start cut) (edges_to edges j) xs (entry_at xs j) (slice_index_or ties j Start)) c.deref.ensures.value
-    (subst (λ (es : List (List Edge)). (j : ℕ) → j < member_count cut
-    → IsTieBy cut (window_start cut) (edges_to es j) c.deref.result.now (entry_at c.deref.result.now j) (slice_index_or ties j Start))
-    c.slice-edges.ensures c.in_ok-ties.ensures.tied) in
+    c.in_ok-ties.ensures.tied in
     let lasts : c.in_ok-last.last.items ≡ map (option_map (last_by cut e)) near =
     c.in_ok-last.ensures
     ∙ ap (λ (k : Cut). map (option_map (last_by k c.deref-2.result.now)) near) c.sound.ensures.cut

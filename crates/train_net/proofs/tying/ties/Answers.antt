@@ -1,7 +1,7 @@
 use Rattle.std.proofs.Common.{◌≡◌, ◌<◌, List, [], ◌∷◌, length, inl, inr, rules, sym, ap, subst, ◌∙◌, arith, to_z, of_z, w64, length-append}
 use Rattle.std.specs.Prelude.{All, slice_index_or}
 use Rattle.std.proofs.lemmas.Bool.{cases_eq}
-use Rattle.std.proofs.lemmas.List.{get_or_default, get_or_append_left, get_or_push}
+use Rattle.std.proofs.lemmas.List.{get_or_append_left, get_or_push}
 use Rattle.plan_model.specs.declared.cut.Cut.{Cut}
 use Rattle.plan_model.specs.declared.answer.Tie.{Tie}
 use Rattle.plan_model.specs.declared.answer.Tie.TheVariants.{Start}
@@ -21,8 +21,7 @@ tie-requires-clause-there c =
     let j = c.loop-train.train in
     let cut = c.args.cut.now in
     let lj : j < member_count cut = omega (arith, c.loop-train-test.true, c.member_count-train-end.ensures.count) in
-    let to : c.slice.result.now ≡ edges_to edges j =
-    c.slice.ensures ∙ c.index-edges-train.is ∙ get_or_default edges j _ [] (omega (arith, lj, c.requires.lists)) in
+    let to = c.of.ensures in
     subst (λ (es : List Edge). All (λ e. e.from < length c.args.entries.now) es) (sym to)
     (subst (λ m. All (λ e. e.from < m) (edges_to edges j)) (sym c.requires.count)
     (from_there cut c.args.order.now edges c.sound-sound.ensures.sound c.requires.net j lj))
@@ -33,8 +32,7 @@ tie-requires-clause-places c =
     let j = c.loop-train.train in
     let cut = c.args.cut.now in
     let lj : j < member_count cut = omega (arith, c.loop-train-test.true, c.member_count-train-end.ensures.count) in
-    let to : c.slice.result.now ≡ edges_to edges j =
-    c.slice.ensures ∙ c.index-edges-train.is ∙ get_or_default edges j _ [] (omega (arith, lj, c.requires.lists)) in
+    let to = c.of.ensures in
     subst (λ (es : List Edge). All (λ e. e.place < place_count c.sound-sound.result.now) es) (sym to)
     (subst (λ (k : Cut). All (λ e. e.place < place_count k) (edges_to edges j)) (sym c.sound-sound.ensures.cut)
     (places_there cut c.args.order.now edges c.sound-sound.ensures.sound c.requires.net j lj))
@@ -45,8 +43,7 @@ tie-requires-clause-short c =
     let j = c.loop-train.train in
     let cut = c.args.cut.now in
     let lj : j < member_count cut = omega (arith, c.loop-train-test.true, c.member_count-train-end.ensures.count) in
-    let to : c.slice.result.now ≡ edges_to edges j =
-    c.slice.ensures ∙ c.index-edges-train.is ∙ get_or_default edges j _ [] (omega (arith, lj, c.requires.lists)) in
+    let to = c.of.ensures in
     subst (λ (es : List Edge). All (λ e. IsShort e.weight) es) (sym to)
     (all_short cut c.args.order.now edges c.sound-sound.ensures.sound c.requires.net j lj)
 
@@ -57,13 +54,12 @@ tie-requires-clause-solved c =
     let j = c.loop-train.train in
     let cut = c.args.cut.now in
     let lj : j < member_count cut = omega (arith, c.loop-train-test.true, c.member_count-train-end.ensures.count) in
-    let to : c.slice.result.now ≡ edges_to edges j =
-    c.slice.ensures ∙ c.index-edges-train.is ∙ get_or_default edges j _ [] (omega (arith, lj, c.requires.lists)) in
+    let to = c.of.ensures in
     let start : to_z w64 (of_z w64 c.window_start-start.result) ≡ window_start cut =
     (let f : to_z w64 (of_z w64 c.window_start-start.result) ≡ c.window_start-start.result = search rules in f)
     ∙ c.window_start-start.ensures.start ∙ ap window_start c.sound-sound.ensures.cut in
     let entry : to_z w64 (of_z w64 (entry_at entries j)) ≡ entry_at entries j = search rules in
-    subst (λ t. IsSolved t c.slice.result.now entries (to_z w64 (of_z w64 (entry_at entries j)))) (sym start)
+    subst (λ t. IsSolved t c.of.result.now entries (to_z w64 (of_z w64 (entry_at entries j)))) (sym start)
     (subst (λ (es : List Edge). IsSolved (window_start cut) es entries (to_z w64 (of_z w64 (entry_at entries j)))) (sym to)
     (subst (IsSolved (window_start cut) (edges_to edges j) entries) (sym entry) (c.requires.solved j lj)))
 
@@ -74,8 +70,7 @@ loop-train-preserved c =
     let j = c.loop-train.train in
     let cut = c.args.cut.now in
     let lj : j < member_count cut = omega (arith, c.loop-train-test.true, c.member_count-train-end.ensures.count) in
-    let to : c.slice.result.now ≡ edges_to edges j =
-    c.slice.ensures ∙ c.index-edges-train.is ∙ get_or_default edges j _ [] (omega (arith, lj, c.requires.lists)) in
+    let to = c.of.ensures in
     let start : to_z w64 (of_z w64 c.window_start-start.result) ≡ window_start cut =
     (let f : to_z w64 (of_z w64 c.window_start-start.result) ≡ c.window_start-start.result = search rules in f)
     ∙ c.window_start-start.ensures.start ∙ ap window_start c.sound-sound.ensures.cut in
@@ -84,8 +79,8 @@ loop-train-preserved c =
     let here : IsTieBy cut (window_start cut) (edges_to edges j) entries (entry_at entries j) t =
     subst (λ x. IsTieBy cut (window_start cut) (edges_to edges j) entries x t) entry
     (subst (λ (es : List Edge). IsTieBy cut (window_start cut) es entries (to_z w64 (of_z w64 (entry_at entries j))) t) to
-    (subst (λ x. IsTieBy cut x c.slice.result.now entries (to_z w64 (of_z w64 (entry_at entries j))) t) start
-    (subst (λ (k : Cut). IsTieBy k (to_z w64 (of_z w64 c.window_start-start.result)) c.slice.result.now entries
+    (subst (λ x. IsTieBy cut x c.of.result.now entries (to_z w64 (of_z w64 (entry_at entries j))) t) start
+    (subst (λ (k : Cut). IsTieBy k (to_z w64 (of_z w64 c.window_start-start.result)) c.of.result.now entries
     (to_z w64 (of_z w64 (entry_at entries j))) t) c.sound-sound.ensures.cut c.tie.ensures))) in
     let before = c.loop-train.ties.items in
     let items = c.in_ok-push.ensures.items in

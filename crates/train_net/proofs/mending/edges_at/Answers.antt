@@ -4,7 +4,7 @@ use Rattle.plan_model.specs.declared.cut.CutRow.{CutRow}
 use Rattle.train_net.specs.declared.near.Near.{Near}
 use Rattle.train_net.specs.Gathered.{AreAhead, AreCovered}
 use Rattle.train_net.proofs.Anew.{ahead_by, anew}
-use Rattle.train_net.proofs.mending.edges_anew.Goals as goal
+use Rattle.train_net.proofs.mending.edges_at.Goals as goal
 
 pub edges_from-requires-clause-ahead : goal.edges_from-requires-clause-ahead
 edges_from-requires-clause-ahead c =
