@@ -3,6 +3,7 @@ pub mod ByPlaces
 pub mod Counts
 pub mod Names
 pub mod Placing
+pub mod Parts
 pub mod MemberRows
 pub mod Arrivals
 pub mod Binding

@@ -1,6 +1,6 @@
 -- The table of positions: as far as it is filled, from the last name of the section's list on; and uses by it.
 use Rattle.std.proofs.Common.{◌≡◌, ℕ, ◌+◌, ◌-◌, ◌<◌, ◌≤◌, Bool, true, false, not, cond, ltb, List, [], ◌∷◌, ◌++◌, map, length, get_or, take, drop, set, replicate, All, refl, sym, ap, ◌∙◌, subst, inl, inr, arith}
-use Rattle.std.specs.Prelude.{ℤ, filter, slice_set}
+use Rattle.std.specs.Prelude.{filter, slice_set}
 use Rattle.std.proofs.lemmas.Bool.{cases_Bool, cases_eq, lt-ltb, le-ltb}
 use Rattle.std.proofs.lemmas.List.{append-nil, length-set, length-replicate, get_or-replicate, get_or-set_same, get_or-set_other, get_or-map, length-map, map_more, take_more, take_more_set, take_all}
 use Rattle.std.proofs.lemmas.List.Elements.{filter-append}
@@ -191,8 +191,3 @@ placed_in positions blocks uses placed one =
     let inside : Use → Bool = λ u. ltb u.block blocks in
     ap (filter inside) (sym one.are)
     ∙ filter_all inside placed (λ k d l. lt-ltb (get_or placed k d).block blocks (one.inside k d l))
-
--- and start as it does
-pub starts_placed : (positions : List ℕ) (uses : List Use) → map (λ (u : Use). u.start) (map (with_position positions) uses) ≡ map (λ (u : Use). u.start) uses
-starts_placed positions [] = refl
-starts_placed positions (u ∷ uses) = ap (λ (ss : List ℤ). u.start ∷ ss) (starts_placed positions uses)

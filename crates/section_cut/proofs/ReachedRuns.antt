@@ -5,7 +5,7 @@ use Rattle.std.specs.List.{filter_map, enumerate_from, list_any}
 use Rattle.std.specs.Option.{option_to_list}
 use Rattle.std.proofs.lemmas.Bool.{cases_Bool, cases_lt, both_ways, or_parts}
 use Rattle.std.proofs.Math.ListN.{get_or-append}
-use Rattle.std.proofs.lemmas.List.{append-nil, map-append, get_or_push, length-append, take_all, get_or_default}
+use Rattle.std.proofs.lemmas.List.{append-nil, map-append, get_or_push, length-append, length-map, get_or-map, take_all, get_or_default}
 use Rattle.std.proofs.lemmas.List.Elements.{All-push, filter_more}
 use Rattle.rail_model.specs.declared.items.Run.{Run}
 use Rattle.rail_model.specs.declared.items.Section.{Section}
@@ -31,11 +31,14 @@ use Rattle.section_cut.specs.declared.cut_changes.CutChange.TheVariants as chang
 use Rattle.section_cut.specs.Change.{IsChange}
 use Rattle.section_cut.specs.RowsAfter.{AreBeside, AllStay, IsKept, AreRowsAfter, IsOwnOf}
 use Rattle.section_cut.specs.Stamps.{AreBefore, IsReached, IsStamped, IsStampedBy}
-use Rattle.section_cut.specs.ReachedRuns.{IsStairIfReached, AreReachedRuns, IsOwnRow, IsRowAfter, row_after}
+use Rattle.section_cut.specs.ReachedRuns.{IsStairIfReached, AreReachedRuns, IsOwnRow, IsRowAfter, row_after, uses_if_there}
+use Rattle.section_cut.specs.Spans.{AreSpans, IsLookedAt, IsSpan, blocks_of, part_of}
+use Rattle.section_cut.specs.declared.spans.Span.{Span}
 use Rattle.section_cut.proofs.BindsBy.{use_by, entry_same}
 use Rattle.section_cut.proofs.MemberRows.{uses_by_table}
 use Rattle.section_cut.proofs.OldRows.{row_if, cut_rows, cut_names, row_at_name, old_row}
 use Rattle.section_cut.proofs.OneRun.{located, map_one}
+use Rattle.section_cut.proofs.Parts.{part_in, part_all}
 use Rattle.section_cut.proofs.Rows.{before_later}
 use Rattle.section_cut.proofs.SameRuns.{arrival_same, binding_same, row_same, cuts_same}
 use Rattle.section_cut.proofs.SameValue.{sound_cut_of}
@@ -150,6 +153,29 @@ module _ {earlier later : Tables} {stairs : List (Option Stair)} {s : Section} {
     pub stair_uses : IfSome stair (λ (t : Stair). All (λ (u : Use). u.block < length positions) t.uses)
     stair_uses = subst (λ k. IfSome stair (λ (t : Stair). All (λ (u : Use). u.block < k) t.uses)) (sym beside.table.count)
         (reached_uses earlier later beside.later_sound n below stair reached_is)
+
+    -- the uses that are looked at
+    pub uses_looked_at : (spans : List (Option Span)) → AreSpans positions (length s.blocks) (map uses_if_there stairs) spans → (uses : List Use)
+        → uses ≡ part_of (get_or spans n None) (uses_if_there (get_or stairs n None)) → IfSome stair (IsLookedAt positions (length s.blocks) uses)
+    uses_looked_at spans are uses is =
+        by_stair stair stair_uses (its ∙ get_or_default stairs n stair None (omega (arith, below, beside.reached.count)))
+      where
+        by_stair : (o : Option Stair) → IfSome o (λ (t : Stair). All (λ (u : Use). u.block < length positions) t.uses) → o ≡ get_or stairs n None
+            → IfSome o (IsLookedAt positions (length s.blocks) uses)
+        by_stair None whole at = tt
+        by_stair (Some t) whole at =
+            let blocks = length s.blocks in
+            let span = get_or spans n None in
+            let below_stairs : n < length stairs = omega (arith, below, beside.reached.count) in
+            let own : uses ≡ part_of span t.uses = is ∙ ap (λ o. part_of span (uses_if_there o)) (sym at) in
+            let fits = subst (λ us. IfSome span (IsSpan positions blocks (blocks_of us)))
+            (get_or-map uses_if_there stairs n None [] below_stairs ∙ ap uses_if_there (sym at))
+            (are n (omega (arith, below_stairs, length-map stairs uses_if_there))) in
+            record {
+              whole = whole;
+              there = subst (All (λ (u : Use). u.block < length positions)) (sym own) (part_all (λ (u : Use). u.block < length positions) span t.uses whole);
+              same = ap (uses_in positions blocks) own ∙ part_in positions blocks span t.uses fits;
+            }
 
     abbrev run : Run
     run = run_at earlier n

@@ -5,12 +5,14 @@ use Rattle.std.proofs.lemmas.Bool.{ltb-true}
 use Rattle.std.proofs.lemmas.List.Elements.{filter_passes}
 use Rattle.rail_model.specs.declared.items.Section.{Section}
 use Rattle.rail_model.specs.declared.stair.Use.{Use}
+use Rattle.rail_model.specs.declared.stair.Stair.{Stair}
 use Rattle.plan_model.specs.declared.cut.CutRow.{CutRow}
 use Rattle.plan_model.specs.Cut.{stamped_row, AreBlocksFirst}
 use Rattle.section_cut.specs.Members.{enters, member_row}
 use Rattle.section_cut.specs.Positions.{with_position, uses_in}
 use Rattle.section_cut.specs.Connected.{block_part, with_rest}
 use Rattle.section_cut.specs.ReachedRuns.{IsOwnRow, IsRowAfter}
+use Rattle.section_cut.specs.Spans.{IsLookedAt}
 use Rattle.section_cut.proofs.OneRun.{bare_member}
 use Rattle.section_cut.proofs.Placing.{placed_in}
 
@@ -42,22 +44,22 @@ module _ (s : Section) (own : Option CutRow) where
   joined_made name stamp uses =
       stamped_joined (member_row s name stamp uses) ∙ ap (option_map (with_rest s own)) (bare_made s name stamp uses) ∙ rest_same (member_row s name 0 uses)
 
-module _ (section : Section) (name : List ℕ) (own : CutRow) (is : IsOwnRow section name own) (positions : List ℕ) (stairway : List Use) where
-  pub blocks_inside : All (λ (u : Use). u.block < length section.blocks) (block_part section own.uses)
-  blocks_inside k d l =
-      ltb-true (get_or (block_part section own.uses) k d).block (length section.blocks) (filter_passes (λ (u : Use). ltb u.block (length section.blocks)) own.uses k d l)
+pub blocks_inside : (section : Section) (own : CutRow) → All (λ (u : Use). u.block < length section.blocks) (block_part section own.uses)
+blocks_inside section own k d l =
+    ltb-true (get_or (block_part section own.uses) k d).block (length section.blocks) (filter_passes (λ (u : Use). ltb u.block (length section.blocks)) own.uses k d l)
 
+module _ (section : Section) (stair : Stair) (own : CutRow) (is : IsOwnRow section stair.run own) (positions : List ℕ) (uses : List Use) (looked : IsLookedAt positions (length section.blocks) uses stair) where
   -- a stair of the same uses of blocks gives the same row
-  pub same_value : map (with_position positions) stairway ≡ block_part section own.uses
-      → option_map (with_rest section (Some (stamped_row 0 own))) (member_row section name 0 (uses_in positions (length section.blocks) stairway)) ≡ Some (stamped_row 0 own)
+  pub same_value : map (with_position positions) uses ≡ block_part section own.uses
+      → option_map (with_rest section (Some (stamped_row 0 own))) (member_row section stair.run 0 (uses_in positions (length section.blocks) stair.uses)) ≡ Some (stamped_row 0 own)
   same_value same =
-      ap (λ us. option_map (with_rest section (Some (stamped_row 0 own))) (member_row section name 0 us))
-      (placed_in positions (length section.blocks) stairway (block_part section own.uses) (record { are = sym same; inside = blocks_inside }))
+      ap (λ us. option_map (with_rest section (Some (stamped_row 0 own))) (member_row section stair.run 0 us))
+      (sym looked.same ∙ placed_in positions (length section.blocks) uses (block_part section own.uses) (record { are = sym same; inside = blocks_inside section own }))
       ∙ ap (option_map (with_rest section (Some (stamped_row 0 own)))) is.member
       ∙ ap (λ us. Some (record own { stamp = 0; uses = us })) (sym is.first)
 
-  pub same_after : (number : ℕ) → map (with_position positions) stairway ≡ block_part section own.uses
-      → IsRowAfter (option_map (with_rest section (Some (stamped_row 0 own))) (member_row section name 0 (uses_in positions (length section.blocks) stairway))) number (Some own) (Some own)
+  pub same_after : (number : ℕ) → map (with_position positions) uses ≡ block_part section own.uses
+      → IsRowAfter (option_map (with_rest section (Some (stamped_row 0 own))) (member_row section stair.run 0 (uses_in positions (length section.blocks) stair.uses))) number (Some own) (Some own)
   same_after number same = record { value = sym (same_value same); stamp = inl refl }
 
 -- the uses of blocks of the row before the edit stand first

@@ -1,6 +1,7 @@
 pub mod Starts
 pub mod Late
 pub mod Positions
+pub mod Spans
 pub mod Members
 pub mod Bound
 pub mod Connected

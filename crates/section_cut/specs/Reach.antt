@@ -1,5 +1,5 @@
 -- Which rows of cuts an edit can reach.
-use Rattle.std.specs.Prelude.{◌≡◌, ◌≢◌, ⊤, false, All, ℕ, List, Option, Some, None}
+use Rattle.std.specs.Prelude.{◌≡◌, ◌≢◌, ⊤, false, All, ℕ, List, map, Option, Some, None}
 use Rattle.rail_model.specs.declared.items.Item.{Item}
 use Rattle.rail_model.specs.declared.items.Item.TheVariants as item
 use Rattle.rail_model.specs.declared.edit.Kind.{Kind}
@@ -13,7 +13,9 @@ use Rattle.plan_model.specs.SectionCut.{cut_of}
 use Rattle.section_cut.specs.declared.reach.Reach.{Reach}
 use Rattle.section_cut.specs.declared.reach.Reach.TheVariants as reach
 use Rattle.section_cut.specs.Connected.{is_joined}
-use Rattle.section_cut.specs.ReachedRuns.{AreReachedRuns, IsTold}
+use Rattle.section_cut.specs.ReachedRuns.{AreReachedRuns, IsTold, uses_if_there}
+use Rattle.section_cut.specs.Spans.{AreOver}
+use Rattle.section_cut.specs.declared.reached_runs.ReachedRuns.{ReachedRuns}
 use Rattle.section_cut.specs.OneRun.{before, behind}
 use Rattle.section_cut.specs.EditedRun.{IsEditedRun}
 use Rattle.section_cut.specs.EditedConnection.{IsEditedConnection, IsMinimumChanged}
@@ -75,6 +77,12 @@ ReachesNoRun tables (edit.Drop k n) = DropReachesNoRun k
 abbrev pub AreSameCuts : Tables → Tables → Type 0
 AreSameCuts earlier later = (section : List ℕ) → cut_of later section ≡ cut_of earlier section
 
+-- the runs whose paths the tables tell apart: their stairs, the lists of blocks of these, and what is told of connections
+pub record AreRunsOf (earlier later : Tables) (runs : ReachedRuns) : Type 0 where
+  pub stairs : AreReachedRuns earlier later runs.stairs.items
+  pub over : AreOver (map uses_if_there runs.stairs.items) runs.over
+  pub joined : IsTold (is_joined earlier) earlier.runs runs.joined.items
+
 -- no other rows can differ between cuts by earlier tables and by later ones
 abbrev pub IsReach : Tables → Tables → Reach → Type 0
 IsReach earlier later reach.Nothing = AreSameCuts earlier later
@@ -82,6 +90,5 @@ IsReach earlier later (reach.All stairs) = stairs ≡ timetable later
 IsReach earlier later (reach.Run run) = IsEditedRun earlier later run
 IsReach earlier later (reach.Connection edited) = IsEditedConnection earlier later edited
 IsReach earlier later (reach.Minimum c) = IsMinimumChanged earlier later c
-IsReach earlier later (reach.Runs stairs joined) =
-    AreReachedRuns earlier later stairs.items × IsTold (is_joined earlier) earlier.runs joined.items
+IsReach earlier later (reach.Runs runs) = AreRunsOf earlier later runs
 IsReach earlier later (reach.Section name) = IsOneSection earlier later name

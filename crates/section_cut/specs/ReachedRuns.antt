@@ -1,11 +1,12 @@
 -- Changes of blocks, signals and routes: the runs whose paths they change, and these runs' rows.
-use Rattle.std.specs.Prelude.{◌≡◌, ℕ, ◌<◌, ⊤, Bool, true, false, List, length, slice_index_or, Option, Some, None, option_map, IfSome}
+use Rattle.std.specs.Prelude.{◌≡◌, ℕ, ◌<◌, ⊤, Bool, true, false, List, [], length, slice_index_or, Option, Some, None, option_map, IfSome}
 use Rattle.rail_model.specs.declared.items.Run.{Run}
 use Rattle.rail_model.specs.declared.items.Section.{Section}
 use Rattle.rail_model.specs.declared.items.Item.{Item}
 use Rattle.rail_model.specs.declared.items.Item.TheVariants as item
 use Rattle.rail_model.specs.declared.edit.Edit.{Edit}
 use Rattle.rail_model.specs.declared.edit.Edit.TheVariants as edit
+use Rattle.rail_model.specs.declared.stair.Use.{Use}
 use Rattle.rail_model.specs.declared.stair.Stair.{Stair}
 use Rattle.rail_model.specs.declared.tables.Tables.{Tables}
 use Rattle.rail_model.specs.Blocking.{stair_of}
@@ -59,6 +60,11 @@ pub record AreReachedRuns (earlier later : Tables) (stairs : List (Option Stair)
   pub count : length stairs ≡ length later.runs
   pub each : (n : ℕ) (d : Option Stair) → n < length later.runs
       → IsStairIfReached earlier later (run_at later n) (slice_index_or stairs n d)
+
+-- the uses of a stair, if it is there
+abbrev pub uses_if_there : Option Stair → List Use
+uses_if_there None = []
+uses_if_there (Some stair) = stair.uses
 
 -- a run's row in a section: by its stair, if that is reached, with the uses of connections that it
 -- had; and otherwise the row that it had, if it had one

@@ -3,8 +3,10 @@ ghost use Rattle.std.specs.Prelude.{◌≡◌, ◌<◌, ◌≤ℤ◌, ◌||◌, 
 ghost use Rattle.line_tables.specs.Paths.{path_at};
 ghost use Rattle.rail_model.specs.Blocking.{stair_of};
 ghost use Rattle.rail_model.specs.Timetable.{timetable, stair_at};
+ghost use Rattle.section_cut.specs.Spans.{AreSpans};
 ghost use Rattle.section_cut.specs.Starts.{StartsBetween, StartsOutside};
 
+use crate::spans::{BlockLists, Span};
 use blocking_time::stairs;
 use line_tables::{LineTables, Paths};
 use rail_model::{List, OutOfMemory, Section, Stair, Use};
@@ -83,6 +85,7 @@ fn stair_by(alloc: Global, paths: &Paths<'_>, run: u32) -> Result<Stair, OutOfMe
 pub struct AllStairways {
     stairs: List<Stair>,
     starts: Vec<Starts>,
+    over: BlockLists,
 }
 
 // No use of a stairway starts before the first moment or after the last.
@@ -95,13 +98,13 @@ pub(crate) struct Starts {
 impl Model for AllStairways {
     ghost use Rattle.std.specs.Prelude.{List};
     ghost use Rattle.rail_model.specs.declared.stair.Stair.{Stair};
-    ghost use Rattle.section_cut.specs.Starts.{AreStartsOf};
+    ghost use Rattle.section_cut.specs.Spans.{AreLookedAt};
 
     ghost Value = { List Stair };
 
     ghost view = { λ t. t.stairs };
 
-    ghost invariant = { λ t. AreStartsOf t.stairs t.starts.items };
+    ghost invariant = { λ t. AreLookedAt t.stairs t.starts.items t.over };
 }
 
 impl AllStairways {
@@ -110,10 +113,17 @@ impl AllStairways {
         ensures { IfOk result (λ all. all ≡ stairs) }
     {
         let mut starts = Vec::with_capacity(alloc, stairs.len())?;
+        let mut over = BlockLists::new(alloc);
         for stair in stairs.slice() {
-            starts.push(starts_of(stair.uses.slice()))?;
+            let uses = stair.uses.slice();
+            starts.push(starts_of(uses))?;
+            over.add(alloc, uses)?;
         }
-        Ok(AllStairways { stairs, starts })
+        Ok(AllStairways {
+            stairs,
+            starts,
+            over,
+        })
     }
 
     /// How many stairways there are.
@@ -138,6 +148,20 @@ impl AllStairways {
         ensures { result ≡ true → StartsOutside section.now (stair_at self.now n).uses }
     {
         is_outside(self.starts[n], section)
+    }
+
+    /// The spans of the stairways in a section of so many blocks, by a table of positions.
+    pub(crate) fn spans(
+        &self,
+        alloc: Global,
+        positions: &[u32],
+        blocks: usize,
+    ) -> Result<Vec<Option<Span>>, OutOfMemory>
+        ensures { IfOk result
+            (λ spans. AreSpans positions.now blocks (map (λ s. s.uses) self.now) spans.items) }
+    {
+        let spans = self.over.spans(alloc, positions, blocks)?;
+        Ok(spans)
     }
 }
 

@@ -114,10 +114,8 @@ impl<'a> CutChanges<'a> {
                 None => Ok(CutChange::Untouched),
             },
             Reach::Nothing => Ok(CutChange::Untouched),
-            Reach::Runs { stairs, joined } => match cut {
-                Some(old) => {
-                    cut_after_runs(alloc, self.both, stairs, joined, old, section, number)
-                }
+            Reach::Runs(runs) => match cut {
+                Some(old) => cut_after_runs(alloc, self.both, runs, old, section, number),
                 None => Ok(CutChange::Untouched),
             },
             Reach::Section(name) => {

@@ -74,9 +74,11 @@ fn cut_by(
     tables.learn_sound();
     let positions = positions(alloc, tables, section)?;
     let section = tables.section(section);
+    let spans = stairs.spans(alloc, &positions, section.blocks.len())?;
     let table = SectionTable {
         section,
         positions: &positions,
+        spans: &spans,
     };
     let MemberRows { mut rows, of_run } = members(alloc, tables, table, stairs, stamp)?;
     let connections = connections(alloc, tables, section, &of_run, &mut rows)?;

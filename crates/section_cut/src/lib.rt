@@ -3,9 +3,11 @@
 //!
 //! `cut_of` makes one cut from the runs' stairways. A table over the numbers of blocks says where
 //! each stands in the section, so no name is looked up for a use. A run is passed over where all
-//! its uses start before the window or all after it. Connections come after that: one that binds
-//! adds a use to the rows of its two runs. `cut_among` makes the cuts of many sections from
-//! stairways that are made once, by `stairways` or, side by side, by `stairways_in_parts`.
+//! its uses start before the window or all after it, and of the others only the uses between the
+//! first and the last place in the section are looked at: these places are found once for all
+//! stairways over the same blocks. Connections come after that: one that binds adds a use to the
+//! rows of its two runs. `cut_among` makes the cuts of many sections from stairways that are made
+//! once, by `stairways` or, side by side, by `stairways_in_parts`.
 //!
 //! `cut_change` makes a cut that is kept that of the tables after an edit, with the stamps of its
 //! rows, and tells whether the edit touches the section; `CutChanges` does so for many sections:
@@ -14,6 +16,8 @@
 //!   each block of its path, the positions stay, and only times are written. One row is put in place
 //!   of the old one, or the cut is copied with the row or without it. All other rows stay where each
 //!   of the run's connections binds after the edit exactly where it does before it.
+//! - An edit of a section touches no other. Where its window and its blocks stay, as where only its
+//!   additional time rate changes, its rows stay, too.
 //! - An edit of a connection touches the sections in which it binds before or after it. There the
 //!   connections are bound anew, while the members and their uses of blocks stay. Another minimum
 //!   changes one use of the first run's row.
@@ -48,6 +52,7 @@ mod reach;
 mod reached_rows;
 mod reached_runs;
 mod same_value;
+mod spans;
 mod stamps;
 mod timed_stair;
 mod times;

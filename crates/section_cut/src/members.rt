@@ -1,14 +1,16 @@
 //! The members of a section: the runs that enter it within its window.
-ghost use Rattle.std.specs.Prelude.{◌≡◌, ◌<◌, All, ◌++◌, ◌∷◌, [], length, map, IfOk, OnOk, option_map};
+ghost use Rattle.std.specs.Prelude.{◌≡◌, ◌<◌, All, ◌++◌, ◌∷◌, [], None, length, map, slice_index_or, IfOk, IfSome, OnOk, option_map};
 ghost use Rattle.std.specs.Option.{option_to_list};
 ghost use Rattle.plan_model.specs.Cut.{least};
 ghost use Rattle.section_cut.specs.Late.{AreStairsFor};
 ghost use Rattle.section_cut.specs.Positions.{IsPositions, uses_in};
+ghost use Rattle.section_cut.specs.Spans.{AreSpans, IsSpan, blocks_of};
 ghost use Rattle.rail_model.specs.Timetable.{stair_at};
 ghost use Rattle.section_cut.specs.Members as rows;
 
 use crate::all_stairways::AllStairways;
 use crate::positions::{SectionTable, gather};
+use crate::spans::part;
 use line_tables::LineTables;
 use plan_model::{CutRow, least_start};
 use rail_model::{List, Name, OutOfMemory, Section, Stair, Use};
@@ -38,6 +40,8 @@ pub(crate) fn members(
 ) -> Result<MemberRows, OutOfMemory>
     requires stairs { AreStairsFor tables.now table.section.now stairs.now }
     requires positions { IsPositions tables.now table.section.now table.positions.now }
+    requires spans { AreSpans table.positions.now (length table.section.now.blocks)
+        (map (λ s. s.uses) stairs.now) table.spans.now }
     ensures rows { IfOk result
         (λ all. all.rows ≡ rows.rows_on_blocks tables.now table.entry.section.now stamp) }
     ensures of_run { IfOk result
@@ -68,6 +72,8 @@ fn row_at(
 ) -> Result<Option<CutRow>, OutOfMemory>
     requires at { n < length stairs.now }
     requires there { All (λ u. u.block < length table.positions.now) (stair_at stairs.now n).uses }
+    requires span { IfSome (slice_index_or table.spans.now n None) (IsSpan table.positions.now
+        (length table.section.now.blocks) (blocks_of (stair_at stairs.now n).uses)) }
     ensures { IfOk result
         (λ row. row ≡ rows.member_row table.entry.section.now (stair_at stairs.now n).run stamp
         (uses_in table.entry.positions.now (length table.entry.section.now.blocks)
@@ -77,7 +83,7 @@ fn row_at(
         return Ok(None);
     }
     let stair = stairs.stair(n);
-    gather(found, table, stair.uses.slice())?;
+    gather(found, table, part(stair.uses.slice(), table.spans, n))?;
     member_row(alloc, table.section, stair.run, stamp, found)
 }
 

@@ -223,6 +223,7 @@ fn row_by_positions(
     let table = SectionTable {
         section,
         positions: &positions,
+        spans: &[],
     };
     gather(&mut found, table, own.uses.slice())?;
     member_row(alloc, section, own.run, stamp, &found)

@@ -5,15 +5,18 @@ ghost use Rattle.rail_model.specs.Tables.{section_at};
 ghost use Rattle.rail_model.specs.declared.limits.TheConstants.{PATH_HOPS};
 ghost use Rattle.section_cut.specs.Positions.{IsPositions, AreSameTo, AreSameFirst, IsUsePlaced, ArePlaced, with_position, uses_in};
 
+use crate::spans::Span;
 use line_tables::LineTables;
 use rail_model::{List, OutOfMemory, Section, Use};
 use std::alloc::Global;
 
-// A section, with the position of each block of the tables in it.
+// A section, with the position of each block of the tables in it, and the spans of the stairways
+// that are looked at.
 #[derive(Clone, Copy)]
 pub(crate) struct SectionTable<'a> {
     pub(crate) section: &'a Section,
     pub(crate) positions: &'a [u32],
+    pub(crate) spans: &'a [Option<Span>],
     ghost most: { length section.now.blocks ≤ PATH_HOPS },
 }
 

@@ -17,7 +17,7 @@ use crate::all_stairways::{AllStairways, stairways};
 use crate::connected::joined_runs;
 use crate::one_connection::{EditedConnection, connection_edited, connection_named, keeps_runs};
 use crate::one_run::{EditedRun, edited_run, run_edited};
-use crate::reached_runs::reached_runs;
+use crate::reached_runs::{ReachedRuns, lists_over, reached_runs};
 use crate::same_value::same_name;
 use crate::timed_stair::TimedStair;
 use line_tables::LineTables;
@@ -37,12 +37,8 @@ pub(crate) enum Reach {
     Connection(EditedConnection),
     // That of the first run of a connection, of which only the minimum changes.
     Minimum(Connection),
-    // Those of some runs: for each run its stair, if it is one of them, and whether it has a
-    // connection.
-    Runs {
-        stairs: Vec<Option<TimedStair>>,
-        joined: Vec<bool>,
-    },
+    // Those of some runs.
+    Runs(ReachedRuns),
     // Any row: the stairways of all runs.
     All(AllStairways),
 }
@@ -169,8 +165,13 @@ fn reach_of_runs(
     if !reaches_some(&stairs) {
         return Ok(Reach::Nothing);
     }
+    let over = lists_over(alloc, &stairs)?;
     let joined = joined_runs(alloc, before)?;
-    Ok(Reach::Runs { stairs, joined })
+    Ok(Reach::Runs(ReachedRuns {
+        stairs,
+        over,
+        joined,
+    }))
 }
 
 // Whether one of these stairs is there. `true` says nothing: the slow way follows.

@@ -1,5 +1,6 @@
 //! The row of one run in a section's cut after an edit that changes paths, with the uses of
-//! connections that it had. A row of the same uses as before is kept with its stamp.
+//! connections that it had. A row of the same uses as before is kept with its stamp. Of a stair only
+//! the part of its uses is looked at that may be in the section.
 ghost use Rattle.std.specs.Prelude.{◌≡◌, ◌↔◌, ◌<◌, ℕ, true, IsTrue, option_map, All, length, IfOk, IfSome, Some, slice_index};
 ghost use Rattle.std.specs.Option.{option_copied};
 ghost use Rattle.plan_model.specs.Cut.{stamped_row, AreBlocksFirst};
@@ -7,6 +8,7 @@ ghost use Rattle.section_cut.specs.Connected.{with_rest};
 ghost use Rattle.section_cut.specs.Members.{member_row};
 ghost use Rattle.section_cut.specs.Positions.{uses_in};
 ghost use Rattle.section_cut.specs.ReachedRuns.{IsOwnRow, IsRowAfter, StaysRow, row_after};
+ghost use Rattle.section_cut.specs.Spans.{IsLookedAt};
 ghost use Rattle.section_cut.specs.Starts.{EntersEarly};
 
 use crate::connected::block_part;
@@ -15,7 +17,7 @@ use crate::positions::{SectionTable, gather, placed, same_first, same_placed};
 use crate::same_value::same_row;
 use crate::stamps::stamp_of;
 use crate::timed_stair::TimedStair;
-use plan_model::CutRow;
+use plan_model::{CutRow, least_start};
 use rail_model::{OutOfMemory, Use};
 use std::alloc::Global;
 
@@ -25,10 +27,11 @@ pub(crate) fn row_stays(
     alloc: Global,
     table: SectionTable<'_>,
     stair: &Option<TimedStair>,
+    uses: &[Use],
     own: Option<&CutRow>,
-    found: &mut Vec<Use>,
 ) -> Result<bool, OutOfMemory>
-    requires uses { IfSome stair.now (λ s. All (λ u. u.block < length table.positions.now) s.uses) }
+    requires uses { IfSome stair.now
+        (IsLookedAt table.positions.now (length table.section.now.blocks) uses.now) }
     requires own { IfSome stair.now
         (λ s. IfSome (option_copied own) (IsOwnRow table.section.now s.run)) }
     ensures { IfOk result (λ stays. IsTrue stays
@@ -37,17 +40,18 @@ pub(crate) fn row_stays(
     let Some(stair) = stair else {
         return Ok(true);
     };
-    if has_uses(own, table, stair) {
+    if has_uses(own, table, stair, uses) {
         return Ok(true);
     }
-    let row = joined_to(table, row_made(alloc, table, stair, 0, found)?, own)?;
+    let row = joined_to(table, row_made(alloc, table, stair, uses, 0)?, own)?;
     Ok(is_same(&row, own))
 }
 
-// Whether a row is there, and has a stair's uses, all of them. `false` says nothing: the slow way
-// follows.
-fn has_uses(own: Option<&CutRow>, table: SectionTable<'_>, stair: &TimedStair) -> bool
-    requires uses { All (λ u. u.block < length table.positions.now) stair.now.uses }
+// Whether a row is there, and has these uses of a stair, all of them. `false` says nothing: the slow
+// way follows.
+fn has_uses(own: Option<&CutRow>, table: SectionTable<'_>, stair: &TimedStair, uses: &[Use]) -> bool
+    requires uses { IsLookedAt table.positions.now (length table.section.now.blocks)
+        uses.now stair.now }
     requires own { IfSome (option_copied own) (IsOwnRow table.section.now stair.now.run) }
     ensures { result ≡ true → StaysRow table.entry.section.now table.entry.positions.now (Some stair.now)
         (option_copied own.entry) }
@@ -57,7 +61,7 @@ fn has_uses(own: Option<&CutRow>, table: SectionTable<'_>, stair: &TimedStair) -
             same_placed(
                 block_part(table.section, row.uses.slice()),
                 table.positions,
-                stair.stair().uses.slice(),
+                uses,
             )
         }
         None => false,
@@ -87,18 +91,19 @@ pub(crate) fn row_anew(
     alloc: Global,
     table: SectionTable<'_>,
     stair: &Option<TimedStair>,
+    uses: &[Use],
     own: Option<&CutRow>,
     number: u64,
-    found: &mut Vec<Use>,
 ) -> Result<Option<CutRow>, OutOfMemory>
-    requires uses { IfSome stair.now (λ s. All (λ u. u.block < length table.positions.now) s.uses) }
+    requires uses { IfSome stair.now
+        (IsLookedAt table.positions.now (length table.section.now.blocks) uses.now) }
     requires own { IfSome stair.now
         (λ s. IfSome (option_copied own) (IsOwnRow table.section.now s.run)) }
     ensures { IfOk result (IsRowAfter (row_after table.entry.section.now table.entry.positions.now stair.now
         (option_map (stamped_row 0) (option_copied own.entry))) number (option_copied own.entry)) }
 {
     match stair {
-        Some(stair) => row_by_stair(alloc, table, stair, own, number, found),
+        Some(stair) => row_by_stair(alloc, table, stair, uses, own, number),
         None => copied(alloc, own),
     }
 }
@@ -121,42 +126,43 @@ fn row_by_stair(
     alloc: Global,
     table: SectionTable<'_>,
     stair: &TimedStair,
+    uses: &[Use],
     own: Option<&CutRow>,
     number: u64,
-    found: &mut Vec<Use>,
 ) -> Result<Option<CutRow>, OutOfMemory>
-    requires uses { All (λ u. u.block < length table.positions.now) stair.now.uses }
+    requires uses { IsLookedAt table.positions.now (length table.section.now.blocks)
+        uses.now stair.now }
     requires own { IfSome (option_copied own) (IsOwnRow table.section.now stair.now.run) }
     ensures { IfOk result (IsRowAfter (row_after table.entry.section.now table.entry.positions.now
         (Some stair.now) (option_map (stamped_row 0) (option_copied own.entry))) number (option_copied own.entry)) }
 {
     if let Some(row) = own {
-        if let Some(made) = whole_row(alloc, table, stair, row, number)? {
+        if let Some(made) = whole_row(alloc, table, stair, uses, row, number)? {
             return Ok(made);
         }
     }
-    let row = joined_to(table, row_made(alloc, table, stair, number, found)?, own)?;
+    let row = joined_to(table, row_made(alloc, table, stair, uses, number)?, own)?;
     Ok(with_own_stamp(row, own, number))
 }
 
-// This row, where the one before the edit has as many uses of blocks as the stair: it is copied
+// This row, where the one before the edit has as many uses of blocks as are looked at: it is copied
 // where it has the same, and otherwise those that differ are written in a copy of them. `None`, as
 // where it hasn't as many, or a block isn't in the section, says nothing: the slow way follows.
 fn whole_row(
     alloc: Global,
     table: SectionTable<'_>,
     stair: &TimedStair,
+    stairway: &[Use],
     own: &CutRow,
     number: u64,
 ) -> Result<Option<Option<CutRow>>, OutOfMemory>
-    requires uses { All (λ u. u.block < length table.positions.now) stair.now.uses }
+    requires uses { IsLookedAt table.positions.now (length table.section.now.blocks)
+        stairway.now stair.now }
     requires own { IsOwnRow table.section.now stair.now.run own.now }
     ensures { IfOk result (λ made. IfSome made (IsRowAfter (row_after table.entry.section.now
         table.entry.positions.now (Some stair.now) (Some (stamped_row 0 own.now))) number (Some own.now))) }
 {
     let uses = block_part(table.section, own.uses.slice());
-    let its = stair.stair();
-    let stairway = its.uses.slice();
     if uses.len() != stairway.len() {
         return Ok(None);
     }
@@ -167,7 +173,8 @@ fn whole_row(
     let Some(uses) = placed(alloc, table, uses, same, stairway)? else {
         return Ok(None);
     };
-    let row = row_with(table.section, its.run, number, stair.entry(), uses);
+    let entry = least_start(uses.slice());
+    let row = row_with(table.section, stair.stair().run, number, entry, uses);
     let row = joined_to(table, row, Some(own))?;
     Ok(Some(with_own_stamp(row, Some(own), number)))
 }
@@ -206,16 +213,16 @@ fn with_own_stamp(row: Option<CutRow>, own: Option<&CutRow>, number: u64) -> Opt
     Some(row)
 }
 
-// The row of the run of a stair, if it is a member. The uses of the section's blocks are gathered
-// in a list that serves run after run.
+// The row of the run of a stair, if it is a member.
 fn row_made(
     alloc: Global,
     table: SectionTable<'_>,
     stair: &TimedStair,
+    uses: &[Use],
     stamp: u64,
-    found: &mut Vec<Use>,
 ) -> Result<Option<CutRow>, OutOfMemory>
-    requires { All (λ u. u.block < length table.positions.now) stair.now.uses }
+    requires { IsLookedAt table.positions.now (length table.section.now.blocks)
+        uses.now stair.now }
     ensures { IfOk result (λ row. row ≡ member_row table.entry.section.now stair.now.run stamp
         (uses_in table.entry.positions.now (length table.entry.section.now.blocks) stair.now.uses)) }
 {
@@ -225,9 +232,9 @@ fn row_made(
     if enters_early(table, stair) {
         return Ok(None);
     }
-    let own = stair.stair();
-    gather(found, table, own.uses.slice())?;
-    member_row(alloc, table.section, own.run, stamp, found)
+    let mut found = Vec::new(alloc);
+    gather(&mut found, table, uses)?;
+    member_row(alloc, table.section, stair.stair().run, stamp, &found)
 }
 
 // Whether the first use of a stair is of one of a section's blocks and starts before its window.

@@ -1,15 +1,16 @@
 //! What a change of a block, a signal or a route makes of a section's cut. It reaches the rows of the
 //! runs that pass what is edited, and no other. Those of these runs that have connections are to enter
 //! the section as before, so that the same connections bind; else its cut is made anew.
-ghost use Rattle.std.specs.Prelude.{◌≡◌, ◌↔◌, ◌<◌, ◌++◌, IsTrue, Bool, if◌then◌else◌, true, All, length, IfOk, IfSome, OnOk, Some, None, option_map};
+ghost use Rattle.std.specs.Prelude.{◌≡◌, ◌↔◌, ◌<◌, ◌++◌, IsTrue, Bool, if◌then◌else◌, true, All, length, map, slice_index_or, IfOk, IfSome, OnOk, Some, None, option_map};
 ghost use Rattle.std.specs.Option.{option_to_list, option_copied};
 ghost use Rattle.line_tables.specs.Paths.{paths_of};
 ghost use Rattle.plan_model.specs.Cut.{stamped};
 ghost use Rattle.plan_model.specs.SectionCut.{cut_of};
 ghost use Rattle.rail_model.specs.Tables.{run_at, path_in};
 ghost use Rattle.section_cut.specs.Change.{IsChange};
-ghost use Rattle.section_cut.specs.Connected.{is_joined};
-ghost use Rattle.section_cut.specs.ReachedRuns.{IsSameTraffic, KeepsBlocks, IsTold, AreReachedRuns};
+ghost use Rattle.section_cut.specs.ReachedRuns.{IsSameTraffic, KeepsBlocks, IsTold, AreReachedRuns, uses_if_there};
+ghost use Rattle.section_cut.specs.Reach.{AreRunsOf};
+ghost use Rattle.section_cut.specs.Spans.{AreOver, AreSpans, part_of};
 ghost use Rattle.section_cut.specs.RowsAfter.{AreBeside, AllStay, AreRowsAfter, IsOwnOf};
 ghost use Rattle.section_cut.specs.Stamps.{AreBefore, IsReached};
 ghost use Rattle.line_tables.specs.Passing.{passes_block, passes_signal};
@@ -24,16 +25,26 @@ use crate::cut_changes::{BothTables, CutChange, cut_made_anew};
 use crate::positions::{SectionTable, positions};
 use crate::reached_rows::{row_anew, row_stays};
 use crate::same_value::same_name;
+use crate::spans::{BlockLists, Span, part};
 use crate::stamps::next_row;
 use crate::timed_stair::TimedStair;
 use blocking_time::stairs;
 use line_tables::{LineTables, Paths};
 use plan_model::{Cut, CutRow};
-use rail_model::{Edit, Item, List, Name, OutOfMemory, Path};
+use rail_model::{Edit, Item, List, Name, OutOfMemory, Path, Use};
 use std::alloc::Global;
 
 // How many reached runs each get a path of their own: for more, the paths of all runs are made.
 const FEW: usize = 32;
+
+// The runs that an edit reaches: for each run its stair after the edit, if it is one of them; the
+// lists of blocks that these stairs are over; and of each run whether it has a connection.
+#[derive(Drop)]
+pub(crate) struct ReachedRuns {
+    pub(crate) stairs: Vec<Option<TimedStair>>,
+    pub(crate) over: BlockLists,
+    pub(crate) joined: Vec<bool>,
+}
 
 // For each run, in the order of the runs' names, its stair after an edit, where the edit may change
 // its path: only the runs that pass what is put or changed are looked at.
@@ -57,6 +68,39 @@ pub(crate) fn reached_runs(
         all.push(stair)?;
     }
     Ok(all)
+}
+
+// The lists of blocks that stairs are over.
+pub(crate) fn lists_over(
+    alloc: Global,
+    stairs: &[Option<TimedStair>],
+) -> Result<BlockLists, OutOfMemory>
+    ensures { IfOk result (AreOver (map uses_if_there stairs.now)) }
+{
+    let mut over = BlockLists::new(alloc);
+    for stair in stairs {
+        over.add(alloc, uses_if_there(stair))?;
+    }
+    Ok(over)
+}
+
+// Of the uses of the stair at a place, if it is there, those that may be in a section, by the spans.
+fn looked_at<'a>(stairs: &'a [Option<TimedStair>], spans: &[Option<Span>], n: usize) -> &'a [Use]
+    requires { n < length stairs.now }
+    ensures { result.now ≡ part_of (slice_index_or spans.now n None)
+        (uses_if_there (slice_index_or stairs.now n None)) }
+{
+    part(uses_if_there(&stairs[n]), spans, n)
+}
+
+// The uses of a stair, if it is there.
+fn uses_if_there(stair: &Option<TimedStair>) -> &[Use]
+    ensures { result.now ≡ uses_if_there stair.now }
+{
+    match stair {
+        Some(stair) => stair.stair().uses.slice(),
+        None => &[],
+    }
 }
 
 // For each run whether it passes what an edit puts or changes; `true` where that isn't looked up.
@@ -183,19 +227,16 @@ fn path_by(after: &LineTables, paths: &Option<Paths<'_>>, run: u32) -> Result<Pa
     }
 }
 
-// What the edit of a number makes of the cut of a section that is there, where it is told of each
-// run whether it has a connection.
+// What the edit of a number makes of the cut of a section that is there.
 pub(crate) fn cut_after_runs(
     alloc: Global,
     both: BothTables<'_>,
-    reached: &[Option<TimedStair>],
-    joined: &[bool],
+    runs: &ReachedRuns,
     old: &Cut,
     section: &Name,
     number: u64,
 ) -> Result<CutChange, OutOfMemory>
-    requires reached { AreReachedRuns both.before.now both.after.now reached.now }
-    requires joined { IsTold (is_joined both.before.now) both.before.now.runs joined.now }
+    requires runs { AreRunsOf both.before.now both.after.now runs.now }
     requires cut { cut_of both.before.now section.now ≡ Some (stamped 0 old.now) }
     ensures { IfOk result (IsChange (cut_of both.entry.before.now section.now)
         (cut_of both.entry.after.now section.now) number (Some old.now)) }
@@ -206,15 +247,19 @@ pub(crate) fn cut_after_runs(
         unreachable!();
     };
     let positions = positions(alloc, both.after, place)?;
+    let spans = runs
+        .over
+        .spans(alloc, &positions, old.section.blocks.len())?;
     let table = SectionTable {
         section: &old.section,
         positions: &positions,
+        spans: &spans,
     };
     let rows = old.rows.slice();
-    if rows_stay(alloc, both, reached, table, rows)? {
+    if rows_stay(alloc, both, &runs.stairs, table, rows)? {
         return Ok(CutChange::Untouched);
     }
-    let Some(rows) = rows_after(alloc, both, reached, joined, table, rows, number)? else {
+    let Some(rows) = rows_after(alloc, both, runs, table, rows, number)? else {
         return cut_made_anew(alloc, both, Some(old), section, number);
     };
     Ok(CutChange::Touched(Some(cut_of_rows(alloc, old, rows)?)))
@@ -239,16 +284,18 @@ fn rows_stay(
     table: SectionTable<'_>,
     old: &[CutRow],
 ) -> Result<bool, OutOfMemory>
-    requires { AreBeside both.before.now both.after.now reached.now table.section.now
+    requires beside { AreBeside both.before.now both.after.now reached.now table.section.now
         table.positions.now old.now }
+    requires spans { AreSpans table.positions.now (length table.section.now.blocks)
+        (map uses_if_there reached.now) table.spans.now }
     ensures { IfOk result (λ stay. IsTrue stay ↔ AllStay both.entry.after.now reached.now
         table.entry.section.now table.entry.positions.now old.now) }
 {
-    let mut found = Vec::new(alloc);
     let mut at = 0;
     for n in 0..both.after.runs() {
         let own = row_of(both.after, n, old, &mut at);
-        if !row_stays(alloc, table, &reached[n as usize], own, &mut found)? {
+        let uses = looked_at(reached, table.spans, n as usize);
+        if !row_stays(alloc, table, &reached[n as usize], uses, own)? {
             return Ok(false);
         }
     }
@@ -260,25 +307,26 @@ fn rows_stay(
 fn rows_after(
     alloc: Global,
     both: BothTables<'_>,
-    reached: &[Option<TimedStair>],
-    joined: &[bool],
+    runs: &ReachedRuns,
     table: SectionTable<'_>,
     old: &[CutRow],
     number: u64,
 ) -> Result<Option<List<CutRow>>, OutOfMemory>
-    requires joined { IsTold (is_joined both.before.now) both.before.now.runs joined.now }
-    requires beside { AreBeside both.before.now both.after.now reached.now table.section.now
-        table.positions.now old.now }
+    requires runs { AreRunsOf both.before.now both.after.now runs.now }
+    requires beside { AreBeside both.before.now both.after.now runs.now.stairs.items
+        table.section.now table.positions.now old.now }
+    requires spans { AreSpans table.positions.now (length table.section.now.blocks)
+        (map uses_if_there runs.now.stairs.items) table.spans.now }
     ensures { IfOk result (λ rows. IfSome rows (AreRowsAfter both.entry.before.now
         both.entry.after.now table.entry.section.now number old.now)) }
 {
-    let mut found = Vec::new(alloc);
     let mut rows = List::new(alloc);
     let mut at = 0;
     for n in 0..both.after.runs() {
         let own = row_of(both.after, n, old, &mut at);
-        let row = row_anew(alloc, table, &reached[n as usize], own, number, &mut found)?;
-        if joined[n as usize] && !enters_as(&row, own) {
+        let uses = looked_at(&runs.stairs, table.spans, n as usize);
+        let row = row_anew(alloc, table, &runs.stairs[n as usize], uses, own, number)?;
+        if runs.joined[n as usize] && !enters_as(&row, own) {
             return Ok(None);
         }
         push_row(&mut rows, row)?;

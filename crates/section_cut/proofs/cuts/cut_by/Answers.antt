@@ -2,6 +2,7 @@ use Rattle.std.proofs.Common.{◌≤◌, length, map, sym, ap, subst, ◌∙◌}
 use Rattle.std.proofs.lemmas.Simd.{map-map}
 use Rattle.std.proofs.lemmas.Option.{get_or_from_slice_get}
 use Rattle.rail_model.specs.declared.items.Section.{Section}
+use Rattle.rail_model.specs.declared.stair.Stair.{Stair}
 use Rattle.rail_model.specs.declared.limits.TheConstants.{PATH_HOPS}
 use Rattle.plan_model.specs.declared.cut.CutRow.{CutRow}
 use Rattle.plan_model.specs.Cut.{stamped, IsSoundCut}
@@ -9,6 +10,7 @@ use Rattle.plan_model.specs.SectionCut.{section_cut}
 use Rattle.rail_model.specs.Tables.{no_section, section_at}
 use Rattle.section_cut.specs.Late.{AreStairsFor}
 use Rattle.section_cut.specs.Positions.{IsPositions}
+use Rattle.section_cut.specs.Spans.{AreSpans}
 use Rattle.section_cut.specs.Members.{members_of, row_on_blocks}
 use Rattle.section_cut.proofs.Sections.{section_stands, section_within}
 use Rattle.section_cut.proofs.Joined.{cut_is}
@@ -19,7 +21,14 @@ pub members-requires-clause-positions : goal.members-requires-clause-positions
 members-requires-clause-positions c =
     let tables = c.args.tables.now in
     let is = get_or_from_slice_get tables.sections c.args.section c.section-section.result.now no_section c.section-section.ensures in
-    rw c.deref.ensures.value (subst (λ s. IsPositions tables s c.in_ok-positions.positions.items) is c.in_ok-positions.ensures)
+    rw c.deref-2.ensures.value (subst (λ s. IsPositions tables s c.in_ok-positions.positions.items) is c.in_ok-positions.ensures)
+
+pub members-requires-clause-spans : goal.members-requires-clause-spans
+members-requires-clause-spans c =
+    let all = map (λ (s : Stair). s.uses) c.args.stairs.now in
+    rw (c.deref-2.ensures.value, c.deref-3.ensures.value)
+    (subst (λ ps. AreSpans ps (length c.section-section.result.now.blocks) all c.in_ok-spans.spans.items) c.deref.ensures.value
+    (subst (λ k. AreSpans c.deref.result.now k all c.in_ok-spans.spans.items) c.len.ensures.count c.in_ok-spans.ensures))
 
 pub members-requires-clause-stairs : goal.members-requires-clause-stairs
 members-requires-clause-stairs c =

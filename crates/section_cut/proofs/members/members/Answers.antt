@@ -1,13 +1,15 @@
-use Rattle.std.proofs.Common.{◌≡◌, ◌<◌, List, ◌++◌, ◌∷◌, [], length, sym, ap, ◌∙◌, arith}
+use Rattle.std.proofs.Common.{◌≡◌, ◌<◌, List, ◌++◌, ◌∷◌, [], None, length, get_or, sym, ap, ◌∙◌, subst, arith}
 use Rattle.std.specs.List.{range_with_len}
-use Rattle.std.specs.Prelude.{map, filter, take, option_map}
+use Rattle.std.specs.Prelude.{map, filter, take, option_map, IfSome}
 use Rattle.std.specs.Option.{option_to_list}
-use Rattle.std.proofs.lemmas.List.{take_all}
+use Rattle.std.proofs.lemmas.List.{take_all, length-map, get_or-map}
 use Rattle.rail_model.specs.declared.items.Run.{Run}
+use Rattle.rail_model.specs.declared.stair.Stair.{Stair}
 use Rattle.rail_model.specs.Tables.{run_at}
 use Rattle.plan_model.specs.SectionCut.{section_uses, is_member}
 use Rattle.rail_model.specs.Timetable.{no_stair, stair_at}
 use Rattle.section_cut.specs.Positions.{uses_in}
+use Rattle.section_cut.specs.Spans.{IsSpan, blocks_of}
 use Rattle.section_cut.specs.Members.{member_row, member_of, row_on_blocks, member_at}
 use Rattle.section_cut.proofs.LateRuns.{stair_name, stair_there, stair_row}
 use Rattle.section_cut.proofs.MemberRows.{rows_more, members_more}
@@ -20,6 +22,16 @@ row_at-requires-clause-there c =
     let here : n < length tables.runs = omega (arith, c.loop-n-test.true, c.len-n-end.ensures, c.requires.stairs.count) in
     let there = stair_there tables c.args.table.section.now c.learn_sound.ensures n here (stair_at c.args.stairs.now n) (c.requires.stairs.each n no_stair here) in
     λ k d l. omega (arith, there k d l, c.requires.positions.count)
+
+pub row_at-requires-clause-span : goal.row_at-requires-clause-span
+row_at-requires-clause-span c =
+    let section = c.args.table.section.now in
+    let stairs = c.args.stairs.now in
+    let n = c.loop-n.n in
+    let here : n < length stairs = omega (arith, c.loop-n-test.true, c.len-n-end.ensures) in
+    subst (λ us. IfSome (get_or c.args.table.spans.now n None) (IsSpan c.args.table.positions.now (length section.blocks) (blocks_of us)))
+    (get_or-map (λ (s : Stair). s.uses) stairs n no_stair [] here)
+    (c.requires.spans n (omega (arith, here, length-map stairs (λ (s : Stair). s.uses))))
 
 pub loop-n-preserved : goal.loop-n-preserved
 loop-n-preserved c =

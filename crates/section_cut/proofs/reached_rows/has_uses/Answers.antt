@@ -2,7 +2,6 @@ use Rattle.plan_model.specs.Cut.{AreBlocksFirst}
 use Rattle.std.proofs.Common.{◌≡◌, length, map, sym, ap, ◌∙◌, subst}
 use Rattle.std.specs.Prelude.{Some, IfSome}
 use Rattle.std.specs.Option.{option_copied}
-use Rattle.rail_model.specs.declared.stair.Stair.{Stair}
 use Rattle.section_cut.specs.Connected.{block_part}
 use Rattle.section_cut.specs.Positions.{with_position}
 use Rattle.section_cut.specs.ReachedRuns.{IsOwnRow, StaysRow}
@@ -22,8 +21,7 @@ returns-in-Some c told =
     let stair = c.args.stair.now in
     let row = c.in-Some.row.now in
     let own = subst (λ o. IfSome (option_copied o) (IsOwnRow section stair.run)) c.in-Some.is c.requires.own in
-    let same : map (with_position positions) stair.uses ≡ block_part section row.uses =
-    ap (map (with_position positions)) (sym (c.slice-in-Some.ensures ∙ ap (λ (s : Stair). s.uses) c.stair.ensures)) ∙ c.same_placed.ensures.0 told
-    ∙ c.block_part.ensures ∙ ap (block_part section) c.slice.ensures in
+    let same : map (with_position positions) c.args.uses.now ≡ block_part section row.uses =
+    c.same_placed.ensures.0 told ∙ c.block_part.ensures ∙ ap (block_part section) c.slice.ensures in
     subst (λ o. StaysRow section positions (Some stair) (option_copied o)) (sym c.in-Some.is)
-    (same_value section stair.run row own positions stair.uses same)
+    (same_value section stair row own positions c.args.uses.now c.requires.uses same)

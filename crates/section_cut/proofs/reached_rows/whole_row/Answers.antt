@@ -1,15 +1,14 @@
-use Rattle.std.proofs.Common.{◌≡◌, ◌<◌, length, map, Some, w64, sym, ap, ◌∙◌, subst, rules, arith}
+use Rattle.std.proofs.Common.{◌≡◌, ◌<◌, length, map, Some, sym, ap, ◌∙◌, subst, arith}
 use Rattle.std.specs.Prelude.{All, IfSome, option_map}
-use Rattle.std.proofs.lemmas.Int.{to_z-of_z}
 use Rattle.std.proofs.lemmas.List.{take_all}
 use Rattle.rail_model.specs.declared.stair.Stair.{Stair}
 use Rattle.rail_model.specs.declared.stair.Use.{Use}
-use Rattle.plan_model.specs.Cut.{least, stamped_row, AreBlocksFirst}
+use Rattle.plan_model.specs.Cut.{stamped_row, AreBlocksFirst}
 use Rattle.section_cut.specs.Connected.{block_part, with_rest}
 use Rattle.section_cut.specs.Members.{member_row}
 use Rattle.section_cut.specs.Positions.{ArePlaced, with_position, uses_in}
 use Rattle.section_cut.specs.ReachedRuns.{IsRowAfter, row_after}
-use Rattle.section_cut.proofs.Placing.{placed_in, starts_placed}
+use Rattle.section_cut.proofs.Placing.{placed_in}
 use Rattle.section_cut.proofs.RowsAfter.{blocks_inside, same_after, joined_made}
 use Rattle.section_cut.proofs.reached_rows.whole_row.Goals as goal
 
@@ -20,20 +19,7 @@ pub placed-requires-clause-inside : goal.placed-requires-clause-inside
 placed-requires-clause-inside c =
     let section = c.args.table.section.now in
     subst (All (λ (u : Use). u.block < length section.blocks)) (sym (c.block_part-uses.ensures ∙ ap (block_part section) c.slice.ensures))
-    (blocks_inside section c.args.stair.now.run c.args.own.now c.requires.own c.args.table.positions.now c.args.stair.now.uses)
-
-pub row_with-row-requires : goal.row_with-row-requires
-row_with-row-requires c =
-    let stair = c.args.stair.now in
-    let positions = c.args.table.positions.now in
-    let uses = c.in-Some.uses in
-    let stairway : c.slice-stairway.result.now ≡ stair.uses = c.slice-stairway.ensures ∙ ap (λ (s : Stair). s.uses) c.stair-its.ensures in
-    let placed : ArePlaced positions (length c.args.table.section.now.blocks) stair.uses uses =
-    subst (λ us. ArePlaced positions (length c.args.table.section.now.blocks) us uses) stairway
-    (subst (λ o. IfSome o (ArePlaced positions (length c.args.table.section.now.blocks) c.slice-stairway.result.now)) c.in-Some.is c.in_ok-uses.ensures) in
-    to_z-of_z w64 c.entry.result (search rules) ∙ c.entry.ensures
-    ∙ ap least (sym (starts_placed positions stair.uses))
-    ∙ ap (λ us. least (map (λ (u : Use). u.start) us)) (sym placed.are)
+    (blocks_inside section c.args.own.now)
 
 pub returns : goal.returns
 returns c =
@@ -43,13 +29,11 @@ returns c =
     let positions = c.args.table.positions.now in
     let blocks = length section.blocks in
     let uses = c.in-Some.uses in
-    let stairway : c.slice-stairway.result.now ≡ stair.uses = c.slice-stairway.ensures ∙ ap (λ (s : Stair). s.uses) c.stair-its.ensures in
-    let placed : ArePlaced positions blocks stair.uses uses =
-    subst (λ us. ArePlaced positions blocks us uses) stairway
-    (subst (λ o. IfSome o (ArePlaced positions blocks c.slice-stairway.result.now)) c.in-Some.is c.in_ok-uses.ensures) in
+    let placed : ArePlaced positions blocks c.args.stairway.now uses =
+    subst (λ o. IfSome o (ArePlaced positions blocks c.args.stairway.now)) c.in-Some.is c.in_ok-uses.ensures in
     let is : c.row_with-row.result ≡ member_row section stair.run c.args.number (uses_in positions blocks stair.uses) =
-    c.row_with-row.ensures ∙ ap (λ (s : Stair). member_row section s.run c.args.number uses) c.stair-its.ensures
-    ∙ ap (member_row section stair.run c.args.number) (sym (placed_in positions blocks stair.uses uses placed)) in
+    c.row_with-row.ensures ∙ ap (λ (s : Stair). member_row section s.run c.args.number uses) c.stair.ensures
+    ∙ ap (member_row section stair.run c.args.number) (sym (placed_in positions blocks c.args.stairway.now uses placed) ∙ c.requires.uses.same) in
     subst (λ v. IsRowAfter v c.args.number (Some own) c.with_own_stamp.result)
     (ap (option_map (stamped_row 0)) (c.in_ok-row.ensures ∙ ap (option_map (with_rest section (Some own))) is)
     ∙ joined_made section (Some own) stair.run c.args.number (uses_in positions blocks stair.uses))
@@ -63,12 +47,11 @@ returns-then-same-uses c =
     let positions = c.args.table.positions.now in
     let n = c.same_first-same.result in
     let first = c.block_part-uses.result.now in
-    let all = c.slice-stairway.result.now in
-    let same : map (with_position positions) stair.uses ≡ block_part section own.uses =
-    ap (map (with_position positions))
-    (sym (c.slice-stairway.ensures ∙ ap (λ (s : Stair). s.uses) c.stair-its.ensures) ∙ sym (take_all n all (omega (arith, c.if-same-uses.true, c.if-uses-stairway.false))))
+    let all = c.args.stairway.now in
+    let same : map (with_position positions) all ≡ block_part section own.uses =
+    ap (map (with_position positions)) (sym (take_all n all (omega (arith, c.if-same-uses.true, c.if-uses-stairway.false))))
     ∙ c.same_first-same.ensures.so_far.same
     ∙ take_all n first (omega (arith, c.if-same-uses.true)) ∙ c.block_part-uses.ensures ∙ ap (block_part section) c.slice.ensures in
     subst (λ r. IsRowAfter (row_after section positions (Some stair) (Some (stamped_row 0 own))) c.args.number (Some own) (Some r))
     (sym c.in_ok-copy.ensures)
-    (same_after section stair.run own c.requires.own positions stair.uses c.args.number same)
+    (same_after section stair own c.requires.own positions all c.requires.uses c.args.number same)

@@ -6,7 +6,7 @@ use Rattle.rail_model.specs.Tables.{run_at}
 use Rattle.std.specs.Option.{option_copied}
 use Rattle.std.proofs.lemmas.Bool.{cases_lt, both_ways}
 use Rattle.section_cut.specs.ReachedRuns.{StaysRow}
-use Rattle.section_cut.proofs.ReachedRuns.{before_next, stair_uses, own_bare}
+use Rattle.section_cut.proofs.ReachedRuns.{before_next, uses_looked_at, own_bare}
 use Rattle.section_cut.proofs.reached_runs.rows_stay.Goals as goal
 
 pub row_of-own-requires-clause-before : goal.row_of-own-requires-clause-before
@@ -14,11 +14,12 @@ row_of-own-requires-clause-before c = c.loop-n.invariant.before (omega (arith, c
 
 pub row_stays-requires-clause-uses : goal.row_stays-requires-clause-uses
 row_stays-requires-clause-uses c =
-    stair_uses c.requires c.loop-n.n (omega (arith, c.loop-n-test.true, c.runs-n-end.ensures.count)) c.index-reached-n.result c.index-reached-n.is
+    uses_looked_at c.requires.beside c.loop-n.n (omega (arith, c.loop-n-test.true, c.runs-n-end.ensures.count)) c.index-reached-n.result c.index-reached-n.is
+    c.args.table.spans.now c.requires.spans c.looked_at-uses.result.now c.looked_at-uses.ensures
 
 pub row_stays-requires-clause-own : goal.row_stays-requires-clause-own
 row_stays-requires-clause-own c =
-    own_bare c.requires c.loop-n.n (omega (arith, c.loop-n-test.true, c.runs-n-end.ensures.count)) c.index-reached-n.result c.index-reached-n.is
+    own_bare c.requires.beside c.loop-n.n (omega (arith, c.loop-n-test.true, c.runs-n-end.ensures.count)) c.index-reached-n.result c.index-reached-n.is
     (option_copied c.row_of-own.result) c.row_of-own.ensures.own
 
 pub loop-n-preserved : goal.loop-n-preserved
@@ -31,7 +32,7 @@ loop-n-preserved c =
     let old = c.args.old.now in
     let below : n < length later.runs = omega (arith, c.loop-n-test.true, c.runs-n-end.ensures.count) in
     let stair : c.index-reached-n.result ≡ get_or reached n None =
-    c.index-reached-n.is ∙ get_or_default reached n c.index-reached-n.result None (omega (arith, below, c.requires.reached.count)) in
+    c.index-reached-n.is ∙ get_or_default reached n c.index-reached-n.result None (omega (arith, below, c.requires.beside.reached.count)) in
     let here : StaysRow s positions (get_or reached n None) (find (λ r. is_same r.name (run_at later n).name) old) =
     subst (λ o. StaysRow s positions o (find (λ r. is_same r.name (run_at later n).name) old)) stair
     (subst (StaysRow s positions c.index-reached-n.result) c.row_of-own.ensures.own (c.in_ok-row_stays.ensures.0 c.if-not-branch.false)) in
@@ -42,7 +43,7 @@ loop-n-preserved c =
             let last : n ≡ k = omega (arith, ge, l) in
             subst (λ j. StaysRow s positions (get_or reached j None) (find (λ r. is_same r.name (run_at later j).name) old)) last here
       ];
-      before = λ next. before_next c.requires n c.row_of-own.new.at c.row_of-own.ensures.at next;
+      before = λ next. before_next c.requires.beside n c.row_of-own.new.at c.row_of-own.ensures.at next;
     }
 
 pub returns-then-not-branch : goal.returns-then-not-branch
@@ -55,7 +56,7 @@ returns-then-not-branch c =
     let old = c.args.old.now in
     let below : n < length later.runs = omega (arith, c.loop-n-test.true, c.runs-n-end.ensures.count) in
     let stair : c.index-reached-n.result ≡ get_or reached n None =
-    c.index-reached-n.is ∙ get_or_default reached n c.index-reached-n.result None (omega (arith, below, c.requires.reached.count)) in (
+    c.index-reached-n.is ∙ get_or_default reached n c.index-reached-n.result None (omega (arith, below, c.requires.beside.reached.count)) in (
       λ e. absurd (cc),
       λ all.
           let here : StaysRow s positions c.index-reached-n.result (option_copied c.row_of-own.result) =

@@ -1,7 +1,7 @@
 use Rattle.std.proofs.Common.{take}
-use Rattle.section_cut.specs.Starts.{AreStartsOf}
+use Rattle.section_cut.specs.Spans.{AreLookedAt}
 use Rattle.section_cut.proofs.all_stairways.AllStairways.of.Given as goal
 
--- the moments of the stairways so far
+-- the stairways so far
 abbrev pub invariant-loop-stair : goal.invariant-loop-stair
-invariant-loop-stair l = AreStartsOf (take l.stair-index l.stair-items) l.starts.items
+invariant-loop-stair l = AreLookedAt (take l.stair-index l.stair-items) l.starts.items l.over

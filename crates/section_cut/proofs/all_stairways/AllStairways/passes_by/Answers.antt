@@ -9,6 +9,6 @@ returns c outside =
     let own = c.self.inside in
     let starts = c.index.result.now in
     let uses = (stair_at own.stairs c.args.n).uses in
-    let between = subst (λ s. StartsBetween s uses) (sym c.index.ensures) (c.self.invariant.each c.args.n starts (omega (arith, c.requires, ap length c.self.view_is))) in
+    let between = subst (λ s. StartsBetween s uses) (sym c.index.ensures) (c.self.invariant.between.each c.args.n starts (omega (arith, c.requires, ap length c.self.view_is))) in
     subst (λ stairs. StartsOutside c.args.section.now (stair_at stairs c.args.n).uses) c.self.view_is
     (starts_outside starts c.args.section.now uses between (sym c.is_outside.ensures ∙ outside))
