@@ -1,5 +1,5 @@
 -- What is counted of a line that is made, its rows, and what a call that sends them ends with.
-use Rattle.std.proofs.Common.{◌≡◌, ℕ, ◌+◌, ◌<◌, ◌≤◌, List, [], ◌∷◌, ◌++◌, length, take, refl, sym, ap, ◌∙◌, subst, inl, inr, arith}
+use Rattle.std.proofs.Common.{◌≡◌, ℕ, ◌+◌, ◌<◌, ◌≤◌, List, [], ◌∷◌, ◌++◌, length, take, refl, sym, ap, ◌∙◌, subst, inl, inr, append_assoc, arith}
 use Rattle.std.specs.Prelude.{◌⊎◌, sum_by}
 use Rattle.std.proofs.lemmas.List.{take_all, take_more, length-take-le}
 use Rattle.std.proofs.lemmas.List.Sums.{sum_by-append}
@@ -19,7 +19,8 @@ use Rattle.capacity_cmd.specs.declared.reply.Reply.{Reply}
 use Rattle.capacity_cmd.specs.declared.status.Status.{Status}
 use Rattle.capacity_cmd.specs.declared.status.Status.TheVariants.{Done, Refused, ReadFault, WriteFault, OutOfMemory}
 use Rattle.capacity_cmd.specs.Outcome.{Writes, EndsInText, outcome_text, outcome_status}
-use Rattle.capacity_cmd.specs.Made.{Counted, occupancy_of, counted_of, with_one, CountsSection, IsCounted, AreCounted, line_row, counted_rows, session_row, made_rows}
+use Rattle.capacity_cmd.specs.Made.{occupancy_of, line_row, session_row, made_rows}
+use Rattle.capacity_cmd.specs.Counted.{Counted, counted_of, with_one, CountsSection, AreCounted}
 use Rattle.capacity_cmd.specs.Reply.{IsReply, IsSent}
 use Rattle.capacity_cmd.specs.Promise.{EndsUnread, WritesOutcome}
 
@@ -57,11 +58,11 @@ answers_counted tables count counted within had =
     ∙ length-take-le count tables.sections within
 
 -- those of all sections
-pub all_counted : (tables : Tables) (counted : Counted) → AreCounted tables (length tables.sections) counted
-    → IsCounted tables counted
+pub all_counted : (tables : Tables) (counted : Counted) (had : AreCounted tables (length tables.sections) counted)
+    → AreAnswers tables tables.sections had.answers
 all_counted tables counted had =
     let all = take_all (length tables.sections) tables.sections (omega arith) in
-    (had.answers, subst (λ sections. AreAnswers tables sections had.answers) all had.are, had.counted_is)
+    subst (λ sections. AreAnswers tables sections had.answers) all had.are
 
 -- ---- the edits of its session
 
@@ -78,10 +79,11 @@ numbers_on journal is = ap (λ at. at + length (edits journal)) is
 
 -- ---- its rows
 
-pub rows_made : (n made : ℕ) (base last : Counted) (none line counted session whole : List Row) → none ≡ []
-    → line ≡ none ++ line_row n ∷ [] → counted ≡ line ++ counted_rows base → session ≡ counted ++ session_row made ∷ []
-    → whole ≡ session ++ counted_rows last → whole ≡ made_rows n base made last
-rows_made n made base last none line counted session whole e0 e1 e2 e3 e4 = rw (e4, e3, e2, e1, e0) refl
+pub rows_made : (n made : ℕ) (base last none line counted session whole : List Row) → none ≡ []
+    → line ≡ none ++ line_row n ∷ [] → counted ≡ line ++ base → session ≡ counted ++ session_row made ∷ []
+    → whole ≡ session ++ last → whole ≡ made_rows n base made last
+rows_made n made base last none line counted session whole e0 e1 e2 e3 e4 =
+    rw (e4, e3, e2, e1, e0) (append_assoc (line_row n ∷ base) (session_row made ∷ []) last)
 
 -- ---- the call that sends them
 

@@ -4,6 +4,7 @@ pub mod Outcome
 pub mod Heads
 pub mod Published
 pub mod Made
+pub mod Counted
 pub mod MadeOne
 pub mod Ends
 pub mod OneOutcome

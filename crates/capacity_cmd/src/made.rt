@@ -9,7 +9,9 @@ ghost use Rattle.capacity_report.specs.Answers.{IsAnswerOfSome};
 ghost use Rattle.made_line.specs.declared.counts.TheConstants.{BASE_EDITS, WORKERS};
 ghost use Rattle.made_line.specs.Base.{scripts_of_made, base_tables};
 ghost use Rattle.capacity_cmd.specs.Made as made;
-ghost use Rattle.capacity_cmd.specs.Made.{IsMadeText, AreCounted, CountsSection};
+ghost use Rattle.capacity_cmd.specs.Made.{IsMadeText};
+ghost use Rattle.capacity_cmd.specs.Counted as counted;
+ghost use Rattle.capacity_cmd.specs.Counted.{counted_rows, AreCounted, CountsSection};
 
 use crate::published::answers_of_book;
 use crate::report::answer_among;
@@ -39,7 +41,7 @@ struct Counts {
 
 impl Model for Counts {
     ghost use Rattle.std.specs.Prelude.{◌*◌, ◌^◌, ◌≤◌};
-    ghost use Rattle.capacity_cmd.specs.Made.{Counted};
+    ghost use Rattle.capacity_cmd.specs.Counted.{Counted};
 
     ghost Value = { Counted };
 
@@ -51,7 +53,7 @@ impl Model for Counts {
 impl Counts {
     // What is counted of no section.
     fn none() -> Counts
-        ensures { result ≡ made.counted_of [] }
+        ensures { result ≡ counted.counted_of [] }
     {
         Counts {
             tally: Tally::new(),
@@ -63,7 +65,7 @@ impl Counts {
     fn add(&mut self, answer: &Answer)
         requires answer { IsAnswerOfSome answer.now }
         requires room { self.old.total.sections < 4_294_967_295 }
-        ensures { self.new ≡ made.with_one self.old answer.now }
+        ensures { self.new ≡ counted.with_one self.old answer.now }
     {
         self.tally.add(answer);
         self.occupancy += u128::from(occupancy_of(answer));
@@ -71,7 +73,7 @@ impl Counts {
 
     // Writes the rows of what is counted.
     fn write(&self, alloc: Global, sheet: &mut Sheet) -> Result<(), OutOfMemory>
-        ensures { OnOk result (sheet.new.rows ≡ sheet.old.rows ++ made.counted_rows self.now) }
+        ensures { OnOk result (sheet.new.rows ≡ sheet.old.rows ++ counted_rows self.now) }
     {
         counted_rows(alloc, sheet, &self.tally, self.occupancy)
     }
@@ -189,7 +191,8 @@ fn text_of_counts(
     last: &Counts,
 ) -> Result<Vec<u8>, OutOfMemory>
     ensures { IfOk result (λ text.
-        text.items ≡ text_of_rows (made.made_rows n base.now edits last.now)) }
+        text.items ≡ text_of_rows
+        (made.made_rows n (counted_rows base.now) edits (counted_rows last.now))) }
 {
     let mut sheet = Sheet::new(alloc);
     line_row(&mut sheet, n)?;
@@ -217,7 +220,7 @@ fn counted_rows(
     occupancy: u128,
 ) -> Result<(), OutOfMemory>
     ensures { OnOk result (sheet.new.rows
-        ≡ sheet.old.rows ++ made.counted_rows (made.counted_by tally.now occupancy)) }
+        ≡ sheet.old.rows ++ counted_rows (counted.counted_by tally.now occupancy)) }
 {
     total_row(sheet, tally)?;
     occupancy_row(alloc, sheet, occupancy)

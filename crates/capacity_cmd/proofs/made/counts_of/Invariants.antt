@@ -1,4 +1,4 @@
-use Rattle.capacity_cmd.specs.Made.{AreCounted}
+use Rattle.capacity_cmd.specs.Counted.{AreCounted}
 use Rattle.capacity_cmd.proofs.made.counts_of.Given as goal
 
 -- those of the sections so far

@@ -1,5 +1,5 @@
 use Rattle.plan_model.specs.Journal.{tables_of}
-use Rattle.capacity_cmd.specs.Made.{AreCounted}
+use Rattle.capacity_cmd.specs.Counted.{AreCounted}
 use Rattle.capacity_cmd.proofs.made.counts_of_book.Given as goal
 
 -- those of the sections so far

@@ -7,6 +7,6 @@ pub returns : goal.returns
 returns c =
     let rows = λ (s : SheetRows). s.rows in
     c.into_text.ensures
-    ∙ ap text_of_rows (rows_made c.args.n c.args.edits c.args.base.now c.args.last.now _ _ _ _ _ c.new-sheet.ensures.rows
+    ∙ ap text_of_rows (rows_made c.args.n c.args.edits _ _ _ _ _ _ _ c.new-sheet.ensures.rows
     (ap rows c.in_ok-line_row.ensures) c.in_ok-write.ensures (ap rows c.in_ok-session_row.ensures)
     c.in_ok-write-2.ensures)
