@@ -22,7 +22,7 @@ use Rattle.capacity_cmd.specs.Outcome.{Writes, EndsInText, outcome_text, outcome
 use Rattle.capacity_cmd.specs.Made.{occupancy_of, line_row, session_row, made_rows}
 use Rattle.capacity_cmd.specs.Counted.{Counted, counted_of, with_one, CountsSection, AreCounted}
 use Rattle.capacity_cmd.specs.Reply.{IsReply, IsSent}
-use Rattle.capacity_cmd.specs.Promise.{EndsUnread, WritesOutcome}
+use Rattle.capacity_cmd.specs.Promise.{WritesOutcome}
 
 -- ---- what is counted
 
@@ -103,7 +103,7 @@ module _ {K : Type 0} (IsText : List ℕ → Type 0) (sink : SinkInCall K) (repl
   done_here : (status ≡ Done) ⊎ (status ≡ WriteFault)
   done_here = elim sent [ inl w ↦ inl (w.0 ∙ is_done IsText reply is) | inr f ↦ inr f.0 ]
 
-  pub ends_unread : EndsUnread status
+  pub ends_unread : (status ≡ Done) ⊎ (status ≡ WriteFault) ⊎ (status ≡ OutOfMemory)
   ends_unread = elim done_here [ inl d ↦ inl d | inr f ↦ inr (inl f) ]
 
   ends : EndsInText IsText (Writes reply.text)

@@ -1,4 +1,3 @@
-pub mod Refused
 pub mod Outcomes
 pub mod OneOutcome
 pub mod RowCount

@@ -3,7 +3,7 @@ use Rattle.std.proofs.Common.{◌≡◌, ℕ, ◌+◌, ◌<◌, ◌≤◌, true,
 use Rattle.std.specs.Prelude.{MatchResult}
 use Rattle.std.proofs.lemmas.Bool.{lt-ltb}
 use Rattle.std.proofs.lemmas.Bool.Decides.{nat_tests}
-use Rattle.rail_outside.specs.InCall.{SourceInCall, Gave, HasGiven, IsReadToEnd}
+use Rattle.rail_outside.specs.InCall.{SourceInCall, Gave, IsReadToEnd}
 use Rattle.row_text.specs.Rows.{rows_of}
 use Rattle.row_text.specs.Row.{Row}
 use Rattle.plan_book.specs.declared.book.TheConstants.{PLANNERS}
@@ -23,7 +23,6 @@ use Rattle.capacity_cmd.specs.Ends.{EndsOnAccepted, Ends, EndsOn}
 use Rattle.capacity_cmd.specs.Promise.{IsEnd}
 use Rattle.capacity_cmd.specs.Reply.{IsReply}
 use Rattle.capacity_cmd.specs.Given.{GivesOrRefuses}
-use Rattle.capacity_cmd.proofs.Refused.{ends_not_too_long, read_for}
 use Rattle.capacity_cmd.proofs.RowCount.{row_count}
 
 -- an input that isn't too long says what its rows say, and one that is too long is refused
@@ -78,20 +77,19 @@ IsEnd-all c source input outcome short gave end ends = record {
   input = input;
   gave = gave;
   on = ends;
-  read = read_for source outcome
-      (ends_not_too_long c (rows_of input) outcome
-      (subst (λ content. Ends c content outcome) (content_of_short (planners_of c) input short) ends))
-      end;
+  most = omega (arith, short);
+  whole = λ short. end;
 }
 
 -- and where it gave more than is read
-pub IsEnd-too_long : {S : Type 0} (c : Command) (source : SourceInCall S) → HasGiven source (INPUT_BYTES + 1)
-    → IsEnd c source (Refuses 0 cause.TooLong)
+pub IsEnd-too_long : {S : Type 0} (c : Command) (source : SourceInCall S)
+    → (input : List ℕ) × (length input ≡ INPUT_BYTES + 1) × Gave source input → IsEnd c source (Refuses 0 cause.TooLong)
 IsEnd-too_long c source given = record {
   input = given.0;
   gave = given.2;
   on = ends_too_long c given.0 (omega (arith, given.1));
-  read = given;
+  most = omega (arith, given.1);
+  whole = λ short. absurd (omega (arith, given.1, short));
 }
 
 -- what an input gives is within the limits of a session

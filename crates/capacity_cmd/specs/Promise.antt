@@ -1,10 +1,9 @@
 -- What a call of the program promises: by its words and its status, and by its source and its sink.
-use Rattle.std.specs.Prelude.{◌≡◌, ◌≢◌, ◌⊎◌, ℕ, ◌+◌, List, MatchOption}
-use Rattle.rail_outside.specs.InCall.{SourceInCall, SinkInCall, IsUnread, Gave, HasGiven, IsReadToEnd, ReadFailed, NoReadFailed, ShowsNoReadFailed, IsUnwritten, IsWritten, IsBrokenOff, WriteFailed, NoWriteFailed, ShowsNoWriteFailed}
+use Rattle.std.specs.Prelude.{◌≡◌, ◌≢◌, ◌⊎◌, ℕ, ◌+◌, ◌≤◌, List, length, MatchOption}
+use Rattle.rail_outside.specs.InCall.{SourceInCall, SinkInCall, IsUnread, Gave, IsReadToEnd, ReadFailed, NoReadFailed, ShowsNoReadFailed, IsUnwritten, IsWritten, IsBrokenOff, WriteFailed, NoWriteFailed, ShowsNoWriteFailed}
 use Rattle.capacity_cmd.specs.declared.command.Command.{Command}
 use Rattle.capacity_cmd.specs.declared.limit.TheConstants.{INPUT_BYTES}
 use Rattle.capacity_cmd.specs.declared.status.Cause.{Cause}
-use Rattle.capacity_cmd.specs.declared.status.Cause.TheVariants.{TooLong}
 use Rattle.capacity_cmd.specs.declared.status.Status.{Status}
 use Rattle.capacity_cmd.specs.declared.status.Status.TheVariants.{Done, Refused, BadWords, ReadFault, WriteFault, OutOfMemory}
 use Rattle.capacity_cmd.specs.Command.{command_of, made_of}
@@ -37,21 +36,14 @@ module _ {K : Type 0} (MayEnd : Outcome → Type 0) (status : Status) (sink : Si
     pub nothing_written : status ≡ ReadFault → IsUnwritten sink
     pub no_memory : status ≡ OutOfMemory → IsUnwritten sink
 
--- the status of a call that reads no input, and so refuses nothing and has no read that fails
-abbrev pub EndsUnread : Status → Type 0
-EndsUnread status = (status ≡ Done) ⊎ (status ≡ WriteFault) ⊎ (status ≡ OutOfMemory)
-
--- how far a source is read for an outcome: for an input that is too long one byte past the limit, and else to its end
-abbrev pub IsReadFor : {S : Type 0} → SourceInCall S → Outcome → Type 0
-IsReadFor source (Refuses row TooLong) = HasGiven source (INPUT_BYTES + 1)
-IsReadFor source outcome = IsReadToEnd source
-
--- the outcome of a command on the bytes that reads gave in the call, by a source that was read for it
+-- the outcome of a command on the bytes that reads gave in the call: on the whole input, or, where that is longer than the
+-- limit, on one byte more than the limit
 pub record IsEnd {S : Type 0} (command : Command) (source : SourceInCall S) (outcome : Outcome) : Type 0 where
   pub input : List ℕ
   pub gave : Gave source input
   pub on : EndsOn command input outcome
-  pub read : IsReadFor source outcome
+  pub most : length input ≤ INPUT_BYTES + 1
+  pub whole : length input ≤ INPUT_BYTES → IsReadToEnd source
 
 module _ {S K : Type 0} (command : Command) (status : Status)
     (source : SourceInCall S) (sink : SinkInCall K) where
@@ -73,24 +65,19 @@ module _ {S K : Type 0} (n : ℕ) (status : Status)
     (source : SourceInCall S) (sink : SinkInCall K) where
   -- the line that is made from a number is counted; whatever the source holds, nothing is read
   pub record WritesMade : Type 0 where
-    pub ends : EndsUnread status
+    pub ends : (status ≡ Done) ⊎ (status ≡ WriteFault) ⊎ (status ≡ OutOfMemory)
     pub unread : IsUnread source
     pub writes : WritesOutcome (EndsInText (IsMadeText n)) status sink
     -- where the counts show that no call failed, the text is written, or memory ran out
     pub complete : ShowsNoWriteFailed sink → (status ≡ Done) ⊎ (status ≡ OutOfMemory)
 
--- the command that words spell is run, and words that spell none are rejected
-abbrev pub AnswersSpelled : {S K : Type 0}
-    → List (List ℕ) → Status → SourceInCall S → SinkInCall K → Type 0
-AnswersSpelled words status source sink =
-    MatchOption (command_of words)
-    (RejectsWords status source sink)
-    (λ command. RunsCommand command status source sink)
-
--- the promise: a line is made and counted, where the words ask for it; else it goes by the command that they spell
+-- the promise: a line is made and counted, where the words ask for it; else the command that they spell is run, and words
+-- that spell none are rejected
 abbrev pub Answers : {S K : Type 0}
     → List (List ℕ) → Status → SourceInCall S → SinkInCall K → Type 0
 Answers words status source sink =
     MatchOption (made_of words)
-    (AnswersSpelled words status source sink)
+    (MatchOption (command_of words)
+    (RejectsWords status source sink)
+    (λ command. RunsCommand command status source sink))
     (λ n. WritesMade n status source sink)

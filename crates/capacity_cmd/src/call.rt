@@ -5,12 +5,12 @@ ghost use Rattle.rail_outside.specs.InCall.{source_call, sink_call, IsReadToEnd,
 ghost use Rattle.session_run.specs.declared.threads.TheConstants.{WORKERS};
 ghost use Rattle.capacity_cmd.specs.declared.command.Command.TheVariants as command;
 ghost use Rattle.capacity_cmd.specs.declared.status.Status.TheVariants as status;
-ghost use Rattle.capacity_cmd.specs.Command.{command_of, workers_of, workers_asked, IsAlone};
+ghost use Rattle.capacity_cmd.specs.Command.{command_of, made_of, workers_of, workers_asked, IsAlone};
 ghost use Rattle.capacity_cmd.specs.Outcome.{EndsInText};
 ghost use Rattle.capacity_cmd.specs.Made.{IsMadeText};
 ghost use Rattle.capacity_cmd.specs.Reply.{IsReply};
 ghost use Rattle.capacity_cmd.specs.Given.{GivesOrRefuses};
-ghost use Rattle.capacity_cmd.specs.Promise.{IsEnd, EndsUnread, WritesOutcome, RunsCommand, AnswersSpelled, Answers};
+ghost use Rattle.capacity_cmd.specs.Promise.{IsEnd, WritesOutcome, RunsCommand, Answers};
 
 use crate::accepted::Accepted;
 use crate::command::{command_of, made_of, workers_asked};
@@ -83,7 +83,7 @@ fn run_spelled<R: AllocGlobal + Threads + Wait + Sync, S: Source, K: Sink, G: Ga
     gate: &G,
     told: &mut Told,
 ) -> Status
-    ensures { AnswersSpelled
+    ensures { made_of (map string_bytes words.now) ≡ None → Answers
         (map string_bytes words.now)
         result
         (source_call S.given S.left S.ended S.faults S.at_fault source.old source.new)
@@ -106,7 +106,8 @@ fn run_made<R: AllocGlobal + Threads + Wait + Sync, K: Sink, G: Gate>(
     sink: &mut K,
     gate: &G,
 ) -> Status
-    ensures ends { EndsUnread result }
+    ensures ends { (result ≡ status.Done)
+        ⊎ (result ≡ status.WriteFault) ⊎ (result ≡ status.OutOfMemory) }
     ensures writes { WritesOutcome
         (EndsInText (IsMadeText n))
         result
@@ -167,7 +168,7 @@ fn run_spelled_alone<R: AllocGlobal + Threads + Sync, S: Source, K: Sink>(
     told: &mut Told,
 ) -> Status
     requires { workers_asked (command_of (map string_bytes words.now)) ≡ 0 }
-    ensures { AnswersSpelled
+    ensures { made_of (map string_bytes words.now) ≡ None → Answers
         (map string_bytes words.now)
         result
         (source_call S.given S.left S.ended S.faults S.at_fault source.old source.new)

@@ -11,7 +11,7 @@ returns-in-Ok g c =
     let some : 1 ≤ workers = search rules in
     let spelled : command_of (map string_bytes c.args.words.now) ≡ Some (command.Session workers)
     = asks_session (command_of (map string_bytes c.args.words.now)) workers (sym c.workers_asked-workers.ensures.asked) some in
-    rw spelled (search rules)
+    λ not_made. rw not_made (rw spelled (search rules))
 
 -- a read failed, or memory ran out
 pub returns-in-Err : goal.returns-in-Err
@@ -20,4 +20,4 @@ returns-in-Err g c =
     let some : 1 ≤ workers = search rules in
     let spelled : command_of (map string_bytes c.args.words.now) ≡ Some (command.Session workers)
     = asks_session (command_of (map string_bytes c.args.words.now)) workers (sym c.workers_asked-workers.ensures.asked) some in
-    rw spelled (elim c.in-Err.ensures.why [ inl read ↦ search rules | inr memory ↦ search rules ])
+    λ not_made. rw not_made (rw spelled (elim c.in-Err.ensures.why [ inl read ↦ search rules | inr memory ↦ search rules ]))

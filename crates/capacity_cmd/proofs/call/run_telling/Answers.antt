@@ -10,4 +10,4 @@ returns-in-Some g c = rw (sym c.made_of.ensures ∙ c.in-Some.is) (record {
 })
 
 pub returns-in-None : goal.returns-in-None
-returns-in-None g c = rw (sym c.made_of.ensures ∙ c.in-None.is) c.run_spelled.ensures
+returns-in-None g c = c.run_spelled.ensures (sym c.made_of.ensures ∙ c.in-None.is)
