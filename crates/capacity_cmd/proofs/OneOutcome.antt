@@ -35,7 +35,7 @@ use Rattle.capacity_cmd.specs.declared.status.Cause.{Cause}
 use Rattle.capacity_cmd.specs.Command.{planners_of}
 use Rattle.capacity_cmd.specs.Input.{Content, accepted_of, content_of_input}
 use Rattle.capacity_cmd.specs.Outcome.{Outcome, Writes, EndsInText}
-use Rattle.capacity_cmd.specs.Ends.{cut_named, EndsOnNamed, IsHeadText, IsStairsText, IsCheckText, IsCompressText, IsReportText, IsHeadwaysText, IsCutText, IsCycleText, delayed_named, IsSpreadText, IsDelaysText, member_named, IsFilledText, IsFillText, IsJournalText, IsSessionText, EndsOnAccepted, Ends}
+use Rattle.capacity_cmd.specs.Ends.{cut_named, EndsOnNamed, IsHeadText, IsCheckText, IsCompressText, IsReportText, IsHeadwaysText, IsCutText, IsCycleText, delayed_named, IsSpreadText, IsDelaysText, member_named, IsFilledText, IsFillText, IsJournalText, IsSessionText, EndsOnAccepted, Ends}
 use Rattle.capacity_cmd.specs.OneOutcome.{IsLeftOpen, DifferInCircuit}
 use Rattle.capacity_cmd.specs.Laws.{OutcomeIsOne}
 
@@ -154,7 +154,7 @@ cycle_named (Err why) a b is also = inl (is ∙ sym also)
 on_accepted : (c : Command) (g : Accepted) (a b : Outcome) → EndsOnAccepted c g a → EndsOnAccepted c g b
     → (a ≡ b) ⊎ IsLeftOpen c a b
 on_accepted command.Stairs g a b is also =
-    inl (in_text (IsStairsText g.tables) (λ text other one two. one ∙ sym two) a b is also)
+    inl (in_text (λ text. text ≡ text_of_rows (stairs_rows g.tables)) (λ text other one two. one ∙ sym two) a b is also)
 on_accepted command.Check g a b is also = inl (in_text (IsCheckText g.tables) (check_one g.tables) a b is also)
 on_accepted (command.Compress section) g a b is also =
     inl (on_named IsCompressText compress_one (cut_named g.tables section) a b is also)

@@ -1,22 +1,22 @@
 -- Which command the words of a call spell.
-use Rattle.std.specs.Prelude.{ℕ, ◌+◌, ◌*◌, ◌/◌, Bool, true, false, not, ◌&&◌, ◌||◌, nat_lt, nat_le, if◌then◌else◌, List, [], ◌∷◌, length, map, slice_index_or, Option, Some, None, is_some, unwrap_or, option_map, option_and_then, ◌≡◌, codes, Result, IfOk}
+use Rattle.std.specs.Prelude.{ℕ, ◌+◌, ◌*◌, ◌/◌, Bool, true, false, not, ◌&&◌, ◌||◌, nat_lt, nat_le, if◌then◌else◌, List, [], ◌∷◌, length, map, slice_index_or, Option, Some, None, is_some, unwrap_or, option_map, ◌≡◌, codes, Result, IfOk}
 use Rattle.std.specs.List.{range_with_len}
 use Rattle.rail_model.specs.Name.{is_same, name_of}
 use Rattle.row_text.specs.Sorts.{number_of, value_of, is_number}
+use Rattle.plan_book.specs.declared.book.TheConstants.{PLANNERS}
+use Rattle.session_run.specs.declared.threads.TheConstants.{WORKERS}
 use Rattle.delay_spread.specs.declared.spreading.TheConstants.{GREATEST_DELAY_S}
 use Rattle.capacity_cmd.specs.declared.given_delay.TheConstants.{GIVEN_DELAYS, DELAY_DIGITS}
 use Rattle.capacity_cmd.specs.declared.given_delay.GivenDelay.{GivenDelay}
-use Rattle.plan_book.specs.declared.book.TheConstants.{PLANNERS}
-use Rattle.session_run.specs.declared.threads.TheConstants.{WORKERS}
 use Rattle.capacity_cmd.specs.declared.command.Command.{Command}
 use Rattle.capacity_cmd.specs.declared.command.Command.TheVariants as command
 
 -- the seconds that a word of one to five digits says, where they are no more than are spread
-abbrev pub within_limit : ℕ → Option ℕ
-within_limit seconds = if nat_le seconds GREATEST_DELAY_S then Some seconds else None
-
 abbrev pub seconds_of : List ℕ → Option ℕ
-seconds_of word = if nat_le (length word) DELAY_DIGITS then option_and_then within_limit (number_of word) else None
+seconds_of word =
+    if nat_le (length word) DELAY_DIGITS && is_number word && nat_le (value_of word) GREATEST_DELAY_S
+    then Some (value_of word)
+    else None
 
 -- a word stands where pairs of words name a run
 abbrev pub is_among_runs : List ℕ → List (List ℕ) → Bool
@@ -53,11 +53,9 @@ abbrev pub delays_of : List (List ℕ) → Option (List GivenDelay)
 delays_of words = all_of (map (pair_at words) (range_with_len 0 (length words / 2)))
 
 -- so many workers, from 0 to 16, in one or two digits
-abbrev pub is_workers : List ℕ → Bool
-is_workers word = nat_le (length word) 2 && is_number word && nat_le (value_of word) WORKERS
-
 abbrev pub workers_in : List ℕ → Option ℕ
-workers_in word = if is_workers word then Some (value_of word) else None
+workers_in word =
+    if nat_le (length word) 2 && is_number word && nat_le (value_of word) WORKERS then Some (value_of word) else None
 
 -- the command that up to three words spell, if they spell one; the word of a section and of a run may be no name
 abbrev pub short_command_of : List (List ℕ) → Option Command

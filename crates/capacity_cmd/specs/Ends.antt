@@ -1,41 +1,41 @@
 -- What each command ends with, by its input: its text, in the order of the commands, or a refusal.
 use Rattle.std.specs.Prelude.{◌≡◌, ℕ, List, Option, None, Some, option_and_then, position, Result, Ok, Err, ◌++◌, ◌⊎◌, ◌<◌, ◌≤◌, [], ◌∷◌, Bool, if◌then◌else◌, map, fold, All, slice_set, is_some, zero, suc}
 use Rattle.std.specs.Option.{ok_or}
+use Rattle.std.specs.List.{list_all}
 use Rattle.rail_model.specs.Name.{is_same}
 use Rattle.rail_model.specs.declared.tables.Tables.{Tables}
-use Rattle.plan_model.specs.declared.cut.Cut.{Cut}
-use Rattle.plan_model.specs.SectionCut.{cut_of}
-use Rattle.capacity_cmd.specs.declared.status.Cause.{Cause}
-use Rattle.capacity_cmd.specs.declared.status.Cause.TheVariants as cause
-use Rattle.capacity_cmd.specs.Outcome.{Outcome, Refuses, EndsInText}
-use Rattle.row_text.specs.SheetRows.{text_of_rows}
-use Rattle.capacity_report.specs.Rows.{stairs_rows, check_rows, headways_or_count}
 use Rattle.rail_model.specs.Conflict.{Conflict, AreConflicts}
 use Rattle.rail_model.specs.Timetable.{timetable}
+use Rattle.row_text.specs.SheetRows.{text_of_rows}
+use Rattle.row_text.specs.Lines.{◌>>=◌}
+use Rattle.plan_model.specs.declared.cut.Cut.{Cut}
+use Rattle.plan_model.specs.SectionCut.{cut_of}
 use Rattle.plan_model.specs.declared.answer.Answer.{Answer}
 use Rattle.plan_model.specs.Answer.{IsAnswer}
-use Rattle.capacity_report.specs.declared.answers.Detail.TheVariants as detail
-use Rattle.capacity_report.specs.Answers.{answer_rows, AreAnswers, report_rows, crowded_row}
-use Rattle.path_fill.specs.Filling.{IsNoPlan, IsOrdered, IsFill, fill_rows}
 use Rattle.plan_model.specs.declared.limits.TheConstants.{MEMBERS}
 use Rattle.plan_model.specs.Members.{member_count, member}
-use Rattle.line_cutter.specs.declared.found.Cutting.{Cutting}
-use Rattle.line_cutter.specs.Cutting.{IsCutting}
-use Rattle.line_cutter.specs.Rows.{cutting_rows}
-use Rattle.cycle_time.specs.declared.found.Cycle.{Cycle}
-use Rattle.cycle_time.specs.Cycle.{IsCycle, cycle_rows}
-use Rattle.std.specs.List.{list_all}
-use Rattle.row_text.specs.Lines.{◌>>=◌}
-use Rattle.delay_spread.specs.declared.spreading.TheConstants.{GREATEST_DELAY_S}
-use Rattle.delay_spread.specs.declared.found.Spread.{Spread}
-use Rattle.delay_spread.specs.Spreading.{IsSpread, spread_rows}
-use Rattle.capacity_cmd.specs.declared.given_delay.GivenDelay.{GivenDelay}
-use Rattle.path_fill.specs.declared.found.Fill.{Fill}
 use Rattle.plan_model.specs.declared.scripts.Task.{Task}
 use Rattle.plan_model.specs.declared.journal.Entry.{Entry}
 use Rattle.plan_model.specs.Journal.{tables_of}
 use Rattle.plan_model.specs.Session.{IsSession, IsSessionAlone}
+use Rattle.capacity_report.specs.Rows.{stairs_rows, check_rows, headways_or_count}
+use Rattle.capacity_report.specs.declared.answers.Detail.TheVariants as detail
+use Rattle.capacity_report.specs.Answers.{answer_rows, AreAnswers, report_rows, crowded_row}
 use Rattle.capacity_report.specs.Journal.{rows_of_journal}
+use Rattle.line_cutter.specs.declared.found.Cutting.{Cutting}
+use Rattle.line_cutter.specs.Cutting.{IsCutting}
+use Rattle.line_cutter.specs.Rows.{cutting_rows}
+use Rattle.delay_spread.specs.declared.spreading.TheConstants.{GREATEST_DELAY_S}
+use Rattle.delay_spread.specs.declared.found.Spread.{Spread}
+use Rattle.delay_spread.specs.Spreading.{IsSpread, spread_rows}
+use Rattle.path_fill.specs.Filling.{IsNoPlan, IsOrdered, IsFill, fill_rows}
+use Rattle.path_fill.specs.declared.found.Fill.{Fill}
+use Rattle.cycle_time.specs.declared.found.Cycle.{Cycle}
+use Rattle.cycle_time.specs.Cycle.{IsCycle, cycle_rows}
+use Rattle.capacity_cmd.specs.declared.status.Cause.{Cause}
+use Rattle.capacity_cmd.specs.declared.status.Cause.TheVariants as cause
+use Rattle.capacity_cmd.specs.Outcome.{Outcome, Refuses, EndsInText}
+use Rattle.capacity_cmd.specs.declared.given_delay.GivenDelay.{GivenDelay}
 use Rattle.capacity_cmd.specs.declared.command.Command.{Command}
 use Rattle.capacity_cmd.specs.declared.command.Command.TheVariants as command
 use Rattle.capacity_cmd.specs.declared.refusal.Refusal.{Refusal}
@@ -57,16 +57,11 @@ abbrev pub EndsOnNamed : {X : Type 0} → (X → List ℕ → Type 0) → Result
 EndsOnNamed IsText (Ok found) outcome = EndsInText (IsText found) outcome
 EndsOnNamed IsText (Err why) outcome = outcome ≡ Refuses 0 why
 
--- the rows of every run's stairway
-abbrev pub IsStairsText : Tables → List ℕ → Type 0
-IsStairsText tables text = text ≡ text_of_rows (stairs_rows tables)
-
 -- the rows of the timetable's conflicts
 abbrev pub IsCheckText : Tables → List ℕ → Type 0
 IsCheckText tables text =
     (all : List Conflict) × AreConflicts (timetable tables) all × (text ≡ text_of_rows (check_rows tables all))
 
--- the rows of a cut's answer in full
 abbrev pub IsCompressText : Cut → List ℕ → Type 0
 IsCompressText cut text =
     (a : Answer) × IsAnswer cut a × (text ≡ text_of_rows (answer_rows cut.section.name a detail.Full))
@@ -77,37 +72,26 @@ IsReportText tables text =
     (answers : List Answer) × AreAnswers tables tables.sections answers
     × (text ≡ text_of_rows (report_rows tables.sections answers))
 
--- the rows of the headways of a cut's trains
 abbrev pub IsHeadwaysText : Cut → List ℕ → Type 0
 IsHeadwaysText cut text = text ≡ text_of_rows (headways_or_count cut)
 
--- the rows of its answer: that its trains have no order, or are more than are compressed
+-- the rows of the answer of a section that has no compressed timetable: its trains have no order, or are too many
 abbrev pub IsHeadText : Cut → List ℕ → Type 0
 IsHeadText cut text =
     (a : Answer) × IsAnswer cut a × IsNoPlan a × (text ≡ text_of_rows (answer_rows cut.section.name a detail.Head))
 
--- of a cut with more members than are compressed only their number is told
-abbrev pub IsCountText : Cut → List ℕ → Type 0
-IsCountText cut text =
-    (MEMBERS < member_count cut)
-    × (text ≡ text_of_rows (crowded_row cut.section.name (member_count cut) ∷ []))
-
--- of another the rows of its cutting
-abbrev pub IsCuttingText : Cut → List ℕ → Type 0
-IsCuttingText cut text =
-    (member_count cut ≤ MEMBERS)
-    × (cutting : Cutting) × IsCutting cut cutting × (text ≡ text_of_rows (cutting_rows cut cutting))
-
+-- of a cut with more members than are compressed only their number is told; of another the rows of its cutting
 abbrev pub IsCutText : Cut → List ℕ → Type 0
-IsCutText cut text = IsCountText cut text ⊎ IsCuttingText cut text
+IsCutText cut text =
+    ((MEMBERS < member_count cut) × (text ≡ text_of_rows (crowded_row cut.section.name (member_count cut) ∷ [])))
+    ⊎ ((member_count cut ≤ MEMBERS)
+    × (cutting : Cutting) × IsCutting cut cutting × (text ≡ text_of_rows (cutting_rows cut cutting)))
 
 -- the rows of the least cycle time of the section's trains
-abbrev pub IsPeriodText : Cut → List ℕ → Type 0
-IsPeriodText cut text =
-    IsOrdered cut × (cycle : Cycle) × IsCycle cut cycle × (text ≡ text_of_rows (cycle_rows cut cycle))
-
 abbrev pub IsCycleText : Cut → List ℕ → Type 0
-IsCycleText cut text = IsHeadText cut text ⊎ IsPeriodText cut text
+IsCycleText cut text =
+    IsHeadText cut text
+    ⊎ (IsOrdered cut × (cycle : Cycle) × IsCycle cut cycle × (text ≡ text_of_rows (cycle_rows cut cycle)))
 
 -- each delay is given to a member
 abbrev pub are_members : Cut → List GivenDelay → Bool
@@ -117,7 +101,6 @@ are_members cut given = list_all (λ d. is_some (row_named cut (Some d.run))) gi
 abbrev pub delay_of : List GivenDelay → List ℕ → ℕ
 delay_of given name = fold (λ so_far d. if is_same name d.run then d.delay else so_far) 0 given
 
--- the delay of each member
 abbrev pub delays_in : Cut → List GivenDelay → List ℕ
 delays_in cut given = map (λ r. delay_of given r.name) cut.rows
 
@@ -181,7 +164,7 @@ IsSessionText tables at scripts workers text =
 
 -- the outcome of each command on the tables of a line, and that of a session on the planners' scripts besides
 abbrev pub EndsOnAccepted : Command → Accepted → Outcome → Type 0
-EndsOnAccepted command.Stairs given = EndsInText (IsStairsText given.tables)
+EndsOnAccepted command.Stairs given = EndsInText (λ text. text ≡ text_of_rows (stairs_rows given.tables))
 EndsOnAccepted command.Check given = EndsInText (IsCheckText given.tables)
 EndsOnAccepted (command.Compress section) given = EndsOnNamed IsCompressText (cut_named given.tables section)
 EndsOnAccepted command.Report given = EndsInText (IsReportText given.tables)
@@ -199,6 +182,5 @@ abbrev pub Ends : Command → Result Content Refusal → Outcome → Type 0
 Ends command (Ok content) outcome = EndsOnAccepted command (accepted_of content) outcome
 Ends command (Err refusal) outcome = outcome ≡ Refuses refusal.row refusal.cause
 
--- the outcome of a command on an input
 abbrev pub EndsOn : Command → List ℕ → Outcome → Type 0
 EndsOn command input outcome = Ends command (content_of_input (planners_of command) input) outcome

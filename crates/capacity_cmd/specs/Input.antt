@@ -1,23 +1,23 @@
 -- What an input says: the edits of a line's base, the tables that they make and planners' scripts, or the row at which it is refused.
 use Rattle.std.specs.Prelude.{ℕ, Bool, ◌+◌, nat_lt, ◌==◌, ◌&&◌, if◌then◌else◌, List, [], ◌∷◌, ◌++◌, length, sum_by, Result, Ok, Err, drop, Option, Some, None}
+use Rattle.std.specs.Result.{result_map_both}
 use Rattle.rail_model.specs.declared.edit.Edit.{Edit}
+use Rattle.rail_model.specs.declared.form.Form.{Form}
+use Rattle.rail_model.specs.declared.tables.Tables.{Tables}
+use Rattle.rail_model.specs.Edits.{no_tables}
+use Rattle.rail_model.specs.Edited.{Refused, after_edits, first_refused}
 use Rattle.row_text.specs.declared.line.Line.{Line}
 use Rattle.row_text.specs.declared.line.Line.TheVariants as line
+use Rattle.row_text.specs.Row.{Row}
+use Rattle.row_text.specs.Rows.{rows_of}
+use Rattle.row_text.specs.Lines.{read_in, ◌>>=◌}
+use Rattle.row_text.specs.Versions.{version_of, first_line}
 use Rattle.plan_model.specs.declared.scripts.Task.{Task}
 use Rattle.plan_model.specs.declared.scripts.Task.TheVariants as task
 use Rattle.plan_model.specs.Scripts.{with_task}
 use Rattle.plan_book.specs.declared.book.TheConstants.{TASKS}
 use Rattle.capacity_cmd.specs.declared.status.Cause.{Cause}
 use Rattle.capacity_cmd.specs.declared.status.Cause.TheVariants as cause
-use Rattle.std.specs.Result.{result_map_both}
-use Rattle.rail_model.specs.declared.form.Form.{Form}
-use Rattle.rail_model.specs.declared.tables.Tables.{Tables}
-use Rattle.rail_model.specs.Edits.{no_tables}
-use Rattle.rail_model.specs.Edited.{Refused, after_edits, first_refused}
-use Rattle.row_text.specs.Row.{Row}
-use Rattle.row_text.specs.Rows.{rows_of}
-use Rattle.row_text.specs.Lines.{read_in, ◌>>=◌}
-use Rattle.row_text.specs.Versions.{version_of, first_line}
 use Rattle.capacity_cmd.specs.declared.refusal.Refusal.{Refusal}
 use Rattle.capacity_cmd.specs.declared.accepted.Accepted.{Accepted}
 use Rattle.capacity_cmd.specs.declared.limit.TheConstants.{INPUT_BYTES}

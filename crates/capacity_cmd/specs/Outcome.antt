@@ -14,30 +14,22 @@ pub data Outcome : Type 0 where
   Writes : List ℕ → Outcome
   Refuses : ℕ → Cause → Outcome
 
--- the texts of causes in the row of a refusal
-abbrev pub form_text : Form → List ℕ
-form_text form.Kind = codes "kind"
-form_text form.Fields = codes "fields"
-form_text form.Number = codes "number"
-form_text form.BadName = codes "name"
-form_text form.Order = codes "order"
-
 abbrev pub cause_text : Cause → List ℕ
-cause_text (cause.Form f) = form_text f
+cause_text (cause.Form form.Kind) = codes "kind"
+cause_text (cause.Form form.Fields) = codes "fields"
+cause_text (cause.Form form.Number) = codes "number"
+cause_text (cause.Form form.BadName) = codes "name"
+cause_text (cause.Form form.Order) = codes "order"
 cause_text (cause.Rule r) = rule_text r
 cause_text cause.TooLong = codes "too-long"
 cause_text cause.NoSection = codes "no-section"
 cause_text cause.NoMember = codes "no-member"
 cause_text cause.Script = codes "script"
 
--- refused,ROW,CAUSE
-abbrev pub refusal_text : ℕ → Cause → List ℕ
-refusal_text row why = text_of_row (codes "refused" ∷ decimal row ∷ cause_text why ∷ [])
-
--- the text of an outcome, and the status that says it
+-- the text, or refused,ROW,CAUSE
 abbrev pub outcome_text : Outcome → List ℕ
 outcome_text (Writes text) = text
-outcome_text (Refuses row why) = refusal_text row why
+outcome_text (Refuses row why) = text_of_row (codes "refused" ∷ decimal row ∷ cause_text why ∷ [])
 
 abbrev pub outcome_status : Outcome → Status
 outcome_status (Writes text) = status.Done

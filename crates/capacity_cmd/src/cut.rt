@@ -4,7 +4,7 @@ ghost use Rattle.plan_model.specs.declared.limits.TheConstants.{MEMBERS};
 ghost use Rattle.plan_model.specs.Cut.{IsSoundCut};
 ghost use Rattle.plan_model.specs.Members.{member_count};
 ghost use Rattle.capacity_cmd.specs.Outcome.{Writes, Refuses};
-ghost use Rattle.capacity_cmd.specs.Ends.{cut_named, EndsOnNamed, IsCountText, IsCuttingText, IsCutText};
+ghost use Rattle.capacity_cmd.specs.Ends.{cut_named, EndsOnNamed, IsCutText};
 
 use crate::Cause;
 use crate::named::cut_named;
@@ -48,7 +48,7 @@ fn text_of_cut(alloc: Global, cut: &Cut) -> Result<Vec<u8>, OutOfMemory>
 fn count_text(alloc: Global, cut: &Cut) -> Result<Vec<u8>, OutOfMemory>
     requires sound { IsSoundCut cut.now }
     requires many { MEMBERS < member_count cut.now }
-    ensures { IfOk result (λ text. IsCountText cut.now text.items) }
+    ensures { IfOk result (λ text. IsCutText cut.now text.items) }
 {
     let mut sheet = Sheet::new(alloc);
     crowded_row(&mut sheet, &cut.section.name, cut.rows.len() as u32)?;
@@ -59,7 +59,7 @@ fn count_text(alloc: Global, cut: &Cut) -> Result<Vec<u8>, OutOfMemory>
 fn cutting_text(alloc: Global, cut: &Cut) -> Result<Vec<u8>, OutOfMemory>
     requires sound { IsSoundCut cut.now }
     requires few { member_count cut.now ≤ MEMBERS }
-    ensures { IfOk result (λ text. IsCuttingText cut.now text.items) }
+    ensures { IfOk result (λ text. IsCutText cut.now text.items) }
 {
     let cutting = cut_line(alloc, cut)?;
     let mut sheet = Sheet::new(alloc);

@@ -4,7 +4,7 @@ ghost use Rattle.plan_model.specs.Cut.{IsSoundCut};
 ghost use Rattle.path_fill.specs.Filling.{IsOrdered};
 ghost use Rattle.cycle_time.specs.Cycle.{IsCycle};
 ghost use Rattle.capacity_cmd.specs.Outcome.{Writes, Refuses};
-ghost use Rattle.capacity_cmd.specs.Ends.{cut_named, EndsOnNamed, IsPeriodText, IsCycleText};
+ghost use Rattle.capacity_cmd.specs.Ends.{cut_named, EndsOnNamed, IsCycleText};
 
 use crate::Cause;
 use crate::head::{crowded_text, head_text, is_crowded};
@@ -50,7 +50,7 @@ fn period_text(alloc: Global, cut: &Cut, cycle: &Cycle) -> Result<Vec<u8>, OutOf
     requires sound { IsSoundCut cut.now }
     requires ordered { IsOrdered cut.now }
     requires cycle { IsCycle cut.now cycle.now }
-    ensures { IfOk result (λ text. IsPeriodText cut.now text.items) }
+    ensures { IfOk result (λ text. IsCycleText cut.now text.items) }
 {
     let mut sheet = Sheet::new(alloc);
     cycle_rows(&mut sheet, cut, cycle)?;

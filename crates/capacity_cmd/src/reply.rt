@@ -2,8 +2,9 @@
 ghost use Rattle.std.specs.Prelude.{◌≡◌, ◌≤◌, length, IfOk};
 ghost use Rattle.session_run.specs.declared.threads.TheConstants.{WORKERS};
 ghost use Rattle.capacity_cmd.specs.declared.command.Command.TheVariants as command;
+ghost use Rattle.capacity_cmd.specs.declared.status.Cause.TheVariants as causes;
 ghost use Rattle.capacity_cmd.specs.Command.{workers_of};
-ghost use Rattle.capacity_cmd.specs.Outcome.{Refuses, EndsInText, cause_text, form_text};
+ghost use Rattle.capacity_cmd.specs.Outcome.{Refuses, EndsInText, cause_text};
 ghost use Rattle.capacity_cmd.specs.Made.{IsMadeText};
 ghost use Rattle.capacity_cmd.specs.Outcome as outcome;
 ghost use Rattle.capacity_cmd.specs.InputSoFar.{IsWithin};
@@ -157,7 +158,7 @@ pub(crate) fn refusal(alloc: Global, row: u64, cause: Cause) -> Result<Reply, Ou
 }
 
 fn refusal_text(alloc: Global, row: u64, cause: Cause) -> Result<Vec<u8>, OutOfMemory>
-    ensures { IfOk result (λ text. text.items ≡ outcome.refusal_text row cause) }
+    ensures { IfOk result (λ text. text.items ≡ outcome.outcome_text (outcome.Refuses row cause)) }
 {
     let mut sheet = Sheet::new(alloc);
     sheet.push_field(b"refused")?;
@@ -182,7 +183,7 @@ fn cause_text(cause: Cause) -> &'static [u8]
 }
 
 fn form_text(form: Form) -> &'static [u8]
-    ensures { result.now ≡ form_text form }
+    ensures { result.now ≡ cause_text (causes.Form form) }
 {
     match form {
         Form::Kind => b"kind",
