@@ -33,7 +33,9 @@ module _ {S K : Type 0} (ended : Ended) (told : Option (List (List ℕ))) (not_t
     (source : SourceInCall S) (sink : SinkInCall K) where
   pub record EndsAsCall : Type 0 where
     -- the process ends with the number of a call's status
-    pub call : (status : Status) × IsCall status told not_text source sink × (exit_status ended.code ≡ status_number status)
-    -- where one of the words isn't UTF-8, or none are told, nothing is read or written, and the number is 2, or 5 for want of memory
+    pub status : Status
+    pub call : IsCall status told not_text source sink
+    pub number : exit_status ended.code ≡ status_number status
+    -- where a word isn't UTF-8, or none are told, nothing is read or written; the number is 2, or 5 for want of memory
     pub no_words : not_text ⊎ IsNone told
         → ((exit_status ended.code ≡ 2) ⊎ (exit_status ended.code ≡ 5)) × IsUnread source × IsUnwritten sink

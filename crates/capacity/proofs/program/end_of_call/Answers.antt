@@ -7,7 +7,9 @@ pub returns : goal.returns
 returns g c =
     let is = c.from.ensures ∙ c.number.ensures in
     record {
-      call = (c.call-status.result, c.call-status.ensures, is);
+      status = c.call-status.result;
+      call = c.call-status.ensures;
+      number = is;
       no_words = λ why. elim c.call-status.ensures [
         | inl had ↦ absurd (elim why [ inl bad ↦ had.good bad | inr none ↦ false≢true (sym none ∙ ap is_some had.told_are) ])
         | inr has ↦ (elim has.why [ inl bad ↦ inl (is ∙ ap status_number bad.0) | inr memory ↦ inr (is ∙ ap status_number memory) ], has.unread, has.unwritten)
