@@ -150,7 +150,7 @@ impl AllStairways {
         is_outside(self.starts[n], section)
     }
 
-    /// The spans of the stairways in a section of so many blocks, by a table of positions.
+    // The spans of the stairways in a section of so many blocks, by a table of positions.
     pub(crate) fn spans(
         &self,
         alloc: Global,
