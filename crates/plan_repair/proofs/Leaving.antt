@@ -1,14 +1,16 @@
 -- The kept rows that are left behind a name.
-use Rattle.std.proofs.Common.{◌≡◌, ℕ, suc, true, false, List, [], ◌∷◌, ◌++◌, get_or, drop, Option, None, Some, inl, inr, refl, sym, ap, ◌∙◌, subst, append_assoc, arith}
+use Rattle.std.proofs.Common.{◌≡◌, ℕ, suc, ◌+◌, true, false, List, [], ◌∷◌, ◌++◌, get_or, drop, Option, None, Some, inl, inr, refl, sym, ap, ◌∙◌, subst, append_assoc, arith}
 use Rattle.std.specs.Prelude.{◌==◌, find, option_to_list, Contains, IfSome}
+use Rattle.std.proofs.lemmas.List.{drop_more}
 use Rattle.std.proofs.lemmas.List.Elements.{Contains-append_right}
-use Rattle.std.proofs.lemmas.Bool.{and_left, and_parts, both_ways, false_from_ne_true}
+use Rattle.std.proofs.lemmas.Bool.{and_left, and_right, and_parts, both_ways, false_from_ne_true, ne_eqb}
 use Rattle.rail_model.specs.Name.{IsBefore, is_before, is_same, NamesRise}
 use Rattle.rail_model.proofs.NameOrder.{same_name, is_same-before, is_same-after, IsBefore-from, IsBefore-trans, is_before-from, is_before-back, is_before-itself, same_or_after}
 use Rattle.rail_model.proofs.Lists.{find_none}
 use Rattle.plan_model.specs.declared.cut.CutRow.{CutRow}
+use Rattle.plan_model.specs.Members.{no_member}
 use Rattle.plan_repair.specs.Kept.{has}
-use Rattle.plan_repair.specs.Left.{first_is, EndsWith, IsLeft}
+use Rattle.plan_repair.specs.Left.{first_is, HasName, EndsWith, IsLeft}
 
 -- ---- rows that others end with
 
@@ -53,6 +55,17 @@ left_behind name k rest rise h = record {
   later = λ row after. rw (not_same name row.name after k.name h) refl;
 }
 
+-- so is a row of the name itself
+pub left_at : (name : List ℕ) (k : CutRow) (rest : List CutRow) → NamesRise (λ r. r.name) (k ∷ rest) → k.name ≡ name
+    → IsLeft name (k ∷ rest) rest
+left_at name k rest rise same = left_behind name k rest rise (rw same (is_before-itself name))
+
+pub left_in_place : (name : List ℕ) (rows : List CutRow) (i : ℕ) → HasName rows i name → NamesRise (λ r. r.name) (drop i rows)
+    → IsLeft name (drop i rows) (drop (i + 1) rows)
+left_in_place name rows i first rise =
+    let is = drop_more rows i no_member first.there in
+    rw is (left_at name (get_or rows i no_member) (drop (i + 1) rows) (rw is at rise) first.name)
+
 -- ---- rows before a name
 
 not_has : (name : List ℕ) (stamp : ℕ) (k : CutRow) → is_before k.name name ≡ true → has name stamp k ≡ false
@@ -83,8 +96,7 @@ module _ (name : List ℕ) where
         → IsLeft name rows (drop 1 rows)
     left_first [] rise h = absurd (cc)
     left_first (k ∷ rest) rise h =
-        let same = same_name k.name name (and_parts (is_same k.name name) (k.stamp == stamp) h).0 in
-        left_behind name k rest rise (rw same (is_before-itself name))
+        left_at name k rest rise (same_name k.name name (and_parts (is_same k.name name) (k.stamp == stamp) h).0)
 
     -- none is
     pub found_none : (rows : List CutRow) → NamesRise (λ r. r.name) rows → first_is (λ r. is_before r.name name) rows ≡ false
@@ -95,3 +107,14 @@ module _ (name : List ℕ) where
         let behind = rise 0 (suc i) d (omega arith) (omega arith) in
         let after = after_first name k.name (get_or rest i d).name reached behind in
         and_left (is_same (get_or rest i d).name name) ((get_or rest i d).stamp == stamp) (is_same-after name (get_or rest i d).name after)))
+
+    -- nor where the first of them has the name, but another stamp
+    pub none_in_place : (rows : List CutRow) (i : ℕ) → HasName rows i name → NamesRise (λ r. r.name) (drop i rows)
+        → ((get_or rows i no_member).stamp ≡ stamp → ⊥) → find (has name stamp) (drop i rows) ≡ None
+    none_in_place rows i first rise other =
+        let one = get_or rows i no_member in
+        let is = drop_more rows i no_member first.there in
+        let same = first.name in
+        rw is
+        (found_none (one ∷ drop (i + 1) rows) (rw is at rise) (rw same (is_before-itself name))
+        (and_right (is_same one.name name) (one.stamp == stamp) (ne_eqb one.stamp stamp other)))

@@ -1,12 +1,15 @@
 -- A kept row that is looked for by its name and stamp.
-use Rattle.std.proofs.Common.{◌≡◌, suc, Bool, true, false, List, [], ◌∷◌, None, Some, inl, inr, subst, refl, arith}
+use Rattle.std.proofs.Common.{◌≡◌, ℕ, suc, Bool, true, false, List, [], ◌∷◌, get_or, drop, None, Some, inl, inr, subst, refl, arith}
 use Rattle.std.specs.Prelude.{◌==◌, Contains, find}
 use Rattle.std.specs.List.{list_any}
+use Rattle.std.proofs.lemmas.List.{drop_more}
 use Rattle.std.proofs.lemmas.Bool.{and_parts, cases_Bool, eqb-true}
 use Rattle.rail_model.specs.Name.{is_same}
 use Rattle.rail_model.proofs.NameOrder.{same_name}
 use Rattle.plan_model.specs.declared.cut.CutRow.{CutRow}
+use Rattle.plan_model.specs.Members.{no_member}
 use Rattle.plan_repair.specs.Kept.{AgreeByStamps, has}
+use Rattle.plan_repair.specs.Left.{HasName}
 
 -- what is found is there, and passes
 found_has : {X : Type 0} (p : X → Bool) (xs : List X) (x : X) → find p xs ≡ Some x → Contains xs x × (p x ≡ true)
@@ -38,3 +41,9 @@ kept_is kept rows one row agree there found =
     let has_both = found_has (has row.name row.stamp) kept one found in
     let both = and_parts (is_same one.name row.name) (one.stamp == row.stamp) has_both.1 in
     agree one row has_both.0 there (same_name one.name row.name both.0) (eqb-true one.stamp row.stamp both.1)
+
+-- so is the first of those from a position on
+pub stays : (kept rows : List CutRow) (i : ℕ) (row : CutRow) → HasName kept i row.name → AgreeByStamps (drop i kept) rows
+    → Contains rows row → (get_or kept i no_member).stamp ≡ row.stamp → get_or kept i no_member ≡ row
+stays kept rows i row first agree there stamp =
+    agree (get_or kept i no_member) row (rw (drop_more kept i no_member first.there) (0, omega arith, refl)) there first.name stamp

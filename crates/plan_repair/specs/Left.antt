@@ -1,9 +1,9 @@
 -- The kept rows that are left while the rows of a cut are looked for among them, in the order of names.
-use Rattle.std.specs.Prelude.{◌≡◌, ℕ, ◌+◌, ◌<◌, ◌≤◌, Bool, false, List, [], ◌∷◌, ◌++◌, length, take, sum_by}
+use Rattle.std.specs.Prelude.{◌≡◌, ℕ, ◌+◌, ◌<◌, ◌≤◌, Bool, false, List, [], ◌∷◌, ◌++◌, length, take, sum_by, slice_index_or}
 use Rattle.rail_model.specs.Name.{IsBefore, NamesRise}
 use Rattle.plan_model.specs.declared.cut.CutRow.{CutRow}
 use Rattle.plan_model.specs.declared.cut.Cut.{Cut}
-use Rattle.plan_model.specs.Members.{member, member_count}
+use Rattle.plan_model.specs.Members.{member, member_count, no_member}
 use Rattle.plan_model.specs.Reading.{Shown}
 use Rattle.plan_repair.specs.Kept.{is_kept, uses_to_take, TakesAtMost}
 
@@ -23,6 +23,11 @@ pub record IsLeft (name : List ℕ) (before after : List CutRow) : Type 0 where
   pub rise : NamesRise (λ r. r.name) after
   pub ends : EndsWith before after
   pub later : (row : CutRow) → IsBefore name row.name → is_kept after row ≡ is_kept before row
+
+-- a row stands at a position and has this name
+pub record HasName (rows : List CutRow) (at : ℕ) (its : List ℕ) : Type 0 where
+  pub there : at < length rows
+  pub name : (slice_index_or rows at no_member).name ≡ its
 
 -- a row stood at a position among so many, of which some were left, and then those behind it
 pub record StoodAt (count : ℕ) (before after : List CutRow) (row : CutRow) (position : ℕ) : Type 0 where

@@ -1,4 +1,5 @@
 pub mod Kept
 pub mod Left
 pub mod Origin
+pub mod Renewed
 pub mod Held

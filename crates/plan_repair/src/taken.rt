@@ -2,7 +2,8 @@
 ghost use Rattle.std.specs.Prelude.{◌≡◌, ◌<◌, ◌≤◌, nat_lt, IfOk, filter, count_by, length};
 ghost use Rattle.plan_model.specs.Cut.{IsSoundCut, AreBlocksFirst};
 ghost use Rattle.plan_model.specs.Members.{member, member_count};
-ghost use Rattle.plan_model.specs.Reading.{after_taking, uses_of};
+ghost use Rattle.plan_model.specs.Reading.{uses_of};
+ghost use Rattle.plan_repair.specs.Kept.{TakesAtMost};
 
 use plan_model::{CutRow, Rows, least_start};
 use rail_model::{List, OutOfMemory, Use};
@@ -17,9 +18,8 @@ pub(crate) fn take_row<R: Rows>(
     requires there { i < member_count (R.shown reading.old).cut }
     requires sound { IsSoundCut (R.shown reading.old).cut }
     ensures row { IfOk result (λ row. row ≡ member (R.shown reading.old).cut i) }
-    ensures reading { R.shown reading.new
-        ≡ after_taking (length (uses_of (R.shown reading.old) i)) (R.shown reading.old) }
-    ensures no_less { (R.shown reading.old).taken ≤ (R.shown reading.new).taken }
+    ensures reading { TakesAtMost (length (uses_of (R.shown reading.old) i))
+        (R.shown reading.old) (R.shown reading.new) }
 {
     // The count is a number of 64 bits: it doesn't fall where it can't rise.
     let _taken = reading.taken();

@@ -1,8 +1,7 @@
-use Rattle.std.proofs.Common.{◌≡◌, ◌≤◌, None, Some, sym, subst}
+use Rattle.std.proofs.Common.{◌≡◌, None, Some, sym}
 use Rattle.std.specs.Prelude.{find}
 use Rattle.std.proofs.lemmas.List.Elements.{Contains-get_or}
 use Rattle.plan_model.specs.Members.{member, no_member}
-use Rattle.plan_model.specs.Reading.{Shown}
 use Rattle.plan_repair.specs.Kept.{has}
 use Rattle.plan_repair.proofs.Looking.{kept_is}
 use Rattle.plan_repair.proofs.Renewing.{taken_whole}
@@ -23,8 +22,7 @@ returns-in_ok-take_row-in-None-clause-reading g c =
     let row = member shown.cut c.args.i in
     let none : find (has row.name row.stamp) c.args.left.now.items ≡ None =
     rw (← c.name-name.ensures, ← c.stamp-stamp.ensures) (sym c.in-None.ensures.found) in
-    let stays = subst (λ (s : Shown). shown.taken ≤ s.taken) c.take_row.ensures.reading c.take_row.ensures.no_less in
-    rw c.take_row.ensures.reading (taken_whole c.args.left.now.items row shown none stays)
+    taken_whole c.args.left.now.items row shown _ none c.take_row.ensures.reading
 
 pub returns-in_err-take_row-in-None-clause-reading : goal.returns-in_err-take_row-in-None-clause-reading
 returns-in_err-take_row-in-None-clause-reading g c =
@@ -32,8 +30,7 @@ returns-in_err-take_row-in-None-clause-reading g c =
     let row = member shown.cut c.args.i in
     let none : find (has row.name row.stamp) c.args.left.now.items ≡ None =
     rw (← c.name-name.ensures, ← c.stamp-stamp.ensures) (sym c.in-None.ensures.found) in
-    let stays = subst (λ (s : Shown). shown.taken ≤ s.taken) c.take_row.ensures.reading c.take_row.ensures.no_less in
-    rw c.take_row.ensures.reading (taken_whole c.args.left.now.items row shown none stays)
+    taken_whole c.args.left.now.items row shown _ none c.take_row.ensures.reading
 
 pub returns-in_ok-take_row-in-None-clause-from : goal.returns-in_ok-take_row-in-None-clause-from
 returns-in_ok-take_row-in-None-clause-from g c = tt
