@@ -12,9 +12,9 @@ use Rattle.capacity.specs.declared.program.Ended.{Ended}
 
 module _ {S K : Type 0} (status : Status) (told : Option (List (List ℕ))) (not_text : Type 0)
     (source : SourceInCall S) (sink : SinkInCall K) where
-  -- no words can be had, and nothing is read or written: one of them isn't UTF-8, or memory ran out
+  -- no words can be had, and nothing is read or written: one of them isn't UTF-8, or else memory ran out
   pub record HasNoWords : Type 0 where
-    pub why : ((status ≡ BadWords) × not_text × AreNotText told) ⊎ (status ≡ OutOfMemory)
+    pub why : ((status ≡ BadWords) × not_text × AreNotText told) ⊎ ((status ≡ OutOfMemory) × ¬ not_text)
     pub unread : IsUnread source
     pub unwritten : IsUnwritten sink
 
@@ -36,6 +36,8 @@ module _ {S K : Type 0} (ended : Ended) (told : Option (List (List ℕ))) (not_t
     pub status : Status
     pub call : IsCall status told not_text source sink
     pub number : exit_status ended.code ≡ status_number status
-    -- where a word isn't UTF-8, or none are told, nothing is read or written; the number is 2, or 5 for want of memory
-    pub no_words : not_text ⊎ IsNone told
+    -- where a word isn't UTF-8, nothing is read or written; the number is 2
+    pub bad_words : not_text → (exit_status ended.code ≡ 2) × IsUnread source × IsUnwritten sink
+    -- where none are told, the number is 2, or 5 for want of memory
+    pub no_words : IsNone told
         → ((exit_status ended.code ≡ 2) ⊎ (exit_status ended.code ≡ 5)) × IsUnread source × IsUnwritten sink

@@ -53,8 +53,9 @@ module _ {S K : Type 0} (command : Command) (status : Status)
     pub writes : WritesOutcome (IsEnd command source) status sink
     -- `Done`: the input is read to its end
     pub whole_input : status ≡ Done → IsReadToEnd source
-    -- `ReadFault`: one read failed, and none came after it; any other status says that none failed
-    pub read_fault : status ≡ ReadFault → ReadFailed source
+    -- `ReadFault`: one read failed, after no more bytes than an input may have, and none came after it; any other status
+    -- says that none failed
+    pub read_fault : status ≡ ReadFault → ReadFailed source INPUT_BYTES
     pub no_read_fault : status ≢ ReadFault → NoReadFailed source
     -- where the counts show that no call failed, the status is the outcome's, or memory ran out
     pub complete : ShowsNoReadFailed source → ShowsNoWriteFailed sink

@@ -4,6 +4,7 @@ ghost use Rattle.std.specs.String.{string_bytes};
 ghost use Rattle.rail_outside.specs.InCall.{source_call, sink_call, IsReadToEnd, ReadFailed, NoReadFailed, ShowsNoWriteFailed};
 ghost use Rattle.session_run.specs.declared.threads.TheConstants.{WORKERS};
 ghost use Rattle.capacity_cmd.specs.declared.command.Command.TheVariants as command;
+ghost use Rattle.capacity_cmd.specs.declared.limit.TheConstants.{INPUT_BYTES};
 ghost use Rattle.capacity_cmd.specs.declared.status.Status.TheVariants as status;
 ghost use Rattle.capacity_cmd.specs.Command.{command_of, made_of, workers_of, workers_asked, IsAlone};
 ghost use Rattle.capacity_cmd.specs.Outcome.{EndsInText};
@@ -216,7 +217,8 @@ fn reply_from<R: AllocGlobal + Threads + Sync, S: Source>(
         (source_call S.given S.left S.ended S.faults S.at_fault source.old source.new)) }
     ensures why { IfErr result (λ why. (why ≡ status.ReadFault) ⊎ (why ≡ status.OutOfMemory)) }
     ensures fault { result ≡ Err status.ReadFault → ReadFailed
-        (source_call S.given S.left S.ended S.faults S.at_fault source.old source.new) }
+        (source_call S.given S.left S.ended S.faults S.at_fault source.old source.new)
+        INPUT_BYTES }
     ensures no_fault { result ≢ Err status.ReadFault → NoReadFailed
         (source_call S.given S.left S.ended S.faults S.at_fault source.old source.new) }
 {
@@ -242,7 +244,8 @@ fn session_reply<R: AllocGlobal + Threads + Wait + Sync, S: Source, G: Gate>(
         (source_call S.given S.left S.ended S.faults S.at_fault source.old source.new)) }
     ensures why { IfErr result (λ why. (why ≡ status.ReadFault) ⊎ (why ≡ status.OutOfMemory)) }
     ensures fault { result ≡ Err status.ReadFault → ReadFailed
-        (source_call S.given S.left S.ended S.faults S.at_fault source.old source.new) }
+        (source_call S.given S.left S.ended S.faults S.at_fault source.old source.new)
+        INPUT_BYTES }
     ensures no_fault { result ≢ Err status.ReadFault → NoReadFailed
         (source_call S.given S.left S.ended S.faults S.at_fault source.old source.new) }
 {
@@ -270,7 +273,8 @@ fn input_from<R: AllocGlobal + Threads + Sync, S: Source>(
         (source_call S.given S.left S.ended S.faults S.at_fault source.old source.new))) }
     ensures why { IfErr result (λ why. (why ≡ status.ReadFault) ⊎ (why ≡ status.OutOfMemory)) }
     ensures fault { result ≡ Err status.ReadFault → ReadFailed
-        (source_call S.given S.left S.ended S.faults S.at_fault source.old source.new) }
+        (source_call S.given S.left S.ended S.faults S.at_fault source.old source.new)
+        INPUT_BYTES }
     ensures no_fault { result ≢ Err status.ReadFault → NoReadFailed
         (source_call S.given S.left S.ended S.faults S.at_fault source.old source.new) }
 {

@@ -54,8 +54,9 @@ module _ {S : Type 0} (source : SourceInCall S) where
     pub ended : source.ended source.after
     pub left : IsAtEnd (source.left source.after)
 
-  -- one read failed, and none came after it
-  pub record ReadFailed : Type 0 where
+  -- one read failed, after no more bytes than these, and none came after it
+  pub record ReadFailed (most : ℕ) : Type 0 where
+    pub within : (bytes : List ℕ) × (length bytes ≤ most) × Gave bytes
     pub one : RoseByOne (source.faults source.before) (source.faults source.after)
     pub last : source.at_fault source.after
 

@@ -10,8 +10,12 @@ returns g c =
       status = c.call-status.result;
       call = c.call-status.ensures;
       number = is;
-      no_words = λ why. elim c.call-status.ensures [
-        | inl had ↦ absurd (elim why [ inl bad ↦ had.good bad | inr none ↦ false≢true (sym none ∙ ap is_some had.told_are) ])
-        | inr has ↦ (elim has.why [ inl bad ↦ inl (is ∙ ap status_number bad.0) | inr memory ↦ inr (is ∙ ap status_number memory) ], has.unread, has.unwritten)
+      bad_words = λ bad. elim c.call-status.ensures [
+        | inl had ↦ absurd (had.good bad)
+        | inr has ↦ (elim has.why [ inl no ↦ is ∙ ap status_number no.0 | inr memory ↦ absurd (memory.1 bad) ], has.unread, has.unwritten)
+      ];
+      no_words = λ none. elim c.call-status.ensures [
+        | inl had ↦ absurd (false≢true (sym none ∙ ap is_some had.told_are))
+        | inr has ↦ (elim has.why [ inl bad ↦ inl (is ∙ ap status_number bad.0) | inr memory ↦ inr (is ∙ ap status_number memory.0) ], has.unread, has.unwritten)
       ];
     }
