@@ -35,7 +35,11 @@ pub fn journal_rows(
 }
 
 // Adds the rows of entries.
-fn rows_of_entries(alloc: Global, sheet: &mut Sheet, entries: &[Entry]) -> Result<(), OutOfMemory>
+pub(crate) fn rows_of_entries(
+    alloc: Global,
+    sheet: &mut Sheet,
+    entries: &[Entry],
+) -> Result<(), OutOfMemory>
     requires { All (λ e. PublishesAnswer e.act) entries.now }
     ensures { Adds result sheet.old sheet.new (rows.rows_of_journal entries.now) }
 {

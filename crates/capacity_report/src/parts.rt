@@ -18,7 +18,6 @@ pub(crate) fn text_in_parts<
     R: Threads + Sync,
     F: Fn(usize, usize) -> Result<Vec<u8>, OutOfMemory> + Sync,
 >(rt: &R, alloc: Global, count: usize, least: usize, text_of: &F) -> Result<Text, OutOfMemory>
-    requires few { count < 4_294_967_296 }
     requires least { 0 < least }
     requires accepts { AcceptsParts (F.pre text_of.now) count }
     ensures { (rows : ℕ → List Row) → GivesTexts (F.post text_of.now) rows count
@@ -26,8 +25,7 @@ pub(crate) fn text_in_parts<
 {
     let parts = parts_of(rt, count, least);
     let part = move |i: usize| -> Result<Vec<u8>, OutOfMemory>
-        requires { (i < parts) × (parts ≤ count + 1) × (count < 4_294_967_296)
-            × AcceptsParts (F.pre text_of.now) count }
+        requires { (i < parts) × AcceptsParts (F.pre text_of.now) count }
         ensures { F.post text_of.entry.now
             (start_of count parts i) (start_of count parts (i + 1)) result }
     { text_of(start_of(count, parts, i), start_of(count, parts, i + 1)) };
@@ -37,8 +35,7 @@ pub(crate) fn text_in_parts<
 // Into how many parts so many items are split.
 fn parts_of(rt: &impl Threads, count: usize, least: usize) -> usize
     requires { 0 < least }
-    ensures some { 0 < result }
-    ensures most { result ≤ count + 1 }
+    ensures { 0 < result }
 {
     current_num_threads(rt).min(count / least).max(1)
 }
@@ -47,11 +44,9 @@ fn parts_of(rt: &impl Threads, count: usize, least: usize) -> usize
 fn start_of(count: usize, parts: usize, i: usize) -> usize
     requires some { 0 < parts }
     requires most { i ≤ parts }
-    requires parts { parts ≤ count + 1 }
-    requires few { count < 4_294_967_296 }
     ensures { result ≡ start_of count parts i }
 {
-    i * count / parts
+    (i as u128 * count as u128 / parts as u128) as usize
 }
 
 // The text of these pieces in their order, if each could be made.

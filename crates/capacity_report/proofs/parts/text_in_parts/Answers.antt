@@ -9,6 +9,6 @@ returns g c rows are =
     let given = c.in_ok-map_indices.ensures in
     IfOk-weaker c.one_after_another.result _ _
     (λ text h.
-    h.2 ∙ texts_of_all c.args.count c.parts_of-parts.result c.parts_of-parts.ensures.some rows _ are h.0 pieces.items h.1
+    h.2 ∙ texts_of_all c.args.count c.parts_of-parts.result c.parts_of-parts.ensures rows _ are h.0 pieces.items h.1
     (sym pieces.ok.0 ∙ given.len) (λ i d l. (given.each i d l).1.met))
     c.one_after_another.ensures

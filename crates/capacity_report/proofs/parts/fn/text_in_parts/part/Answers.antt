@@ -8,4 +8,4 @@ text_of-requires g c =
     let parts = c.captures.parts in
     let i = c.args.i in
     rw (c.start_of.ensures, c.start_of-2.ensures)
-    (c.requires.3 _ _ (starts_rise count parts (omega (arith, c.requires.0)) i) (starts_within count parts (omega (arith, c.requires.0)) (i + 1) (omega (arith, c.requires.0))))
+    (c.requires.1 _ _ (starts_rise count parts (omega (arith, c.requires.0)) i) (starts_within count parts (omega (arith, c.requires.0)) (i + 1) (omega (arith, c.requires.0))))
