@@ -37,7 +37,11 @@ fn parts_of(rt: &impl Threads, count: usize, least: usize) -> usize
     requires { 0 < least }
     ensures { 0 < result }
 {
-    current_num_threads(rt).min(count / least).max(1)
+    let most = count / least;
+    if most < 2 {
+        return 1;
+    }
+    current_num_threads(rt).min(most)
 }
 
 // The number of a part's first item.
