@@ -1,7 +1,7 @@
 -- Rows that are read ahead are taken as if each were read where it is taken.
-use Rattle.std.proofs.Common.{◌≡◌, ℕ, ◌+◌, ◌<◌, ◌≤◌, Bool, true, false, if◌then◌else◌, List, [], ◌∷◌, ◌++◌, get_or, length, Some, None, Result, Ok, Err, refl, sym, ap, ◌∙◌, subst, ⊎_elim, arith, length-append}
-use Rattle.std.proofs.lemmas.Bool.{cases_lt}
-use Rattle.std.proofs.lemmas.List.{get_or_append_left}
+use Rattle.std.proofs.Common.{◌≡◌, ℕ, ◌+◌, ◌<◌, ◌≤◌, Bool, true, false, if◌then◌else◌, List, [], ◌∷◌, ◌++◌, map, get_or, length, Some, None, Result, Ok, Err, refl, sym, ap, ◌∙◌, subst, arith, length-append}
+use Rattle.std.specs.List.{range_with_len}
+use Rattle.std.proofs.lemmas.List.FromFn.{length-map-range_with_len, get_or-map-range_with_len}
 use Rattle.std.proofs.Math.Seq.{get_or-append_seam}
 use Rattle.rail_model.specs.declared.form.Form.{Form}
 use Rattle.row_text.specs.declared.line.Line.{Line}
@@ -30,27 +30,23 @@ no_lines (found ∷ lines) is = absurd (omega (arith, is))
 
 -- ---- what was read
 
-pub none_read : (version from : ℕ) (rows : List Row) → from ≤ length rows → AreRead version rows from []
-none_read version from rows there = record {
-  there = omega (arith, there);
-  each = λ k d lt. absurd (omega (arith, lt));
-}
+-- the line that the row of a number spells, or the fault of its form
+abbrev pub reading : ℕ → List Row → ℕ → Result Line Form
+reading version rows n = read_in version (get_or rows n [])
 
--- one row more
-pub read_more : (version from i : ℕ) (rows : List Row) (lines : List (Result Line Form)) (found : Result Line Form)
-    → AreRead version rows from lines → from + length lines ≡ i → i < length rows
-    → found ≡ read_in version (get_or rows i [])
-    → AreRead version rows from (lines ++ found ∷ [])
-read_more version from i rows lines found read at there is = record {
-  there = omega (arith, length-append lines (found ∷ []), at, there);
-  each = λ k d lt. ⊎_elim
-      (λ (before : k < length lines). get_or_append_left lines (found ∷ []) d k before ∙ read.each k d before)
-      (λ (last : length lines ≤ k).
-      let k_is : k ≡ length lines = omega (arith, last, lt, length-append lines (found ∷ [])) in
-      let place : from + k ≡ i = omega (arith, k_is, at) in
-      rw (place, k_is) (get_or-append_seam lines found [] d ∙ is))
-      (cases_lt k (length lines));
-}
+-- so many rows, each by its number
+pub read_each : (version from count : ℕ) (rows : List Row) (lines : List (Result Line Form)) → from + count ≤ length rows
+    → lines ≡ map (reading version rows) (range_with_len from count)
+    → AreRead version rows from lines × (from + length lines ≡ from + count)
+read_each version from count rows lines within are =
+    let many : length lines ≡ count = ap length are ∙ length-map-range_with_len (reading version rows) from count in (
+      record {
+        there = omega (arith, many, within);
+        each = λ k d lt. ap (λ xs. get_or xs k d) are
+            ∙ get_or-map-range_with_len (reading version rows) from count k (from + k) d (omega (arith, many, lt)) refl;
+      },
+      omega (arith, many),
+    )
 
 -- the next of what was read
 next_read : (version i : ℕ) (rows : List Row) (all before : List (Result Line Form)) (found : Result Line Form) (rest : List (Result Line Form))

@@ -1,6 +1,7 @@
 -- A report, to which the head of one more section's answer comes.
 use Rattle.std.proofs.Common.{◌≡◌, ℕ, zero, suc, ◌+◌, ◌<◌, ◌≤◌, List, [], ◌∷◌, ◌++◌, length, take, sym, ap, ◌∙◌, subst, append_assoc, arith}
 use Rattle.std.proofs.lemmas.List.{take_all, take_more, length-take-le}
+use Rattle.std.proofs.lemmas.List.Concat.{flat_map-append}
 use Rattle.rail_model.specs.declared.tables.Tables.{Tables}
 use Rattle.rail_model.specs.Tables.{no_section, section_at}
 use Rattle.plan_model.specs.declared.scripts.Task.{Task}
@@ -8,7 +9,7 @@ use Rattle.plan_model.specs.declared.journal.Entry.{Entry}
 use Rattle.plan_model.specs.Journal.{tables_of}
 use Rattle.plan_model.specs.Session.{IsSession}
 use Rattle.row_text.specs.Row.{Row}
-use Rattle.row_text.specs.SheetRows.{text_of_rows}
+use Rattle.row_text.specs.SheetRows.{text_of_row, text_of_rows}
 use Rattle.capacity_report.specs.declared.answers.Detail.TheVariants as detail
 use Rattle.capacity_report.specs.Answers.{answer_rows, AreAnswers, heads, report_rows, Total, total_row, with_answer}
 use Rattle.capacity_report.specs.Journal.{rows_of_journal}
@@ -65,17 +66,18 @@ report_written tables before whole text none adds written = (
   written ∙ ap text_of_rows (adds.2 ∙ ap (λ (r : List Row). r ++ report_rows tables.sections adds.0) none),
 )
 
--- after the rows of a session's journal the report of the tables at its end is the text of the session
-pub journal_written : (journal seen : List Entry) (end_tables : Tables) (before first whole : List Row) (text : List ℕ)
-    → seen ≡ journal → end_tables ≡ tables_of journal → before ≡ [] → first ≡ before ++ rows_of_journal seen
-    → AddsReport end_tables first whole → text ≡ text_of_rows whole → IsJournalText journal text
-journal_written journal seen end_tables before first whole text same last none rows adds written =
-    let report = subst (λ (t : Tables). AddsReport t first whole) last adds in
-    let all = λ (r : List Row). r ++ report_rows (tables_of journal).sections report.0 in (
-      report.0,
-      report.1,
-      written ∙ ap text_of_rows (report.2
-          ∙ ap all (rows ∙ ap (λ (r : List Row). r ++ rows_of_journal seen) none ∙ ap rows_of_journal same)),
+-- after the text of a session's journal the report of the tables at its end makes the text of the session
+pub journal_written : (journal seen : List Entry) (end_tables : Tables) (first last text : List ℕ)
+    → seen ≡ journal → end_tables ≡ tables_of journal → first ≡ text_of_rows (rows_of_journal seen)
+    → IsReportText end_tables last → text ≡ first ++ last → IsJournalText journal text
+journal_written journal seen end_tables first last text same at_end rows report joined =
+    let told = subst (λ (t : Tables). IsReportText t last) at_end report in
+    let all = report_rows (tables_of journal).sections told.0 in (
+      told.0,
+      told.1,
+      joined ∙ ap (λ t. t ++ last) (rows ∙ ap (λ entries. text_of_rows (rows_of_journal entries)) same)
+          ∙ ap (λ t. text_of_rows (rows_of_journal journal) ++ t) told.2
+          ∙ sym (flat_map-append text_of_row (rows_of_journal journal) all),
     )
 
 -- the journal of a session with workers, by its number of workers

@@ -8,16 +8,22 @@ ghost use Rattle.capacity_cmd.specs.Ends.{cut_named, EndsOnNamed, IsCompressText
 use crate::named::cut_named;
 use crate::{Cause, Told};
 use capacity_report::{Detail, answer_rows};
-use compression::answer;
+use compression::answer_of_cut;
 use line_tables::LineTables;
-use plan_model::{Answer, Cut, Reading};
+use plan_model::{Answer, Cut, MEMBERS};
 use rail_model::{Name, OutOfMemory};
+use rayon::current_num_threads;
 use row_text::Sheet;
 use sentences::told_of_cut;
 use std::alloc::Global;
+use std::thread::{Threads, join};
+
+// The answer of a cut with fewer uses isn't worth a thread beside what is told of the cut.
+const LEAST_USES: usize = 8_192;
 
 // The rows of the answer of the section that is named, or why there is none.
 pub(crate) fn compress_text(
+    rt: &impl Threads,
     alloc: Global,
     tables: &LineTables,
     section: Option<Name>,
@@ -29,35 +35,66 @@ pub(crate) fn compress_text(
 {
     match cut_named(alloc, tables, section)? {
         Ok(cut) => {
-            *told = told_of_cut(alloc, tables, &cut);
-            Ok(Ok(answer_text(alloc, cut)?))
+            let answer = answer_telling(rt, alloc, tables, &cut, told)?;
+            Ok(Ok(answer_text(alloc, &cut, &answer)?))
         }
         Err(why) => Ok(Err(why)),
     }
 }
 
+// The answer of a cut, and what is told of it: side by side where both take some time.
+fn answer_telling(
+    rt: &impl Threads,
+    alloc: Global,
+    tables: &LineTables,
+    cut: &Cut,
+    told: &mut Told,
+) -> Result<Answer, OutOfMemory>
+    requires { IsSoundCut cut.now }
+    ensures { IfOk result (IsAnswer cut.now) }
+{
+    if !has_many_uses(cut) || current_num_threads(rt) == 1 {
+        *told = told_of_cut(alloc, tables, cut);
+        return answer_of(alloc, cut);
+    }
+    let answer = move || -> Result<Answer, OutOfMemory>
+        requires { IsSoundCut cut.now }
+        ensures { IfOk result (IsAnswer cut.entry.now) }
+    { answer_of(alloc, cut) };
+    let (notes, answer) = join(rt, move || told_of_cut(alloc, tables, cut), answer);
+    *told = notes;
+    answer
+}
+
+// Whether a cut is one that is compressed, with many uses.
+fn has_many_uses(cut: &Cut) -> bool {
+    let mut uses = 0usize;
+    for row in cut.rows.slice() {
+        uses = uses.saturating_add(row.uses.len());
+    }
+    cut.rows.len() <= MEMBERS && uses >= LEAST_USES
+}
+
+// The answer of a cut.
+pub(crate) fn answer_of(alloc: Global, cut: &Cut) -> Result<Answer, OutOfMemory>
+    requires { IsSoundCut cut.now }
+    ensures { IfOk result (IsAnswer cut.now) }
+{
+    if cut.rows.len() > MEMBERS {
+        return Ok(Answer::Crowded {
+            count: cut.rows.len() as u32,
+        });
+    }
+    answer_of_cut(alloc, cut)
+}
+
 // The text of a cut's answer in full.
-fn answer_text(alloc: Global, cut: Cut) -> Result<Vec<u8>, OutOfMemory>
-    requires { IsSoundCut cut }
-    ensures { IfOk result (λ text. IsCompressText cut text.items) }
+fn answer_text(alloc: Global, cut: &Cut, answer: &Answer) -> Result<Vec<u8>, OutOfMemory>
+    requires sound { IsSoundCut cut.now }
+    requires answer { IsAnswer cut.now answer.now }
+    ensures { IfOk result (λ text. IsCompressText cut.now text.items) }
 {
-    let section = section_name(&cut);
-    let answer = answer_of(alloc, cut)?;
     let mut sheet = Sheet::new(alloc);
-    answer_rows(alloc, &mut sheet, &section, &answer, Detail::Full)?;
+    answer_rows(alloc, &mut sheet, &cut.section.name, answer, Detail::Full)?;
     Ok(sheet.into_text())
-}
-
-fn section_name(cut: &Cut) -> Name
-    ensures { result ≡ cut.now.section.name }
-{
-    cut.section.name
-}
-
-// The answer of a cut, which is spent.
-pub(crate) fn answer_of(alloc: Global, cut: Cut) -> Result<Answer, OutOfMemory>
-    requires { IsSoundCut cut }
-    ensures { IfOk result (IsAnswer cut) }
-{
-    answer(alloc, &mut Reading::new(cut, 0))
 }

@@ -95,7 +95,7 @@ struct InputSoFar {
 
 impl InputSoFar {
     // Takes all rows, up to the first that has a fault. Where they are many and there are several
-    // processors, another thread reads the next of them while some are taken.
+    // processors, other threads read the next of them while some are taken.
     fn take_rows(
         mut self,
         rt: &(impl Threads + Sync),
@@ -140,7 +140,7 @@ impl InputSoFar {
         Ok(None)
     }
 
-    // Takes all rows, some at a time, while another thread reads the next.
+    // Takes all rows, some at a time, while other threads read the next.
     fn take_while_reading(
         self,
         rt: &(impl Threads + Sync),
@@ -155,7 +155,7 @@ impl InputSoFar {
     {
         let mut so_far = self;
         let mut at = rows.first_line();
-        let mut lines = lines_from(alloc, rows, version, at)?;
+        let mut lines = lines_from(rt, alloc, rows, version, at)?;
         while at < rows.len() {
             let next = at + lines.len();
             if next == rows.len() {
@@ -164,7 +164,7 @@ impl InputSoFar {
             let read = move || -> Result<Vec<Result<Line, Form>>, OutOfMemory>
                 requires { (next ≤ length rows.now) × (length rows.now < 2 ^ 64) }
                 ensures { IfOk result (λ lines. IsBatch version rows.entry.now next lines.items) }
-            { lines_from(alloc, rows, version, next) };
+            { lines_from(rt, alloc, rows, version, next) };
             let take = move || -> Result<Result<InputSoFar, Refusal>, OutOfMemory>
                 requires { (so_far.base.edits ≤ at) × (at + length lines.items < 2 ^ 64) }
                 ensures { IfOk result (TakesLines planners at lines.items so_far) }

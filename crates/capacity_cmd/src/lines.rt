@@ -1,13 +1,26 @@
 //! Rows that are read ahead of those that are taken.
-ghost use Rattle.std.specs.Prelude.{◌≡◌, ◌+◌, ◌<◌, ◌≤◌, length, IfOk};
+ghost use Rattle.std.specs.Prelude.{◌≡◌, ◌+◌, ◌<◌, ◌≤◌, ◌^◌, [], length, slice_index_or, IfOk};
+ghost use Rattle.row_text.specs.Lines.{read_in};
 ghost use Rattle.capacity_cmd.specs.ReadAhead.{AreRead, IsBatch};
 
 use rail_model::{Form, OutOfMemory};
-use row_text::{Line, RowList};
+use rayon::current_num_threads;
+use rayon::prelude::*;
+use row_text::{Line, Row, RowList};
 use std::alloc::Global;
+use std::thread::Threads;
 
-// Rows that are read at once have at most so many fields together, where they are several.
-const FIELDS_AT_ONCE: usize = 32_768;
+// The lines of rows that are read at once take about so many bytes together at most, where they are
+// several.
+const BYTES_AT_ONCE: usize = 2_097_152;
+
+// About how many bytes a line takes beside those of the fields of its row.
+const LINE_BYTES: usize = 240;
+
+// How many bytes a field takes in the line of a run, where two are the times of a leg, and in any
+// other line, where most are names.
+const TIME_BYTES: usize = 4;
+const NAME_BYTES: usize = 72;
 
 // Whether the rows are more than are read at once. No clause says so: read ahead or not, they say
 // the same.
@@ -16,8 +29,10 @@ pub(crate) fn are_many(rows: &RowList<'_>) -> bool {
     first < rows.len() && end_of_batch(rows, first) < rows.len()
 }
 
-// The lines of the rows from a place on that are read at once, at least one where one is left.
+// The lines of the rows from a place on that are read at once, at least one where one is left. As
+// many threads read them as there are processors.
 pub(crate) fn lines_from(
+    rt: &(impl Threads + Sync),
     alloc: Global,
     rows: &RowList<'_>,
     version: u32,
@@ -29,11 +44,12 @@ pub(crate) fn lines_from(
     if from == rows.len() {
         return Ok(Vec::new(alloc));
     }
-    lines_between(alloc, rows, version, from, end_of_batch(rows, from))
+    lines_between(rt, alloc, rows, version, from, end_of_batch(rows, from))
 }
 
 // The lines of the rows from one on and before another.
 fn lines_between(
+    rt: &(impl Threads + Sync),
     alloc: Global,
     rows: &RowList<'_>,
     version: u32,
@@ -42,14 +58,20 @@ fn lines_between(
 ) -> Result<Vec<Result<Line, Form>>, OutOfMemory>
     requires order { from ≤ to }
     requires there { to ≤ length rows.now }
-    ensures read { IfOk result (λ lines. AreRead version rows.now from lines.items) }
-    ensures all { IfOk result (λ lines. from + length lines.items ≡ to) }
+    ensures { IfOk result (λ lines. AreRead version rows.now from lines.items
+        × (from + length lines.items ≡ to)) }
 {
-    let mut lines = Vec::with_capacity(alloc, to - from)?;
-    for i in from..to {
-        lines.push(rows.line(alloc, version, i)?)?;
-    }
-    Ok(lines)
+    (from..to)
+        .into_par_iter()
+        .with_min_len(((to - from) / current_num_threads(rt)).max(1))
+        .map(
+            move |i: usize| -> Result<Result<Line, Form>, OutOfMemory>
+                requires { i < length rows.now }
+                ensures { IfOk result (λ found. found
+                    ≡ read_in version (slice_index_or rows.entry.now i [])) }
+            { rows.line(alloc, version, i) },
+        )
+        .collect::<Result<Vec<Result<Line, Form>>, OutOfMemory>>(rt, alloc)?
 }
 
 // The place after the rows from one on that are read at once.
@@ -58,12 +80,19 @@ fn end_of_batch(rows: &RowList<'_>, from: usize) -> usize
     ensures some { from < result }
     ensures there { result ≤ length rows.now }
 {
-    let mut fields = 0usize;
+    let mut bytes = 0usize;
     for to in from..rows.len() {
-        fields = fields.saturating_add(rows.get(to).len());
-        if fields > FIELDS_AT_ONCE && to > from {
+        bytes = bytes.saturating_add(line_bytes(&rows.get(to)));
+        if bytes > BYTES_AT_ONCE && to > from {
             return to;
         }
     }
     rows.len()
+}
+
+// About how many bytes the line of a row takes.
+fn line_bytes(row: &Row<'_>) -> usize {
+    let is_run = !row.is_empty() && row.get(0) == b"run".as_slice();
+    let field = if is_run { TIME_BYTES } else { NAME_BYTES };
+    row.len().saturating_mul(field).saturating_add(LINE_BYTES)
 }

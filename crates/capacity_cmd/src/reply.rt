@@ -128,7 +128,7 @@ pub(crate) fn reply_on_threads<R: Threads + Wait + Sync, G: Gate>(
     ensures { IfOk result (IsReply (EndsOnAccepted (command.Session workers) given)) }
 {
     Ok(Reply {
-        text: Text::of(text_on_threads(rt, alloc, given, workers, gate)?)?,
+        text: text_on_threads(rt, alloc, given, workers, gate)?,
         status: Status::Done,
     })
 }

@@ -123,5 +123,5 @@ pub(crate) fn answer_among(
     ensures of_some { IfOk result IsAnswerOfSome }
 {
     let cut = cut_among(alloc, tables, stairs, number, 0)?;
-    answer_of(alloc, cut)
+    answer_of(alloc, &cut)
 }

@@ -10,23 +10,27 @@ ghost use Rattle.plan_book.specs.declared.book.TheConstants.{PLANNERS};
 use crate::accepted::Accepted;
 use crate::published::answers_of_book;
 use crate::report::add_report;
-use capacity_report::journal_rows;
+use capacity_report::journal_text;
 use plan_book::Book;
 use rail_model::OutOfMemory;
 use rail_outside::Gate;
-use row_text::Sheet;
+use row_text::{Sheet, Text};
 use session_run::{session, session_alone};
 use std::alloc::Global;
 use std::sync::Wait;
 use std::thread::Threads;
 
 // The text of a session in one thread.
-pub(crate) fn text_alone(alloc: Global, given: Accepted) -> Result<Vec<u8>, OutOfMemory>
+pub(crate) fn text_alone(
+    rt: &(impl Threads + Sync),
+    alloc: Global,
+    given: Accepted,
+) -> Result<Text, OutOfMemory>
     requires { IsWithin PLANNERS INPUT_BYTES given }
-    ensures { IfOk result (λ text. IsSessionText given.tables given.at given.scripts 0 text.items) }
+    ensures { IfOk result (IsSessionText given.tables given.at given.scripts 0) }
 {
     let book = session_alone(alloc, given.tables, given.at, given.scripts)?;
-    text_of_book(alloc, &book)
+    text_of_book(rt, alloc, &book)
 }
 
 // The text of a session with workers, where each planner and each worker has a thread of its own.
@@ -36,12 +40,11 @@ pub(crate) fn text_on_threads<R: Threads + Wait + Sync, G: Gate>(
     given: Accepted,
     workers: u32,
     gate: &G,
-) -> Result<Vec<u8>, OutOfMemory>
+) -> Result<Text, OutOfMemory>
     requires within { IsWithin PLANNERS INPUT_BYTES given }
     requires some { 1 ≤ workers }
     requires most { workers ≤ WORKERS }
-    ensures { IfOk result (λ text.
-        IsSessionText given.tables given.at given.scripts workers text.items) }
+    ensures { IfOk result (IsSessionText given.tables given.at given.scripts workers) }
 {
     let book = session(
         rt,
@@ -52,18 +55,23 @@ pub(crate) fn text_on_threads<R: Threads + Wait + Sync, G: Gate>(
         workers,
         gate,
     )?;
-    text_of_book(alloc, &book)
+    text_of_book(rt, alloc, &book)
 }
 
-// The rows of a book's journal, and the report of its tables: each section is current, so the last
+// The text of a book's journal, and the report of its tables: each section is current, so the last
 // publications are the answers.
-fn text_of_book(alloc: Global, book: &Book) -> Result<Vec<u8>, OutOfMemory>
+fn text_of_book(
+    rt: &(impl Threads + Sync),
+    alloc: Global,
+    book: &Book,
+) -> Result<Text, OutOfMemory>
     requires { AllAreCurrent book.now }
-    ensures { IfOk result (λ text. IsJournalText book.now text.items) }
+    ensures { IfOk result (IsJournalText book.now) }
 {
-    let mut sheet = Sheet::new(alloc);
-    journal_rows(alloc, &mut sheet, book.journal())?;
+    let mut text = journal_text(rt, alloc, book.journal())?;
     let answers = answers_of_book(alloc, book)?;
+    let mut sheet = Sheet::new(alloc);
     add_report(alloc, &mut sheet, book.tables(), &answers)?;
-    Ok(sheet.into_text())
+    text.push(sheet.into_text())?;
+    Ok(text)
 }

@@ -43,7 +43,7 @@ pub(crate) fn text_of(
         Command::Stairs => Ok(Ok(stairs_text(rt, alloc, &given.tables)?)),
         Command::Check => in_one_piece(Ok(check_text(rt, alloc, &given.tables)?)),
         Command::Compress(section) => {
-            in_one_piece(compress_text(alloc, &given.tables, *section, told)?)
+            in_one_piece(compress_text(rt, alloc, &given.tables, *section, told)?)
         }
         Command::Report => in_one_piece(Ok(report_text(rt, alloc, &given.tables)?)),
         Command::Headways(section) => headways_text(rt, alloc, &given.tables, *section),
@@ -55,7 +55,7 @@ pub(crate) fn text_of(
         Command::Fill(section, run) => {
             in_one_piece(fill_text(alloc, &given.tables, *section, *run, told)?)
         }
-        Command::Session(_) => in_one_piece(Ok(text_alone(alloc, given)?)),
+        Command::Session(_) => Ok(Ok(text_alone(rt, alloc, given)?)),
     }
 }
 

@@ -60,5 +60,5 @@ pub returns-in_ok-text_alone-in-Session : goal.returns-in_ok-text_alone-in-Sessi
 returns-in_ok-text_alone-in-Session g c =
     let text = c.in_ok-text_alone-in-Session.field-0 in
     let none : c.in-Session.field-0 ≡ 0 = subst (λ which. workers_of which ≡ 0) c.in-Session.is c.requires.alone in
-    piece_ends (λ t. t.items) _ _ c.args.given (Ok text) c.in_one_piece-in-Session.result c.in-Session.is
-    (text.items, rw none c.in_ok-text_alone-in-Session.ensures, refl) c.in_one_piece-in-Session.ensures
+    subst (λ which. EndsOnAccepted which c.args.given (Writes text)) (sym c.in-Session.is)
+    (text, rw none c.in_ok-text_alone-in-Session.ensures, refl)

@@ -9,7 +9,10 @@ use Rattle.capacity_cmd.proofs.ReadingAhead.{first_within, taken_whole}
 use Rattle.capacity_cmd.proofs.input.InputSoFar.take_while_reading.Goals as goal
 
 pub lines_from-requires : goal.lines_from-requires
-lines_from-requires g c = omega (arith, c.first_line-at.ensures, first_within c.args.rows.now)
+lines_from-requires g c = (
+  record { shared = c.type_bounds.sync-typeof-rt.shared },
+  omega (arith, c.first_line-at.ensures, first_within c.args.rows.now),
+)
 
 pub loop-at-init : goal.loop-at-init
 loop-at-init g c = (
