@@ -20,6 +20,7 @@ const LINE_BYTES: usize = 240;
 // How many bytes a field takes in the line of a run, where two are the times of a leg, and in any
 // other line, where most are names.
 const TIME_BYTES: usize = 4;
+
 const NAME_BYTES: usize = 72;
 
 // Whether the rows are more than are read at once. No clause says so: read ahead or not, they say

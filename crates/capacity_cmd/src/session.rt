@@ -60,11 +60,7 @@ pub(crate) fn text_on_threads<R: Threads + Wait + Sync, G: Gate>(
 
 // The text of a book's journal, and the report of its tables: each section is current, so the last
 // publications are the answers.
-fn text_of_book(
-    rt: &(impl Threads + Sync),
-    alloc: Global,
-    book: &Book,
-) -> Result<Text, OutOfMemory>
+fn text_of_book(rt: &(impl Threads + Sync), alloc: Global, book: &Book) -> Result<Text, OutOfMemory>
     requires { AllAreCurrent book.now }
     ensures { IfOk result (IsJournalText book.now) }
 {
