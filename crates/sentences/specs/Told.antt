@@ -1,5 +1,5 @@
 -- Lines for people: what holds of them, whatever they say.
-use Rattle.std.specs.Prelude.{◌≡◌, ℕ, Bool, true, ◌||◌, ◌==◌, ◌⊎◌, List, [], ◌++◌, Option, None, Some, codes, decimal}
+use Rattle.std.specs.Prelude.{◌≡◌, ℕ, Bool, ◌||◌, ◌==◌, ◌⊎◌, List, [], ◌++◌, Option, None, Some, codes, decimal}
 use Rattle.std.specs.List.{list_all}
 use Rattle.rail_model.specs.Name.{is_name_byte}
 

@@ -4,7 +4,7 @@ use Rattle.std.specs.Prelude.{ℤ, Option, Some, None, ◌≤ℤ◌, ◌<ℤ◌,
 use Rattle.std.specs.Option.{option_or}
 use Rattle.std.specs.List.{list_any, range_with_len, All}
 use Rattle.std.specs.Cmp.{both_ways}
-use Rattle.std.proofs.lemmas.Bool.{cases_Bool, cases_eq, eqb-true, eq-eqb, false_from_ne_true}
+use Rattle.std.proofs.lemmas.Bool.{cases_Bool, cases_eq, eqb-true, eq-eqb}
 use Rattle.std.proofs.lemmas.Int.{ints}
 use Rattle.rail_model.proofs.Numbers.{not_lt_from_le, test_from_lt}
 use Rattle.std.proofs.lemmas.List.{take_more, get_or_default, get_or-take, length-take-le, get_or-set_same, get_or-set_other}

@@ -1,34 +1,21 @@
 -- Members that are kept in one order have it as their order: none are opposite, and none remain.
-use Rattle.std.proofs.Common.{◌≡◌, ℕ, zero, suc, ◌+◌, ◌<◌, true, false, ◌==◌, List, [], ◌∷◌, length, get_or, inl, inr, refl, sym, ap, subst, ◌∙◌, arith}
-use Rattle.std.specs.Prelude.{Ok, map}
-use Rattle.std.specs.List.{list_any, All}
-use Rattle.std.specs.List.Sorted.{IsPermutation, IsSortedByKey}
-use Rattle.std.specs.Option.{option_map}
-use Rattle.std.proofs.lemmas.Bool.{cases_lt, cases_eq, and_parts, or_left, eq-eqb, both_ways, false_from_ne_true}
-use Rattle.std.proofs.lemmas.List.{get_or_default, get_or-map, length-map}
-use Rattle.std.proofs.lemmas.Simd.{map-map}
-use Rattle.std.proofs.lemmas.List.Elements.{All-map}
+use Rattle.std.proofs.Common.{◌≡◌, ℕ, ◌<◌, true, false, List, length, get_or, inl, inr, sym, ap, subst, ◌∙◌, arith}
+use Rattle.std.specs.Prelude.{Ok}
+use Rattle.std.specs.List.Sorted.{IsPermutation}
+use Rattle.std.proofs.lemmas.Bool.{cases_lt, cases_eq, and_parts, both_ways}
+use Rattle.std.proofs.lemmas.List.{get_or_default}
 use Rattle.std.proofs.lemmas.List.FromFn.{length-range_with_len, get_or-range_with_len}
-use Rattle.std.proofs.lemmas.List.Sorted.{Contains-permutation, All-permutation, length_permutation, IsPermutation-map, sorted_far, ranks_by}
+use Rattle.std.proofs.lemmas.List.Sorted.{Contains-permutation, length_permutation}
 use Rattle.plan_model.specs.declared.cut.Cut.{Cut}
 use Rattle.plan_model.specs.Members.{member, member_count, members, use_at}
 use Rattle.plan_model.specs.Places.{places}
 use Rattle.plan_model.specs.Precedence.{precedes, precedes_somewhere}
-use Rattle.plan_model.specs.Disorder.{opposite_of, preceded, after_rounds, remaining}
 use Rattle.plan_model.specs.Cut.{IsSoundCut}
-use Rattle.plan_model.proofs.MemberTests.{in_range, filter-has}
-use Rattle.plan_model.proofs.Uses.{place_there}
-use Rattle.rail_model.proofs.Lists.{map_itself}
 use Rattle.train_order.specs.declared.found.Order.{Order}
 use Rattle.train_order.specs.Ordering.{IsOrder, IsOrdering}
-use Rattle.train_order.specs.Taking.{is_among}
-use Rattle.train_order.specs.declared.entry_order.Moment.{Moment}
-use Rattle.train_order.specs.Visits.{key_cmp, is_earlier}
 use Rattle.train_order.specs.EntryOrder.{AreInOrder}
 use Rattle.train_order.proofs.Among.{StandsAt}
-use Rattle.train_order.proofs.Apart.{range_differs, not_twice, below}
-use Rattle.train_order.proofs.Before.{key_cmp_total, earlier_is, never_itself, not_later}
-use Rattle.train_order.proofs.Users.{users, somewhere}
+use Rattle.train_order.proofs.Before.{earlier_is, never_itself}
 use Rattle.train_order.proofs.Ordered.{ordering}
 use Rattle.train_order.proofs.Find.{find_some}
 

@@ -3,7 +3,7 @@ use Rattle.std.proofs.Common.{◌≡◌, ◌≢◌, ℕ, zero, suc, ◌+◌, ◌
 use Rattle.std.specs.Prelude.{filter}
 use Rattle.std.specs.List.{list_any, range_with_len}
 use Rattle.std.specs.List.Sorted.{IsPermutation}
-use Rattle.std.proofs.lemmas.Bool.{cases_Bool, cases_order, both_ways, false_from_ne_true, not_from_true, not_from_false}
+use Rattle.std.proofs.lemmas.Bool.{cases_Bool, both_ways, false_from_ne_true, not_from_true, not_from_false}
 use Rattle.std.proofs.lemmas.List.{append-nil}
 use Rattle.plan_model.specs.declared.cut.Cut.{Cut}
 use Rattle.plan_model.specs.Members.{member_count, members}
@@ -15,7 +15,7 @@ use Rattle.train_order.specs.Ordering.{StandsBefore, IsOrder}
 use Rattle.train_order.specs.Sets.{relates, ArePreceded}
 use Rattle.train_order.specs.Taking.{is_among, AreTakenUp}
 use Rattle.train_order.proofs.Find.{find_some}
-use Rattle.train_order.proofs.Among.{stands_at, first_among, among_first, among_passing, passing_among, not_before}
+use Rattle.train_order.proofs.Among.{stands_at, first_among, among_passing, passing_among}
 use Rattle.train_order.proofs.Waiting.{same_passing}
 use Rattle.train_order.proofs.Whole.{twice, all_pass, left_of, all_there, whole_length}
 

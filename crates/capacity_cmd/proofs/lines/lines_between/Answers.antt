@@ -1,10 +1,9 @@
-use Rattle.std.proofs.Common.{◌≡◌, ℕ, ◌+◌, ◌-◌, ◌<◌, ◌≤◌, ◌∙◌, length, ap, subst, sym, arith}
+use Rattle.std.proofs.Common.{◌≡◌, ℕ, ◌+◌, ◌-◌, ◌<◌, ◌≤◌, ◌∙◌, length, arith}
 use Rattle.std.proofs.lemmas.Result.{IfOk-weaker}
 use Rattle.std.specs.List.{range_with_len}
 use Rattle.rayon.specs.Numbers.{nat_range}
 use Rattle.rayon.proofs.ToStd.{nat_range-All}
 use Rattle.rail_model.proofs.Collected.{images_collected}
-use Rattle.capacity_cmd.specs.ReadAhead.{AreRead}
 use Rattle.capacity_cmd.proofs.ReadingAhead.{reading, read_each}
 use Rattle.capacity_cmd.proofs.lines.lines_between.Goals as goal
 

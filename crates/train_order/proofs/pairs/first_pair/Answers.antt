@@ -1,4 +1,4 @@
-use Rattle.std.proofs.Common.{◌≡◌, ◌<◌, ◌≤◌, subst, sym, arith}
+use Rattle.std.proofs.Common.{◌<◌, ◌≤◌, subst, sym, arith}
 use Rattle.plan_model.specs.Members.{member_count}
 use Rattle.train_order.proofs.Least.{IsLeast, least_at_first, least_more, least_is}
 use Rattle.train_order.proofs.pairs.first_pair.Goals as goal
