@@ -21,12 +21,12 @@ use Rattle.rail_model.specs.declared.items.Item.TheVariants as item
 use Rattle.row_text.specs.declared.line.Line.{Line}
 use Rattle.row_text.specs.declared.line.Line.TheVariants as line
 use Rattle.row_text.specs.Row.{Row}
-use Rattle.row_text.specs.Sorts.{Name, name_in, time_in}
+use Rattle.row_text.specs.Sorts.{name_in, time_in}
 use Rattle.row_text.specs.Words.{kind_shape, word_of, allows}
 use Rattle.row_text.specs.Lines.{read_each, legs_of, item_in, read_in}
 use Rattle.row_text.specs.Spelling.{leg_times, time_text, item_fields, row_in}
 use Rattle.row_text.proofs.Numbers.{number_in-decimal, rate_in-decimal}
-use Rattle.row_text.proofs.Says.{Says, Each}
+use Rattle.row_text.proofs.Says.{Name, Says, Each}
 use Rattle.plan_model.specs.declared.scripts.Task.{Task}
 use Rattle.made_line.specs.Base.{next_number, draw, after_draws, is_printed, digit, block_name, signal_name, run_name, section_name, block_of, first_blocks, made_signal, first_signals, signal_names, made_route, made_leg, first_legs, made_run, run_from, first_runs, made_runs, block_names, made_section, first_sections, put_block, put_signal, put_route, put_run, put_section, base_edits, change_run, change_task, ask_task, first_tasks, first_scripts, scripts_of_made}
 use Rattle.made_line.specs.Text.{line_of, script_lines, lines_of_scripts, made_lines}

@@ -18,7 +18,7 @@ use Rattle.plan_model.proofs.Unique.{answer_is_unique}
 use Rattle.plan_model.proofs.Alone.{session_alone_is_one}
 use Rattle.capacity_report.specs.declared.answers.Detail.TheVariants as detail
 use Rattle.capacity_report.specs.Answers.{answer_rows, AreAnswers, report_rows}
-use Rattle.capacity_report.specs.Rows.{check_rows}
+use Rattle.capacity_report.specs.Rows.{stairs_rows, check_rows}
 use Rattle.capacity_report.specs.Journal.{rows_of_journal}
 use Rattle.line_cutter.specs.Rows.{cutting_rows}
 use Rattle.line_cutter.proofs.Unique.{cutting_is_unique}
