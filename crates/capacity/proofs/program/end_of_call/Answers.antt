@@ -12,7 +12,7 @@ returns g c =
       number = is;
       bad_words = λ bad. elim c.call-status.ensures [
         | inl had ↦ absurd (had.good bad)
-        | inr has ↦ (elim has.why [ inl no ↦ is ∙ ap status_number no.0 | inr memory ↦ absurd (memory.1 bad) ], has.unread, has.unwritten)
+        | inr has ↦ (elim has.why [ inl rejected ↦ is ∙ ap status_number rejected.0 | inr memory ↦ absurd (memory.1 bad) ], has.unread, has.unwritten)
       ];
       no_words = λ none. elim c.call-status.ensures [
         | inl had ↦ absurd (false≢true (sym none ∙ ap is_some had.told_are))
