@@ -5,7 +5,7 @@ ghost use Rattle.line_tables.specs.KeySet.{holds, SameKeys, HasWord, Meets, Keep
 ghost use Rattle.line_tables.specs.Links.{repeats_key};
 
 use rail_model::OutOfMemory;
-use std::alloc::Global;
+use std::alloc::{AllocError, Global};
 use std::marker::Model;
 
 /// How many keys a word has bits for.
@@ -104,11 +104,12 @@ impl KeySet {
     {
         part(&mut self.words, others);
     }
+}
 
-    /// A copy of the set.
-    pub(crate) fn copy(&self) -> Result<Self, OutOfMemory>
-        ensures { IfOk result (λ other. other ≡ self.now) }
-    {
+impl Clone for KeySet {
+    ghost is_clone = { λ set other. other ≡ set };
+
+    fn clone(&self) -> Result<KeySet, AllocError> {
         Ok(KeySet {
             words: self.words.clone()?,
         })

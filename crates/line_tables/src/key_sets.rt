@@ -142,13 +142,9 @@ impl KeySets {
     pub(crate) fn copy(&self) -> Result<Self, OutOfMemory>
         ensures { IfOk result (λ other. other ≡ self.now) }
     {
-        let mut sets = Vec::with_capacity(self.alloc, self.sets.len())?;
-        for set in &self.sets {
-            sets.push(set.copy()?)?;
-        }
         Ok(KeySets {
             alloc: self.alloc,
-            sets,
+            sets: self.sets.clone()?,
         })
     }
 }
