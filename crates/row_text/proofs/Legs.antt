@@ -1,6 +1,5 @@
 -- The legs of times that are read from fields, two fields at a time.
-use Rattle.std.proofs.Common.{◌≡◌, ℕ, ◌+◌, ◌<◌, ◌≤◌, false, ◌==◌, List, [], ◌∷◌, ◌++◌, length, drop, Result, Ok, Err, refl, arith}
-use Rattle.std.proofs.lemmas.List.{append-nil, drop_all}
+use Rattle.std.proofs.Common.{◌≡◌, ℕ, ◌+◌, ◌<◌, false, ◌==◌, List, [], ◌∷◌, ◌++◌, length, drop, Result, Ok, Err, refl, arith}
 use Rattle.rail_model.specs.declared.form.Form.{Form}
 use Rattle.rail_model.specs.declared.items.Leg.{Leg}
 use Rattle.row_text.specs.Row.{Row, field}
@@ -37,22 +36,3 @@ pub after-leg : (row : Row) (i a b : ℕ) (legs : List Leg) → i + 1 < length r
     → after (legs ++ record { running_s = a; dwell_s = b } ∷ []) (legs_in 1 0 (drop (i + 2) row)) ≡ after legs (legs_in 1 0 (drop i row))
 after-leg row i a b legs lt first second =
     rw (legs_in-two row i a b lt first second) (after-push legs (record { running_s = a; dwell_s = b }) (legs_in 1 0 (drop (i + 2) row)))
-
--- a running time has a fault, and a dwell time
-pub after-running_fault : (row : Row) (i : ℕ) (legs : List Leg) (fault : Form) → i < length row → number_in (field row i) ≡ Err fault
-    → after legs (legs_in 1 0 (drop i row)) ≡ Err fault
-after-running_fault row i legs fault lt is = rw (read_each-drop (time_in 1) row i lt, is) refl
-
-pub after-dwell_fault : (row : Row) (i a : ℕ) (legs : List Leg) (fault : Form) → i + 1 < length row → number_in (field row i) ≡ Ok a → number_in (field row (i + 1)) ≡ Err fault
-    → after legs (legs_in 1 0 (drop i row)) ≡ Err fault
-after-dwell_fault row i a legs fault lt first is =
-    rw (read_each-drop (time_in 1) row i (omega arith), first, read_each-drop (time_in 1) row (i + 1) lt, is) refl
-
--- the last leg has no dwell time
-pub after-last_leg : (row : Row) (i a : ℕ) (legs : List Leg) → i < length row → length row ≤ i + 1 → number_in (field row i) ≡ Ok a
-    → after legs (legs_in 1 0 (drop i row)) ≡ Ok (legs ++ record { running_s = a; dwell_s = 0 } ∷ [])
-after-last_leg row i a legs lt le is = rw (read_each-drop (time_in 1) row i lt, is, drop_all (i + 1) row le) refl
-
--- all legs were read
-pub after-all_legs : (row : Row) (i : ℕ) (legs : List Leg) → length row ≤ i → after legs (legs_in 1 0 (drop i row)) ≡ Ok legs
-after-all_legs row i legs le = rw (drop_all i row le, append-nil legs) refl

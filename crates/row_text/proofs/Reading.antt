@@ -16,11 +16,6 @@ pub after-push : {A : Type 0} (read : List A) (x : A) (rest : Result (List A) Fo
 after-push read x (Err fault) = refl
 after-push read x (Ok xs) = ap Ok (append_assoc read (x ∷ []) xs)
 
--- nothing is read yet
-pub after-none : {A : Type 0} (rest : Result (List A) Form) → after [] rest ≡ rest
-after-none (Err fault) = refl
-after-none (Ok xs) = refl
-
 -- the fields from one on: that field, and those after it
 read_each-suc : {A : Type 0} (of : List ℕ → Result A Form) (row : Row) (i : ℕ) → i < length row → read_each of (drop i row) ≡ then_rest (of (field row i)) (read_each of (drop (suc i) row))
 read_each-suc of [] i lt = absurd (omega arith)
@@ -34,8 +29,3 @@ read_each-drop of row i lt = rw add-one (read_each-suc of row i lt)
 pub after-read : {A : Type 0} (of : List ℕ → Result A Form) (row : Row) (i : ℕ) (read : List A) (x : A) → i < length row → of (field row i) ≡ Ok x
     → after (read ++ x ∷ []) (read_each of (drop (i + 1) row)) ≡ after read (read_each of (drop i row))
 after-read of row i read x lt is = rw (read_each-drop of row i lt, is) (after-push read x (read_each of (drop (i + 1) row)))
-
--- the next field has a fault
-pub after-fault : {A : Type 0} (of : List ℕ → Result A Form) (row : Row) (i : ℕ) (read : List A) (fault : Form) → i < length row → of (field row i) ≡ Err fault
-    → after read (read_each of (drop i row)) ≡ Err fault
-after-fault of row i read fault lt is = rw (read_each-drop of row i lt, is) refl

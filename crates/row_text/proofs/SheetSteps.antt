@@ -116,21 +116,6 @@ HoldsRows-end old new rows row h some ended has_field room written =
       begun = has_field;
     }
 
--- the row that is being written is taken back
-pub HoldsRows-drop : (old new : Inside) (rows : List Row) (row : Row) → HoldsRows old rows row → new.text ≡ old.text → new.ended ≡ old.ended → new.used ≡ old.ended → new.has_field ≡ false → HoldsRows new rows []
-HoldsRows-drop old new rows row h text ended used has_field =
-    let order = h.order in
-    let room = h.room in
-    let none : old.ended - old.ended ≡ 0 = omega arith in
-    record {
-      order = omega arith;
-      room = rw (text, used) (omega arith);
-      ended = rw (text, ended) h.ended;
-      each = h.each;
-      body = rw (ended, used, none) refl;
-      begun = has_field;
-    }
-
 -- the rows of another sheet are added to those that were ended
 pub HoldsRows-append : (old other new : Inside) (rows more : List Row) (row : Row) → HoldsRows old rows [] → HoldsRows other more row → new.ended ≡ new.used → new.has_field ≡ old.has_field → new.used ≤ length new.text.items
     → take new.used new.text.items ≡ ended_text old ++ ended_text other → HoldsRows new (rows ++ more) []

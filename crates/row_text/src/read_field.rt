@@ -4,6 +4,7 @@ ghost use Rattle.row_text.specs.Row.{field};
 ghost use Rattle.row_text.specs.Sorts.{name_in, number_in, rate_in, time_in, number_of, class_rate, rate_of, clock_of, time_of};
 
 use crate::fields::Row;
+use crate::word::is_word;
 use rail_model::{Form, Name};
 
 /// The greatest number of digits of a number.
@@ -77,22 +78,22 @@ fn rate(field: &[u8]) -> Option<u32>
 fn class_rate(field: &[u8]) -> Option<u32>
     ensures { result ≡ class_rate field.now }
 {
-    if field == b"suburban-peak".as_slice() {
+    if is_word(field, b"suburban-peak") {
         return Some(18);
     }
-    if field == b"suburban-day".as_slice() {
+    if is_word(field, b"suburban-day") {
         return Some(43);
     }
-    if field == b"highspeed-peak".as_slice() {
+    if is_word(field, b"highspeed-peak") {
         return Some(33);
     }
-    if field == b"highspeed-day".as_slice() {
+    if is_word(field, b"highspeed-day") {
         return Some(67);
     }
-    if field == b"mixed-peak".as_slice() {
+    if is_word(field, b"mixed-peak") {
         return Some(33);
     }
-    if field == b"mixed-day".as_slice() {
+    if is_word(field, b"mixed-day") {
         return Some(67);
     }
     None

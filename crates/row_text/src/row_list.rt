@@ -12,6 +12,7 @@ use crate::places::{places_for, push_place};
 use crate::plain_rows::plain_rows;
 use crate::put::make_room;
 use crate::read_field::number_at;
+use crate::word::is_word;
 use csv::{ByteRecord, Reader, ReaderBuilder};
 use rail_model::{Form, OutOfMemory};
 use std::alloc::Global;
@@ -124,7 +125,7 @@ impl<'a> RowList<'a> {
         ensures value { result ≡ has_version_row self.now }
         ensures there { IsTrue result → 0 < length self.now }
     {
-        !self.is_empty() && self.get(0).word() == b"version".as_slice()
+        !self.is_empty() && is_word(self.get(0).word(), b"version")
     }
 }
 

@@ -81,10 +81,10 @@ pub(crate) fn word_of(field: &[u8]) -> Option<Word>
     if let Some(kind) = field.strip_prefix(b"drop-".as_slice()) {
         return kind_of(kind).map(Word::Drop);
     }
-    if field == b"ask".as_slice() {
+    if is_word(field, b"ask") {
         return Some(Word::Ask);
     }
-    if field == b"planner".as_slice() {
+    if is_word(field, b"planner") {
         return Some(Word::Planner);
     }
     kind_of(field).map(Word::Put)
@@ -94,23 +94,31 @@ pub(crate) fn word_of(field: &[u8]) -> Option<Word>
 fn kind_of(field: &[u8]) -> Option<Kind>
     ensures { result ≡ find (λ k. is_same field.now (words.kind_text k)) words.kinds }
 {
-    if field == b"block".as_slice() {
+    if is_word(field, b"block") {
         return Some(Kind::Block);
     }
-    if field == b"signal".as_slice() {
+    if is_word(field, b"signal") {
         return Some(Kind::Signal);
     }
-    if field == b"route".as_slice() {
+    if is_word(field, b"route") {
         return Some(Kind::Route);
     }
-    if field == b"run".as_slice() {
+    if is_word(field, b"run") {
         return Some(Kind::Run);
     }
-    if field == b"section".as_slice() {
+    if is_word(field, b"section") {
         return Some(Kind::Section);
     }
-    if field == b"connect".as_slice() {
+    if is_word(field, b"connect") {
         return Some(Kind::Connection);
     }
     None
+}
+
+// Whether a field is a word.
+#[inline]
+pub(crate) fn is_word(field: &[u8], word: &[u8]) -> bool
+    ensures { result ≡ is_same field.now word.now }
+{
+    field == word
 }

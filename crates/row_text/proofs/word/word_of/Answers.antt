@@ -19,12 +19,12 @@ returns-in-Some-strip_prefix c =
     let whole : c.args.field.now ≡ codes "drop-" ++ kind = after_prefix c.args.field.now (codes "drop-") kind starts.0 starts.1 in
     rw whole (found ∙ sym (word_of-drop kind))
 
-pub returns-then-eq : goal.returns-then-eq
-returns-then-eq c =
+pub returns-then-is_word : goal.returns-then-is_word
+returns-then-is_word c =
     let is : c.args.field.now ≡ codes "ask" = search rules in rw is (sym word_of-ask)
 
-pub returns-then-eq-2 : goal.returns-then-eq-2
-returns-then-eq-2 c =
+pub returns-then-is_word-2 : goal.returns-then-is_word-2
+returns-then-is_word-2 c =
     let is : c.args.field.now ≡ codes "planner" = search rules in rw is (sym word_of-planner)
 
 pub returns : goal.returns
