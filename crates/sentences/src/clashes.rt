@@ -19,10 +19,8 @@ pub(crate) fn clashing_places(alloc: Global, cut: &Cut) -> Result<Vec<usize>, Ou
 // each list is in order already.
 fn uses_by_place(alloc: Global, cut: &Cut) -> Result<Vec<Vec<(i64, i64)>>, OutOfMemory> {
     let mut by_place: Vec<Vec<(i64, i64)>> = Vec::new(alloc);
-    for _ in cut.section.blocks.slice() {
-        by_place.push(Vec::new(alloc))?;
-    }
-    for _ in cut.connections.slice() {
+    let blocks = cut.section.blocks.len();
+    for _ in 0..blocks.saturating_add(cut.connections.len()) {
         by_place.push(Vec::new(alloc))?;
     }
     for row in cut.rows.slice() {

@@ -1,6 +1,7 @@
 //! Lists of what is found in a timetable: how many things, and the names of the first.
 use crate::piece::Piece::{Field, Moment, Number};
 use crate::piece::{Written, tell};
+use rail_model::Section;
 
 // How many things are found, and the first of them: a name, and a moment in seconds from the
 // timetable's origin, if it has one.
@@ -29,11 +30,11 @@ impl<'a> Found<'a> {
     }
 }
 
-// Adds a line for what is found, if something is: a sentence about a window, and the list.
+// Adds a line for what is found, if something is: a sentence about a section's window, and the list.
 pub(crate) fn tell_found(
     text: &mut String,
     sentence: &str,
-    window: (u32, u32),
+    section: &Section,
     found: &Found<'_>,
 ) -> Written {
     if found.count == 0 {
@@ -42,7 +43,7 @@ pub(crate) fn tell_found(
     if !text.is_empty() {
         text.push('\n')?;
     }
-    let (from, to) = (Number(window.0 as u64), Number(window.1 as u64));
+    let (from, to) = (Number(section.from_s as u64), Number(section.to_s as u64));
     tell(text, sentence, &[from, to])?;
     tell(text, ": @ (", &[Number(found.count as u64)])?;
     tell_first(text, found)

@@ -23,12 +23,16 @@ fn notes(alloc: Global, tables: &LineTables, cut: &Cut) -> Result<String, OutOfM
     let outsiders = outsiders(alloc, tables, cut)?;
     let idle = idle_connections(tables, cut);
     let (blocks, connections) = clashes(alloc, cut)?;
-    let (from, to) = (cut.section.from_s, cut.section.to_s);
+    let found = [
+        (OUTSIDERS, outsiders),
+        (IDLE, idle),
+        (CONFLICTS, blocks),
+        (NOT_KEPT, connections),
+    ];
     let mut text = String::new(alloc);
-    tell_found(&mut text, OUTSIDERS, (from, to), &outsiders)?;
-    tell_found(&mut text, IDLE, (from, to), &idle)?;
-    tell_found(&mut text, CONFLICTS, (from, to), &blocks)?;
-    tell_found(&mut text, NOT_KEPT, (from, to), &connections)?;
+    for (sentence, found) in &found {
+        tell_found(&mut text, sentence, &cut.section, found)?;
+    }
     Ok(text)
 }
 

@@ -26,23 +26,24 @@ pub(crate) fn said_by(
 }
 
 fn said_by_field(alloc: Global, field: &[u8]) -> Result<Said, OutOfMemory> {
-    let time = start_of(alloc, &[b"section", b"S", field, b"1", b"0", b"A"])?;
-    let rate = start_of(alloc, &[b"section", b"S", b"0", b"1", field, b"A"])?;
+    let time = start_of(alloc, field, b"0")?;
+    let rate = start_of(alloc, b"0", field)?;
     Ok(Said {
         time,
         is_rate: rate.is_some(),
     })
 }
 
-// The start of the section that a row with these fields spells, if it spells one.
-fn start_of(alloc: Global, row: &[&[u8]]) -> Result<Option<u32>, OutOfMemory> {
-    let line = read_row_in(alloc, 2, &fields_of(alloc, row)?)?;
+// The start of the section that a row with this start and this rate spells, if it spells one.
+fn start_of(alloc: Global, start: &[u8], rate: &[u8]) -> Result<Option<u32>, OutOfMemory> {
+    let line = read_row_in(alloc, 2, &fields_of(alloc, start, rate)?)?;
     Ok(start_in(&line))
 }
 
-fn fields_of(alloc: Global, row: &[&[u8]]) -> Result<Fields, OutOfMemory> {
+fn fields_of(alloc: Global, start: &[u8], rate: &[u8]) -> Result<Fields, OutOfMemory> {
+    let row: [&[u8]; 6] = [b"section", b"S", start, b"1", rate, b"A"];
     let mut fields = Fields::new(alloc);
-    for field in row {
+    for field in &row {
         fields.push(field)?;
     }
     Ok(fields)

@@ -11,26 +11,22 @@ pub(crate) fn script_sentence(
     tasks: usize,
 ) -> Written {
     let above = planner_rows_above(row);
-    match row.first() {
-        _ if planners == 0 => tell(text, NO_SCRIPTS, &[]),
-        First::Planner if above >= planners => {
-            tell(
-                text,
-                "a session takes @ at most",
-                &[Many(planners, "planner")],
-            )
-        }
-        First::Planner => {
-            let next = Number((above as u64).saturating_add(1));
-            tell(text, NOT_NEXT, &[Field(row.field(1)), next])
-        }
-        _ if above == 0 => tell(text, NO_PLANNER, &[]),
-        _ => tell(text, MORE_TASKS, &[Number(tasks as u64)]),
-    }
+    let next = Number((above as u64).saturating_add(1));
+    let (why, piece) = match row.first() {
+        _ if planners == 0 => (NO_SCRIPTS, next),
+        First::Planner if above >= planners => (TOO_MANY, Many(planners, "planner")),
+        First::Planner => (NOT_NEXT, Field(row.field(1))),
+        _ if above == 0 => (NO_PLANNER, next),
+        _ => (MORE_TASKS, Number(tasks as u64)),
+    };
+    // Each takes as many of the pieces as it has gaps.
+    tell(text, why, &[piece, next])
 }
 
 const NO_SCRIPTS: &str =
     "rows planner and ask stand in scripts of planners, which the command session alone takes";
+
+const TOO_MANY: &str = "a session takes @ at most";
 
 const NOT_NEXT: &str =
     "field 2, @: planners stand in the order of their numbers, and the next is @";

@@ -77,16 +77,17 @@ pub(crate) fn run_off<'a>(tables: &'a Tables, route: &[u8], legs: usize) -> Opti
 
 // The first item that uses the one of a kind and a name.
 pub(crate) fn user<'a>(tables: &'a Tables, kind: Kind, name: &[u8]) -> Option<(Kind, &'a Name)> {
-    match kind {
+    let (by, user) = match kind {
         Kind::Block => match signal_of(tables, name) {
-            Some(signal) => Some((Kind::Signal, signal)),
-            None => Some((Kind::Section, section_over(tables, name)?)),
+            Some(signal) => (Kind::Signal, Some(signal)),
+            None => (Kind::Section, section_over(tables, name)),
         },
-        Kind::Signal => Some((Kind::Route, route_over(tables, name)?)),
-        Kind::Route => Some((Kind::Run, run_over(tables, name)?)),
-        Kind::Run => Some((Kind::Connection, connection_of(tables, name)?)),
-        Kind::Section | Kind::Connection => None,
-    }
+        Kind::Signal => (Kind::Route, route_over(tables, name)),
+        Kind::Route => (Kind::Run, run_over(tables, name)),
+        Kind::Run => (Kind::Connection, connection_of(tables, name)),
+        Kind::Section | Kind::Connection => (kind, None),
+    };
+    Some((by, user?))
 }
 
 fn signal_of<'a>(tables: &'a Tables, block: &[u8]) -> Option<&'a Name> {
