@@ -38,15 +38,6 @@ stamps_are number value cut is = subst (λ o. IfSome o (λ c. All (λ r. r.stamp
     by_value None = tt
     by_value (Some v) = All-map (λ (r : CutRow). r.stamp ≡ number) (stamped_row number) v.rows (λ k d below. refl)
 
--- the cut of a section that wasn't there
-pub first_cut : (number : ℕ) (cut : Cut) → All (λ r. r.stamp ≡ number) cut.rows → IsSoundCut cut
-    → IsCutAfter (Some (stamped 0 cut)) number None (Some cut)
-first_cut number cut stamps sound = record {
-  same = refl;
-  stamps = λ k d below. inr (stamps k d below, λ e. let it : None ≡ Some (stamped_row 0 (get_or cut.rows k d)) = e in absurd (cc));
-  sound = sound;
-}
-
 twice : (first : ℕ) (value : Option Cut) → option_map (stamped 0) (option_map (stamped first) value) ≡ option_map (stamped 0) value
 twice first None = refl
 twice first (Some v) = ap Some (stamped_twice first 0 v)

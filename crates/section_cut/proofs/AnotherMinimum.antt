@@ -23,17 +23,20 @@ use Rattle.plan_model.specs.declared.cut.CutRow.{CutRow}
 use Rattle.plan_model.specs.declared.cut.Cut.{Cut}
 use Rattle.plan_model.specs.Cut.{stamped_row, stamped}
 use Rattle.plan_model.specs.SectionCut.{section_uses, entry_of, is_member, binds, binding_connections, uses_of_connections, row_of, section_cut}
+use Rattle.section_cut.specs.declared.cut_changes.StoredCut.{StoredCut}
 use Rattle.section_cut.specs.Connected.{row_in}
 use Rattle.section_cut.specs.EditedConnection.{IsOfSameRuns, IsMinimumChanged, ending, uses_ending}
 use Rattle.section_cut.specs.OneRun.{cut_with}
+use Rattle.section_cut.specs.Stored.{IsStored}
 use Rattle.section_cut.proofs.Around.{filter_rows}
 use Rattle.section_cut.proofs.BindsBy.{use_by, row_by}
 use Rattle.section_cut.proofs.OneRun.{one_row, RowsStay, run_found}
 use Rattle.section_cut.proofs.BlockUses.{uses_inside}
 use Rattle.section_cut.proofs.Known.{IsKnown, run_there, run_named_name}
-use Rattle.section_cut.proofs.OldRows.{row_if, cut_rows, old_row}
+use Rattle.section_cut.proofs.OldRows.{row_if, old_row}
 use Rattle.section_cut.proofs.SameRuns.{rows_same}
 use Rattle.section_cut.proofs.SoundRow.{binding_known}
+use Rattle.section_cut.proofs.Stored.{stored_rows}
 
 -- ---- lists
 
@@ -158,7 +161,19 @@ blocks_kept place until uses inside =
 
 -- ---- the cut
 
-module _ (earlier later : Tables) (earlier_sound : IsSound earlier) (later_sound : IsSound later) (c : Connection) (is : IsMinimumChanged earlier later c) (s : Section) where
+module _ {stored : StoredCut} (kept : IsStored stored) (c : Connection) (is : IsMinimumChanged stored.both.before.now stored.both.after.now c) where
+  abbrev earlier : Tables
+  earlier = stored.both.before.now
+
+  abbrev later : Tables
+  later = stored.both.after.now
+
+  abbrev old : Cut
+  old = stored.cut.now
+
+  abbrev s : Section
+  s = old.section
+
   abbrev bound : List Connection
   bound = binding_connections earlier s
 
@@ -197,7 +212,7 @@ module _ (earlier later : Tables) (earlier_sound : IsSound earlier) (later_sound
       let not_first : is_same x.first run.name ≡ false = subst (λ n. is_same n run.name ≡ false) (sym runs.0) other in
       rw (other, not_first, runs.1) refl))
 
-  rows_stay : (q : List ℕ → Bool) → q c.first ≡ false → RowsStay earlier later s c.first later_sound.runs.names q
+  rows_stay : (q : List ℕ → Bool) → q c.first ≡ false → RowsStay earlier later s c.first kept.later_sound.runs.names q
   rows_stay q out =
       let kept = filter (λ (r : Run). q r.name) earlier.runs in
       ap (λ (t : Tables). map (row_of later s) (filter (is_member later s) (filter (λ (r : Run). q r.name) t.runs))) is.others
@@ -215,7 +230,7 @@ module _ (earlier later : Tables) (earlier_sound : IsSound earlier) (later_sound
 
   pub first_row_alone : section_cut later s ≡ cut_with c.first (row_in later s 0 (find (λ (r : Run). is_same r.name c.first) later.runs)) (section_cut earlier s)
   first_row_alone =
-      one_row earlier later s c.first later_sound.runs.names
+      one_row earlier later s c.first kept.later_sound.runs.names
       (rows_stay (λ m. is_before m c.first) (is_before-itself c.first)) (rows_stay (λ m. is_before c.first m) (is_before-itself c.first))
       (ap (map (λ (x : Connection). x.name)) changed ∙ changed_names c bound)
 
@@ -224,21 +239,14 @@ module _ (earlier later : Tables) (earlier_sound : IsSound earlier) (later_sound
     set_is : binding_connections later s ≡ set bound k c
     set_is =
         changed
-        ∙ changed_set c bound (AllPairs-filter (λ (a : Connection) (b : Connection). IsBefore a.name b.name) (binds earlier s) earlier.connections earlier_sound.connections.names)
+        ∙ changed_set c bound (AllPairs-filter (λ (a : Connection) (b : Connection). IsBefore a.name b.name) (binds earlier s) earlier.connections kept.earlier_sound.connections.names)
         ∙ ap (λ m. set bound m c) (sym number)
-
-    -- it binds after the edit, too
-    pub binds_still : binds later s c ≡ true
-    binds_still =
-        let at : get_or (binding_connections later s) k c ≡ c = ap (λ bs. get_or bs k c) set_is ∙ get_or-set_same bound k c c below in
-        subst (λ x. binds later s x ≡ true) at
-        (filter_passes (binds later s) later.connections k c (omega (arith, ap length set_is, length-set bound k c, below)))
 
     pub known_still : IsKnown later c
     known_still =
         let at : get_or (binding_connections later s) k c ≡ c = ap (λ bs. get_or bs k c) set_is ∙ get_or-set_same bound k c c below in
         subst (IsKnown later) at
-        (binding_known later later_sound s k c (omega (arith, ap length set_is, length-set bound k c, below)))
+        (binding_known later kept.later_sound s k c (omega (arith, ap length set_is, length-set bound k c, below)))
 
     known_before : has_run earlier c.first ≡ true
     known_before = sym (ap (λ (t : Tables). has_run t c.first) is.others) ∙ known_still.first
@@ -247,13 +255,13 @@ module _ (earlier later : Tables) (earlier_sound : IsSound earlier) (later_sound
     n = number_of (λ (r : Run). r.name) earlier.runs c.first
 
     there : n < length earlier.runs
-    there = run_there earlier earlier_sound c.first known_before
+    there = run_there earlier kept.earlier_sound c.first known_before
 
     abbrev first : Run
     first = run_at earlier n
 
     named : first.name ≡ c.first
-    named = run_named_name earlier earlier_sound c.first known_before
+    named = run_named_name earlier kept.earlier_sound c.first known_before
 
     -- the first run's uses after the edit
     uses_end : uses_ending (length s.blocks + k) (pos (last_arrival later first + c.minimum_s)) (section_uses earlier s first ++ uses_of_connections earlier s first)
@@ -275,21 +283,21 @@ module _ (earlier later : Tables) (earlier_sound : IsSound earlier) (later_sound
         ∙ map-append (ending place until) blocks (numbered bound)
         ∙ ap (λ us. us ++ uses_ending place until (numbered bound))
         (blocks_kept place until blocks
-        (λ i d l. let inside = ltb-true (get_or blocks i d).block (length s.blocks) (uses_inside earlier earlier_sound s n there i d l) in omega (arith, inside)))
+        (λ i d l. let inside = ltb-true (get_or blocks i d).block (length s.blocks) (uses_inside earlier kept.earlier_sound s n there i d l) in omega (arith, inside)))
         ∙ ap (λ us. blocks ++ us) (ended first entry last place (length s.blocks) k c bound refl below mine its)
         ∙ ap (λ bs. blocks ++ numbered bs) (sym set_is)
         ∙ sym (ap (λ (t : Tables). section_uses t s first ++ filter_map (use_by first (entry_of t s first) (last_arrival t first)) (enumerate_from (length s.blocks) (binding_connections later s))) is.others)
 
     -- its row
-    pub minimum_row : (old : Cut) → section_cut earlier s ≡ stamped 0 old → (own : CutRow) → Some own ≡ find (λ (r : CutRow). is_same r.name c.first) old.rows
+    pub minimum_row : (own : CutRow) → Some own ≡ find (λ (r : CutRow). is_same r.name c.first) old.rows
         → (stamp : ℕ) (until : ℤ) → until ≡ pos (last_arrival later (run_named later c.first) + c.minimum_s)
         → Some (record own { stamp = stamp; uses = uses_ending (length s.blocks + k) until own.uses }) ≡ row_in later s stamp (find (λ (r : Run). is_same r.name c.first) later.runs)
-    minimum_row old cut own found stamp until told =
+    minimum_row own found stamp until told =
         let moment : until ≡ pos (last_arrival later first + c.minimum_s) = told ∙ ap (λ (t : Tables). pos (last_arrival later (run_named t c.first) + c.minimum_s)) is.others in
         by_test (is_member earlier s first) refl
         (ap (option_map (stamped_row 0)) found
         ∙ subst (λ m. option_map (stamped_row 0) (find (λ (r : CutRow). is_same r.name m) old.rows) ≡ row_if earlier s first) named
-        (old_row earlier s earlier_sound.runs.names old.rows (cut_rows earlier s old cut) n there))
+        (old_row earlier s kept.earlier_sound.runs.names old.rows (stored_rows kept) n there))
         moment
       where
         found_row : is_member later s first ≡ true → row_in later s stamp (Some first)

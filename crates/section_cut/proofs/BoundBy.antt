@@ -16,18 +16,6 @@ use Rattle.section_cut.specs.Members.{members_of}
 use Rattle.section_cut.specs.Bound.{IsMember, IsBound}
 
 module _ (tables : Tables) (section : Section) (c : Connection) where
-  pub first_no_member : is_member tables section (run_named tables c.first) ≡ false → binds tables section c ≡ false
-  first_no_member none =
-      let a = is_member tables section (run_named tables c.first) in
-      let b = is_member tables section (run_named tables c.second) in
-      and_left (a && b) _ (and_left a b none)
-
-  pub second_no_member : is_member tables section (run_named tables c.second) ≡ false → binds tables section c ≡ false
-  second_no_member none =
-      let a = is_member tables section (run_named tables c.first) in
-      let b = is_member tables section (run_named tables c.second) in
-      and_left (a && b) _ (and_right a b none)
-
   -- the run that is read by the number of its name
   pub run_read : (name : List ℕ) (n : ℕ) (run : Run) → n ≡ number_of (λ (r : Run). r.name) tables.runs name
       → slice_get tables.runs n ≡ Some run → run ≡ run_named tables name

@@ -27,6 +27,11 @@ abbrev cut_from : Section → List (List ℕ) → List CutRow → Cut
 cut_from section connections rows = record { section = section; connections = connections; rows = rows }
 
 module _ (tables : Tables) where
+  pub names_on_blocks : (section : Section) (stamp : ℕ) (rows : List CutRow) → rows ≡ map (row_on_blocks tables section stamp) (members_of tables section)
+      → map (λ (r : CutRow). r.name) rows ≡ map (λ (r : Run). r.name) (members_of tables section)
+  names_on_blocks section stamp rows are =
+      ap (map (λ (r : CutRow). r.name)) are ∙ map-map (λ (r : CutRow). r.name) (row_on_blocks tables section stamp) (members_of tables section)
+
   module _ (sound : IsSound tables) (section : Section) (stamp : ℕ) where
     -- a member's row with the uses of connections by the run of its name
     abbrev row_by : Run → Run → CutRow

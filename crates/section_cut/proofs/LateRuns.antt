@@ -26,13 +26,6 @@ use Rattle.section_cut.proofs.BlockUses.{least_holds, in_window}
 use Rattle.section_cut.proofs.Leads.{blocking_from, path_lead}
 
 module _ (tables : Tables) (section : Section) where
-  -- the timetable has such stairs
-  pub whole_stairs : (stairs : List Stair) → stairs ≡ timetable tables → AreStairsFor tables section stairs
-  whole_stairs stairs is = record {
-    count = ap length is ∙ stairs_count tables;
-    each = λ n d l. inl (ap (λ s. get_or s n d) is ∙ stair_at tables n d l);
-  }
-
   -- what a stair tells of its run: its name, blocks of the tables, and its row
   module _ (sound : IsSound tables) (n : ℕ) (l : n < length tables.runs) where
     pub stair_name : (stair : Stair) → IsStairFor tables section (run_at tables n) stair → stair.run ≡ (run_at tables n).name

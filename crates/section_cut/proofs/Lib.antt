@@ -34,6 +34,7 @@ pub mod Placed
 pub mod OldRows
 pub mod BlockPart
 pub mod OneRun
+pub mod Stored
 pub mod SameRuns
 pub mod Standing
 pub mod JoinedRun

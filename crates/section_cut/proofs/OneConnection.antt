@@ -17,6 +17,9 @@ use Rattle.plan_model.specs.declared.cut.CutRow.{CutRow}
 use Rattle.plan_model.specs.declared.cut.Cut.{Cut}
 use Rattle.plan_model.specs.Cut.{stamped_row, stamped}
 use Rattle.plan_model.specs.SectionCut.{section_uses, is_member, binds, binding_connections, row_of, section_cut, cut_of}
+use Rattle.section_cut.specs.declared.cut_changes.CutChange.TheVariants as change
+use Rattle.section_cut.specs.declared.cut_changes.StoredCut.{StoredCut}
+use Rattle.section_cut.specs.Stored.{IsStored, IsChangeOf}
 use Rattle.section_cut.specs.Connected.{entry_in, IsOfRuns, TellsEntries}
 use Rattle.section_cut.specs.OneRun.{before, behind}
 use Rattle.section_cut.specs.declared.one_connection.EditedConnection.{EditedConnection}
@@ -26,7 +29,7 @@ use Rattle.section_cut.proofs.BindsBy.{row_by}
 use Rattle.section_cut.proofs.Known.{connection_known, run_there, run_named_name}
 use Rattle.section_cut.proofs.Listed.{listed_is}
 use Rattle.section_cut.proofs.OldRows.{old_entry}
-use Rattle.section_cut.proofs.OneRun.{located}
+use Rattle.section_cut.proofs.Stored.{stored_is, stored_names, stored_rows, stored_section}
 
 -- tables that differ in their connections alone
 module _ (earlier later : Tables) (others : later ≡ record earlier { connections = later.connections }) where
@@ -40,25 +43,6 @@ module _ (earlier later : Tables) (others : later ≡ record earlier { connectio
 
   pub cut_stays : (s : Section) → binding_connections later s ≡ binding_connections earlier s → section_cut later s ≡ section_cut earlier s
   cut_stays s binding = ap (cut_by later s) binding ∙ ap (λ (t : Tables). cut_by t s (binding_connections earlier s)) others
-
-  pub cut_of_stays : (name : List ℕ) (old : Cut) → cut_of earlier name ≡ Some (stamped 0 old)
-      → binding_connections later old.section ≡ binding_connections earlier old.section → cut_of later name ≡ cut_of earlier name
-  cut_of_stays name old is binding =
-      let here = located earlier name old (find (λ (s : Section). is_same s.name name) earlier.sections) refl is in
-      ap (λ (t : Tables). option_map (section_cut later) (find (λ (s : Section). is_same s.name name) t.sections)) others
-      ∙ ap (option_map (section_cut later)) here.0
-      ∙ ap Some (cut_stays old.section binding ∙ here.1) ∙ sym is
-
-  module _ (earlier_sound : IsSound earlier) (s : Section) (old : List CutRow) (are : map (stamped_row 0) old ≡ map (row_of earlier s) (filter (is_member earlier s) earlier.runs)) where
-    -- the rows have the entries of their runs
-    pub entries_stay : TellsEntries later s (λ name. find (λ (r : CutRow). is_same r.name name) old)
-    entries_stay name there =
-        let before : has_run earlier name ≡ true = sym (ap (λ (t : Tables). has_run t name) others) ∙ there in
-        let n = number_of (λ (r : Run). r.name) earlier.runs name in
-        subst (λ m. option_map (λ (r : CutRow). r.entry) (find (λ (r : CutRow). is_same r.name m) old) ≡ entry_in earlier s (run_at earlier n))
-        (run_named_name earlier earlier_sound name before)
-        (old_entry earlier s earlier_sound.runs.names old are n (run_there earlier earlier_sound name before))
-        ∙ sym (ap (λ (t : Tables). entry_in t s (run_named t name)) others)
 
 -- a connection that is there is of runs that are there
 pub found_there : (tables : Tables) → IsSound tables → (name : List ℕ) (c : Connection) → find (λ (x : Connection). is_same x.name name) tables.connections ≡ Some c → IsOfRuns tables c
@@ -74,40 +58,72 @@ parted name p n xs rise =
     ap (filter p) (split name n xs rise) ∙ filter-append p (before name n xs) (middle ++ behind name n xs)
     ∙ ap (λ ys. filter p (before name n xs) ++ ys) (filter-append p middle (behind name n xs))
 
--- where an edited connection binds neither before nor after the edit, the same connections bind
-module _ (earlier later : Tables) (earlier_sound : IsSound earlier) (later_sound : IsSound later) (edited : EditedConnection) (is : IsEditedConnection earlier later edited) (s : Section) where
-  none_before : (names : List (List ℕ)) → names ≡ map (λ (c : Connection). c.name) (binding_connections earlier s) → is_named (λ n. n) names edited.name ≡ false
-      → (found : Option Connection) → find (λ (c : Connection). is_same c.name edited.name) earlier.connections ≡ found
-      → filter (binds earlier s) (option_to_list found) ≡ []
-  none_before names are out None e = refl
-  none_before names are out (Some c) e =
-      let at = find_some (λ (x : Connection). is_same x.name edited.name) earlier.connections c e in
-      let told = at.1 (λ (x : Connection). is_named (λ n. n) (map (λ (y : Connection). y.name) (binding_connections earlier s)) x.name ≡ binds earlier s x)
-      (listed_is (λ (y : Connection). y.name) (binds earlier s) earlier.connections earlier_sound.connections.names) in
-      let gone : binds earlier s c ≡ false =
-      sym told ∙ ap (is_named (λ n. n) (map (λ (y : Connection). y.name) (binding_connections earlier s))) (same_name c.name edited.name at.0)
-      ∙ ap (λ ns. is_named (λ n. n) ns edited.name) (sym are) ∙ out in
-      rw gone refl
+-- a stored cut
+module _ {stored : StoredCut} (kept : IsStored stored) where
+  abbrev earlier : Tables
+  earlier = stored.both.before.now
 
-  none_after : (found : Option Connection) → IfSome found (λ c. binds later s c ≡ false) → filter (binds later s) (option_to_list found) ≡ []
-  none_after None out = refl
-  none_after (Some c) out = rw out refl
+  abbrev later : Tables
+  later = stored.both.after.now
 
-  pub binding_kept : (names : List (List ℕ)) → names ≡ map (λ (c : Connection). c.name) (binding_connections earlier s) → is_named (λ n. n) names edited.name ≡ false
-      → IfSome edited.after (λ c. binds later s c ≡ false) → binding_connections later s ≡ binding_connections earlier s
-  binding_kept names are out after =
-      let name = λ (c : Connection). c.name in
-      let p = binds earlier s in
-      let q = binds later s in
-      let n = edited.name in
-      let front = before name n earlier.connections in
-      let back = behind name n earlier.connections in
-      let same : q ≡ p = ap (λ (t : Tables). binds t s) is.others in
-      parted name q n later.connections later_sound.connections.names
-      ∙ ap (λ xs. filter q (before name n later.connections) ++ (xs ++ filter q (behind name n later.connections)))
-      (ap (λ o. filter q (option_to_list o)) (sym is.after) ∙ none_after edited.after after)
-      ∙ ap (λ xs. filter q xs ++ filter q (behind name n later.connections)) is.front
-      ∙ ap (λ xs. filter q front ++ filter q xs) is.back
-      ∙ ap (λ t. filter t front ++ filter t back) same
-      ∙ ap (λ xs. filter p front ++ (xs ++ filter p back)) (sym (none_before names are out (find (λ (c : Connection). is_same c.name n) earlier.connections) refl))
-      ∙ sym (parted name p n earlier.connections earlier_sound.connections.names)
+  abbrev old : Cut
+  old = stored.cut.now
+
+  abbrev s : Section
+  s = old.section
+
+  module _ (others : later ≡ record earlier { connections = later.connections }) where
+    pub cut_of_stays : binding_connections later s ≡ binding_connections earlier s → IsChangeOf stored change.Untouched
+    cut_of_stays binding =
+        ap (option_map (section_cut later)) (stored_section kept (ap (λ (t : Tables). t.sections) others))
+        ∙ ap Some (cut_stays earlier later others s binding ∙ stored_is kept) ∙ sym kept.is
+
+    -- the rows have the entries of their runs
+    pub entries_stay : TellsEntries later s (λ name. find (λ (r : CutRow). is_same r.name name) old.rows)
+    entries_stay name there =
+        let before : has_run earlier name ≡ true = sym (ap (λ (t : Tables). has_run t name) others) ∙ there in
+        let n = number_of (λ (r : Run). r.name) earlier.runs name in
+        subst (λ m. option_map (λ (r : CutRow). r.entry) (find (λ (r : CutRow). is_same r.name m) old.rows) ≡ entry_in earlier s (run_at earlier n))
+        (run_named_name earlier kept.earlier_sound name before)
+        (old_entry earlier s kept.earlier_sound.runs.names old.rows (stored_rows kept) n (run_there earlier kept.earlier_sound name before))
+        ∙ sym (ap (λ (t : Tables). entry_in t s (run_named t name)) others)
+
+  -- where an edited connection binds neither before nor after the edit, the cut stays
+  module _ (edited : EditedConnection) (is : IsEditedConnection earlier later edited) where
+    none_before : is_named (λ n. n) old.connections edited.name ≡ false → (found : Option Connection) → find (λ (c : Connection). is_same c.name edited.name) earlier.connections ≡ found
+        → filter (binds earlier s) (option_to_list found) ≡ []
+    none_before out None e = refl
+    none_before out (Some c) e =
+        let at = find_some (λ (x : Connection). is_same x.name edited.name) earlier.connections c e in
+        let told = at.1 (λ (x : Connection). is_named (λ n. n) (map (λ (y : Connection). y.name) (binding_connections earlier s)) x.name ≡ binds earlier s x)
+        (listed_is (λ (y : Connection). y.name) (binds earlier s) earlier.connections kept.earlier_sound.connections.names) in
+        let gone : binds earlier s c ≡ false =
+        sym told ∙ ap (is_named (λ n. n) (map (λ (y : Connection). y.name) (binding_connections earlier s))) (same_name c.name edited.name at.0)
+        ∙ ap (λ ns. is_named (λ n. n) ns edited.name) (sym (stored_names kept)) ∙ out in
+        rw gone refl
+
+    none_after : (found : Option Connection) → IfSome found (λ c. binds later s c ≡ false) → filter (binds later s) (option_to_list found) ≡ []
+    none_after None out = refl
+    none_after (Some c) out = rw out refl
+
+    binding_kept : is_named (λ n. n) old.connections edited.name ≡ false → IfSome edited.after (λ c. binds later s c ≡ false)
+        → binding_connections later s ≡ binding_connections earlier s
+    binding_kept out after =
+        let name = λ (c : Connection). c.name in
+        let p = binds earlier s in
+        let q = binds later s in
+        let n = edited.name in
+        let front = before name n earlier.connections in
+        let back = behind name n earlier.connections in
+        let same : q ≡ p = ap (λ (t : Tables). binds t s) is.others in
+        parted name q n later.connections kept.later_sound.connections.names
+        ∙ ap (λ xs. filter q (before name n later.connections) ++ (xs ++ filter q (behind name n later.connections)))
+        (ap (λ o. filter q (option_to_list o)) (sym is.after) ∙ none_after edited.after after)
+        ∙ ap (λ xs. filter q xs ++ filter q (behind name n later.connections)) is.front
+        ∙ ap (λ xs. filter q front ++ filter q xs) is.back
+        ∙ ap (λ t. filter t front ++ filter t back) same
+        ∙ ap (λ xs. filter p front ++ (xs ++ filter p back)) (sym (none_before out (find (λ (c : Connection). is_same c.name n) earlier.connections) refl))
+        ∙ sym (parted name p n earlier.connections kept.earlier_sound.connections.names)
+
+    pub untouched : is_named (λ n. n) old.connections edited.name ≡ false → IfSome edited.after (λ c. binds later s c ≡ false) → IsChangeOf stored change.Untouched
+    untouched out after = cut_of_stays is.others (binding_kept out after)

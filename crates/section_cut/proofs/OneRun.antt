@@ -33,7 +33,9 @@ use Rattle.rail_model.specs.Rules.{has_run}
 use Rattle.rail_model.proofs.Places.{number_of-missing}
 use Rattle.std.proofs.lemmas.List.{get_or_default}
 use Rattle.section_cut.specs.declared.cut_changes.CutChange.{CutChange}
+use Rattle.section_cut.specs.declared.cut_changes.StoredCut.{StoredCut}
 use Rattle.section_cut.specs.Change.{IsChange}
+use Rattle.section_cut.specs.Stored.{IsStored, IsChangeOf}
 use Rattle.section_cut.specs.EditedRun.{IsPut}
 use Rattle.section_cut.specs.OneRun.{before, behind, cut_with, row_of_stair, IsOneRun}
 use Rattle.section_cut.specs.Stamps.{IsReached, IsOwn}
@@ -213,45 +215,55 @@ uses_found tables sound name (Some run) e =
     (λ (r : Run). All (λ (u : Use). u.block < length tables.blocks) (stairway (path_in tables r)))
     (λ k d l. subst (λ (r : Run). All (λ (u : Use). u.block < length tables.blocks) (stairway (path_in tables r))) (get_or_default tables.runs k no_run d l) (used_there tables sound k l))
 
--- what becomes of the cut by an edit that changes the row of one name
-module _ (earlier later : Tables) (name section : List ℕ) (old : Cut) (earlier_sound : IsSound earlier) (later_sound : IsSound later) (is : cut_of earlier section ≡ Some (stamped 0 old)) (sections : later.sections ≡ earlier.sections) where
+-- what becomes of a stored cut by an edit that changes the row of one name
+module _ {stored : StoredCut} (is : IsStored stored) (name : List ℕ) where
+  abbrev earlier : Tables
+  earlier = stored.both.before.now
+
+  abbrev later : Tables
+  later = stored.both.after.now
+
+  abbrev section : List ℕ
+  section = stored.section.now
+
+  abbrev old : Cut
+  old = stored.cut.now
+
   abbrev found_run : Option Run
   found_run = find (λ (r : Run). is_same r.name name) later.runs
 
-  module _ (number : ℕ) (row : Option CutRow) (row_is : row ≡ row_in later old.section number found_run) (later_is : section_cut later old.section ≡ cut_with name (row_in later old.section 0 found_run) (section_cut earlier old.section)) where
-    row_named : IfSome row (λ r. (r.name ≡ name) × (r.stamp ≡ number))
-    row_named = subst (λ o. IfSome o (λ (r : CutRow). (r.name ≡ name) × (r.stamp ≡ number))) (sym row_is)
-        (name_found later name found_run refl old.section number)
+  module _ (sections : later.sections ≡ earlier.sections) (row : Option CutRow) (row_is : row ≡ row_in later old.section stored.number found_run) (later_is : section_cut later old.section ≡ cut_with name (row_in later old.section 0 found_run) (section_cut earlier old.section)) where
+    row_named : IfSome row (λ r. (r.name ≡ name) × (r.stamp ≡ stored.number))
+    row_named = subst (λ o. IfSome o (λ (r : CutRow). (r.name ≡ name) × (r.stamp ≡ stored.number))) (sym row_is)
+        (name_found later name found_run refl old.section stored.number)
 
     cut_later_is : cut_of later section ≡ Some (stamped 0 (cut_with name row old))
     cut_later_is =
-        let here = located earlier section old (find (λ (s : Section). is_same s.name section) earlier.sections) refl is in
+        let here = located earlier section old (find (λ (s : Section). is_same s.name section) earlier.sections) refl is.is in
         ap (λ ss. option_map (section_cut later) (find (λ (s : Section). is_same s.name section) ss)) sections
         ∙ ap (option_map (section_cut later)) here.0
         ∙ ap Some
         (later_is
         ∙ ap (cut_with name (row_in later old.section 0 found_run)) here.1
-        ∙ ap (λ r. cut_with name r (stamped 0 old)) (sym (ap (option_map (stamped_row 0)) row_is ∙ bare_row_in later old.section number found_run))
+        ∙ ap (λ r. cut_with name r (stamped 0 old)) (sym (ap (option_map (stamped_row 0)) row_is ∙ bare_row_in later old.section stored.number found_run))
         ∙ sym (bare_with name row old))
 
-    pub row_changes : (own : Option CutRow) (at : ℕ) (result : CutChange) → IsReached old.rows name at → IsOwn old.rows name at own
-        → IsPut old at own row result → IsChange (cut_of earlier section) (cut_of later section) number (Some old) result
-    row_changes own at result reached own_is put =
-        subst (λ v. IsChange v (cut_of later section) number (Some old) result) (sym is)
-        (subst (λ v. IsChange (Some (stamped 0 old)) v number (Some old) result) (sym cut_later_is)
-        (put_is old name at number (sound_cut_of earlier earlier_sound section old is) reached own row result own_is row_named
-        (sound_cut_of later later_sound section (cut_with name row old) cut_later_is) put))
+    pub row_changes : (own : Option CutRow) (at : ℕ) → IsReached old.rows name at → IsOwn old.rows name at own
+        → (result : CutChange) → IsPut old at own row result → IsChangeOf stored result
+    row_changes own at reached own_is result put =
+        subst (λ v. IsChange v (cut_of later section) stored.number (Some old) result) (sym is.is)
+        (subst (λ v. IsChange (Some (stamped 0 old)) v stored.number (Some old) result) (sym cut_later_is)
+        (put_is old name at stored.number (sound_cut_of earlier is.earlier_sound section old is.is) reached own row result own_is row_named
+        (sound_cut_of later is.later_sound section (cut_with name row old) cut_later_is) put))
 
--- by an edit of one run, where the same connections bind
-module _ (earlier later : Tables) (name section : List ℕ) (its : Option Stair) (old : Cut) (one : IsOneRun earlier later name its) (earlier_sound : IsSound earlier) (later_sound : IsSound later) (is : cut_of earlier section ≡ Some (stamped 0 old)) where
-  module _ (number : ℕ) (bare row : Option CutRow) (bare_is : bare ≡ row_of_stair later old.section number its) (row_is : row ≡ option_map (with_bound later old.section (run_named later name)) bare) (binding : binding_connections later old.section ≡ binding_connections earlier old.section) where
-    pub run_changes : (own : Option CutRow) (at : ℕ) (result : CutChange) → IsReached old.rows name at → IsOwn old.rows name at own
-        → IsPut old at own row result → IsChange (cut_of earlier section) (cut_of later section) number (Some old) result
+  -- by an edit of one run, where the same connections bind
+  module _ (its : Option Stair) (one : IsOneRun earlier later name its) (bare row : Option CutRow) (bare_is : bare ≡ row_of_stair later old.section stored.number its) (row_is : row ≡ option_map (with_bound later old.section (run_named later name)) bare) (binding : binding_connections later old.section ≡ binding_connections earlier old.section) where
+    pub run_changes : (own : Option CutRow) (at : ℕ) → IsReached old.rows name at → IsOwn old.rows name at own
+        → (result : CutChange) → IsPut old at own row result → IsChangeOf stored result
     run_changes =
-        let found = find (λ (r : Run). is_same r.name name) later.runs in
-        row_changes earlier later name section old earlier_sound later_sound is (ap (λ (t : Tables). t.sections) one.others) number row
+        row_changes (ap (λ (t : Tables). t.sections) one.others) row
         (row_is
         ∙ ap (option_map (with_bound later old.section (run_named later name)))
-        (bare_is ∙ ap (row_of_stair later old.section number) one.stair ∙ by_stair later old.section number found)
-        ∙ joined_in later name found refl old.section number)
-        (cut_later earlier later old.section name its one later_sound.runs.names binding)
+        (bare_is ∙ ap (row_of_stair later old.section stored.number) one.stair ∙ by_stair later old.section stored.number found_run)
+        ∙ joined_in later name found_run refl old.section stored.number)
+        (cut_later earlier later old.section name its one is.later_sound.runs.names binding)

@@ -26,13 +26,10 @@ use Rattle.rail_model.proofs.Members.{none_passes}
 use Rattle.rail_model.proofs.NameOrder.{same_name, is_same-sym}
 use Rattle.rail_model.proofs.Paths.{hop_in_at, length-hops_in, place_within, signal_stands, route_stands}
 use Rattle.rail_model.proofs.Places.{filter_none, number_of-missing}
-use Rattle.plan_model.specs.declared.cut.Cut.{Cut}
-use Rattle.plan_model.specs.Cut.{stamped}
-use Rattle.plan_model.specs.SectionCut.{position_in_section, use_in_section, section_uses, cut_of}
+use Rattle.plan_model.specs.SectionCut.{position_in_section, use_in_section, section_uses}
 use Rattle.line_tables.specs.Passing.{passes_block, passes_section}
 use Rattle.line_tables.proofs.Found.{find_some}
 use Rattle.section_cut.specs.OneRun.{row_of_stair, PassesBy}
-use Rattle.section_cut.proofs.OneRun.{located}
 
 -- the block of a name that is there has this name
 named : (tables : Tables) (n : List ℕ) → has_block tables n ≡ true → block_name tables (block_number tables n) ≡ n
@@ -104,10 +101,3 @@ module _ (tables : Tables) (name : List ℕ) (s : Section) (found : find (λ (x 
   section_is n number =
       get_or_from_slice_get tables.sections n s no_section
       (ap (slice_get tables.sections) number ∙ sym (find_at (λ (x : Section). is_same x.name name) tables.sections) ∙ found)
-
--- that of a cut, where the tables after an edit have the same sections
-pub section_of_cut : (earlier later : Tables) (name : List ℕ) (old : Cut) → later.sections ≡ earlier.sections
-    → cut_of earlier name ≡ Some (stamped 0 old) → find (λ (x : Section). is_same x.name name) later.sections ≡ Some old.section
-section_of_cut earlier later name old same is =
-    ap (find (λ (x : Section). is_same x.name name)) same
-    ∙ (located earlier name old (find (λ (x : Section). is_same x.name name) earlier.sections) refl is).0

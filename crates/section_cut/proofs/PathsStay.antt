@@ -169,15 +169,6 @@ module _ (test : Run → Bool) (runs : List Run) where
   read_told (Ok told) is = map_told told.items is
   read_told (Err e) is = tt
 
-  -- nothing
-  pub all_told : (told : List Bool) (count : ℕ) → count ≡ length runs → told ≡ replicate count true → IsTold test runs told
-  all_told told count long is = record {
-    count = ap length is ∙ length-replicate count true ∙ long;
-    each = λ n d below out.
-        let yes : get_or told n d ≡ true = ap (λ bs. get_or bs n d) is ∙ get_or-replicate count n true d (omega (arith, long, below)) in
-        absurd (both_ways (get_or told n d) out yes);
-  }
-
   -- of the first runs
   abbrev pub IsToldTo : ℕ → List Bool → Type 0
   IsToldTo n told =

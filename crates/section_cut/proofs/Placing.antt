@@ -50,16 +50,6 @@ module _ (tables : Tables) where
       }
 
   module _ (section : Section) where
-    pub filled_none : (from : ℕ) (table : List ℕ) → from ≡ length section.blocks
-        → table ≡ replicate (length tables.blocks) (length section.blocks) → IsFilled tables section from table
-    filled_none from table none is = record {
-      count = ap length is ∙ length-replicate (length tables.blocks) (length section.blocks);
-      each = λ block below.
-          let rest = prefix_len-drop_all (λ (n : List ℕ). not (is_same n (block_name tables block))) section.blocks from (omega arith) in
-          let at = ap (λ t. get_or t block 0) is ∙ get_or-replicate (length tables.blocks) block (length section.blocks) 0 below in
-          omega (arith, rest, at);
-    }
-
     pub filled_more : (from : ℕ) (before after : List ℕ) → from < length section.blocks
         → IsFilled tables section (from + 1) before → IsPlaced tables (get_or section.blocks from []) from before after
         → IsFilled tables section from after
@@ -79,15 +69,6 @@ module _ (tables : Tables) where
                 let here : get_or after block 0 ≡ get_or before block 0 = rw e at at in
                 omega (arith, more, here, filled.each block below)
           ];
-    }
-
-    pub filled_all : (from : ℕ) (table : List ℕ) → from ≡ 0 → IsFilled tables section from table
-        → IsPositions tables section table
-    filled_all from table none filled = record {
-      count = filled.count;
-      each = λ block below.
-          let first = subst (λ k. get_or table block 0 ≡ k + number_of (λ (n : List ℕ). n) (drop k section.blocks) (block_name tables block)) none (filled.each block below) in
-          omega (arith, first);
     }
 
 -- the table with the position of one block more of the section of a number, by the numbers of its blocks

@@ -28,7 +28,8 @@ use Rattle.section_cut.specs.Connected.{joins, entry_in, block_part, with_rest}
 use Rattle.section_cut.specs.Members.{enters, member_row, row_with}
 use Rattle.section_cut.specs.Positions.{uses_in}
 use Rattle.section_cut.specs.declared.cut_changes.CutChange.TheVariants as change
-use Rattle.section_cut.specs.Change.{IsChange}
+use Rattle.section_cut.specs.declared.cut_changes.StoredCut.{StoredCut}
+use Rattle.section_cut.specs.Stored.{IsStored, IsChangeOf}
 use Rattle.section_cut.specs.RowsAfter.{AreBeside, AllStay, IsKept, AreRowsAfter, IsOwnOf}
 use Rattle.section_cut.specs.Stamps.{AreBefore, IsReached, IsStamped, IsStampedBy}
 use Rattle.section_cut.specs.ReachedRuns.{IsStairIfReached, AreReachedRuns, IsOwnRow, IsRowAfter, row_after, uses_if_there}
@@ -36,8 +37,9 @@ use Rattle.section_cut.specs.Spans.{AreSpans, IsLookedAt, IsSpan, blocks_of, par
 use Rattle.section_cut.specs.declared.spans.Span.{Span}
 use Rattle.section_cut.proofs.BindsBy.{use_by, entry_same}
 use Rattle.section_cut.proofs.MemberRows.{uses_by_table}
-use Rattle.section_cut.proofs.OldRows.{row_if, cut_rows, cut_names, row_at_name, old_row}
-use Rattle.section_cut.proofs.OneRun.{located, map_one}
+use Rattle.section_cut.proofs.OldRows.{row_if, row_at_name, old_row}
+use Rattle.section_cut.proofs.OneRun.{map_one}
+use Rattle.section_cut.proofs.Stored.{stored_names, stored_rows, stored_section}
 use Rattle.section_cut.proofs.Parts.{part_in, part_all}
 use Rattle.section_cut.proofs.Rows.{before_later}
 use Rattle.section_cut.proofs.SameRuns.{arrival_same, binding_same, row_same, cuts_same}
@@ -365,22 +367,30 @@ module _ {earlier later : Tables} {stairs : List (Option Stair)} {s : Section} {
 
 -- ---- the cut after the edit
 
-module _ (earlier later : Tables) (stairs : List (Option Stair)) (name : List ℕ) (old : Cut) (is : cut_of earlier name ≡ Some (stamped 0 old)) (positions : List ℕ) (beside : AreBeside earlier later stairs old.section positions old.rows) where
+module _ {stored : StoredCut} (is : IsStored stored) {stairs : List (Option Stair)} {positions : List ℕ} (beside : AreBeside stored.both.before.now stored.both.after.now stairs stored.cut.now.section positions stored.cut.now.rows) where
+  abbrev earlier : Tables
+  earlier = stored.both.before.now
+
+  abbrev later : Tables
+  later = stored.both.after.now
+
+  abbrev name : List ℕ
+  name = stored.section.now
+
+  abbrev old : Cut
+  old = stored.cut.now
+
   abbrev s : Section
   s = old.section
-
-  abbrev here : (find (λ (s : Section). is_same s.name name) earlier.sections ≡ Some old.section) × (section_cut earlier old.section ≡ stamped 0 old)
-  here = located earlier name old (find (λ (s : Section). is_same s.name name) earlier.sections) refl is
 
   cut_made : (made : Cut) → made.section ≡ s → made.connections ≡ old.connections → binding_connections later s ≡ binding_connections earlier s
       → map (stamped_row 0) made.rows ≡ map (row_of later s) (filter (is_member later s) earlier.runs) → cut_of later name ≡ Some (stamped 0 made)
   cut_made made section connections binding rows =
       let form : Section → List (List ℕ) → List CutRow → Cut = λ s cs rs. record { section = s; connections = cs; rows = rs } in
       let by_runs : List Run → List CutRow = λ rs. map (row_of later s) (filter (is_member later s) rs) in
-      ap (λ sections. option_map (section_cut later) (find (λ (s : Section). is_same s.name name) sections)) beside.reached.same.sections
-      ∙ ap (option_map (section_cut later)) here.0
+      ap (option_map (section_cut later)) (stored_section is beside.reached.same.sections)
       ∙ ap Some
-      (ap (λ cs. form s cs (by_runs later.runs)) (ap (map (λ (c : Connection). c.name)) binding ∙ sym (cut_names earlier s old here.1) ∙ sym connections)
+      (ap (λ cs. form s cs (by_runs later.runs)) (ap (map (λ (c : Connection). c.name)) binding ∙ sym (stored_names is) ∙ sym connections)
       ∙ ap (λ rs. form s made.connections (by_runs rs)) beside.reached.same.runs
       ∙ ap (form s made.connections) (sym rows)
       ∙ ap (λ s. form s made.connections (map (stamped_row 0) made.rows)) (sym section))
@@ -398,7 +408,7 @@ module _ (earlier later : Tables) (stairs : List (Option Stair)) (name : List �
   count = ap length beside.reached.same.runs
 
   -- ---- where all rows stay, so does the cut
-  pub cut_same : AllStay later stairs s positions old.rows → cut_of later name ≡ cut_of earlier name
+  pub cut_same : AllStay later stairs s positions old.rows → IsChangeOf stored change.Untouched
   cut_same stay =
       let entry : (n : ℕ) → n < length earlier.runs → IsKept earlier later s n = λ n l.
       let below : n < length later.runs = omega (arith, l, count) in
@@ -413,23 +423,23 @@ module _ (earlier later : Tables) (stairs : List (Option Stair)) (name : List �
       ∙ own_is beside n below (stair_at n) (its n below) (own_at n) refl) in
       let all = take_all (length earlier.runs) earlier.runs (omega arith) in
       cut_made old refl refl binding
-      (cut_rows earlier s old here.1 ∙ ap (λ rs. map (row_of earlier s) (filter (is_member earlier s) rs)) (sym all)
+      (stored_rows is ∙ ap (λ rs. map (row_of earlier s) (filter (is_member earlier s) rs)) (sym all)
       ∙ sym (rows (length earlier.runs) (omega arith)) ∙ ap (λ rs. map (row_of later s) (filter (is_member later s) rs)) all)
-      ∙ sym is
+      ∙ sym is.is
 
   -- ---- a cut of other rows, and what becomes of the earlier one by it
-  pub cut_changes : (made : Cut) → made.section ≡ s → made.connections ≡ old.connections → (number : ℕ)
-      → AreRowsAfter earlier later s number old.rows made.rows → (AllStay later stairs s positions old.rows → ⊥)
-      → IsChange (cut_of earlier name) (cut_of later name) number (Some old) (change.Touched (Some made))
-  cut_changes made section connections number after changes =
+  pub cut_changes : (made : Cut) → made.section ≡ s → made.connections ≡ old.connections
+      → AreRowsAfter earlier later s stored.number old.rows made.rows → (AllStay later stairs s positions old.rows → ⊥)
+      → IsChangeOf stored (change.Touched (Some made))
+  cut_changes made section connections after changes =
       let binding = kept_binding beside after.kept in
       let now = cut_made made section connections binding after.value in (
         λ same.
-            let both : Some (stamped 0 made) ≡ Some (stamped 0 old) = sym now ∙ same ∙ is in
+            let both : Some (stamped 0 made) ≡ Some (stamped 0 old) = sym now ∙ same ∙ is.is in
             let values : stamped 0 made ≡ stamped 0 old = cc in
             let rows : map (row_of later s) (filter (is_member later s) later.runs) ≡ map (row_of earlier s) (filter (is_member earlier s) earlier.runs) =
             ap (λ rs. map (row_of later s) (filter (is_member later s) rs)) beside.reached.same.runs
-            ∙ sym after.value ∙ ap (λ (c : Cut). c.rows) values ∙ cut_rows earlier s old here.1 in
+            ∙ sym after.value ∙ ap (λ (c : Cut). c.rows) values ∙ stored_rows is in
             changes
             (λ n below.
             let l : n < length earlier.runs = omega (arith, below, count) in

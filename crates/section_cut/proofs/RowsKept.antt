@@ -12,11 +12,12 @@ use Rattle.plan_model.specs.declared.cut.CutRow.{CutRow}
 use Rattle.plan_model.specs.declared.cut.Cut.{Cut}
 use Rattle.plan_model.specs.Cut.{stamped_row, stamped, AreBlocksFirst}
 use Rattle.plan_model.specs.SectionCut.{section_uses, entry_of, is_member, row_of, cut_of}
+use Rattle.section_cut.specs.declared.cut_changes.StoredCut.{StoredCut}
+use Rattle.section_cut.specs.Stored.{IsStored}
 use Rattle.section_cut.specs.Members.{member_row}
 use Rattle.section_cut.specs.RowsAfter.{on_blocks, TellsMembers, AreOfMembers}
-use Rattle.section_cut.proofs.OldRows.{cut_rows, old_row}
-use Rattle.section_cut.proofs.OneRun.{cut_is}
-use Rattle.section_cut.proofs.SameValue.{sound_cut_of}
+use Rattle.section_cut.proofs.OldRows.{old_row}
+use Rattle.section_cut.proofs.Stored.{sound_stored, stored_rows}
 use Rattle.section_cut.proofs.SoundRow.{blocks_are}
 
 -- a row that is found has its uses of blocks first
@@ -51,14 +52,14 @@ module _ (tables : Tables) (sound : IsSound tables) (s : Section) (old : List Cu
       by_test false e = rw (sym e) refl
 
 -- and those of the section's cut by tables that differ in connections alone
-pub members_stay : (earlier later : Tables) → later ≡ record earlier { connections = later.connections } → IsSound earlier → (name : List ℕ) (old : Cut)
-    → cut_of earlier name ≡ Some (stamped 0 old) → AreOfMembers later old.section old.rows
-members_stay earlier later others earlier_sound name old is =
-    let s = old.section in
-    let sound = sound_cut_of earlier earlier_sound name old is in
+pub members_stay : {stored : StoredCut} → IsStored stored → stored.both.after.now ≡ record stored.both.before.now { connections = stored.both.after.now.connections }
+    → AreOfMembers stored.both.after.now stored.cut.now.section stored.cut.now.rows
+members_stay {stored} is others =
+    let s = stored.cut.now.section in
+    let rows = stored.cut.now.rows in
+    let sound = sound_stored is in
     record {
       rise = sound.names_rise;
       first = λ k d l. (sound.each k d l).blocks_first;
-      each = subst (λ (t : Tables). TellsMembers t s old.rows) (sym others)
-          (tells earlier earlier_sound s old.rows (cut_rows earlier s old (cut_is earlier name old is)));
+      each = subst (λ (t : Tables). TellsMembers t s rows) (sym others) (tells stored.both.before.now is.earlier_sound s rows (stored_rows is));
     }

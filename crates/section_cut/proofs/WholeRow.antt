@@ -16,16 +16,28 @@ use Rattle.plan_model.specs.declared.cut.CutRow.{CutRow}
 use Rattle.plan_model.specs.declared.cut.Cut.{Cut}
 use Rattle.plan_model.specs.Cut.{stamped}
 use Rattle.plan_model.specs.SectionCut.{section_uses, cut_of}
+use Rattle.section_cut.specs.declared.cut_changes.StoredCut.{StoredCut}
 use Rattle.section_cut.specs.declared.one_run.EditedRun.{EditedRun}
+use Rattle.section_cut.specs.Stored.{IsStored}
 use Rattle.section_cut.specs.Times.{with_times}
 use Rattle.section_cut.specs.OneRun.{uses_of_section}
 use Rattle.section_cut.specs.EditedRun.{KeepsRoute, IsEditedRun, KeepsPlaces}
 use Rattle.section_cut.specs.Connected.{block_part}
 use Rattle.section_cut.proofs.OldRows.{old_blocks}
-use Rattle.section_cut.proofs.OneRun.{located, run_found}
+use Rattle.section_cut.proofs.OneRun.{run_found}
+use Rattle.section_cut.proofs.Stored.{stored_rows}
 use Rattle.section_cut.proofs.Whole.{whole, one_route}
 
-module _ (earlier later : Tables) (run : EditedRun) (edited : IsEditedRun earlier later run) (earlier_sound : IsSound earlier) (later_sound : IsSound later) (section : List ℕ) (old : Cut) (is : cut_of earlier section ≡ Some (stamped 0 old)) (route : run.keeps_route ≡ true) where
+module _ {stored : StoredCut} (is : IsStored stored) (run : EditedRun) (edited : IsEditedRun stored.both.before.now stored.both.after.now run) (route : run.keeps_route ≡ true) where
+  abbrev earlier : Tables
+  earlier = stored.both.before.now
+
+  abbrev later : Tables
+  later = stored.both.after.now
+
+  abbrev old : Cut
+  old = stored.cut.now
+
   abbrev keeps : KeepsRoute earlier later run.name
   keeps = edited.route route
 
@@ -47,9 +59,7 @@ module _ (earlier later : Tables) (run : EditedRun) (edited : IsEditedRun earlie
   -- the uses of blocks of its row before the edit are its own
   uses_are : (own : CutRow) → Some own ≡ find (λ r. is_same r.name run.name) old.rows → block_part old.section own.uses ≡ section_uses earlier old.section (run_at earlier n)
   uses_are own found =
-      old_blocks earlier old.section earlier_sound.runs.names old.rows
-      (ap (λ (c : Cut). c.rows) (sym (located earlier section old (find (λ (s : Section). is_same s.name section) earlier.sections) refl is).1))
-      earlier_sound n below own (found ∙ ap (λ m. find (λ (r : CutRow). is_same r.name m) old.rows) (sym named))
+      old_blocks earlier old.section is.earlier_sound.runs.names old.rows (stored_rows is) is.earlier_sound n below own (found ∙ ap (λ m. find (λ (r : CutRow). is_same r.name m) old.rows) (sym named))
 
   block_names : (block : ℕ) → block_name later block ≡ block_name earlier block
   block_names block = ap (λ (t : Tables). block_name t block) edited.one.others
@@ -59,10 +69,10 @@ module _ (earlier later : Tables) (run : EditedRun) (edited : IsEditedRun earlie
       → Some own ≡ find (λ r. is_same r.name run.name) old.rows → KeepsPlaces later old.section stair (block_part old.section own.uses)
   times_are own None its found = tt
   times_are own (Some stair) its found = λ long.
-      let is : stair ≡ stair_of (path_in later (run_at later m)) = cc in
+      let at : stair ≡ stair_of (path_in later (run_at later m)) = cc in
       let same = one_route earlier later edited.one.others (run_at earlier n) (run_at later m) keeps.route
-      (run_stands earlier earlier_sound n below) (run_stands later later_sound m below_later) in
-      subst (λ (t : Stair). length (block_part old.section own.uses) ≡ length t.uses → with_times (block_part old.section own.uses) t.uses ≡ uses_of_section later old.section t.uses) (sym is)
+      (run_stands earlier is.earlier_sound n below) (run_stands later is.later_sound m below_later) in
+      subst (λ (t : Stair). length (block_part old.section own.uses) ≡ length t.uses → with_times (block_part old.section own.uses) t.uses ≡ uses_of_section later old.section t.uses) (sym at)
       (whole earlier later old.section (run_at earlier n) (run_at later m) block_names same (block_part old.section own.uses) (uses_are own found)) long
 
   pub keeps_places : (own : Option CutRow) → own ≡ find (λ r. is_same r.name run.name) old.rows

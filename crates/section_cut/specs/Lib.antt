@@ -6,6 +6,7 @@ pub mod Members
 pub mod Bound
 pub mod Connected
 pub mod Change
+pub mod Stored
 pub mod Stamps
 pub mod OneRun
 pub mod EditedRun

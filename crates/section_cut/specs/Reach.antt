@@ -12,6 +12,8 @@ use Rattle.rail_model.specs.Timetable.{timetable}
 use Rattle.plan_model.specs.SectionCut.{cut_of}
 use Rattle.section_cut.specs.declared.reach.Reach.{Reach}
 use Rattle.section_cut.specs.declared.reach.Reach.TheVariants as reach
+use Rattle.section_cut.specs.declared.reach.RowReach.{RowReach}
+use Rattle.section_cut.specs.declared.reach.RowReach.TheVariants as rows
 use Rattle.section_cut.specs.Connected.{is_joined}
 use Rattle.section_cut.specs.ReachedRuns.{AreReachedRuns, IsTold, uses_if_there}
 use Rattle.section_cut.specs.Spans.{AreOver}
@@ -84,11 +86,14 @@ pub record AreRunsOf (earlier later : Tables) (runs : ReachedRuns) : Type 0 wher
   pub joined : IsTold (is_joined earlier) earlier.runs runs.joined.items
 
 -- no other rows can differ between cuts by earlier tables and by later ones
+abbrev pub IsRowReach : Tables → Tables → RowReach → Type 0
+IsRowReach earlier later rows.Nothing = AreSameCuts earlier later
+IsRowReach earlier later (rows.Run run) = IsEditedRun earlier later run
+IsRowReach earlier later (rows.Connection edited) = IsEditedConnection earlier later edited
+IsRowReach earlier later (rows.Minimum c) = IsMinimumChanged earlier later c
+IsRowReach earlier later (rows.Runs runs) = AreRunsOf earlier later runs
+
 abbrev pub IsReach : Tables → Tables → Reach → Type 0
-IsReach earlier later reach.Nothing = AreSameCuts earlier later
 IsReach earlier later (reach.All stairs) = stairs ≡ timetable later
-IsReach earlier later (reach.Run run) = IsEditedRun earlier later run
-IsReach earlier later (reach.Connection edited) = IsEditedConnection earlier later edited
-IsReach earlier later (reach.Minimum c) = IsMinimumChanged earlier later c
-IsReach earlier later (reach.Runs runs) = AreRunsOf earlier later runs
 IsReach earlier later (reach.Section name) = IsOneSection earlier later name
+IsReach earlier later (reach.Rows r) = IsRowReach earlier later r

@@ -1,45 +1,40 @@
 //! A section's cut whose connections are bound anew, where it is known which runs are its members,
 //! and their uses of its blocks.
-ghost use Rattle.std.specs.Prelude.{◌≡◌, ◌≤◌, length, IfOk, IfSome, Some, option_map};
+ghost use Rattle.std.specs.Prelude.{◌≡◌, ◌≤◌, length, IfOk, IfSome, option_map};
 ghost use Rattle.std.specs.Option.{option_copied};
 ghost use Rattle.plan_model.specs.Cut.{stamped, AreBlocksFirst};
 ghost use Rattle.plan_model.specs.SectionCut as cuts;
 ghost use Rattle.rail_model.specs.declared.limits.TheConstants.{PATH_HOPS};
-ghost use Rattle.section_cut.specs.Change.{IsChange};
 ghost use Rattle.section_cut.specs.Members.{rows_on_blocks, members_by_run};
 ghost use Rattle.section_cut.specs.RowsAfter.{AreOfMembers};
 ghost use Rattle.section_cut.specs.RowsAfter as bare;
+ghost use Rattle.section_cut.specs.Stored.{IsStored, IsChangeOf};
 
 use crate::connected::block_part;
-use crate::connections::connections;
-use crate::cut_changes::{BothTables, CutChange, compared};
+use crate::cut_changes::{CutChange, StoredCut, compared};
+use crate::cuts::cut_of_members;
 use crate::members::{MemberRows, add_run};
 use crate::reached_runs::row_of;
 use line_tables::LineTables;
 use plan_model::{Cut, CutRow};
-use rail_model::{List, Name, OutOfMemory, Section};
+use rail_model::{List, OutOfMemory, Section};
 use std::alloc::Global;
 
 // What the edit of a number makes of the cut of a section that stays, by rows with the uses of blocks
 // of the members after it.
 pub(crate) fn cut_bound_anew(
     alloc: Global,
-    both: BothTables<'_>,
+    stored: StoredCut<'_>,
     rows: &[CutRow],
-    old: &Cut,
-    section: &Name,
-    number: u64,
 ) -> Result<CutChange, OutOfMemory>
-    requires cut { cuts.cut_of both.before.now section.now ≡ Some (stamped 0 old.now) }
-    requires sections { both.after.now.sections ≡ both.before.now.sections }
-    requires members { AreOfMembers both.after.now old.now.section rows.now }
-    ensures { IfOk result (IsChange (cuts.cut_of both.entry.before.now section.now)
-        (cuts.cut_of both.entry.after.now section.now) number (Some old.now)) }
+    requires stored { IsStored stored }
+    requires sections { stored.both.after.now.sections ≡ stored.both.before.now.sections }
+    requires members { AreOfMembers stored.both.after.now stored.cut.now.section rows.now }
+    ensures { IfOk result (IsChangeOf stored.entry) }
 {
-    both.before.learn_sound();
-    both.after.learn_sound();
-    let later = cut_by_rows(alloc, both.after, &old.section, rows, number)?;
-    Ok(compared(old, later, number))
+    let old = stored.cut;
+    let later = cut_by_rows(alloc, stored.both.after, &old.section, rows, stored.number)?;
+    Ok(compared(old, later, stored.number))
 }
 
 // The cut of a section, each row with this stamp, by rows with the uses of blocks of its members.
@@ -55,14 +50,8 @@ fn cut_by_rows(
     ensures { IfOk result
         (λ cut. cut ≡ stamped stamp (cuts.section_cut tables.now section.now)) }
 {
-    tables.learn_sound();
-    let MemberRows { mut rows, of_run } = members_by_rows(alloc, tables, section, rows, stamp)?;
-    let connections = connections(alloc, tables, section, &of_run, &mut rows)?;
-    Ok(Cut {
-        section: section.copy(alloc)?,
-        connections,
-        rows,
-    })
+    let members = members_by_rows(alloc, tables, section, rows, stamp)?;
+    cut_of_members(alloc, tables, section, members)
 }
 
 // The members' rows without their uses of connections, and for each run which of them is its.

@@ -6,13 +6,14 @@ ghost use Rattle.rail_model.specs.Timetable.{timetable};
 ghost use Rattle.plan_model.specs.Cut.{stamped, IsSoundCut};
 ghost use Rattle.plan_model.specs.SectionCut.{cut_of};
 ghost use Rattle.section_cut.specs.Change.{IsChange, IsCutAfter, HasPlace, with_row};
-ghost use Rattle.section_cut.specs.Reach.{IsOneSection};
+ghost use Rattle.section_cut.specs.Reach.{IsOneSection, IsRowReach};
+ghost use Rattle.section_cut.specs.Stored.{IsStored, IsChangeOf};
 
 use crate::all_stairways::AllStairways;
 use crate::cuts::{cut_among, cut_of};
 use crate::one_connection::{cut_after_connection, cut_after_minimum};
 use crate::one_run::cut_after_run;
-use crate::reach::{Reach, reach_of};
+use crate::reach::{Reach, RowReach, reach_of};
 use crate::reached_runs::cut_after_runs;
 use crate::same_value::{has_same_rows, same_cut, same_name};
 use crate::stamps::keep_stamps;
@@ -40,6 +41,15 @@ pub enum CutChange {
 pub(crate) struct BothTables<'a> {
     pub(crate) before: &'a LineTables,
     pub(crate) after: &'a LineTables,
+}
+
+// The cut of the section of a name before the edit of a number.
+#[derive(Clone, Copy)]
+pub(crate) struct StoredCut<'a> {
+    pub(crate) both: BothTables<'a>,
+    pub(crate) cut: &'a Cut,
+    pub(crate) section: &'a Name,
+    pub(crate) number: u64,
 }
 
 /// The tables before and after an edit, with what is made of them once for the cuts of many
@@ -97,31 +107,43 @@ impl<'a> CutChanges<'a> {
     {
         match &self.reach {
             Reach::All(stairs) => { cut_after_all(alloc, self.both, stairs, cut, section, number) }
-            Reach::Run(run) => match cut {
-                Some(old) => cut_after_run(alloc, self.both, run, old, section, number),
-                None => Ok(CutChange::Untouched),
-            },
-            Reach::Connection(edited) => match cut {
-                Some(old) => {
-                    cut_after_connection(alloc, self.both, edited, old, section, number)
-                }
-                None => Ok(CutChange::Untouched),
-            },
-            Reach::Minimum(connection) => match cut {
-                Some(old) => {
-                    cut_after_minimum(alloc, self.both, connection, old, section, number)
-                }
-                None => Ok(CutChange::Untouched),
-            },
-            Reach::Nothing => Ok(CutChange::Untouched),
-            Reach::Runs(runs) => match cut {
-                Some(old) => cut_after_runs(alloc, self.both, runs, old, section, number),
-                None => Ok(CutChange::Untouched),
-            },
             Reach::Section(name) => {
                 cut_after_section(alloc, self.both, name, cut, section, number)
             }
+            Reach::Rows(reach) => match cut {
+                Some(cut) => {
+                    self.both.before.learn_sound();
+                    self.both.after.learn_sound();
+                    let stored = StoredCut {
+                        both: self.both,
+                        cut,
+                        section,
+                        number,
+                    };
+                    cut_after_rows(alloc, stored, reach)
+                }
+                None => Ok(CutChange::Untouched),
+            },
         }
+    }
+}
+
+// What an edit that leaves the sections makes of the cut of one.
+fn cut_after_rows(
+    alloc: Global,
+    stored: StoredCut<'_>,
+    reach: &RowReach,
+) -> Result<CutChange, OutOfMemory>
+    requires stored { IsStored stored }
+    requires reach { IsRowReach stored.both.before.now stored.both.after.now reach.now }
+    ensures { IfOk result (IsChangeOf stored.entry) }
+{
+    match reach {
+        RowReach::Nothing => Ok(CutChange::Untouched),
+        RowReach::Run(run) => cut_after_run(alloc, stored, run),
+        RowReach::Connection(edited) => cut_after_connection(alloc, stored, edited),
+        RowReach::Minimum(connection) => cut_after_minimum(alloc, stored, connection),
+        RowReach::Runs(runs) => cut_after_runs(alloc, stored, runs),
     }
 }
 
@@ -161,8 +183,16 @@ fn cut_after_section(
     if !same_name(edited, section) {
         return Ok(CutChange::Untouched);
     }
-    if let Some(old) = cut {
-        if let Some(change) = cut_of_same_rows(alloc, both, old, section, number)? {
+    if let Some(cut) = cut {
+        both.before.learn_sound();
+        both.after.learn_sound();
+        let stored = StoredCut {
+            both,
+            cut,
+            section,
+            number,
+        };
+        if let Some(change) = cut_of_same_rows(alloc, stored)? {
             return Ok(change);
         }
     }
@@ -174,29 +204,23 @@ fn cut_after_section(
 // made anew.
 fn cut_of_same_rows(
     alloc: Global,
-    both: BothTables<'_>,
-    old: &Cut,
-    section: &Name,
-    number: u64,
+    stored: StoredCut<'_>,
 ) -> Result<Option<CutChange>, OutOfMemory>
-    requires others { both.after.now
-        ≡ record both.before.now { sections = both.after.now.sections } }
-    requires cut { cut_of both.before.now section.now ≡ Some (stamped 0 old.now) }
-    ensures { IfOk result
-        (λ made. IfSome made (IsChange (cut_of both.entry.before.now section.now)
-        (cut_of both.entry.after.now section.now) number (Some old.now))) }
+    requires stored { IsStored stored }
+    requires others { stored.both.after.now
+        ≡ record stored.both.before.now { sections = stored.both.after.now.sections } }
+    ensures { IfOk result (λ made. IfSome made (IsChangeOf stored.entry)) }
 {
-    both.before.learn_sound();
-    both.after.learn_sound();
-    let Some(place) = both.after.section_number(section) else {
+    let after = stored.both.after;
+    let Some(place) = after.section_number(stored.section) else {
         return Ok(None);
     };
-    let later = both.after.section(place);
-    if !has_same_rows(later, &old.section) {
+    let later = after.section(place);
+    if !has_same_rows(later, &stored.cut.section) {
         return Ok(None);
     }
-    let cut = with_section(alloc, old, later)?;
-    Ok(Some(compared(old, cut, number)))
+    let cut = with_section(alloc, stored.cut, later)?;
+    Ok(Some(compared(stored.cut, cut, stored.number)))
 }
 
 // A copy of a cut, of this section.
@@ -208,8 +232,25 @@ fn with_section(alloc: Global, old: &Cut, section: &Section) -> Result<Cut, OutO
     Ok(cut)
 }
 
+// What the edit makes of a stored cut, where that is made anew.
+pub(crate) fn stored_made_anew(
+    alloc: Global,
+    stored: StoredCut<'_>,
+) -> Result<CutChange, OutOfMemory>
+    requires { IsStored stored }
+    ensures { IfOk result (IsChangeOf stored.entry) }
+{
+    cut_made_anew(
+        alloc,
+        stored.both,
+        Some(stored.cut),
+        stored.section,
+        stored.number,
+    )
+}
+
 // What the edit of a number makes of the cut of the section of a name, where that is made anew.
-pub(crate) fn cut_made_anew(
+fn cut_made_anew(
     alloc: Global,
     both: BothTables<'_>,
     cut: Option<&Cut>,

@@ -1,10 +1,12 @@
 //! The cut of a section.
-ghost use Rattle.std.specs.Prelude.{◌≡◌, ◌<◌, length, IfOk, IfSome, option_map};
+ghost use Rattle.std.specs.Prelude.{◌≡◌, ℕ, ◌<◌, ◌≤◌, length, map, IfOk, IfSome, option_map};
 ghost use Rattle.plan_model.specs.Cut.{stamped, IsSoundCut};
 ghost use Rattle.plan_model.specs.SectionCut as cuts;
 ghost use Rattle.rail_model.specs.Timetable.{timetable};
 ghost use Rattle.rail_model.specs.Tables.{section_at};
+ghost use Rattle.rail_model.specs.declared.limits.TheConstants.{PATH_HOPS};
 ghost use Rattle.section_cut.specs.Late.{AreStairsFor};
+ghost use Rattle.section_cut.specs.Members as rows;
 
 use crate::all_stairways::AllStairways;
 use crate::connections::connections;
@@ -13,7 +15,7 @@ use crate::members::{MemberRows, members};
 use crate::positions::{SectionTable, positions};
 use line_tables::LineTables;
 use plan_model::Cut;
-use rail_model::{Name, OutOfMemory};
+use rail_model::{Name, OutOfMemory, Section};
 use std::alloc::Global;
 
 /// The cut of the section of a name, each row with this stamp, and `None` exactly where the section
@@ -80,7 +82,27 @@ fn cut_by(
         positions: &positions,
         spans: &spans,
     };
-    let MemberRows { mut rows, of_run } = members(alloc, tables, table, stairs, stamp)?;
+    let members = members(alloc, tables, table, stairs, stamp)?;
+    cut_of_members(alloc, tables, section, members)
+}
+
+// The cut of a section by its members' rows, which are still without uses of connections.
+pub(crate) fn cut_of_members(
+    alloc: Global,
+    tables: &LineTables,
+    section: &Section,
+    members: MemberRows,
+) -> Result<Cut, OutOfMemory>
+    requires of_run { members.of_run.items ≡ rows.members_by_run tables.now section.now }
+    requires names { map (λ r. r.name) members.rows
+        ≡ map (λ r. r.name) (rows.members_of tables.now section.now) }
+    requires blocks { length section.now.blocks ≤ PATH_HOPS }
+    ensures { IfOk result (λ cut. (stamp : ℕ)
+        → members.rows ≡ rows.rows_on_blocks tables.now section.now stamp
+        → cut ≡ stamped stamp (cuts.section_cut tables.now section.now)) }
+{
+    tables.learn_sound();
+    let MemberRows { mut rows, of_run } = members;
     let connections = connections(alloc, tables, section, &of_run, &mut rows)?;
     Ok(Cut {
         section: section.copy(alloc)?,

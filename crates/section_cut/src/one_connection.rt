@@ -1,19 +1,17 @@
 //! What an edit of a connection makes of a section's cut. Where the connection binds neither before
 //! nor after it, nothing. Where only its minimum changes, the first run keeps it until another
 //! moment. Else the connections are bound anew: the members and their uses of blocks stay.
-ghost use Rattle.std.specs.Prelude.{◌≡◌, ◌<◌, true, All, find, length, IfOk, IfSome, Some};
-ghost use Rattle.std.specs.Option.{option_copied};
-ghost use Rattle.plan_model.specs.Cut.{stamped};
+ghost use Rattle.std.specs.Prelude.{◌≡◌, true, All, find, IfOk};
 ghost use Rattle.plan_model.specs.SectionCut as cuts;
 ghost use Rattle.rail_model.specs.Name.{NamesRise, is_same};
-ghost use Rattle.section_cut.specs.Change.{IsChange};
 ghost use Rattle.section_cut.specs.Connected.{IsOfRuns, TellsEntries};
 ghost use Rattle.section_cut.specs.EditedConnection.{connection_edited, IsEditedConnection, IsMinimumChanged, IsOfSameRuns};
 ghost use Rattle.section_cut.specs.EditedConnection as ends;
+ghost use Rattle.section_cut.specs.Stored.{IsStored, IsChangeOf};
 
 use crate::bound_anew::cut_bound_anew;
 use crate::connected::{binds, place_in, row_named, until};
-use crate::cut_changes::{BothTables, CutChange, cut_made_anew};
+use crate::cut_changes::{CutChange, StoredCut, stored_made_anew};
 use crate::one_run::with_row;
 use crate::same_value::same_name;
 use crate::stamps::{own_row, place_of};
@@ -82,25 +80,19 @@ fn is_of_same_runs(connection: &Connection, other: &Connection) -> bool
 // What the edit of a connection makes of the cut of a section that is there.
 pub(crate) fn cut_after_connection(
     alloc: Global,
-    both: BothTables<'_>,
+    stored: StoredCut<'_>,
     edited: &EditedConnection,
-    old: &Cut,
-    section: &Name,
-    number: u64,
 ) -> Result<CutChange, OutOfMemory>
-    requires edited { IsEditedConnection both.before.now both.after.now edited.now }
-    requires cut { cuts.cut_of both.before.now section.now ≡ Some (stamped 0 old.now) }
-    ensures { IfOk result (IsChange (cuts.cut_of both.entry.before.now section.now)
-        (cuts.cut_of both.entry.after.now section.now) number (Some old.now)) }
+    requires stored { IsStored stored }
+    requires edited { IsEditedConnection stored.both.before.now stored.both.after.now edited.now }
+    ensures { IfOk result (IsChangeOf stored.entry) }
 {
-    both.before.learn_sound();
-    both.after.learn_sound();
-    if place_in(old.connections.slice(), &edited.name).is_some() {
-        return cut_bound_anew(alloc, both, old.rows.slice(), old, section, number);
+    if place_in(stored.cut.connections.slice(), &edited.name).is_some() {
+        return cut_bound_anew(alloc, stored, stored.cut.rows.slice());
     }
     if let Some(connection) = &edited.after {
-        if binds_among(both.after, old, connection) {
-            return cut_bound_anew(alloc, both, old.rows.slice(), old, section, number);
+        if binds_among(stored.both.after, stored.cut, connection) {
+            return cut_bound_anew(alloc, stored, stored.cut.rows.slice());
         }
     }
     Ok(CutChange::Untouched)
@@ -123,31 +115,26 @@ fn binds_among(tables: &LineTables, old: &Cut, connection: &Connection) -> bool
 // What another minimum of a connection makes of the cut of a section that is there.
 pub(crate) fn cut_after_minimum(
     alloc: Global,
-    both: BothTables<'_>,
+    stored: StoredCut<'_>,
     connection: &Connection,
-    old: &Cut,
-    section: &Name,
-    number: u64,
 ) -> Result<CutChange, OutOfMemory>
-    requires changed { IsMinimumChanged both.before.now both.after.now connection.now }
-    requires cut { cuts.cut_of both.before.now section.now ≡ Some (stamped 0 old.now) }
-    ensures { IfOk result (IsChange (cuts.cut_of both.entry.before.now section.now)
-        (cuts.cut_of both.entry.after.now section.now) number (Some old.now)) }
+    requires stored { IsStored stored }
+    requires changed { IsMinimumChanged stored.both.before.now stored.both.after.now connection.now }
+    ensures { IfOk result (IsChangeOf stored.entry) }
 {
-    both.before.learn_sound();
-    both.after.learn_sound();
+    let old = stored.cut;
     let Some(k) = place_in(old.connections.slice(), &connection.name) else {
         return Ok(CutChange::Untouched);
     };
     let rows = old.rows.slice();
     let at = place_of(rows, &connection.first);
     let Some(own) = own_row(rows, &connection.first, at) else {
-        return cut_made_anew(alloc, both, Some(old), section, number);
+        return stored_made_anew(alloc, stored);
     };
-    let run = both.after.run_number(&connection.first).unwrap();
-    let end = until(both.after, run, connection);
+    let run = stored.both.after.run_number(&connection.first).unwrap();
+    let end = until(stored.both.after, run, connection);
     let place = (old.section.blocks.len() + k) as u32;
-    let row = row_ending(alloc, own, place, end, number)?;
+    let row = row_ending(alloc, own, place, end, stored.number)?;
     with_row(alloc, old, at, Some(own), Some(row))
 }
 

@@ -3,22 +3,21 @@
 //! anew.
 ghost use Rattle.std.specs.Prelude.{◌≡◌, ◌<◌, ◌≤◌, true, false, All, length, IfOk, IfSome, Some, filter, find, option_map, insert, remove};
 ghost use Rattle.std.specs.Option.{option_copied};
-ghost use Rattle.plan_model.specs.Cut.{stamped};
-ghost use Rattle.section_cut.specs.Change.{IsChange};
+ghost use Rattle.section_cut.specs.Stored.{IsStored, IsChangeOf};
 ghost use Rattle.section_cut.specs.Members.{member_row};
 ghost use Rattle.section_cut.specs.OneRun.{run_edited, uses_of_section, PassesBy};
 ghost use Rattle.section_cut.specs.Connected.{joins};
 ghost use Rattle.section_cut.specs.EditedRun.{KeepsRoute, IsEditedRun, KeepsPlaces, StandsAt, IsPut};
 ghost use Rattle.section_cut.specs.OneRun as one;
 ghost use Rattle.section_cut.specs.Times.{with_times};
-ghost use Rattle.plan_model.specs.SectionCut.{cut_of, position_in_section};
+ghost use Rattle.plan_model.specs.SectionCut.{position_in_section};
 ghost use Rattle.rail_model.specs.Blocking.{stair_of};
 ghost use Rattle.rail_model.specs.Tables.{number_of, path_in, section_at};
 ghost use Rattle.rail_model.specs.Name.{is_same};
 ghost use Rattle.section_cut.specs.Starts.{EntersEarly};
 
 use crate::connected::{bind_as_before, joined_by, uses_of_blocks, with_joined};
-use crate::cut_changes::{BothTables, CutChange, cut_made_anew};
+use crate::cut_changes::{CutChange, StoredCut, stored_made_anew};
 use crate::members::{member_row, row_with};
 use crate::positions::{SectionTable, gather, positions};
 use crate::same_value::{same_name, same_row};
@@ -262,29 +261,25 @@ fn keeps_route(before: &LineTables, after: &LineTables, name: &Name) -> bool
 // What the edit of a run makes of the cut of a section that is there.
 pub(crate) fn cut_after_run(
     alloc: Global,
-    both: BothTables<'_>,
+    stored: StoredCut<'_>,
     run: &EditedRun,
-    old: &Cut,
-    section: &Name,
-    number: u64,
 ) -> Result<CutChange, OutOfMemory>
-    requires edited { IsEditedRun both.before.now both.after.now run.now }
-    requires cut { cut_of both.before.now section.now ≡ Some (stamped 0 old.now) }
-    ensures { IfOk result (IsChange (cut_of both.entry.before.now section.now)
-        (cut_of both.entry.after.now section.now) number (Some old.now)) }
+    requires stored { IsStored stored }
+    requires edited { IsEditedRun stored.both.before.now stored.both.after.now run.now }
+    ensures { IfOk result (IsChangeOf stored.entry) }
 {
-    both.before.learn_sound();
-    both.after.learn_sound();
+    let old = stored.cut;
+    let after = stored.both.after;
     let rows = old.rows.slice();
     let at = place_of(rows, &run.name);
     let own = own_row(rows, &run.name, at);
     let places = uses_of_blocks(&old.section, own);
-    let row = row_after_run(alloc, both.after, &old.section, run, places, number)?;
+    let row = row_after_run(alloc, after, &old.section, run, places, stored.number)?;
     let joined = run.joined.slice();
-    if !bind_as_before(both.after, old, &run.name, row.as_ref(), joined) {
-        return cut_made_anew(alloc, both, Some(old), section, number);
+    if !bind_as_before(after, old, &run.name, row.as_ref(), joined) {
+        return stored_made_anew(alloc, stored);
     }
-    let row = with_joined(both.after, old, &run.name, joined, row)?;
+    let row = with_joined(after, old, &run.name, joined, row)?;
     with_row(alloc, old, at, own, row)
 }
 

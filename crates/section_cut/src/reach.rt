@@ -9,7 +9,7 @@ ghost use Rattle.std.specs.Prelude.{◌≡◌, ◌≢◌, true, false, All, IfOk
 ghost use Rattle.rail_model.specs.Edits as edits;
 ghost use Rattle.section_cut.specs.EditedConnection.{connection_edited};
 ghost use Rattle.section_cut.specs.ReachedRuns.{KeepsBlocks, AreReachedRuns};
-ghost use Rattle.section_cut.specs.Reach.{IsReach, ReachesNoRun, section_edited};
+ghost use Rattle.section_cut.specs.Reach.{IsReach, IsRowReach, ReachesNoRun, section_edited};
 ghost use Rattle.rail_model.specs.Sound.{IsSound};
 ghost use Rattle.rail_model.specs.Timetable.{timetable};
 
@@ -27,10 +27,19 @@ use std::alloc::Global;
 // What rows an edit can reach, by the tables after it.
 #[derive(Drop)]
 pub(crate) enum Reach {
-    // No row.
-    Nothing,
+    // Any row: the stairways of all runs.
+    All(AllStairways),
     // All rows of the section of a name, and none of another.
     Section(Name),
+    // Some rows of sections that stay.
+    Rows(RowReach),
+}
+
+// Which rows of sections that stay an edit can reach, by the tables after it.
+#[derive(Drop)]
+pub(crate) enum RowReach {
+    // None.
+    Nothing,
     // That of one run.
     Run(EditedRun),
     // Those of the two runs of a connection.
@@ -39,8 +48,6 @@ pub(crate) enum Reach {
     Minimum(Connection),
     // Those of some runs.
     Runs(ReachedRuns),
-    // Any row: the stairways of all runs.
-    All(AllStairways),
 }
 
 // What rows an edit can reach.
@@ -57,35 +64,38 @@ pub(crate) fn reach_of(
         return Ok(Reach::Section(name));
     }
     if let Some(name) = run_edited(edit) {
-        return Ok(Reach::Run(edited_run(alloc, before, after, name)?));
+        let run = edited_run(alloc, before, after, name)?;
+        return Ok(Reach::Rows(RowReach::Run(run)));
     }
     if let Some(name) = connection_edited(edit) {
-        return Ok(reach_of_connection(before, after, edit, name));
+        return Ok(Reach::Rows(reach_of_connection(
+            before, after, edit, name,
+        )));
     }
     before.learn_sound();
     after.learn_sound();
     if reaches_no_run(before, edit) {
-        return Ok(Reach::Nothing);
+        return Ok(Reach::Rows(RowReach::Nothing));
     }
     if keeps_blocks(edit) {
         let stairs = reached_runs(alloc, before, after, edit)?;
-        return reach_of_runs(alloc, before, after, stairs);
+        return Ok(Reach::Rows(reach_of_runs(alloc, before, after, stairs)?));
     }
     Ok(Reach::All(stairs_of_all(alloc, after)?))
 }
 
 // What rows the edit of the connection of a name can reach.
-fn reach_of_connection(before: &LineTables, after: &LineTables, edit: &Edit, name: Name) -> Reach
+fn reach_of_connection(before: &LineTables, after: &LineTables, edit: &Edit, name: Name) -> RowReach
     requires after { after.now ≡ edits.after before.now edit.now }
     requires name { connection_edited edit.now ≡ Some name }
-    ensures { IsReach before.now after.now result }
+    ensures { IsRowReach before.now after.now result }
 {
     if let Edit::Change(Item::Connection(connection)) = edit {
         if keeps_runs(before, connection) {
-            return Reach::Minimum(*connection);
+            return RowReach::Minimum(*connection);
         }
     }
-    Reach::Connection(EditedConnection {
+    RowReach::Connection(EditedConnection {
         name,
         after: connection_named(after, &name),
     })
@@ -156,18 +166,18 @@ fn reach_of_runs(
     before: &LineTables,
     after: &LineTables,
     stairs: Vec<Option<TimedStair>>,
-) -> Result<Reach, OutOfMemory>
+) -> Result<RowReach, OutOfMemory>
     requires before { IsSound before.now }
     requires after { IsSound after.now }
     requires reached { AreReachedRuns before.now after.now stairs.items }
-    ensures { IfOk result (IsReach before.now after.now) }
+    ensures { IfOk result (IsRowReach before.now after.now) }
 {
     if !reaches_some(&stairs) {
-        return Ok(Reach::Nothing);
+        return Ok(RowReach::Nothing);
     }
     let over = lists_over(alloc, &stairs)?;
     let joined = joined_runs(alloc, before)?;
-    Ok(Reach::Runs(ReachedRuns {
+    Ok(RowReach::Runs(ReachedRuns {
         stairs,
         over,
         joined,

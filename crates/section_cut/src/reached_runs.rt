@@ -4,10 +4,9 @@
 ghost use Rattle.std.specs.Prelude.{◌≡◌, ◌↔◌, ◌<◌, ◌++◌, IsTrue, Bool, if◌then◌else◌, true, All, length, map, slice_index_or, IfOk, IfSome, OnOk, Some, None, option_map};
 ghost use Rattle.std.specs.Option.{option_to_list, option_copied};
 ghost use Rattle.line_tables.specs.Paths.{paths_of};
-ghost use Rattle.plan_model.specs.Cut.{stamped};
-ghost use Rattle.plan_model.specs.SectionCut.{cut_of};
 ghost use Rattle.rail_model.specs.Tables.{run_at, path_in};
-ghost use Rattle.section_cut.specs.Change.{IsChange};
+ghost use Rattle.section_cut.specs.Stored.{IsStored, IsChangeOf};
+ghost use Rattle.section_cut.specs.Positions.{IsPositions};
 ghost use Rattle.section_cut.specs.ReachedRuns.{IsSameTraffic, KeepsBlocks, IsTold, AreReachedRuns, uses_if_there};
 ghost use Rattle.section_cut.specs.Reach.{AreRunsOf};
 ghost use Rattle.section_cut.specs.Spans.{AreOver, AreSpans, part_of};
@@ -21,7 +20,7 @@ ghost use Rattle.rail_model.specs.Path.{Fits};
 ghost use Rattle.rail_model.specs.Blocking.{stair_of};
 ghost use Rattle.section_cut.specs.ReachedRuns as reached;
 
-use crate::cut_changes::{BothTables, CutChange, cut_made_anew};
+use crate::cut_changes::{BothTables, CutChange, StoredCut, stored_made_anew};
 use crate::positions::{SectionTable, positions};
 use crate::reached_rows::{row_anew, row_stays};
 use crate::same_value::same_name;
@@ -227,42 +226,53 @@ fn path_by(after: &LineTables, paths: &Option<Paths<'_>>, run: u32) -> Result<Pa
     }
 }
 
-// What the edit of a number makes of the cut of a section that is there.
+// What the edit makes of the cut of a section that is there.
 pub(crate) fn cut_after_runs(
     alloc: Global,
-    both: BothTables<'_>,
+    stored: StoredCut<'_>,
     runs: &ReachedRuns,
-    old: &Cut,
-    section: &Name,
-    number: u64,
 ) -> Result<CutChange, OutOfMemory>
-    requires runs { AreRunsOf both.before.now both.after.now runs.now }
-    requires cut { cut_of both.before.now section.now ≡ Some (stamped 0 old.now) }
-    ensures { IfOk result (IsChange (cut_of both.entry.before.now section.now)
-        (cut_of both.entry.after.now section.now) number (Some old.now)) }
+    requires stored { IsStored stored }
+    requires runs { AreRunsOf stored.both.before.now stored.both.after.now runs.now }
+    ensures { IfOk result (IsChangeOf stored.entry) }
 {
-    both.before.learn_sound();
-    both.after.learn_sound();
-    let Some(place) = both.after.section_number(section) else {
+    let section = &stored.cut.section;
+    let Some(place) = stored.both.after.section_number(stored.section) else {
         unreachable!();
     };
-    let positions = positions(alloc, both.after, place)?;
-    let spans = runs
-        .over
-        .spans(alloc, &positions, old.section.blocks.len())?;
+    let positions = positions(alloc, stored.both.after, place)?;
+    let spans = runs.over.spans(alloc, &positions, section.blocks.len())?;
     let table = SectionTable {
-        section: &old.section,
+        section,
         positions: &positions,
         spans: &spans,
     };
-    let rows = old.rows.slice();
-    if rows_stay(alloc, both, &runs.stairs, table, rows)? {
+    cut_by_table(alloc, stored, runs, table)
+}
+
+// The same, by the positions of blocks in the section, and the spans of the stairs.
+fn cut_by_table(
+    alloc: Global,
+    stored: StoredCut<'_>,
+    runs: &ReachedRuns,
+    table: SectionTable<'_>,
+) -> Result<CutChange, OutOfMemory>
+    requires stored { IsStored stored }
+    requires runs { AreRunsOf stored.both.before.now stored.both.after.now runs.now }
+    requires section { table.section.now ≡ stored.cut.now.section }
+    requires positions { IsPositions stored.both.after.now table.section.now table.positions.now }
+    requires spans { AreSpans table.positions.now (length table.section.now.blocks)
+        (map uses_if_there runs.now.stairs.items) table.spans.now }
+    ensures { IfOk result (IsChangeOf stored.entry) }
+{
+    let old = stored.cut.rows.slice();
+    if rows_stay(alloc, stored.both, &runs.stairs, table, old)? {
         return Ok(CutChange::Untouched);
     }
-    let Some(rows) = rows_after(alloc, both, runs, table, rows, number)? else {
-        return cut_made_anew(alloc, both, Some(old), section, number);
+    let Some(rows) = rows_after(alloc, stored.both, runs, table, old, stored.number)? else {
+        return stored_made_anew(alloc, stored);
     };
-    Ok(CutChange::Touched(Some(cut_of_rows(alloc, old, rows)?)))
+    Ok(CutChange::Touched(Some(cut_of_rows(alloc, stored.cut, rows)?)))
 }
 
 // A cut with these rows in place of its own.
