@@ -53,3 +53,4 @@ mod WholeRow
 pub mod JoinedRuns
 pub mod RowsKept
 pub mod SameRows
+pub mod Putting

@@ -71,6 +71,15 @@ module _ (tables : Tables) where
           ];
     }
 
+    pub filled_all : (from : ℕ) (table : List ℕ) → from ≡ 0 → IsFilled tables section from table
+        → IsPositions tables section table
+    filled_all from table none filled = record {
+      count = filled.count;
+      each = λ block below.
+          let first = subst (λ k. get_or table block 0 ≡ k + number_of (λ (n : List ℕ). n) (drop k section.blocks) (block_name tables block)) none (filled.each block below) in
+          omega (arith, first);
+    }
+
 -- the table with the position of one block more of the section of a number, by the numbers of its blocks
 module _ (tables : Tables) (sound : IsSound tables) (n : ℕ) (l : n < length tables.sections) (blocks : List ℕ) (is : blocks ≡ map (block_number tables) (section_at tables n).blocks) (later : ℕ) (more : later < length blocks) where
   abbrev section : Section

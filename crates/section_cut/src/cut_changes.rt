@@ -6,6 +6,7 @@ ghost use Rattle.rail_model.specs.Timetable.{timetable};
 ghost use Rattle.plan_model.specs.Cut.{stamped, IsSoundCut};
 ghost use Rattle.plan_model.specs.SectionCut.{cut_of};
 ghost use Rattle.section_cut.specs.Change.{IsChange, IsCutAfter, HasPlace, with_row};
+ghost use Rattle.section_cut.specs.Put.{HasItsPlace, touches, put};
 ghost use Rattle.section_cut.specs.Reach.{IsOneSection, IsRowReach};
 ghost use Rattle.section_cut.specs.Stored.{IsStored, IsChangeOf};
 
@@ -352,21 +353,26 @@ pub fn cut_change(
     ensures kept { OnErr result (cut.new ≡ cut.old) }
 {
     after.learn_sound();
-    let change = CutChanges::of(alloc, before, after, edit)?.cut_after(
-        alloc,
-        cut.as_ref(),
-        section,
-        number,
-    )?;
+    let changes = CutChanges::of(alloc, before, after, edit)?;
+    let change = changes.cut_after(alloc, cut.as_ref(), section, number)?;
+    Ok(put_change(cut, change))
+}
+
+// Makes of a cut what an edit makes of it, and tells whether the edit touches the section.
+fn put_change(cut: &mut Option<Cut>, change: CutChange) -> bool
+    requires { HasItsPlace change cut.old }
+    ensures touched { result ≡ touches change }
+    ensures cut { cut.new ≡ put change cut.old }
+{
     match change {
-        CutChange::Untouched => Ok(false),
+        CutChange::Untouched => false,
         CutChange::Touched(later) => {
             *cut = later;
-            Ok(true)
+            true
         }
         CutChange::Row { place, row } => {
             put_row(cut, place, row);
-            Ok(true)
+            true
         }
     }
 }

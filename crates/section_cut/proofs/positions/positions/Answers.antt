@@ -1,9 +1,9 @@
 use Rattle.std.proofs.Common.{◌≡◌, ◌-◌, ◌+◌, ◌++◌, length, get_or, take, drop, sym, ap, ◌∙◌, subst, arith}
 use Rattle.std.specs.Prelude.{slice_set}
 use Rattle.std.proofs.Math.Seq.{take-append_seam}
-use Rattle.std.proofs.lemmas.List.{length-set}
-use Rattle.rail_model.specs.Tables.{section_at}
-use Rattle.section_cut.proofs.Placing.{IsFilled, placed_within, filled_next}
+use Rattle.std.proofs.lemmas.List.{length-map, length-set}
+use Rattle.rail_model.specs.Tables.{block_number, section_at}
+use Rattle.section_cut.proofs.Placing.{IsFilled, placed_within, filled_next, filled_all}
 use Rattle.section_cut.proofs.positions.positions.Goals as goal
 
 pub place-requires : goal.place-requires
@@ -32,3 +32,10 @@ loop-later-preserved c =
     subst (λ k. take k (new ++ drop (length new) before) ≡ new) count (take-append_seam new (drop (length new) before)) in
     subst (IsFilled tables section (length section.blocks - (later + 1))) (sym (whole ∙ placed))
     (filled_next tables c.learn_sound.ensures c.args.section c.requires blocks is later c.loop-later-test.true 0 before c.loop-later.invariant)
+
+pub returns : goal.returns
+returns c =
+    let tables = c.args.tables.now in
+    let section = section_at tables c.args.section in
+    let count = ap length (c.as_slice-blocks.ensures.value ∙ c.in_ok-found.ensures) ∙ length-map section.blocks (block_number tables) in
+    filled_all tables section (length section.blocks - c.loop-later.later) c.loop-later.table.items (omega (arith, count, c.loop-later-test.false)) c.loop-later.invariant
