@@ -203,10 +203,7 @@ fn cut_after_section(
 // What the edit of a number makes of the cut of the section that it changes, where the section's
 // window and its blocks stay: then the rows do, too. Otherwise `None`, which says nothing: the cut is
 // made anew.
-fn cut_of_same_rows(
-    alloc: Global,
-    stored: StoredCut<'_>,
-) -> Result<Option<CutChange>, OutOfMemory>
+fn cut_of_same_rows(alloc: Global, stored: StoredCut<'_>) -> Result<Option<CutChange>, OutOfMemory>
     requires stored { IsStored stored }
     requires others { stored.both.after.now
         ≡ record stored.both.before.now { sections = stored.both.after.now.sections } }
@@ -353,9 +350,27 @@ pub fn cut_change(
     ensures kept { OnErr result (cut.new ≡ cut.old) }
 {
     after.learn_sound();
-    let changes = CutChanges::of(alloc, before, after, edit)?;
-    let change = changes.cut_after(alloc, cut.as_ref(), section, number)?;
+    let both = BothTables { before, after };
+    let change = change_of(alloc, both, edit, cut.as_ref(), section, number)?;
     Ok(put_change(cut, change))
+}
+
+// What the edit of a number makes of the cut of the section of a name.
+fn change_of(
+    alloc: Global,
+    both: BothTables<'_>,
+    edit: &Edit,
+    cut: Option<&Cut>,
+    section: &Name,
+    number: u64,
+) -> Result<CutChange, OutOfMemory>
+    requires after { both.after.now ≡ edits.after both.before.now edit.now }
+    requires cut { cut_of both.before.now section.now ≡ option_map (stamped 0) (option_copied cut) }
+    ensures { IfOk result (IsChange (cut_of both.entry.before.now section.now)
+        (cut_of both.entry.after.now section.now) number (option_copied cut.entry)) }
+{
+    let changes = CutChanges::of(alloc, both.before, both.after, edit)?;
+    changes.cut_after(alloc, cut, section, number)
 }
 
 // Makes of a cut what an edit makes of it, and tells whether the edit touches the section.

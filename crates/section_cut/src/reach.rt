@@ -64,13 +64,11 @@ pub(crate) fn reach_of(
         return Ok(Reach::Section(name));
     }
     if let Some(name) = run_edited(edit) {
-        let run = edited_run(alloc, before, after, name)?;
-        return Ok(Reach::Rows(RowReach::Run(run)));
+        let edited = edited_run(alloc, before, after, name)?;
+        return Ok(Reach::Rows(RowReach::Run(edited)));
     }
     if let Some(name) = connection_edited(edit) {
-        return Ok(Reach::Rows(reach_of_connection(
-            before, after, edit, name,
-        )));
+        return Ok(Reach::Rows(reach_of_connection(before, after, edit, name)));
     }
     before.learn_sound();
     after.learn_sound();

@@ -1,3 +1,4 @@
+use Rattle.std.proofs.Common.{◌≡◌}
 use Rattle.std.proofs.lemmas.Result.{IfOk-weaker}
 use Rattle.plan_model.specs.Cut.{stamped}
 use Rattle.plan_model.specs.SectionCut.{section_cut}

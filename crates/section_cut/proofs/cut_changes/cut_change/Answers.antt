@@ -1,8 +1,7 @@
 use Rattle.std.proofs.Common.{sym, subst}
 use Rattle.std.specs.Prelude.{◌≢◌, ◌↔◌, IsTrue}
-use Rattle.std.specs.Option.{option_copied}
 use Rattle.plan_model.specs.SectionCut.{cut_of}
-use Rattle.section_cut.specs.Change.{TwoTables, IsChange, IsCutAfter}
+use Rattle.section_cut.specs.Change.{IsChange, IsCutAfter}
 use Rattle.section_cut.proofs.Putting.{its_place, touched_told, put_is}
 use Rattle.section_cut.proofs.cut_changes.cut_change.Goals as goal
 use Rattle.section_cut.proofs.cut_changes.cut_change.Goals.{In_ok-change}
@@ -10,10 +9,8 @@ use Rattle.section_cut.proofs.cut_changes.cut_change.Goals.{In_ok-change}
 -- what is made of the cut
 told : (c : In_ok-change) → IsChange (cut_of c.args.before.now c.args.section.now) (cut_of c.args.after.now c.args.section.now) c.args.number c.args.cut.now c.in_ok-change.change
 told c =
-    let section = c.args.section.now in
-    subst (λ o. IsChange (cut_of c.args.before.now section) (cut_of c.args.after.now section) c.args.number o c.in_ok-change.change) c.as_ref.ensures.value
-    (subst (λ (t : TwoTables). IsChange (cut_of t.before section) (cut_of t.after section) c.args.number (option_copied c.as_ref.result) c.in_ok-change.change)
-    c.in_ok-changes.ensures c.in_ok-change.ensures)
+    subst (λ o. IsChange (cut_of c.args.before.now c.args.section.now) (cut_of c.args.after.now c.args.section.now) c.args.number o c.in_ok-change.change)
+    c.as_ref.ensures.value c.in_ok-change.ensures
 
 pub put_change-requires : goal.put_change-requires
 put_change-requires c =

@@ -17,14 +17,14 @@ returns-in-Some-run_edited c =
     let before = c.args.before.now in
     let after = c.args.after.now in
     let name = c.in-Some-run_edited.name in
-    let run = c.in_ok-edited_run.field-0 in
-    let named = c.in_ok-edited_run.ensures.name in
+    let run = c.in_ok-edited.edited in
+    let named = c.in_ok-edited.ensures.name in
     record {
       one = subst (λ n. IsOneRun before after n run.stair) (sym named)
           (one_run before after c.args.edit.now name run.stair c.requires
-          (sym c.run_edited.ensures ∙ c.in-Some-run_edited.is) c.in_ok-edited_run.ensures.stair);
-      route = λ e. subst (KeepsRoute before after) (sym named) (c.in_ok-edited_run.ensures.route e);
-      joined = c.in_ok-edited_run.ensures.joined ∙ ap (λ n. filter (joins n) after.connections) (sym named);
+          (sym c.run_edited.ensures ∙ c.in-Some-run_edited.is) c.in_ok-edited.ensures.stair);
+      route = λ e. subst (KeepsRoute before after) (sym named) (c.in_ok-edited.ensures.route e);
+      joined = c.in_ok-edited.ensures.joined ∙ ap (λ n. filter (joins n) after.connections) (sym named);
     }
 
 pub returns-then-reaches_no_run : goal.returns-then-reaches_no_run
