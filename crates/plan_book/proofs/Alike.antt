@@ -2,31 +2,21 @@
 use Rattle.std.proofs.Common.{◌≡◌, ℕ, suc, ◌<◌, List, [], ◌∷◌, length, get_or, Option, refl, sym, ap, ◌∙◌, subst, inl, inr, arith}
 use Rattle.std.specs.Prelude.{unwrap_or, All, IfSome}
 use Rattle.rail_model.specs.declared.tables.Tables.{Tables}
+use Rattle.rail_model.specs.Name.{NamesRise}
 use Rattle.rail_model.specs.Rules.{is_named}
 use Rattle.plan_model.specs.declared.journal.Entry.{Entry}
 use Rattle.plan_model.specs.Cut.{IsSoundCut}
 use Rattle.plan_model.specs.SectionCut.{cut_of}
-use Rattle.plan_model.specs.Touch.{IsLastTouching}
 use Rattle.section_cut.specs.Change.{IsChange}
 use Rattle.section_cut.proofs.Rows.{found_at}
 use Rattle.plan_book.specs.declared.changes.ShelfChange.{ShelfChange}
 use Rattle.plan_book.specs.declared.changes.ShelfChange.TheVariants as change
 use Rattle.plan_book.specs.declared.shelf.Shelf.{Shelf}
-use Rattle.plan_book.specs.Shelves.{blank, kept_cut, shelf_of, IsShelf, IsKeptCut, KnowsLast, AreShelves}
-use Rattle.plan_book.specs.Changes.{IsAlike, AreAlike, AreChanges, IsChangeOf, HaveAll, HasItsPlace, HoldsOfEach, cut_change_of}
-use Rattle.plan_book.specs.Kept.{IsBook}
+use Rattle.plan_book.specs.Shelves.{blank, kept_cut, shelf_of, AreShelves}
+use Rattle.plan_book.specs.Changes.{IsAlike, AreAlike, Widens, AreChanges, IsChangeOf, HaveAll, HasItsPlace, HoldsOfEach, cut_change_of}
 use Rattle.plan_book.proofs.Publications.{names_rise_too}
 use Rattle.plan_book.proofs.Edited.{found_beside}
-
-pub alike_itself : (s : Shelf) → IsAlike s s
-alike_itself s = record { name = refl; touched = refl; published = refl; cut = refl }
-
-pub shelf_alike : (journal : List Entry) (name : List ℕ) (old new : Shelf) → IsAlike old new → IsShelf journal name old → IsShelf journal name new
-shelf_alike journal name old new same h = record {
-  touched = subst (IsLastTouching journal name) (sym same.touched) h.touched;
-  published = subst (KnowsLast journal name) (sym same.published) h.published;
-  cut = subst (IsKeptCut journal name) (sym same.cut) h.cut;
-}
+use Rattle.plan_book.proofs.Widening.{alike_itself}
 
 module _ (old new : List Shelf) (alike : AreAlike old new) where
   -- what is known of each name
@@ -46,10 +36,11 @@ module _ (old new : List Shelf) (alike : AreAlike old new) where
             (subst (λ s. IsAlike s none) (sym one) (alike_itself none))
       ]
 
-  pub shelves_alike : (journal : List Entry) (first : ℕ) → AreShelves journal first old → AreShelves journal first new
-  shelves_alike journal first are = record {
-    rise = names_rise_too old new alike.count (λ k d below. (alike.each k d below).name) are.rise;
-    each = λ name. shelf_alike journal name (shelf_of first old name) (shelf_of first new name) (known_alike first name) (are.each name);
+  -- they say what was known
+  pub alike_widens : (first : ℕ) → NamesRise (λ s. s.name) old → Widens first old new
+  alike_widens first rise = record {
+    rise = names_rise_too old new alike.count (λ k d below. (alike.each k d below).name) rise;
+    known = known_alike first;
   }
 
   -- what an edit makes of their cuts
@@ -79,26 +70,6 @@ module _ (old new : List Shelf) (alike : AreAlike old new) where
       named_too (x ∷ xs) [] name long same = absurd (omega (arith, long))
       named_too (x ∷ xs) (y ∷ ys) name long same =
           rw (same 0 x (omega arith), named_too xs ys name (omega (arith, long)) (λ k s below. same (suc k) s (omega (arith, below)))) refl
-
--- the book with shelves that are right, too
-pub book_with : (journal : List Entry) (tables : Tables) (first at passes : ℕ) (old new : List Shelf) (done : List ℕ)
-    → IsBook journal tables first at passes old done → AreShelves journal first new → IsBook journal tables first at passes new done
-book_with journal tables first at passes old new done held are =
-    record {
-      is_journal = held.is_journal;
-      within = held.within;
-      tables_are = held.tables_are;
-      first_is = held.first_is;
-      at_is = held.at_is;
-      passes_are = held.passes_are;
-      shelves_are = are;
-      done_are = held.done_are;
-    }
-
-pub book_alike : (journal : List Entry) (tables : Tables) (first at passes : ℕ) (old new : List Shelf) (done : List ℕ)
-    → IsBook journal tables first at passes old done → AreAlike old new → IsBook journal tables first at passes new done
-book_alike journal tables first at passes old new done held alike =
-    book_with journal tables first at passes old new done held (shelves_alike old new alike journal first held.shelves_are)
 
 -- each cut is sound
 pub sound_cuts : (journal : List Entry) (first : ℕ) (shelves : List Shelf) → AreShelves journal first shelves

@@ -17,7 +17,7 @@ use Rattle.plan_model.specs.Journal.{Opening, opening, edit_of, edits, last_numb
 use Rattle.plan_model.specs.declared.scripts.Task.TheVariants as task
 use Rattle.plan_model.specs.declared.journal.Act.TheVariants as act
 use Rattle.plan_model.specs.Legal.{IsNext, IsJournal}
-use Rattle.plan_model.specs.Touch.{cut_at, cut_now}
+use Rattle.plan_model.specs.Touch.{cut_at, cut_now, IsLastTouching}
 use Rattle.plan_model.proofs.Growing.{opening-more, tables_at-past}
 use Rattle.plan_model.proofs.Legality.{legal_has_one}
 use Rattle.plan_book.specs.declared.changes.ShelfChange.{ShelfChange}
@@ -25,8 +25,8 @@ use Rattle.plan_book.specs.declared.changes.ShelfChange.TheVariants as change
 use Rattle.section_cut.specs.Change.{IsChange}
 use Rattle.section_cut.proofs.Rows.{found_at}
 use Rattle.plan_book.specs.declared.shelf.Shelf.{Shelf}
-use Rattle.plan_book.specs.Shelves.{blank, kept_cut, shelf_of, IsShelf, AreShelves}
-use Rattle.plan_book.specs.Changes.{WillChange, HaveCuts, changed, AreChanges, AreChanged, Widens, HaveAll, HasCutOf, HoldsOfEach, IsReady, cut_change_of}
+use Rattle.plan_book.specs.Shelves.{blank, kept_cut, shelf_of, IsShelf, IsKeptCut, KnowsLast, AreShelves}
+use Rattle.plan_book.specs.Changes.{IsAlike, WillChange, HaveCuts, changed, AreChanges, AreChanged, Widens, HaveAll, HasCutOf, HoldsOfEach, IsReady, cut_change_of}
 use Rattle.plan_book.specs.Kept.{MayDo, IsCounted, IsBook, AreDone}
 use Rattle.plan_book.proofs.Found.{found_name}
 use Rattle.plan_book.proofs.Starting.{found_of_all}
@@ -132,11 +132,18 @@ module _ (journal : List Entry) (e : Entry) (edit : Edit) (some : 0 < length jou
   pub shelves-edited : AreShelves (journal ++ e ∷ []) first later
   shelves-edited = record { rise = names_rise_too shelves later new.count names are.rise; each = each_known }
 
+pub shelf_alike : (journal : List Entry) (name : List ℕ) (old new : Shelf) → IsAlike old new → IsShelf journal name old → IsShelf journal name new
+shelf_alike journal name old new same h = record {
+  touched = subst (IsLastTouching journal name) (sym same.touched) h.touched;
+  published = subst (KnowsLast journal name) (sym same.published) h.published;
+  cut = subst (IsKeptCut journal name) (sym same.cut) h.cut;
+}
+
 -- shelves of more names serve as well
 pub shelves-wider : (journal : List Entry) (first : ℕ) (old new : List Shelf) → AreShelves journal first old → Widens first old new → AreShelves journal first new
 shelves-wider journal first old new are wider = record {
   rise = wider.rise;
-  each = λ name. subst (IsShelf journal name) (sym (wider.known name)) (are.each name);
+  each = λ name. shelf_alike journal name (shelf_of first old name) (shelf_of first new name) (wider.known name) (are.each name);
 }
 
 pub book-wider : (journal : List Entry) (tables : Tables) (first at passes : ℕ) (old new : List Shelf) (done : List ℕ)
@@ -173,7 +180,7 @@ each_has_cut tables first shelves rise cuts k d l =
 
 pub cuts_wider : (tables : Tables) (first : ℕ) (old new : List Shelf) → Widens first old new → HaveCuts tables first old → HaveCuts tables first new
 cuts_wider tables first old new wider cuts name =
-    cuts name ∙ ap (λ (s : Shelf). option_map (stamped 0) (kept_cut s)) (sym (wider.known name))
+    cuts name ∙ ap (option_map (stamped 0)) (sym (wider.known name).cut)
 
 edit_count : (o : Option Edit) (rest : List Edit) → length (cons_option o rest) ≤ 1 + length rest
 edit_count None rest = omega arith
@@ -220,9 +227,9 @@ pub book-accepted : (journal : List Entry) (tables : Tables) (first at passes : 
     (done counts : List ℕ) (who planner : ℕ) (edit : Edit) (number : ℕ) (next : Tables) → IsBook journal tables first at passes shelves done
     → IsNext journal (record { pass = who; act = act.Edited planner number edit }) → MayDo journal planner (task.Edit edit)
     → number ≡ at + 1 → next ≡ after tables edit
-    → WillChange tables next number shelves changes → HoldsOfEach IsReady shelves changes → AreChanged number shelves changes later → IsCounted planner done counts
+    → WillChange tables next number shelves changes → AreChanged number shelves changes later → IsCounted planner done counts
     → IsBook (journal ++ record { pass = who; act = act.Edited planner number edit } ∷ []) next first number passes later counts
-book-accepted journal tables first at passes shelves later changes done counts who planner edit number next held may may_do number_is next_is will ready new counted =
+book-accepted journal tables first at passes shelves later changes done counts who planner edit number next held may may_do number_is next_is will new counted =
     let e : Entry = record { pass = who; act = act.Edited planner number edit } in
     let longer = journal ++ e ∷ [] in
     let is_journal : IsJournal longer =
@@ -233,4 +240,4 @@ book-accepted journal tables first at passes shelves later changes done counts w
     subst (λ n. IsBook longer next first n passes later counts) (sym number_is)
     (subst (λ t. IsBook longer t first (at + 1) passes later counts) (sym next_is)
     (book-edited journal tables first at passes shelves later changes done counts e edit held is_journal refl (λ name. refl) refl tasks
-    (subst (λ t. HaveAll t shelves) next_is will.all) made ready (subst (λ n. AreChanged n shelves changes later) number_is new)))
+    (subst (λ t. HaveAll t shelves) next_is will.all) made will.ready (subst (λ n. AreChanged n shelves changes later) number_is new)))

@@ -3,16 +3,14 @@ use Rattle.std.proofs.Common.{◌≡◌, ℕ, ◌<◌, List, length, Some, None,
 use Rattle.std.specs.Prelude.{option_map}
 use Rattle.rail_model.specs.declared.items.Section.{Section}
 use Rattle.rail_model.specs.Tables.{no_section, section_at}
-use Rattle.plan_model.specs.declared.cut.Cut.{Cut}
 use Rattle.plan_model.specs.declared.journal.Entry.{Entry}
 use Rattle.plan_model.specs.SectionCut.{section_cut}
 use Rattle.plan_model.specs.Journal.{tables_of}
-use Rattle.plan_model.specs.Touch.{cut_now, IsReading}
+use Rattle.plan_model.specs.Touch.{cut_now}
 use Rattle.plan_model.specs.Legal.{IsJournal}
 use Rattle.plan_model.specs.Outcome.{section_name}
 use Rattle.plan_model.proofs.Legality.{tables_are_sound}
 use Rattle.section_cut.proofs.Rows.{found_at}
-use Rattle.plan_book.specs.Shelves.{IsKeptCut}
 use Rattle.plan_book.proofs.Edited.{now_is}
 
 module _ (journal : List Entry) (number : ℕ) (is_journal : IsJournal journal) (there : number < length (tables_of journal).sections) where
@@ -29,7 +27,3 @@ module _ (journal : List Entry) (number : ℕ) (is_journal : IsJournal journal) 
   cut_not_missing none =
       let both : Some (section_cut (tables_of journal) (section_at (tables_of journal) number)) ≡ None = sym cut_there ∙ none in
       absurd (cc)
-
--- a kept cut is a reading
-pub reading_by : (journal : List Entry) (name : List ℕ) (cut : Cut) → IsKeptCut journal name (Some cut) → IsReading journal name cut
-reading_by journal name cut known = record { value = known.value; stamps = known.stamps }

@@ -13,14 +13,23 @@ use Rattle.rail_model.proofs.NameOrder.{same_name, is_same-from, is_same-before}
 use Rattle.rail_model.proofs.Places.{NamesRise-insert, list_any-insert}
 use Rattle.plan_book.specs.declared.shelf.Shelf.{Shelf}
 use Rattle.plan_book.specs.Shelves.{blank, shelf_of, IsPlaceFor}
-use Rattle.plan_book.specs.Changes.{Widens, Keeps}
+use Rattle.plan_book.specs.Changes.{IsAlike, Widens, Keeps}
 use Rattle.plan_book.proofs.Found.{not_found}
 
-pub widens_itself : (first : ℕ) (shelves : List Shelf) → NamesRise (λ s. s.name) shelves → Widens first shelves shelves
-widens_itself first shelves rise = record { rise = rise; known = λ name. refl }
+pub alike_itself : (s : Shelf) → IsAlike s s
+alike_itself s = record { name = refl; touched = refl; published = refl; cut = refl }
+
+alike_further : (a b c : Shelf) → IsAlike a b → IsAlike b c → IsAlike a c
+alike_further a b c one two = record {
+  name = two.name ∙ one.name;
+  touched = two.touched ∙ one.touched;
+  published = two.published ∙ one.published;
+  cut = two.cut ∙ one.cut;
+}
 
 pub widens_further : (first : ℕ) (a b c : List Shelf) → Widens first a b → Widens first b c → Widens first a c
-widens_further first a b c one two = record { rise = two.rise; known = λ name. two.known name ∙ one.known name }
+widens_further first a b c one two =
+    record { rise = two.rise; known = λ name. alike_further _ _ _ (one.known name) (two.known name) }
 
 -- an item of a name among others
 named_in : (front back : List Shelf) (s : Shelf) (name : List ℕ) → is_same s.name name ≡ true
@@ -59,7 +68,7 @@ module _ (first : ℕ) (shelves : List Shelf) (name : List ℕ) (i : ℕ) (rise 
   pub blank_widens : Widens first shelves more
   blank_widens = record {
     rise = NamesRise-insert (λ (s : Shelf). s.name) shelves (blank first name) i rise (record { within = p.within; below = p.below; above = p.above });
-    known = known_more;
+    known = λ n. subst (IsAlike (shelf_of first shelves n)) (sym (known_more n)) (alike_itself (shelf_of first shelves n));
   }
 
   pub blank_there : is_named (λ (s : Shelf). s.name) more name ≡ true

@@ -87,10 +87,11 @@ pub record AreChanged (number : ℕ) (shelves : List Shelf) (changes : List Shel
   pub each : (k : ℕ) (s : Shelf) (c : ShelfChange) → k < length shelves
       → slice_index_or later k s ≡ changed number (slice_index_or shelves k s) (slice_index_or changes k c)
 
--- shelves of more names, which stand in the order of names, and say what was known without them
+-- shelves of more names, which stand in the order of names, and say what was known without them, whoever may hold
+-- the cuts
 pub record Widens (first : ℕ) (old new : List Shelf) : Type 0 where
   pub rise : NamesRise (λ s. s.name) new
-  pub known : (name : List ℕ) → shelf_of first new name ≡ shelf_of first old name
+  pub known : (name : List ℕ) → IsAlike (shelf_of first old name) (shelf_of first new name)
 
 -- each section of the tables has a shelf
 abbrev pub HaveAll : Tables → List Shelf → Type 0
@@ -101,7 +102,8 @@ abbrev pub Keeps : List Shelf → List Shelf → Type 0
 Keeps old new = (name : List ℕ) → is_named (λ (s : Shelf). s.name) old name ≡ true
     → is_named (λ (s : Shelf). s.name) new name ≡ true
 
--- each section of the later tables has a shelf, and this is what the edit makes of the cuts
+-- each section of the later tables has a shelf, this is what the edit makes of the cuts, and they can be changed so
 pub record WillChange (before after : Tables) (number : ℕ) (shelves : List Shelf) (changes : List ShelfChange) : Type 0 where
   pub all : HaveAll after shelves
   pub made : AreChanges before after number shelves changes
+  pub ready : HoldsOfEach IsReady shelves changes

@@ -14,7 +14,7 @@ ghost use Rattle.plan_model.specs.declared.journal.Act.TheVariants as acts;
 ghost use Rattle.plan_model.specs.declared.scripts.Task.TheVariants as tasks;
 ghost use Rattle.plan_book.specs.Kept.{IsQuiet, IsBy, MayDo, IsAnswered};
 
-use crate::changes::{change_shelves, changes_for, make_ready, share_cuts};
+use crate::changes::{Accepted, change_shelves, changes_for, share_cuts};
 use crate::first::first_shelves;
 use crate::shelf::{Published, Shelf, asked_of, place_of, shelf_of, verdict_of};
 use crate::tasks::count_task;
@@ -232,7 +232,7 @@ impl Book {
                 Ok(Ok(number))
             }
             Err(rule) => {
-                self.tables.give_back(next);
+                self.give_back(next);
                 self.refuse(who, planner, edit, rule)?;
                 Ok(Err(rule))
             }
@@ -245,6 +245,14 @@ impl Book {
         ensures tables { IfOk result (λ tables. tables ≡ tables_of self.old) }
     {
         self.tables.take_spare()
+    }
+
+    // Gives the tables for an edit back, unchanged.
+    fn give_back(&mut self, next: LineTables)
+        requires { next ≡ tables_of self.old }
+        ensures { self.new ≡ self.old }
+    {
+        self.tables.give_back(next);
     }
 
     // Adds an edit that a rule refuses.
@@ -286,22 +294,18 @@ impl Book {
             result self.old self.new }
     {
         let number = self.next_number();
-        let changes = changes_for(
-            self.alloc,
-            &mut self.shelves,
-            self.first,
-            self.tables.tables(),
-            &next,
-            &edit,
+        let accepted = Accepted {
+            before: self.tables.tables(),
+            after: &next,
+            edit: &edit,
             number,
-        )?;
-        let again = edit.copy(self.alloc)?;
-        make_ready(self.alloc, &mut self.shelves, changes.slice())?;
-        self.journal.push(edited_entry(who, planner, number, edit))?;
+        };
+        let changes = changes_for(self.alloc, &mut self.shelves, self.first, accepted)?;
+        add_edited(self.alloc, &mut self.journal, who, planner, number, &edit)?;
         count_task(&mut self.done, planner);
         change_shelves(&mut self.shelves, changes, number);
         self.at = number;
-        self.tables.replace(next, again);
+        self.tables.replace(next, edit);
         Ok(number)
     }
 
@@ -405,16 +409,26 @@ fn replied(asked: &Asked) -> Reply
     }
 }
 
-// The entry of an edit that is made.
-fn edited_entry(who: u32, planner: u32, number: u64, edit: Edit) -> Entry
-    ensures { result ≡ record { pass = who; act = acts.Edited planner number edit } }
+// Adds the entry of an edit that is made. Without memory the journal stays as it was.
+fn add_edited(
+    alloc: Global,
+    journal: &mut List<Entry>,
+    who: u32,
+    planner: u32,
+    number: u64,
+    edit: &Edit,
+) -> Result<(), OutOfMemory>
+    ensures ok { OnOk result (journal.new ≡ journal.old
+        ++ record { pass = who; act = acts.Edited planner number edit.now } ∷ []) }
+    ensures err { OnErr result (journal.new ≡ journal.old) }
 {
     let act = Act::Edited {
         planner,
         at: number,
-        edit,
+        edit: edit.copy(alloc)?,
     };
-    Entry { pass: who, act }
+    journal.push(Entry { pass: who, act })?;
+    Ok(())
 }
 
 // The entry of a publication.

@@ -5,7 +5,7 @@ ghost use Rattle.rail_model.specs.Edits as edits;
 ghost use Rattle.rail_model.specs.Name.{NamesRise};
 ghost use Rattle.rail_model.specs.Rules.{is_named};
 ghost use Rattle.plan_model.specs.Cut.{IsSoundCut};
-ghost use Rattle.plan_book.specs.Changes.{changed, HasCutOf, HaveCuts, WillChange, AreChanges};
+ghost use Rattle.plan_book.specs.Changes.{changed, HasCutOf, HaveCuts, WillChange, IsChangeOf, AreChanges};
 ghost use Rattle.plan_book.specs.Changes.{AreChanged, Widens, HaveAll, IsSoundChange, cut_change_of};
 ghost use Rattle.plan_book.specs.Changes.{Keeps, AreAlike, IsAlike, HoldsOfEach, HasItsPlace, IsReady};
 ghost use Rattle.plan_book.specs.Shelves as shelving;
@@ -32,25 +32,34 @@ pub(crate) enum ShelfChange {
     Row { place: usize, row: CutRow },
 }
 
-// What the edit of a number makes of the cut of each section. A shelf is put in for each section
-// of the later tables that has none; what is known of sections stays, also without memory.
+// An edit that no rule refuses, the tables before and after it, and its number.
+#[derive(Clone, Copy)]
+pub(crate) struct Accepted<'a> {
+    pub(crate) before: &'a LineTables,
+    pub(crate) after: &'a LineTables,
+    pub(crate) edit: &'a Edit,
+    pub(crate) number: u64,
+}
+
+// What an edit makes of the cut of each section. A shelf is put in for each section of the later
+// tables that has none, and the book becomes the only holder of the cuts into which rows are to be
+// put. What is known of sections stays, also without memory.
 pub(crate) fn changes_for(
     alloc: Global,
     shelves: &mut List<Shelf>,
     first: u64,
-    before: &LineTables,
-    after: &LineTables,
-    edit: &Edit,
-    number: u64,
+    accepted: Accepted<'_>,
 ) -> Result<List<ShelfChange>, OutOfMemory>
     requires rise { NamesRise (λ s. s.name) shelves.old }
-    requires cuts { HaveCuts before.now first shelves.old }
-    requires after { after.now ≡ edits.after before.now edit.now }
+    requires cuts { HaveCuts accepted.before.now first shelves.old }
+    requires after { accepted.after.now ≡ edits.after accepted.before.now accepted.edit.now }
     ensures same { Widens first shelves.old shelves.new }
-    ensures made { IfOk result (WillChange before.now after.now number shelves.new) }
+    ensures made { IfOk result (WillChange accepted.entry.before.now accepted.entry.after.now
+        accepted.entry.number shelves.new) }
 {
-    add_missing(shelves, after, first)?;
-    let changes = changes_of(alloc, shelves.slice(), before, after, edit, number)?;
+    add_missing(shelves, accepted.after, first)?;
+    let changes = changes_of(alloc, shelves.slice(), accepted)?;
+    make_ready(alloc, shelves, changes.slice())?;
     Ok(changes)
 }
 
@@ -96,26 +105,51 @@ fn blank(name: &Name, first: u64) -> Shelf
     }
 }
 
-// What the edit of a number makes of the cut of each shelf's section.
+// What an edit makes of the cut of each shelf's section.
 fn changes_of(
     alloc: Global,
     shelves: &[Shelf],
-    before: &LineTables,
-    after: &LineTables,
-    edit: &Edit,
+    accepted: Accepted<'_>,
+) -> Result<List<ShelfChange>, OutOfMemory>
+    requires after { accepted.after.now ≡ edits.after accepted.before.now accepted.edit.now }
+    requires cuts { All (HasCutOf accepted.before.now) shelves.now }
+    ensures { IfOk result (AreChanges accepted.entry.before.now accepted.entry.after.now
+        accepted.entry.number shelves.now) }
+{
+    let made = CutChanges::of(alloc, accepted.before, accepted.after, accepted.edit)?;
+    each_change(alloc, shelves, &made, accepted.number)
+}
+
+// What the edit of a number makes of the cut of each shelf's section, in a function of its own, so
+// that no exit of the loop has more than the changes to drop.
+fn each_change(
+    alloc: Global,
+    shelves: &[Shelf],
+    made: &CutChanges<'_>,
     number: u64,
 ) -> Result<List<ShelfChange>, OutOfMemory>
-    requires after { after.now ≡ edits.after before.now edit.now }
-    requires cuts { All (HasCutOf before.now) shelves.now }
-    ensures { IfOk result (AreChanges before.now after.now number shelves.now) }
+    requires { All (HasCutOf made.now.before) shelves.now }
+    ensures { IfOk result (AreChanges made.now.before made.now.after number shelves.now) }
 {
-    let made = CutChanges::of(alloc, before, after, edit)?;
     let mut changes = List::new(alloc);
     for shelf in shelves {
-        let change = made.cut_after(alloc, cut_of(shelf), &shelf.name, number)?;
-        changes.push(shelf_change(alloc, change)?)?;
+        changes.push(change_of(alloc, made, shelf, number)?)?;
     }
     Ok(changes)
+}
+
+// What the edit of a number makes of a shelf's cut.
+fn change_of(
+    alloc: Global,
+    made: &CutChanges<'_>,
+    shelf: &Shelf,
+    number: u64,
+) -> Result<ShelfChange, OutOfMemory>
+    requires { HasCutOf made.now.before shelf.now }
+    ensures { IfOk result (IsChangeOf made.now.before made.now.after number shelf.now) }
+{
+    let change = made.cut_after(alloc, cut_of(shelf), &shelf.name, number)?;
+    shelf_change(alloc, change)
 }
 
 // The cut of a shelf's section, if the section is there.
@@ -178,7 +212,7 @@ fn change_shelf(shelf: &mut Shelf, change: ShelfChange, number: u64)
 
 // Makes the book the only holder of those cuts into which rows are to be put. Each cut stays the
 // same, also without memory.
-pub(crate) fn make_ready(
+fn make_ready(
     alloc: Global,
     shelves: &mut List<Shelf>,
     changes: &[ShelfChange],

@@ -5,7 +5,7 @@ use Rattle.std.proofs.lemmas.Option.{get_or_from_slice_get, slice_get_within}
 use Rattle.plan_book.specs.declared.changes.ShelfChange.{ShelfChange}
 use Rattle.plan_book.specs.declared.shelf.Shelf.{Shelf}
 use Rattle.plan_book.specs.Changes.{IsAlike, IsReady, HasItsPlace}
-use Rattle.plan_book.proofs.Alike.{alike_itself}
+use Rattle.plan_book.proofs.Widening.{alike_itself}
 use Rattle.plan_book.proofs.AtPlace.{upto_set, beyond_set}
 use Rattle.plan_book.proofs.changes.make_ready.Goals as goal
 
