@@ -1,5 +1,5 @@
 -- A section's cut that is made anew, each row with the number of an edit.
-use Rattle.std.proofs.Common.{◌≡◌, ℕ, List, get_or, Option, Some, None, refl, sym, ap, ◌∙◌, subst, inr}
+use Rattle.std.proofs.Common.{◌≡◌, ℕ, List, Option, Some, None, refl, sym, ap, ◌∙◌, subst}
 use Rattle.std.specs.Prelude.{find, filter, All, IfSome, option_map}
 use Rattle.std.proofs.lemmas.Simd.{map-map}
 use Rattle.std.proofs.lemmas.List.Elements.{All-map}
@@ -8,10 +8,10 @@ use Rattle.rail_model.specs.declared.tables.Tables.{Tables}
 use Rattle.rail_model.specs.Name.{is_same}
 use Rattle.plan_model.specs.declared.cut.CutRow.{CutRow}
 use Rattle.plan_model.specs.declared.cut.Cut.{Cut}
-use Rattle.plan_model.specs.Cut.{stamped_row, stamped, IsSoundCut}
+use Rattle.plan_model.specs.Cut.{stamped_row, stamped}
 use Rattle.plan_model.specs.SectionCut.{is_member, row_of, section_cut, cut_of}
 use Rattle.section_cut.specs.declared.cut_changes.CutChange.{CutChange}
-use Rattle.section_cut.specs.Change.{IsCutAfter, IsChange}
+use Rattle.section_cut.specs.Change.{IsChange}
 
 -- of two stamps the later stays
 stamped_twice : (first later : ℕ) (cut : Cut) → stamped later (stamped first cut) ≡ stamped later cut

@@ -16,11 +16,10 @@ use Rattle.rail_model.specs.Sound.{IsSound}
 use Rattle.rail_model.proofs.Lists.{All-from_one}
 use Rattle.line_tables.specs.Paths.{paths_of}
 use Rattle.plan_model.specs.SectionCut.{use_in_section, section_uses, is_member}
-use Rattle.rail_model.specs.Timetable.{timetable}
 use Rattle.section_cut.specs.Late.{IsLead, bare_stair, stair_to, IsStairFor, AreStairsFor}
 use Rattle.section_cut.specs.Positions.{IsPositions, uses_in}
 use Rattle.section_cut.specs.Members.{member_row}
-use Rattle.rail_model.proofs.Timetables.{stair_at, stairs_count, used_there}
+use Rattle.rail_model.proofs.Timetables.{used_there}
 use Rattle.section_cut.proofs.MemberRows.{uses_by_table}
 use Rattle.section_cut.proofs.BlockUses.{least_holds, in_window}
 use Rattle.section_cut.proofs.Leads.{blocking_from, path_lead}

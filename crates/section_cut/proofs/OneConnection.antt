@@ -15,8 +15,7 @@ use Rattle.rail_model.specs.Tables.{number_of, run_at, run_named, last_arrival}
 use Rattle.rail_model.proofs.NameOrder.{same_name}
 use Rattle.plan_model.specs.declared.cut.CutRow.{CutRow}
 use Rattle.plan_model.specs.declared.cut.Cut.{Cut}
-use Rattle.plan_model.specs.Cut.{stamped_row, stamped}
-use Rattle.plan_model.specs.SectionCut.{section_uses, is_member, binds, binding_connections, row_of, section_cut, cut_of}
+use Rattle.plan_model.specs.SectionCut.{section_uses, is_member, binds, binding_connections, section_cut}
 use Rattle.section_cut.specs.declared.cut_changes.CutChange.TheVariants as change
 use Rattle.section_cut.specs.declared.cut_changes.StoredCut.{StoredCut}
 use Rattle.section_cut.specs.Stored.{IsStored, IsChangeOf}

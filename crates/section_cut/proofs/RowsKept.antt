@@ -1,5 +1,5 @@
 -- The rows of a cut where only connections differ: the members and their uses of blocks stay.
-use Rattle.std.proofs.Common.{◌≡◌, ℕ, Bool, true, false, cond, List, map, length, Option, Some, None, refl, sym, ap, ◌∙◌, subst}
+use Rattle.std.proofs.Common.{◌≡◌, Bool, true, false, cond, List, map, length, Option, Some, None, refl, sym, ap, ◌∙◌, subst}
 use Rattle.std.specs.Prelude.{All, filter, find, option_map, IfSome}
 use Rattle.line_tables.proofs.Found.{find_some}
 use Rattle.rail_model.specs.declared.items.Section.{Section}
@@ -9,9 +9,8 @@ use Rattle.rail_model.specs.Name.{is_same}
 use Rattle.rail_model.specs.Sound.{IsSound}
 use Rattle.rail_model.specs.Tables.{run_at}
 use Rattle.plan_model.specs.declared.cut.CutRow.{CutRow}
-use Rattle.plan_model.specs.declared.cut.Cut.{Cut}
-use Rattle.plan_model.specs.Cut.{stamped_row, stamped, AreBlocksFirst}
-use Rattle.plan_model.specs.SectionCut.{section_uses, entry_of, is_member, row_of, cut_of}
+use Rattle.plan_model.specs.Cut.{stamped_row, AreBlocksFirst}
+use Rattle.plan_model.specs.SectionCut.{section_uses, entry_of, is_member, row_of}
 use Rattle.section_cut.specs.declared.cut_changes.StoredCut.{StoredCut}
 use Rattle.section_cut.specs.Stored.{IsStored}
 use Rattle.section_cut.specs.Members.{member_row}

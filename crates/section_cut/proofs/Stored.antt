@@ -1,6 +1,6 @@
 -- The cut of a section that is kept: what is known of it.
-use Rattle.std.proofs.Common.{◌≡◌, List, map, Option, Some, None, refl, sym, ap, ◌∙◌, subst}
-use Rattle.std.specs.Prelude.{find, filter, option_map}
+use Rattle.std.proofs.Common.{◌≡◌, map, Some, refl, ap, ◌∙◌}
+use Rattle.std.specs.Prelude.{find, filter}
 use Rattle.rail_model.specs.declared.items.Section.{Section}
 use Rattle.rail_model.specs.declared.items.Connection.{Connection}
 use Rattle.rail_model.specs.declared.tables.Tables.{Tables}

@@ -1,21 +1,18 @@
 -- The row of an edited run that keeps its route, where it has a use for each block of the path.
-use Rattle.std.proofs.Common.{◌≡◌, ℕ, ◌<◌, true, length, Option, Some, None, List, refl, sym, ap, ◌∙◌, subst}
+use Rattle.std.proofs.Common.{◌≡◌, ℕ, ◌<◌, true, length, Option, Some, None, refl, sym, ap, ◌∙◌, subst}
 use Rattle.std.specs.Prelude.{find, option_map, IfSome}
 use Rattle.rail_model.specs.declared.items.Run.{Run}
-use Rattle.rail_model.specs.declared.items.Section.{Section}
 use Rattle.rail_model.specs.declared.stair.Stair.{Stair}
 use Rattle.rail_model.specs.declared.tables.Tables.{Tables}
 use Rattle.rail_model.specs.Name.{is_same}
 use Rattle.rail_model.specs.Blocking.{stair_of}
 use Rattle.rail_model.specs.Tables.{no_run, number_of, run_at, block_name, path_in}
-use Rattle.rail_model.specs.Sound.{IsSound}
 use Rattle.rail_model.proofs.NameOrder.{same_name}
 use Rattle.rail_model.proofs.Paths.{place_within, run_stands}
 use Rattle.std.proofs.lemmas.List.Sums.{passes_at_first}
 use Rattle.plan_model.specs.declared.cut.CutRow.{CutRow}
 use Rattle.plan_model.specs.declared.cut.Cut.{Cut}
-use Rattle.plan_model.specs.Cut.{stamped}
-use Rattle.plan_model.specs.SectionCut.{section_uses, cut_of}
+use Rattle.plan_model.specs.SectionCut.{section_uses}
 use Rattle.section_cut.specs.declared.cut_changes.StoredCut.{StoredCut}
 use Rattle.section_cut.specs.declared.one_run.EditedRun.{EditedRun}
 use Rattle.section_cut.specs.Stored.{IsStored}

@@ -1,6 +1,5 @@
 use Rattle.std.proofs.Common.{◌≡◌, false, sym, ap, ◌∙◌, subst}
 use Rattle.std.specs.Prelude.{IfSome}
-use Rattle.rail_model.specs.declared.tables.Tables.{Tables}
 use Rattle.rail_model.specs.Name.{NamesRise}
 use Rattle.rail_model.specs.Rules.{is_named}
 use Rattle.plan_model.specs.SectionCut.{binds}

@@ -1,10 +1,9 @@
-use Rattle.std.proofs.Common.{◌≡◌, length, map, sym, ap, subst}
+use Rattle.std.proofs.Common.{sym, ap, subst}
 use Rattle.std.specs.Prelude.{IfSome}
 use Rattle.std.proofs.lemmas.Bool.{both_ways}
 use Rattle.rail_model.specs.declared.items.Section.{Section}
 use Rattle.plan_model.specs.declared.cut.Cut.{Cut}
-use Rattle.plan_model.specs.declared.cut.CutRow.{CutRow}
-use Rattle.section_cut.specs.RowsAfter.{AreBeside, AllStay, AreRowsAfter}
+use Rattle.section_cut.specs.RowsAfter.{AreBeside, AreRowsAfter}
 use Rattle.section_cut.proofs.ReachedRuns.{cut_same, cut_changes}
 use Rattle.section_cut.proofs.Stored.{sound_stored, stored_rows}
 use Rattle.section_cut.proofs.reached_runs.cut_by_table.Goals as goal
