@@ -200,9 +200,8 @@ fn cut_after_section(
     cut_made_anew(alloc, both, cut, section, number)
 }
 
-// What the edit of a number makes of the cut of the section that it changes, where the section's
-// window and its blocks stay: then the rows do, too. Otherwise `None`, which says nothing: the cut is
-// made anew.
+// What the edit makes of the cut of the section that it changes, where the section's window and its
+// blocks stay: then the rows do, too. Otherwise `None`, which says nothing: the cut is made anew.
 fn cut_of_same_rows(alloc: Global, stored: StoredCut<'_>) -> Result<Option<CutChange>, OutOfMemory>
     requires stored { IsStored stored }
     requires others { stored.both.after.now
@@ -264,8 +263,7 @@ fn cut_made_anew(
     Ok(changed(cut, later, number))
 }
 
-// What the edit of a number makes of a cut, where all rows of the cut after it have the edit's
-// number.
+// What an edit makes of a cut, where all rows of the cut after it have the edit's number.
 fn changed(cut: Option<&Cut>, later: Option<Cut>, number: u64) -> CutChange
     requires old_sound { IfSome (option_copied cut) IsSoundCut }
     requires sound { IfSome later IsSoundCut }
@@ -304,8 +302,7 @@ fn cut_anew(
     Ok(Some(cut_among(alloc, tables, stairs, place, stamp)?))
 }
 
-// What the edit of a number makes of a cut that is there before it and after it, where all rows of
-// the later one have its number.
+// The same of a cut that is there before it and after it.
 pub(crate) fn compared(old: &Cut, later: Cut, number: u64) -> CutChange
     requires old_sound { IsSoundCut old.now }
     requires sound { IsSoundCut later }
