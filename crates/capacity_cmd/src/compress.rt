@@ -66,7 +66,8 @@ fn answer_telling(
     answer
 }
 
-// Whether a cut is one that is compressed, with many uses.
+// Whether a cut is one that is compressed, with many uses. No clause says so: side by side or not,
+// the answer is one.
 fn has_many_uses(cut: &Cut) -> bool {
     let mut uses = 0usize;
     for row in cut.rows.slice() {

@@ -40,6 +40,3 @@ module _ (numbers : List ℕ) (seen log : List Entry) (g : GoesOn pass_of number
 
   pub finished_goes_on : (role : Role) → 0 < length seen → IsFinished role seen → IsFinished role log
   finished_goes_on role some h = subst (IsFinished role) (sym g.is) (finished_stays role seen g.more some h)
-
-  pub able_goes_on : (role : Role) → 0 < length seen → IsAble role seen → IsAble role log
-  able_goes_on role some h = subst (IsAble role) (sym g.is) (able_stays role seen g.more some h)

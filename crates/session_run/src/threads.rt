@@ -31,7 +31,8 @@ const GATE_WORKERS: u32 = 100;
 
 /// Runs the scripts of planners over these tables, whose last edit had the number `at`, with
 /// workers that answer sections meanwhile: each planner and each worker in a thread of its own,
-/// where one can be made. Every planner and worker passes the gate at the points of its work.
+/// where one can be made. Every planner and worker passes the gate at the points of its work. No
+/// clause speaks of threads or of the gate.
 pub fn session<R: Threads + Wait + Sync, G: Gate>(
     rt: &R,
     alloc: Global,
