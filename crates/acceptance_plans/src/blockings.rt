@@ -1,5 +1,5 @@
 //! The blocking times of the first run of a line.
-ghost use Rattle.rail_model.specs.Path.{Fits};
+ghost use Rattle.rail_model.specs.Blocking.{Fits};
 
 use blocking_time::{Blocking, blockings, constant_speed_law, parts, stairs};
 use line_tables::LineTables;

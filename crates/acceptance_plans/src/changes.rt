@@ -1,7 +1,6 @@
 //! What edits make of a section's cut.
 ghost use Rattle.std.specs.Prelude.{◌≡◌, IfOk, option_map};
-ghost use Rattle.plan_model.specs.Cut.{stamped};
-ghost use Rattle.plan_model.specs.SectionCut.{cut_of};
+ghost use Rattle.plan_model.specs.Cut.{stamped, cut_of};
 
 use crate::cuts::put_cut;
 use line_tables::LineTables;

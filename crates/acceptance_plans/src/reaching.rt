@@ -1,7 +1,6 @@
 //! When the head of a train reaches a place.
 ghost use Rattle.std.specs.Prelude.{◌≡◌, ◌≢◌, ◌<◌, ◌≤◌, ◌+◌, IfOk};
-ghost use Rattle.rail_model.specs.Path.{hop_count, Fits, IsHopWithin};
-ghost use Rattle.rail_model.specs.Motion.{place};
+ghost use Rattle.rail_model.specs.Blocking.{hop_count, Fits, IsHopWithin, place};
 
 use blocking_time::{approach_moment, reach, reach_down};
 use rail_model::{Hop, List, Name, OutOfMemory, Path};

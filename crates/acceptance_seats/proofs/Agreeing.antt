@@ -6,10 +6,9 @@ use Rattle.plan_model.specs.declared.cut.Cut.{Cut}
 use Rattle.plan_model.specs.declared.cut.CutRow.{CutRow}
 use Rattle.plan_model.specs.declared.journal.Entry.{Entry}
 use Rattle.plan_model.specs.Call.{AddsOwn}
-use Rattle.plan_model.specs.Legal.{IsLegal, IsJournal}
+use Rattle.plan_model.specs.Legal.{IsLegal, IsJournal, IsReading}
 use Rattle.plan_model.specs.Outcome.{IsNextReading}
 use Rattle.plan_model.specs.Reading.{Shown}
-use Rattle.plan_model.specs.Touch.{IsReading}
 use Rattle.plan_model.proofs.Stamps.{stamp_tells_row}
 use Rattle.plan_repair.specs.Kept.{Kept, kept_of, AgreesWith}
 use Rattle.plan_model.proofs.Readings.{reading_name}

@@ -2,8 +2,7 @@
 use Rattle.std.specs.Prelude.{◌≡◌, List, ◌++◌}
 use Rattle.plan_model.specs.declared.cut.Cut.{Cut}
 use Rattle.plan_model.specs.declared.journal.Entry.{Entry}
-use Rattle.plan_model.specs.Legal.{IsLegal}
-use Rattle.plan_model.specs.Touch.{IsReading}
+use Rattle.plan_model.specs.Legal.{IsLegal, IsReading}
 use Rattle.plan_repair.specs.Kept.{Kept, kept_of}
 
 -- what is kept is that of a reading of a beginning of the journal

@@ -1,8 +1,7 @@
 -- Rows that calls and loops add to a sheet, all of them or a prefix.
 use Rattle.std.proofs.Common.{◌≡◌, ℕ, ◌+◌, ◌<◌, ◌≤◌, List, [], ◌∷◌, ◌++◌, length, take, drop, get_or, Result, Ok, Err, OnOk, OnErr, sym, ap, ◌∙◌, append_assoc, append-nil, arith}
 use Rattle.std.proofs.lemmas.List.{take_more, take_all, take-append-drop}
-use Rattle.row_text.specs.Row.{Row}
-use Rattle.row_text.specs.SheetRows.{SheetRows, with_row}
+use Rattle.row_text.specs.SheetRows.{Row, SheetRows, with_row}
 use Rattle.row_text.specs.Adds.{AddsAll, AddsFirst, Adds}
 use Rattle.row_text.proofs.Adds.{first_added, then_added}
 

@@ -1,8 +1,8 @@
 -- Rows, and parts of rows, that several commands write.
 use Rattle.std.specs.Prelude.{[], ◌∷◌, codes, ℕ, List, length, map, decimal, ◌/◌, ◌%◌, if◌then◌else◌, ◌++◌}
-use Rattle.row_text.specs.Row.{Row}
+use Rattle.row_text.specs.SheetRows.{Row}
 use Rattle.plan_model.specs.declared.answer.Link.{Link}
-use Rattle.plan_model.specs.Rates.{Fraction, is_within, hundredths_up}
+use Rattle.plan_model.specs.Answer.{Fraction, is_within, hundredths_up}
 
 -- link,TRAIN,BLOCK,NEXT
 abbrev pub link_row : Link → Row

@@ -4,9 +4,7 @@ use Rattle.std.specs.Int.{div_ceil}
 use Rattle.std.proofs.lemmas.Grind.{common_steps, div_ceil_times}
 use Rattle.std.proofs.lemmas.Bool.{cases_lt}
 use Rattle.rail_model.specs.declared.path.Path.{Path}
-use Rattle.rail_model.specs.Path.{hop, hop_count, no_hop, Fits}
-use Rattle.rail_model.specs.Motion.{place, departure, reach, reach_down, blocks_before}
-use Rattle.rail_model.specs.Blocking.{approach_moment, clearing_place, clearing_moment}
+use Rattle.rail_model.specs.Blocking.{hop, hop_count, no_hop, Fits, place, departure, reach, reach_down, blocks_before, approach_moment, clearing_place, clearing_moment}
 use Rattle.blocking_time.specs.Mark.{mark_of, stop_mark}
 use Rattle.blocking_time.proofs.Places.{hop_within, place_more, departure_more, places_rise, departures_rise, blocks_before_is, reach_is}
 use Rattle.blocking_time.proofs.Stops.{stop_within, approach_is}

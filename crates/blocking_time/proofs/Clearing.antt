@@ -3,9 +3,7 @@ use Rattle.std.proofs.Common.{◌≡◌, ℕ, zero, suc, ◌+◌, ◌<◌, ◌�
 use Rattle.std.proofs.lemmas.Bool.{le-leb, lt-leb}
 use Rattle.rail_model.specs.declared.path.Hop.{Hop}
 use Rattle.rail_model.specs.declared.path.Path.{Path}
-use Rattle.rail_model.specs.Path.{hop, hop_count, no_hop, Fits}
-use Rattle.rail_model.specs.Motion.{place, departure, arrival, reach}
-use Rattle.rail_model.specs.Blocking.{clearing_place, clearing_moment}
+use Rattle.rail_model.specs.Blocking.{hop, hop_count, no_hop, Fits, place, departure, arrival, reach, clearing_place, clearing_moment}
 use Rattle.blocking_time.specs.declared.motion.Mark.{Mark}
 use Rattle.blocking_time.specs.Mark.{mark_of}
 use Rattle.blocking_time.proofs.Places.{departure_more, hop_beyond_is}

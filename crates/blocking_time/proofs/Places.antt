@@ -6,8 +6,7 @@ use Rattle.std.proofs.lemmas.List.FromFn.{get_or-map-range_with_len}
 use Rattle.std.proofs.Math.Nat.{mul-le-mul_right}
 use Rattle.rail_model.specs.declared.path.Path.{Path}
 use Rattle.rail_model.specs.declared.path.Hop.{Hop}
-use Rattle.rail_model.specs.Path.{hop, hop_count, no_hop, Fits, IsHopWithin}
-use Rattle.rail_model.specs.Motion.{place, departure, blocks_before, reach, reach_down}
+use Rattle.rail_model.specs.Blocking.{hop, hop_count, no_hop, Fits, IsHopWithin, place, departure, blocks_before, reach, reach_down}
 use Rattle.blocking_time.specs.declared.motion.Mark.{Mark}
 use Rattle.blocking_time.specs.Mark.{mark_of, marks_of, IsMarkWithin}
 use Rattle.blocking_time.proofs.Counts.{count_below, rising}

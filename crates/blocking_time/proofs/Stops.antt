@@ -7,9 +7,7 @@ use Rattle.std.proofs.lemmas.List.Sums.{fold_push}
 use Rattle.std.proofs.lemmas.Bool.Decides.{nat_tests}
 use Rattle.rail_model.specs.declared.path.Hop.{Hop}
 use Rattle.rail_model.specs.declared.path.Path.{Path}
-use Rattle.rail_model.specs.Path.{hop, hop_count, no_hop, Fits}
-use Rattle.rail_model.specs.Motion.{place, departure, reach_down}
-use Rattle.rail_model.specs.Blocking.{approach_moment}
+use Rattle.rail_model.specs.Blocking.{hop, hop_count, no_hop, Fits, place, departure, reach_down, approach_moment}
 use Rattle.blocking_time.specs.declared.motion.Mark.{Mark}
 use Rattle.blocking_time.specs.Mark.{mark_of, stop_mark, IsMarkWithin}
 use Rattle.blocking_time.proofs.Places.{hop_beyond_is, places_rise, departures_rise, departure_most, place_most}

@@ -8,9 +8,7 @@ use Rattle.std.proofs.lemmas.List.FromFn.{length-map-range_with_len, get_or-map-
 use Rattle.rail_model.specs.declared.path.Hop.{Hop}
 use Rattle.rail_model.specs.declared.path.Path.{Path}
 use Rattle.rail_model.specs.declared.stair.Use.{Use}
-use Rattle.rail_model.specs.Path.{hop, hop_count, no_hop, Fits}
-use Rattle.rail_model.specs.Motion.{departure}
-use Rattle.rail_model.specs.Blocking.{approach_moment, clearing_moment, blocking_start, blocking_end, use_of, stairway}
+use Rattle.rail_model.specs.Blocking.{hop, hop_count, no_hop, Fits, departure, approach_moment, clearing_moment, blocking_start, blocking_end, use_of, stairway}
 use Rattle.rail_model.specs.Moment.{IsMoment}
 use Rattle.rail_model.proofs.Lists.{All-from_one}
 use Rattle.blocking_time.specs.Blocking.{IsUseBounded, blocking_of}

@@ -2,8 +2,7 @@
 use Rattle.std.specs.Prelude.{◌≡◌, ℕ, ◌+◌, ◌-◌, ◌*◌, ◌/◌, ◌<◌, ◌≤◌}
 use Rattle.std.specs.Int.{div_ceil}
 use Rattle.rail_model.specs.declared.path.Path.{Path}
-use Rattle.rail_model.specs.Path.{hop, hop_count}
-use Rattle.rail_model.specs.Motion.{place, departure, reach, reach_down}
+use Rattle.rail_model.specs.Blocking.{hop, hop_count, place, departure, reach, reach_down}
 
 -- the head passes the path's start at the start, and inside each block its time grows evenly from the departure at the
 -- block's start: by the running time's share of the metres covered, rounded up or down to a second

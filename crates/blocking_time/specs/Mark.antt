@@ -2,8 +2,7 @@
 use Rattle.std.specs.Prelude.{ℕ, ◌+◌, ◌≤◌, zero, suc, nat_lt, if◌then◌else◌, List, map}
 use Rattle.std.specs.List.{range_with_len}
 use Rattle.rail_model.specs.declared.path.Path.{Path}
-use Rattle.rail_model.specs.Path.{hop, hop_count}
-use Rattle.rail_model.specs.Motion.{place, departure}
+use Rattle.rail_model.specs.Blocking.{hop, hop_count, place, departure}
 use Rattle.blocking_time.specs.declared.motion.Mark.{Mark}
 use Rattle.blocking_time.specs.declared.motion.TheConstants.{GREATEST_PLACE_M, GREATEST_DEPARTURE_S}
 

@@ -3,8 +3,7 @@ use Rattle.std.specs.Prelude.{ℕ, ◌-◌, ◌≤◌, ℤ, pos, ◌+ℤ◌, ◌
 use Rattle.rail_model.specs.declared.path.Hop.{Hop}
 use Rattle.rail_model.specs.declared.path.Path.{Path}
 use Rattle.rail_model.specs.declared.stair.Use.{Use}
-use Rattle.rail_model.specs.Motion.{departure}
-use Rattle.rail_model.specs.Blocking.{approach_moment, clearing_moment}
+use Rattle.rail_model.specs.Blocking.{departure, approach_moment, clearing_moment}
 use Rattle.blocking_time.specs.declared.motion.TheConstants.{GREATEST_REACH_S}
 use Rattle.blocking_time.specs.declared.moments.Moments.{Moments}
 

@@ -1,8 +1,7 @@
 //! When the head comes to the point from which the driver must see a block's signal clear.
 
 ghost use Rattle.std.specs.Prelude.{◌≡◌, ◌≤◌, ◌<◌, ◌-◌, ◌≤ℤ◌, pos, max, nat_lt, nat_le, if◌then◌else◌};
-ghost use Rattle.rail_model.specs.Path.{hop_count, Fits};
-ghost use Rattle.rail_model.specs.Blocking.{approach_moment as moment_of};
+ghost use Rattle.rail_model.specs.Blocking.{hop_count, Fits, approach_moment as moment_of};
 ghost use Rattle.rail_model.specs.Moment.{IsMoment};
 ghost use Rattle.blocking_time.specs.Mark.{stop_mark, no_stop, IsMarkWithin};
 

@@ -1,9 +1,7 @@
 //! The marks of a whole path in one table, for one walk along the path.
 
 ghost use Rattle.std.specs.Prelude.{◌≡◌, ◌≤◌, ◌<◌, ◌+◌, ◌-◌, ◌⊎◌, pos, IfOk, length};
-ghost use Rattle.rail_model.specs.Path.{hop as hop_of, hop_count, Fits};
-ghost use Rattle.rail_model.specs.Motion.{place, blocks_before as count_before, reach as moment_of, reach_down as moment_down_of};
-ghost use Rattle.rail_model.specs.Blocking.{approach_moment, clearing_moment};
+ghost use Rattle.rail_model.specs.Blocking.{hop as hop_of, hop_count, Fits, place, blocks_before as count_before, reach as moment_of, reach_down as moment_down_of, approach_moment, clearing_moment};
 ghost use Rattle.blocking_time.specs.Mark.{mark_of, marks_of, stop_mark, IsMarkWithin};
 ghost use Rattle.blocking_time.specs.Moments.{moments_of, AreBounded};
 

@@ -1,8 +1,7 @@
 //! The moments of a run at one block, from which its blocking is made.
 
 ghost use Rattle.std.specs.Prelude.{◌≡◌, ◌≤◌, ◌<◌, ◌+◌, ◌-◌, ◌-ℤ◌, ◌+ℤ◌, pos, fold};
-ghost use Rattle.rail_model.specs.Path.{hop_count, Fits, IsHopWithin};
-ghost use Rattle.rail_model.specs.Blocking.{clearing_moment, parts as parts_of, blocking_start, blocking_end};
+ghost use Rattle.rail_model.specs.Blocking.{hop_count, Fits, IsHopWithin, clearing_moment, parts as parts_of, blocking_start, blocking_end};
 ghost use Rattle.blocking_time.specs.Mark.{IsMarkWithin};
 ghost use Rattle.blocking_time.specs.Moments.{moments_of, use_by, parts_by, AreBounded};
 

@@ -2,8 +2,7 @@
 
 ghost use Rattle.std.specs.Prelude.{◌≡◌, ◌≤◌, ◌<◌, ◌+◌, ◌-◌, ◌*◌, ◌/◌, pos};
 ghost use Rattle.std.specs.Int.{div_ceil};
-ghost use Rattle.rail_model.specs.Path.{hop, hop_count, Fits, IsHopWithin};
-ghost use Rattle.rail_model.specs.Motion.{place, blocks_before as count_before, reach as moment_of, reach_down as moment_down_of};
+ghost use Rattle.rail_model.specs.Blocking.{hop, hop_count, Fits, IsHopWithin, place, blocks_before as count_before, reach as moment_of, reach_down as moment_down_of};
 ghost use Rattle.rail_model.specs.Moment.{IsMoment};
 ghost use Rattle.blocking_time.specs.Mark.{mark_of, IsMarkWithin};
 ghost use Rattle.blocking_time.specs.Law.{HasConstantSpeed};

@@ -2,8 +2,7 @@
 
 ghost use Rattle.std.specs.Prelude.{◌≡◌, ◌≢◌, ◌≤◌, ◌<◌, ◌+◌, ◌-◌, ◌<ℤ◌, IfOk, map, All, AllPairs};
 ghost use Rattle.std.specs.List.{range_with_len};
-ghost use Rattle.rail_model.specs.Path.{hop as hop_of, hop_count, Fits};
-ghost use Rattle.rail_model.specs.Blocking.{stairway as stairway_of, stair_of, use_of};
+ghost use Rattle.rail_model.specs.Blocking.{hop as hop_of, hop_count, Fits, stairway as stairway_of, stair_of, use_of};
 ghost use Rattle.blocking_time.specs.Mark.{marks_of, stop_mark};
 ghost use Rattle.blocking_time.specs.Blocking.{blocking_of, IsUseBounded};
 

@@ -2,8 +2,7 @@
 use Rattle.std.specs.Prelude.{◌≡◌, ◌⊎◌, ℕ, List, All, Option, Some, IsNone}
 use Rattle.std.specs.Process.{exit_status}
 use Rattle.std.specs.Str.{IsUtf8}
-use Rattle.rail_outside.specs.InCall.{SourceInCall, SinkInCall, IsUnread, IsUnwritten}
-use Rattle.rail_outside.specs.Words.{AreNotText}
+use Rattle.rail_outside.specs.InCall.{SourceInCall, SinkInCall, IsUnread, IsUnwritten, AreNotText}
 use Rattle.capacity_cmd.specs.declared.status.Status.{Status}
 use Rattle.capacity_cmd.specs.declared.status.Status.TheVariants.{BadWords, OutOfMemory}
 use Rattle.capacity_cmd.specs.Outcome.{status_number}

@@ -11,7 +11,7 @@ use Rattle.plan_model.specs.declared.scripts.Task.{Task}
 use Rattle.plan_model.specs.declared.journal.Entry.{Entry}
 use Rattle.plan_model.specs.Session.{IsSession}
 use Rattle.plan_model.specs.Journal.{opening, edits, last_number}
-use Rattle.row_text.specs.Row.{Row}
+use Rattle.row_text.specs.SheetRows.{Row}
 use Rattle.capacity_report.specs.Answers.{AreAnswers}
 use Rattle.capacity_report.proofs.Reports.{total_more, answers_more, answers_count}
 use Rattle.made_line.specs.declared.counts.TheConstants.{BASE_EDITS}
@@ -19,7 +19,7 @@ use Rattle.capacity_cmd.specs.declared.reply.Reply.{Reply}
 use Rattle.capacity_cmd.specs.declared.status.Status.{Status}
 use Rattle.capacity_cmd.specs.declared.status.Status.TheVariants.{Done, Refused, ReadFault, WriteFault, OutOfMemory}
 use Rattle.capacity_cmd.specs.Outcome.{Writes, EndsInText, outcome_text, outcome_status}
-use Rattle.capacity_cmd.specs.Made.{occupancy_of, line_row, session_row, made_rows}
+use Rattle.capacity_cmd.specs.Ends.{occupancy_of, line_row, session_row, made_rows}
 use Rattle.capacity_cmd.specs.Counted.{Counted, counted_of, with_one, CountsSection, AreCounted}
 use Rattle.capacity_cmd.specs.Reply.{IsReply, IsSent}
 use Rattle.capacity_cmd.specs.Promise.{WritesOutcome}

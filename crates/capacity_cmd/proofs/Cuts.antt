@@ -6,8 +6,7 @@ use Rattle.rail_model.specs.declared.items.Section.{Section}
 use Rattle.rail_model.specs.declared.tables.Tables.{Tables}
 use Rattle.rail_model.specs.Name.{is_same}
 use Rattle.plan_model.specs.declared.cut.CutRow.{CutRow}
-use Rattle.plan_model.specs.Cut.{stamped_row, stamped}
-use Rattle.plan_model.specs.SectionCut.{is_member, row_of, section_cut, cut_of}
+use Rattle.plan_model.specs.Cut.{stamped_row, stamped, is_member, row_of, section_cut, cut_of}
 use Rattle.capacity_cmd.specs.declared.status.Cause.{Cause}
 use Rattle.capacity_cmd.specs.Outcome.{Writes, Refuses}
 use Rattle.capacity_cmd.specs.Ends.{EndsOnNamed}

@@ -13,12 +13,10 @@ use Rattle.plan_model.specs.declared.answer.Answer.{Answer}
 use Rattle.plan_model.specs.declared.journal.Act.{Act}
 use Rattle.plan_model.specs.declared.journal.Act.TheVariants as act
 use Rattle.plan_model.specs.declared.journal.Entry.{Entry}
-use Rattle.plan_model.specs.Journal.{Publication, publication_of, last_publication}
-use Rattle.plan_model.specs.SectionCut.{section_cut}
+use Rattle.plan_model.specs.Journal.{Publication, publication_of, last_publication, last_number, tables_of}
+use Rattle.plan_model.specs.Cut.{section_cut}
 use Rattle.plan_model.specs.Answer.{IsAnswer}
-use Rattle.plan_model.specs.Journal.{last_number, tables_of}
-use Rattle.plan_model.specs.Touch.{cut_at, cut_now}
-use Rattle.plan_model.specs.Legal.{IsLegal}
+use Rattle.plan_model.specs.Legal.{cut_at, cut_now, IsLegal}
 use Rattle.plan_model.specs.Session.{AllAreCurrent}
 use Rattle.section_cut.proofs.Rows.{found_at}
 use Rattle.section_cut.proofs.SoundCut.{sound_cut}

@@ -9,15 +9,11 @@ use Rattle.csv.specs.declared.parser.State.TheVariants as st
 use Rattle.csv.proofs.RoundTrip.{read-write}
 use Rattle.rail_model.specs.declared.items.Item.TheVariants as item
 use Rattle.rail_model.specs.declared.tables.Tables.{Tables}
-use Rattle.rail_model.specs.Edits.{no_tables}
-use Rattle.rail_model.specs.Edited.{after_edits, AreAccepted}
+use Rattle.rail_model.specs.Rules.{no_tables, after_edits, AreAccepted}
 use Rattle.row_text.specs.declared.line.Line.{Line}
-use Rattle.row_text.specs.Row.{Row}
+use Rattle.row_text.specs.SheetRows.{Row, text_of_row, text_of_rows}
 use Rattle.row_text.specs.Rows as csv
-use Rattle.row_text.specs.Lines.{◌>>=◌}
-use Rattle.row_text.specs.Spelling.{item_fields, row_in}
-use Rattle.row_text.specs.SheetRows.{text_of_row, text_of_rows}
-use Rattle.row_text.specs.Versions.{has_version_row}
+use Rattle.row_text.specs.Lines.{◌>>=◌, item_fields, row_in, has_version_row}
 use Rattle.row_text.proofs.Records.{Reached-length, records_from-Reached, records_from-end}
 use Rattle.row_text.proofs.Says.{Each}
 use Rattle.made_line.specs.Base.{block_of, first_blocks, first_signals, first_runs, first_sections, base_edits, first_tasks, first_scripts, scripts_of_made, base_tables}

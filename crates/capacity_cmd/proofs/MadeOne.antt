@@ -7,7 +7,7 @@ use Rattle.made_line.specs.declared.counts.TheConstants.{BASE_EDITS, WORKERS, SC
 use Rattle.made_line.specs.Base.{base_tables}
 use Rattle.made_line.specs.Later.{later_tables}
 use Rattle.made_line.proofs.Sessions.{each_session_makes_all}
-use Rattle.capacity_cmd.specs.Made.{rows_of_answers, made_rows, IsMadeText}
+use Rattle.capacity_cmd.specs.Ends.{rows_of_answers, made_rows, IsMadeText}
 use Rattle.capacity_cmd.specs.MadeOne.{TellsOfAll}
 use Rattle.capacity_cmd.specs.Laws.{MadeIsOne}
 use Rattle.capacity_cmd.proofs.OneOutcome.{answers_one}

@@ -20,11 +20,9 @@ use Rattle.rail_model.specs.declared.items.Section.{Section}
 use Rattle.rail_model.specs.declared.items.Item.TheVariants as item
 use Rattle.row_text.specs.declared.line.Line.{Line}
 use Rattle.row_text.specs.declared.line.Line.TheVariants as line
-use Rattle.row_text.specs.Row.{Row}
-use Rattle.row_text.specs.Sorts.{name_in, time_in}
-use Rattle.row_text.specs.Words.{kind_shape, word_of, allows}
-use Rattle.row_text.specs.Lines.{read_each, legs_of, item_in, read_in}
-use Rattle.row_text.specs.Spelling.{leg_times, time_text, item_fields, row_in}
+use Rattle.row_text.specs.SheetRows.{Row}
+use Rattle.row_text.specs.Words.{name_in, time_in, kind_shape, word_of, allows}
+use Rattle.row_text.specs.Lines.{read_each, legs_of, item_in, read_in, leg_times, time_text, item_fields, row_in}
 use Rattle.row_text.proofs.Numbers.{number_in-decimal, rate_in-decimal}
 use Rattle.row_text.proofs.Says.{Name, Says, Each}
 use Rattle.plan_model.specs.declared.scripts.Task.{Task}

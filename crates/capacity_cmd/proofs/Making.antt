@@ -8,18 +8,15 @@ use Rattle.rail_model.specs.declared.edit.Edit.{Edit}
 use Rattle.rail_model.specs.declared.edit.Rule.{Rule}
 use Rattle.rail_model.specs.declared.form.Form.{Form}
 use Rattle.rail_model.specs.declared.tables.Tables.{Tables}
-use Rattle.rail_model.specs.Edits.{no_tables, after}
-use Rattle.rail_model.specs.Edited.{Refused, after_edits, first_refused}
-use Rattle.rail_model.specs.Rules.{rule_of}
+use Rattle.rail_model.specs.Rules.{no_tables, after, Refused, after_edits, first_refused, rule_of}
 use Rattle.rail_model.proofs.Edited.{at_place, accepted_more, refused_still}
 use Rattle.row_text.specs.declared.line.Line.{Line}
 use Rattle.row_text.specs.declared.line.Line.TheVariants as line
-use Rattle.row_text.specs.Row.{Row}
-use Rattle.row_text.specs.Lines.{read_in, ◌>>=◌}
-use Rattle.row_text.specs.Versions.{first_line}
+use Rattle.row_text.specs.SheetRows.{Row}
+use Rattle.row_text.specs.Lines.{read_in, ◌>>=◌, first_line}
 use Rattle.plan_model.specs.declared.scripts.Task.{Task}
 use Rattle.plan_model.specs.declared.scripts.Task.TheVariants as task
-use Rattle.plan_model.specs.Scripts.{with_task}
+use Rattle.plan_model.specs.Journal.{with_task}
 use Rattle.plan_book.specs.declared.book.TheConstants.{TASKS}
 use Rattle.capacity_cmd.specs.declared.status.Cause.{Cause}
 use Rattle.capacity_cmd.specs.declared.status.Cause.TheVariants as cause

@@ -1,6 +1,6 @@
 -- The position of a name among the members of a cut, and the delays that are set for them.
 use Rattle.std.proofs.Common.{◌≡◌, ◌≢◌, ℕ, ◌+◌, ◌<◌, eqb, Bool, true, false, List, [], length, take, get_or, set, Option, None, Some, Result, Ok, Err, refl, sym, ap, ◌∙◌, inl, inr, arith, nat_lt}
-use Rattle.std.specs.Prelude.{replicate, position, is_some, if◌then◌else◌}
+use Rattle.std.specs.Prelude.{replicate, position, is_some, fold, if◌then◌else◌}
 use Rattle.std.specs.List.{position_or_len}
 use Rattle.std.specs.List.Sorted.{IsBinarySearchResult, IsSearchInRange}
 use Rattle.std.specs.Cmp.Lexicographic.{slice_cmp}
@@ -19,7 +19,7 @@ use Rattle.plan_model.specs.Cut.{IsSoundCut}
 use Rattle.plan_model.specs.Members.{no_member, member_count}
 use Rattle.capacity_cmd.specs.declared.given_delay.GivenDelay.{GivenDelay}
 use Rattle.capacity_cmd.specs.declared.status.Cause.TheVariants as cause
-use Rattle.capacity_cmd.specs.Ends.{row_named, are_members, delay_of, delays_in, with_delays, SetsDelay, with_member}
+use Rattle.capacity_cmd.specs.Ends.{row_named, are_members, delays_in, with_delays, SetsDelay, with_member}
 
 abbrev label : CutRow → List ℕ
 label r = r.name
@@ -74,6 +74,10 @@ named_at rows name i is =
     (at.1, same_name _ name (ap (λ k. is_same (get_or rows k no_member).name name) at.0 ∙ passes))
 
 -- ---- the delays
+
+-- the delay that is given to the train of a name
+abbrev delay_of : List GivenDelay → List ℕ → ℕ
+delay_of given name = fold (λ so_far d. if is_same name d.run then d.delay else so_far) 0 given
 
 -- no delay is given to any member
 pub none_given : (cut : Cut) → replicate (member_count cut) 0 ≡ delays_in cut []

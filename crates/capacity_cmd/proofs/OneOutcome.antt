@@ -3,23 +3,21 @@ use Rattle.std.proofs.Common.{◌≡◌, ◌⊎◌, ℕ, zero, suc, List, [], �
 use Rattle.std.specs.Prelude.{Result, Ok, Err}
 use Rattle.rail_model.specs.declared.items.Section.{Section}
 use Rattle.rail_model.specs.declared.tables.Tables.{Tables}
-use Rattle.rail_model.specs.Timetable.{timetable}
-use Rattle.row_text.specs.Row.{Row}
-use Rattle.row_text.specs.SheetRows.{text_of_rows}
+use Rattle.rail_model.specs.Conflict.{timetable}
+use Rattle.row_text.specs.SheetRows.{Row, text_of_rows}
 use Rattle.conflict_finder.proofs.Unique.{conflicts_are_unique}
 use Rattle.plan_model.specs.declared.cut.Cut.{Cut}
 use Rattle.plan_model.specs.declared.answer.Answer.{Answer}
 use Rattle.plan_model.specs.declared.scripts.Task.{Task}
 use Rattle.plan_model.specs.declared.journal.Entry.{Entry}
 use Rattle.plan_model.specs.Members.{member}
-use Rattle.plan_model.specs.SectionCut.{section_cut}
+use Rattle.plan_model.specs.Cut.{section_cut}
 use Rattle.plan_model.specs.Journal.{tables_of}
 use Rattle.plan_model.proofs.Unique.{answer_is_unique}
 use Rattle.plan_model.proofs.Alone.{session_alone_is_one}
 use Rattle.capacity_report.specs.declared.answers.Detail.TheVariants as detail
 use Rattle.capacity_report.specs.Answers.{answer_rows, AreAnswers, report_rows}
-use Rattle.capacity_report.specs.Rows.{stairs_rows, check_rows}
-use Rattle.capacity_report.specs.Journal.{rows_of_journal}
+use Rattle.capacity_report.specs.Rows.{stairs_rows, check_rows, rows_of_journal}
 use Rattle.line_cutter.specs.Rows.{cutting_rows}
 use Rattle.line_cutter.proofs.Unique.{cutting_is_unique}
 use Rattle.cycle_time.proofs.Repeated.{cycles_are_alike}

@@ -5,9 +5,8 @@ use Rattle.std.proofs.lemmas.List.FromFn.{length-map-range_with_len, get_or-map-
 use Rattle.std.proofs.Math.Seq.{get_or-append_seam}
 use Rattle.rail_model.specs.declared.form.Form.{Form}
 use Rattle.row_text.specs.declared.line.Line.{Line}
-use Rattle.row_text.specs.Row.{Row}
-use Rattle.row_text.specs.Lines.{read_in}
-use Rattle.row_text.specs.Versions.{has_version_row, first_line}
+use Rattle.row_text.specs.SheetRows.{Row}
+use Rattle.row_text.specs.Lines.{read_in, has_version_row, first_line}
 use Rattle.capacity_cmd.specs.declared.status.Cause.{Cause}
 use Rattle.capacity_cmd.specs.declared.input.InputSoFar.{InputSoFar}
 use Rattle.capacity_cmd.specs.declared.refusal.Refusal.{Refusal}

@@ -8,11 +8,10 @@ use Rattle.plan_model.specs.declared.scripts.Task.{Task}
 use Rattle.plan_model.specs.declared.journal.Entry.{Entry}
 use Rattle.plan_model.specs.Journal.{tables_of}
 use Rattle.plan_model.specs.Session.{IsSession}
-use Rattle.row_text.specs.Row.{Row}
-use Rattle.row_text.specs.SheetRows.{text_of_row, text_of_rows}
+use Rattle.row_text.specs.SheetRows.{Row, text_of_row, text_of_rows}
 use Rattle.capacity_report.specs.declared.answers.Detail.TheVariants as detail
 use Rattle.capacity_report.specs.Answers.{answer_rows, AreAnswers, heads, report_rows, Total, total_row, with_answer}
-use Rattle.capacity_report.specs.Journal.{rows_of_journal}
+use Rattle.capacity_report.specs.Rows.{rows_of_journal}
 use Rattle.capacity_report.proofs.Reports.{total_more, heads_more, answers_more, answers_count}
 use Rattle.capacity_cmd.specs.Ends.{IsReportText, IsJournalWith, IsJournalText}
 use Rattle.capacity_cmd.specs.Heads.{AddsReport, AddsHead, HasHeads}

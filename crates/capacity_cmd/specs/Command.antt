@@ -2,13 +2,12 @@
 use Rattle.std.specs.Prelude.{ℕ, ◌+◌, ◌*◌, ◌/◌, Bool, true, false, not, ◌&&◌, ◌||◌, nat_lt, nat_le, if◌then◌else◌, List, [], ◌∷◌, length, map, slice_index_or, Option, Some, None, is_some, unwrap_or, option_map, ◌≡◌, codes, Result, IfOk}
 use Rattle.std.specs.List.{range_with_len}
 use Rattle.rail_model.specs.Name.{is_same, name_of}
-use Rattle.row_text.specs.Sorts.{number_of, value_of, is_number}
+use Rattle.row_text.specs.Words.{number_of, value_of, is_number}
 use Rattle.plan_book.specs.declared.book.TheConstants.{PLANNERS}
 use Rattle.session_run.specs.declared.threads.TheConstants.{WORKERS}
 use Rattle.delay_spread.specs.declared.spreading.TheConstants.{GREATEST_DELAY_S}
 use Rattle.capacity_cmd.specs.declared.given_delay.TheConstants.{GIVEN_DELAYS, DELAY_DIGITS}
-use Rattle.capacity_cmd.specs.declared.given_delay.GivenDelay.{GivenDelay}
-use Rattle.capacity_cmd.specs.declared.command.Command.{Command}
+use Rattle.capacity_cmd.specs.Types.{GivenDelay, Command}
 use Rattle.capacity_cmd.specs.declared.command.Command.TheVariants as command
 
 -- the seconds that a word of one to five digits says, where they are no more than are spread

@@ -3,11 +3,11 @@ use Rattle.std.specs.Prelude.{◌≡◌, ℕ, ◌+◌, List, [], ◌∷◌, take
 use Rattle.rail_model.specs.declared.items.Section.{Section}
 use Rattle.rail_model.specs.declared.tables.Tables.{Tables}
 use Rattle.plan_model.specs.declared.answer.Answer.{Answer}
-use Rattle.plan_model.specs.SectionCut.{section_cut}
+use Rattle.plan_model.specs.Cut.{section_cut}
 use Rattle.plan_model.specs.Answer.{IsAnswer}
-use Rattle.row_text.specs.Row.{Row}
+use Rattle.row_text.specs.SheetRows.{Row}
 use Rattle.capacity_report.specs.Answers.{AreAnswers, Total, total_of, total_row, with_answer}
-use Rattle.capacity_cmd.specs.Made.{occupancy_of, occupancy_row}
+use Rattle.capacity_cmd.specs.Ends.{occupancy_of, occupancy_row}
 
 -- the total of some answers, and the occupancy times of their ordered sections together
 pub record Counted : Type 0 where

@@ -1,27 +1,25 @@
 -- What each command ends with, by its input: its text, in the order of the commands, or a refusal.
-use Rattle.std.specs.Prelude.{◌≡◌, ℕ, List, Option, None, Some, option_and_then, position, Result, Ok, Err, ◌++◌, ◌⊎◌, ◌<◌, ◌≤◌, [], ◌∷◌, Bool, if◌then◌else◌, map, fold, All, slice_set, is_some, zero, suc}
+use Rattle.std.specs.Prelude.{◌≡◌, ℕ, List, Option, None, Some, option_and_then, position, Result, Ok, Err, ◌++◌, ◌⊎◌, ◌<◌, ◌≤◌, [], ◌∷◌, Bool, if◌then◌else◌, map, fold, All, slice_set, is_some, zero, suc, length, sum_by, codes, decimal}
 use Rattle.std.specs.Option.{ok_or}
 use Rattle.std.specs.List.{list_all}
 use Rattle.rail_model.specs.Name.{is_same}
 use Rattle.rail_model.specs.declared.tables.Tables.{Tables}
-use Rattle.rail_model.specs.Conflict.{Conflict, AreConflicts}
-use Rattle.rail_model.specs.Timetable.{timetable}
-use Rattle.row_text.specs.SheetRows.{text_of_rows}
+use Rattle.rail_model.specs.Conflict.{Conflict, AreConflicts, timetable}
+use Rattle.row_text.specs.SheetRows.{text_of_rows, Row}
 use Rattle.row_text.specs.Lines.{◌>>=◌}
 use Rattle.plan_model.specs.declared.cut.Cut.{Cut}
-use Rattle.plan_model.specs.SectionCut.{cut_of}
+use Rattle.plan_model.specs.Cut.{cut_of}
 use Rattle.plan_model.specs.declared.answer.Answer.{Answer}
 use Rattle.plan_model.specs.Answer.{IsAnswer}
 use Rattle.plan_model.specs.declared.limits.TheConstants.{MEMBERS}
 use Rattle.plan_model.specs.Members.{member_count, member}
 use Rattle.plan_model.specs.declared.scripts.Task.{Task}
 use Rattle.plan_model.specs.declared.journal.Entry.{Entry}
-use Rattle.plan_model.specs.Journal.{tables_of}
+use Rattle.plan_model.specs.Journal.{tables_of, edits}
 use Rattle.plan_model.specs.Session.{IsSession, IsSessionAlone}
-use Rattle.capacity_report.specs.Rows.{stairs_rows, check_rows, headways_or_count}
+use Rattle.capacity_report.specs.Rows.{stairs_rows, check_rows, headways_or_count, rows_of_journal}
 use Rattle.capacity_report.specs.declared.answers.Detail.TheVariants as detail
-use Rattle.capacity_report.specs.Answers.{answer_rows, AreAnswers, report_rows, crowded_row}
-use Rattle.capacity_report.specs.Journal.{rows_of_journal}
+use Rattle.capacity_report.specs.Answers.{answer_rows, AreAnswers, report_rows, crowded_row, total_of, total_row}
 use Rattle.line_cutter.specs.declared.found.Cutting.{Cutting}
 use Rattle.line_cutter.specs.Cutting.{IsCutting}
 use Rattle.line_cutter.specs.Rows.{cutting_rows}
@@ -32,16 +30,15 @@ use Rattle.path_fill.specs.Filling.{IsNoPlan, IsOrdered, IsFill, fill_rows}
 use Rattle.path_fill.specs.declared.found.Fill.{Fill}
 use Rattle.cycle_time.specs.declared.found.Cycle.{Cycle}
 use Rattle.cycle_time.specs.Cycle.{IsCycle, cycle_rows}
-use Rattle.capacity_cmd.specs.declared.status.Cause.{Cause}
+use Rattle.capacity_cmd.specs.Types.{Cause, GivenDelay, Command, Refusal, Accepted}
 use Rattle.capacity_cmd.specs.declared.status.Cause.TheVariants as cause
 use Rattle.capacity_cmd.specs.Outcome.{Outcome, Refuses, EndsInText}
-use Rattle.capacity_cmd.specs.declared.given_delay.GivenDelay.{GivenDelay}
-use Rattle.capacity_cmd.specs.declared.command.Command.{Command}
 use Rattle.capacity_cmd.specs.declared.command.Command.TheVariants as command
-use Rattle.capacity_cmd.specs.declared.refusal.Refusal.{Refusal}
-use Rattle.capacity_cmd.specs.declared.accepted.Accepted.{Accepted}
 use Rattle.capacity_cmd.specs.Input.{Content, accepted_of, content_of_input}
 use Rattle.capacity_cmd.specs.Command.{planners_of}
+use Rattle.plan_model.specs.declared.answer.Answer.TheVariants as answer
+use Rattle.made_line.specs.declared.counts.TheConstants.{BASE_EDITS, PLANNERS, WORKERS}
+use Rattle.made_line.specs.Base.{base_tables, scripts_of_made}
 
 -- the cut of the section that is named; none where the word is no name or no section has it
 abbrev pub cut_named : Tables → Option (List ℕ) → Result Cut Cause
@@ -97,12 +94,9 @@ IsCycleText cut text =
 abbrev pub are_members : Cut → List GivenDelay → Bool
 are_members cut given = list_all (λ d. is_some (row_named cut (Some d.run))) given
 
--- the delay that is given to the train of a name: 0 where none is; no run is given two
-abbrev pub delay_of : List GivenDelay → List ℕ → ℕ
-delay_of given name = fold (λ so_far d. if is_same name d.run then d.delay else so_far) 0 given
-
+-- the delay that is given to each member: 0 where none is; no run is given two
 abbrev pub delays_in : Cut → List GivenDelay → List ℕ
-delays_in cut given = map (λ r. delay_of given r.name) cut.rows
+delays_in cut given = map (λ r. fold (λ so_far d. if is_same r.name d.run then d.delay else so_far) 0 given) cut.rows
 
 -- the cut of the section that is named, with these delays, where all are given to members; none is where the word of a
 -- run is no name
@@ -184,3 +178,39 @@ Ends command (Err refusal) outcome = outcome ≡ Refuses refusal.row refusal.cau
 
 abbrev pub EndsOn : Command → List ℕ → Outcome → Type 0
 EndsOn command input outcome = Ends command (content_of_input (planners_of command) input) outcome
+
+-- made,N,EDITS: the number that the line is made from, and the edits of its base
+abbrev pub line_row : ℕ → Row
+line_row n = codes "made" ∷ decimal n ∷ decimal BASE_EDITS ∷ []
+
+-- the occupancy time of an ordered section; 0 of any other
+abbrev pub occupancy_of : Answer → ℕ
+occupancy_of (answer.Ordered plan) = plan.occupancy
+occupancy_of a = 0
+
+-- occupancy,SUM
+abbrev pub occupancy_row : ℕ → Row
+occupancy_row sum = codes "occupancy" ∷ decimal sum ∷ []
+
+-- the total of some answers, and the occupancy times of their ordered sections together
+abbrev pub rows_of_answers : List Answer → List Row
+rows_of_answers answers = total_row (total_of answers) ∷ occupancy_row (sum_by occupancy_of answers) ∷ []
+
+-- made-session,PLANNERS,WORKERS,EDITS: of the edits of the scripts those that were made
+abbrev pub session_row : ℕ → Row
+session_row made = codes "made-session" ∷ decimal PLANNERS ∷ decimal WORKERS ∷ decimal made ∷ []
+
+-- the line, what is counted of its base, its session, and what is counted in the end
+abbrev pub made_rows : ℕ → List Row → ℕ → List Row → List Row
+made_rows n base made last = line_row n ∷ base ++ session_row made ∷ last
+
+-- the rows of the line that is made from a number: there is a journal of a session of its planners and workers over its
+-- base, and what is counted in the end is counted of the answers of the tables that the journal leaves
+pub record IsMadeText (n : ℕ) (text : List ℕ) : Type 0 where
+  pub base : List Answer
+  pub base_are : AreAnswers (base_tables n) (base_tables n).sections base
+  pub journal : List Entry
+  pub session : IsSession (base_tables n) BASE_EDITS (scripts_of_made n) WORKERS journal
+  pub last : List Answer
+  pub last_are : AreAnswers (tables_of journal) (tables_of journal).sections last
+  pub text_is : text ≡ text_of_rows (made_rows n (rows_of_answers base) (length (edits journal)) (rows_of_answers last))

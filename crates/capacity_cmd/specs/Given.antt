@@ -1,10 +1,8 @@
 -- What an input gives to a command, or the reply that refuses it.
 use Rattle.std.specs.Prelude.{Result, Ok, Err}
 use Rattle.plan_book.specs.declared.book.TheConstants.{PLANNERS}
-use Rattle.capacity_cmd.specs.declared.command.Command.{Command}
+use Rattle.capacity_cmd.specs.Types.{Command, Accepted, Reply}
 use Rattle.capacity_cmd.specs.declared.limit.TheConstants.{INPUT_BYTES}
-use Rattle.capacity_cmd.specs.declared.accepted.Accepted.{Accepted}
-use Rattle.capacity_cmd.specs.declared.reply.Reply.{Reply}
 use Rattle.capacity_cmd.specs.Outcome.{Outcome}
 use Rattle.capacity_cmd.specs.InputSoFar.{IsWithin}
 use Rattle.capacity_cmd.specs.Ends.{EndsOnAccepted}

@@ -3,13 +3,13 @@ use Rattle.std.specs.Prelude.{◌≡◌, ℕ, List, ◌++◌, take, ◌<◌, [],
 use Rattle.rail_model.specs.declared.items.Section.{Section}
 use Rattle.rail_model.specs.declared.tables.Tables.{Tables}
 use Rattle.rail_model.specs.Tables.{section_at}
-use Rattle.row_text.specs.Row.{Row}
+use Rattle.row_text.specs.SheetRows.{Row}
 use Rattle.plan_model.specs.declared.answer.Answer.{Answer}
-use Rattle.plan_model.specs.SectionCut.{section_cut}
+use Rattle.plan_model.specs.Cut.{section_cut}
 use Rattle.plan_model.specs.Answer.{IsAnswer}
 use Rattle.capacity_report.specs.declared.answers.Detail.TheVariants as detail
 use Rattle.capacity_report.specs.Answers.{answer_rows, AreAnswers, heads, report_rows, Total, total_of, with_answer}
-use Rattle.capacity_cmd.specs.declared.heads.Head.{Head}
+use Rattle.capacity_cmd.specs.Types.{Head}
 
 -- after some rows come the heads of the answers of all sections, and their total
 abbrev pub AddsReport : Tables → List Row → List Row → Type 0

@@ -4,22 +4,18 @@ use Rattle.std.specs.Result.{result_map_both}
 use Rattle.rail_model.specs.declared.edit.Edit.{Edit}
 use Rattle.rail_model.specs.declared.form.Form.{Form}
 use Rattle.rail_model.specs.declared.tables.Tables.{Tables}
-use Rattle.rail_model.specs.Edits.{no_tables}
-use Rattle.rail_model.specs.Edited.{Refused, after_edits, first_refused}
+use Rattle.rail_model.specs.Rules.{no_tables, Refused, after_edits, first_refused}
 use Rattle.row_text.specs.declared.line.Line.{Line}
 use Rattle.row_text.specs.declared.line.Line.TheVariants as line
-use Rattle.row_text.specs.Row.{Row}
+use Rattle.row_text.specs.SheetRows.{Row}
 use Rattle.row_text.specs.Rows.{rows_of}
-use Rattle.row_text.specs.Lines.{read_in, ◌>>=◌}
-use Rattle.row_text.specs.Versions.{version_of, first_line}
+use Rattle.row_text.specs.Lines.{read_in, ◌>>=◌, version_of, first_line}
 use Rattle.plan_model.specs.declared.scripts.Task.{Task}
 use Rattle.plan_model.specs.declared.scripts.Task.TheVariants as task
-use Rattle.plan_model.specs.Scripts.{with_task}
+use Rattle.plan_model.specs.Journal.{with_task}
 use Rattle.plan_book.specs.declared.book.TheConstants.{TASKS}
-use Rattle.capacity_cmd.specs.declared.status.Cause.{Cause}
+use Rattle.capacity_cmd.specs.Types.{Cause, Refusal, Accepted}
 use Rattle.capacity_cmd.specs.declared.status.Cause.TheVariants as cause
-use Rattle.capacity_cmd.specs.declared.refusal.Refusal.{Refusal}
-use Rattle.capacity_cmd.specs.declared.accepted.Accepted.{Accepted}
 use Rattle.capacity_cmd.specs.declared.limit.TheConstants.{INPUT_BYTES}
 
 -- the edits of the base rows, and the tasks of each planner's script, planner 1's first

@@ -5,20 +5,14 @@ use Rattle.rail_model.specs.declared.edit.Edit.{Edit}
 use Rattle.rail_model.specs.declared.edit.Rule.{Rule}
 use Rattle.rail_model.specs.declared.form.Form.{Form}
 use Rattle.rail_model.specs.declared.tables.Tables.{Tables}
-use Rattle.rail_model.specs.Edits.{no_tables, after}
-use Rattle.rail_model.specs.Rules.{rule_of}
+use Rattle.rail_model.specs.Rules.{no_tables, after, rule_of}
 use Rattle.row_text.specs.declared.line.Line.{Line}
-use Rattle.row_text.specs.Row.{Row}
-use Rattle.row_text.specs.Lines.{◌>>=◌}
-use Rattle.row_text.specs.Versions.{first_line}
+use Rattle.row_text.specs.SheetRows.{Row}
+use Rattle.row_text.specs.Lines.{◌>>=◌, first_line}
 use Rattle.plan_model.specs.declared.scripts.Task.{Task}
 use Rattle.plan_book.specs.declared.book.TheConstants.{TASKS}
-use Rattle.capacity_cmd.specs.declared.status.Cause.{Cause}
+use Rattle.capacity_cmd.specs.Types.{Cause, Refusal, Accepted, BaseSoFar, InputSoFar}
 use Rattle.capacity_cmd.specs.declared.status.Cause.TheVariants as cause
-use Rattle.capacity_cmd.specs.declared.refusal.Refusal.{Refusal}
-use Rattle.capacity_cmd.specs.declared.accepted.Accepted.{Accepted}
-use Rattle.capacity_cmd.specs.declared.input.BaseSoFar.{BaseSoFar}
-use Rattle.capacity_cmd.specs.declared.input.InputSoFar.{InputSoFar}
 use Rattle.capacity_cmd.specs.Input.{Spelling, with_line, Content, accepted_of, refused, spelling_from, tables_from, content_in}
 
 -- what an input gives to a command, or its refusal

@@ -9,14 +9,13 @@ use Rattle.plan_model.specs.Session.{IsSession}
 use Rattle.plan_book.specs.declared.book.TheConstants.{PLANNERS}
 use Rattle.made_line.specs.Base.{base_edits, scripts_of_made, base_tables}
 use Rattle.made_line.specs.Text.{made_text}
-use Rattle.capacity_cmd.specs.declared.command.Command.{Command}
+use Rattle.capacity_cmd.specs.Types.{Command}
 use Rattle.capacity_cmd.specs.Input.{content_of_input}
 use Rattle.capacity_cmd.specs.Outcome.{Outcome}
 use Rattle.capacity_cmd.specs.OneOutcome.{IsLeftOpen}
-use Rattle.capacity_cmd.specs.Ends.{EndsOn, IsJournalText}
+use Rattle.capacity_cmd.specs.Ends.{EndsOn, IsJournalText, IsMadeText}
 use Rattle.capacity_cmd.specs.Promise.{IsEnd}
 use Rattle.capacity_cmd.specs.Published.{IsAnsweredLast, ReportsLast}
-use Rattle.capacity_cmd.specs.Made.{IsMadeText}
 use Rattle.capacity_cmd.specs.MadeOne.{IsOneText}
 
 -- the words and the input of a call leave one outcome: two outcomes of a command on one input are equal, but for what the

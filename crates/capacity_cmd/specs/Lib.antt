@@ -1,9 +1,9 @@
+pub mod Types
 pub mod Command
 pub mod Input
 pub mod Outcome
 pub mod Heads
 pub mod Published
-pub mod Made
 pub mod Counted
 pub mod MadeOne
 pub mod Ends

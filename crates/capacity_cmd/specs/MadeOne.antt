@@ -6,7 +6,7 @@ use Rattle.capacity_report.specs.Answers.{AreAnswers}
 use Rattle.made_line.specs.declared.counts.TheConstants.{SCRIPT_EDITS}
 use Rattle.made_line.specs.Base.{base_tables}
 use Rattle.made_line.specs.Later.{later_tables}
-use Rattle.capacity_cmd.specs.Made.{rows_of_answers, made_rows, IsMadeText}
+use Rattle.capacity_cmd.specs.Ends.{rows_of_answers, made_rows, IsMadeText}
 
 -- the text tells what is counted of the base, that all edits of the scripts were made, and what is counted of the tables
 -- that these edits leave

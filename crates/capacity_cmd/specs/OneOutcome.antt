@@ -5,7 +5,7 @@ use Rattle.plan_model.specs.declared.cut.Cut.{Cut}
 use Rattle.cycle_time.specs.declared.found.Cycle.{Cycle}
 use Rattle.cycle_time.specs.Cycle.{cycle_rows}
 use Rattle.cycle_time.specs.Laws.{AreAlike}
-use Rattle.capacity_cmd.specs.declared.command.Command.{Command}
+use Rattle.capacity_cmd.specs.Types.{Command}
 use Rattle.capacity_cmd.specs.declared.command.Command.TheVariants as command
 use Rattle.capacity_cmd.specs.Outcome.{Outcome, Writes}
 

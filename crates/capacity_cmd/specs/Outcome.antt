@@ -3,10 +3,9 @@ use Rattle.std.specs.Prelude.{◌≡◌, ℕ, List, [], ◌∷◌, codes, decima
 use Rattle.rail_model.specs.declared.form.Form.{Form}
 use Rattle.rail_model.specs.declared.form.Form.TheVariants as form
 use Rattle.row_text.specs.SheetRows.{text_of_row}
-use Rattle.capacity_report.specs.Journal.{rule_text}
-use Rattle.capacity_cmd.specs.declared.status.Status.{Status}
+use Rattle.capacity_report.specs.Rows.{rule_text}
+use Rattle.capacity_cmd.specs.Types.{Status, Cause}
 use Rattle.capacity_cmd.specs.declared.status.Status.TheVariants as status
-use Rattle.capacity_cmd.specs.declared.status.Cause.{Cause}
 use Rattle.capacity_cmd.specs.declared.status.Cause.TheVariants as cause
 
 -- a text to write, or the refusal of a row for a cause

@@ -1,15 +1,12 @@
 -- What a call of the program promises: by its words and its status, and by its source and its sink.
 use Rattle.std.specs.Prelude.{◌≡◌, ◌≢◌, ◌⊎◌, ℕ, ◌+◌, ◌≤◌, List, length, MatchOption}
 use Rattle.rail_outside.specs.InCall.{SourceInCall, SinkInCall, IsUnread, Gave, IsReadToEnd, ReadFailed, NoReadFailed, ShowsNoReadFailed, IsUnwritten, IsWritten, IsBrokenOff, WriteFailed, NoWriteFailed, ShowsNoWriteFailed}
-use Rattle.capacity_cmd.specs.declared.command.Command.{Command}
+use Rattle.capacity_cmd.specs.Types.{Command, Cause, Status}
 use Rattle.capacity_cmd.specs.declared.limit.TheConstants.{INPUT_BYTES}
-use Rattle.capacity_cmd.specs.declared.status.Cause.{Cause}
-use Rattle.capacity_cmd.specs.declared.status.Status.{Status}
 use Rattle.capacity_cmd.specs.declared.status.Status.TheVariants.{Done, Refused, BadWords, ReadFault, WriteFault, OutOfMemory}
 use Rattle.capacity_cmd.specs.Command.{command_of, made_of}
 use Rattle.capacity_cmd.specs.Outcome.{Outcome, Writes, Refuses, EndsInText, outcome_text, outcome_status}
-use Rattle.capacity_cmd.specs.Made.{IsMadeText}
-use Rattle.capacity_cmd.specs.Ends.{EndsOn}
+use Rattle.capacity_cmd.specs.Ends.{IsMadeText, EndsOn}
 
 module _ {S K : Type 0} (status : Status) (source : SourceInCall S) (sink : SinkInCall K) where
   -- `BadWords`: nothing is read, and nothing is written

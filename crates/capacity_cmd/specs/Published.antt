@@ -5,11 +5,11 @@ use Rattle.rail_model.specs.declared.tables.Tables.{Tables}
 use Rattle.rail_model.specs.Tables.{section_at}
 use Rattle.plan_model.specs.declared.answer.Answer.{Answer}
 use Rattle.plan_model.specs.declared.journal.Entry.{Entry}
-use Rattle.plan_model.specs.SectionCut.{section_cut}
+use Rattle.plan_model.specs.Cut.{section_cut}
 use Rattle.plan_model.specs.Answer.{IsAnswer}
 use Rattle.plan_model.specs.Journal.{Publication, last_publication, tables_of}
 use Rattle.row_text.specs.SheetRows.{text_of_rows}
-use Rattle.capacity_report.specs.Journal.{rows_of_journal}
+use Rattle.capacity_report.specs.Rows.{rows_of_journal}
 use Rattle.capacity_report.specs.Answers.{report_rows, IsAnswerOfSome}
 
 -- the answer of a section that was published last, if one was

@@ -2,10 +2,9 @@
 use Rattle.std.specs.Prelude.{◌≡◌, ℕ, ◌+◌, ◌<◌, ◌≤◌, List, [], length, slice_index_or, Result, Ok, Err}
 use Rattle.rail_model.specs.declared.form.Form.{Form}
 use Rattle.row_text.specs.declared.line.Line.{Line}
-use Rattle.row_text.specs.Row.{Row}
+use Rattle.row_text.specs.SheetRows.{Row}
 use Rattle.row_text.specs.Lines.{read_in}
-use Rattle.capacity_cmd.specs.declared.refusal.Refusal.{Refusal}
-use Rattle.capacity_cmd.specs.declared.input.InputSoFar.{InputSoFar}
+use Rattle.capacity_cmd.specs.Types.{Refusal, InputSoFar}
 use Rattle.capacity_cmd.specs.Input.{content_in}
 use Rattle.capacity_cmd.specs.InputSoFar.{HasTaken}
 

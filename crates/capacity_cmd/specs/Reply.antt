@@ -1,8 +1,7 @@
 -- A reply: a text to write, and the status to end with once it is written.
 use Rattle.std.specs.Prelude.{◌≡◌, ◌⊎◌}
 use Rattle.rail_outside.specs.InCall.{SinkInCall, IsWritten, IsBrokenOff, WriteFailed, NoWriteFailed}
-use Rattle.capacity_cmd.specs.declared.reply.Reply.{Reply}
-use Rattle.capacity_cmd.specs.declared.status.Status.{Status}
+use Rattle.capacity_cmd.specs.Types.{Reply, Status}
 use Rattle.capacity_cmd.specs.declared.status.Status.TheVariants.{WriteFault}
 use Rattle.capacity_cmd.specs.Outcome.{Outcome, outcome_text, outcome_status}
 

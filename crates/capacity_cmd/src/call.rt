@@ -8,7 +8,7 @@ ghost use Rattle.capacity_cmd.specs.declared.limit.TheConstants.{INPUT_BYTES};
 ghost use Rattle.capacity_cmd.specs.declared.status.Status.TheVariants as status;
 ghost use Rattle.capacity_cmd.specs.Command.{command_of, made_of, workers_of, workers_asked, IsAlone};
 ghost use Rattle.capacity_cmd.specs.Outcome.{EndsInText};
-ghost use Rattle.capacity_cmd.specs.Made.{IsMadeText};
+ghost use Rattle.capacity_cmd.specs.Ends.{IsMadeText};
 ghost use Rattle.capacity_cmd.specs.Reply.{IsReply};
 ghost use Rattle.capacity_cmd.specs.Given.{GivesOrRefuses};
 ghost use Rattle.capacity_cmd.specs.Promise.{IsEnd, WritesOutcome, RunsCommand, Answers};

@@ -2,7 +2,7 @@
 //! other.
 ghost use Rattle.std.specs.Prelude.{◌≡◌, ◌<◌, [], length, IfOk, OnOk};
 ghost use Rattle.rail_model.specs.Tables.{section_at};
-ghost use Rattle.rail_model.specs.Timetable.{timetable};
+ghost use Rattle.rail_model.specs.Conflict.{timetable};
 ghost use Rattle.capacity_report.specs.Answers.{total_of};
 ghost use Rattle.capacity_cmd.specs.Heads.{HasHeads, IsHead, AreHeads};
 

@@ -1,7 +1,7 @@
 //! From the rows of an input to tables and scripts, or to the row at which it is refused.
 ghost use Rattle.std.specs.Prelude.{◌≡◌, ◌+◌, ◌-◌, ◌≤◌, ◌<◌, ◌^◌, length, sum_by, slice_index_or, [], IfOk, OnOk, Ok, Some};
 ghost use Rattle.plan_book.specs.declared.book.TheConstants.{TASKS};
-ghost use Rattle.rail_model.specs.Edits.{no_tables};
+ghost use Rattle.rail_model.specs.Rules.{no_tables};
 ghost use Rattle.row_text.specs.Lines.{read_in};
 ghost use Rattle.capacity_cmd.specs.Input.{content_of_rows, content_in};
 ghost use Rattle.capacity_cmd.specs.InputSoFar.{accepted_in, tables_so_far, accepted_so_far};

@@ -1,15 +1,15 @@
 //! The line that is made from a number, and what is counted of it.
 ghost use Rattle.std.specs.Prelude.{◌≡◌, ◌++◌, ◌<◌, [], length, IfOk, OnOk, decimal, string_bytes};
 ghost use Rattle.rail_model.specs.Tables.{section_at};
-ghost use Rattle.rail_model.specs.Timetable.{timetable};
+ghost use Rattle.rail_model.specs.Conflict.{timetable};
 ghost use Rattle.plan_model.specs.Journal.{opening, edits, tables_of};
 ghost use Rattle.plan_model.specs.Session.{IsSession, AllAreCurrent};
 ghost use Rattle.row_text.specs.SheetRows.{text_of_rows, with_row};
 ghost use Rattle.capacity_report.specs.Answers.{IsAnswerOfSome};
 ghost use Rattle.made_line.specs.declared.counts.TheConstants.{BASE_EDITS, WORKERS};
 ghost use Rattle.made_line.specs.Base.{scripts_of_made, base_tables};
-ghost use Rattle.capacity_cmd.specs.Made as made;
-ghost use Rattle.capacity_cmd.specs.Made.{IsMadeText};
+ghost use Rattle.capacity_cmd.specs.Ends as made;
+ghost use Rattle.capacity_cmd.specs.Ends.{IsMadeText};
 ghost use Rattle.capacity_cmd.specs.Counted as counted;
 ghost use Rattle.capacity_cmd.specs.Counted.{counted_rows, AreCounted, CountsSection};
 

@@ -3,7 +3,7 @@ ghost use Rattle.std.specs.Prelude.{◌≡◌, ◌<◌, length, position, IfOk, 
 ghost use Rattle.rail_model.specs.Name.{is_same, NamesRise};
 ghost use Rattle.plan_model.specs.Members.{member_count};
 ghost use Rattle.plan_model.specs.Cut.{IsSoundCut};
-ghost use Rattle.plan_model.specs.SectionCut as section_cut;
+ghost use Rattle.plan_model.specs.Cut as section_cut;
 ghost use Rattle.capacity_cmd.specs.Ends.{cut_named, row_named};
 
 use crate::Cause;

@@ -1,6 +1,6 @@
 //! The answers that a journal has published last, one of each section.
 ghost use Rattle.std.specs.Prelude.{◌≡◌, length, map, IfOk, option_copied};
-ghost use Rattle.rail_model.specs.Sound.{IsSound};
+ghost use Rattle.rail_model.specs.Rules.{IsSound};
 ghost use Rattle.plan_model.specs.Journal.{tables_of};
 ghost use Rattle.plan_model.specs.Session.{AllAreCurrent};
 ghost use Rattle.capacity_cmd.specs.Published.{last_answers, NotesEntry, HaveAnswers};

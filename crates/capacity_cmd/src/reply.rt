@@ -5,10 +5,9 @@ ghost use Rattle.capacity_cmd.specs.declared.command.Command.TheVariants as comm
 ghost use Rattle.capacity_cmd.specs.declared.status.Cause.TheVariants as causes;
 ghost use Rattle.capacity_cmd.specs.Command.{workers_of};
 ghost use Rattle.capacity_cmd.specs.Outcome.{Refuses, EndsInText, cause_text};
-ghost use Rattle.capacity_cmd.specs.Made.{IsMadeText};
+ghost use Rattle.capacity_cmd.specs.Ends.{IsMadeText, EndsOnAccepted, EndsOn};
 ghost use Rattle.capacity_cmd.specs.Outcome as outcome;
 ghost use Rattle.capacity_cmd.specs.InputSoFar.{IsWithin};
-ghost use Rattle.capacity_cmd.specs.Ends.{EndsOnAccepted, EndsOn};
 ghost use Rattle.plan_book.specs.declared.book.TheConstants.{PLANNERS};
 ghost use Rattle.capacity_cmd.specs.Reply.{Says, IsReply};
 ghost use Rattle.capacity_cmd.specs.Given.{GivesOrRefuses};

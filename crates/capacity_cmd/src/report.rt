@@ -1,8 +1,8 @@
 //! The command `report`.
 ghost use Rattle.std.specs.Prelude.{◌≡◌, ◌<◌, [], length, map, option_copied, IfOk, OnOk};
 ghost use Rattle.rail_model.specs.Tables.{section_at};
-ghost use Rattle.rail_model.specs.Timetable.{timetable};
-ghost use Rattle.plan_model.specs.SectionCut.{section_cut};
+ghost use Rattle.rail_model.specs.Conflict.{timetable};
+ghost use Rattle.plan_model.specs.Cut.{section_cut};
 ghost use Rattle.plan_model.specs.Answer.{IsAnswer};
 ghost use Rattle.capacity_report.specs.Answers.{total_of, IsAnswerOfSome};
 ghost use Rattle.capacity_cmd.specs.Ends.{IsReportText};

@@ -1,6 +1,6 @@
 //! The scripts that rows spell, one after the other.
 ghost use Rattle.std.specs.Prelude.{◌≡◌, ◌≤◌, ◌↔◌, ◌∷◌, ◌++◌, [], length, sum_by, IsTrue, IfOk};
-ghost use Rattle.plan_model.specs.Scripts.{with_task};
+ghost use Rattle.plan_model.specs.Journal.{with_task};
 ghost use Rattle.plan_book.specs.declared.book.TheConstants.{TASKS};
 ghost use Rattle.capacity_cmd.specs.Input.{takes_planner, takes_task};
 ghost use Rattle.capacity_cmd.specs.InputSoFar.{TakesIf};

@@ -6,13 +6,13 @@ use Rattle.std.proofs.lemmas.List.{length-map, get_or-map, get_or-take, length-t
 use Rattle.std.proofs.lemmas.List.Elements.{Contains-get_or}
 use Rattle.rail_model.specs.declared.tables.Tables.{Tables}
 use Rattle.rail_model.specs.Conflict as whole
-use Rattle.rail_model.specs.Sound.{IsSound}
+use Rattle.rail_model.specs.Rules.{IsSound}
 use Rattle.rail_model.proofs.Timetables.{conflict_there}
 use Rattle.conflict_finder.specs.declared.found.Conflict.{Conflict}
 use Rattle.conflict_finder.specs.declared.found.Conflicts.{Conflicts}
 use Rattle.conflict_finder.specs.declared.found.TheConstants.{LISTED}
 use Rattle.conflict_finder.specs.Found.{as_listed, IsFound}
-use Rattle.rail_model.specs.Timetable.{timetable}
+use Rattle.rail_model.specs.Conflict.{timetable}
 use Rattle.capacity_report.specs.Rows.{conflict_row, found_rows, check_rows}
 
 pub listed_there : (tables : Tables) → IsSound tables → (found : Conflicts) → IsFound (timetable tables) found → (i : ℕ) (d : Conflict) → i < length found.list → (get_or found.list i d).block < length tables.blocks

@@ -12,7 +12,7 @@ use Rattle.plan_model.specs.declared.answer.Answer.{Answer}
 use Rattle.plan_model.specs.declared.answer.Answer.TheVariants as answer
 use Rattle.plan_model.specs.Answer.{plan_of}
 use Rattle.plan_model.specs.Disorder.{Opposite, opposite, ring}
-use Rattle.row_text.specs.Row.{Row}
+use Rattle.row_text.specs.SheetRows.{Row}
 use Rattle.capacity_report.specs.declared.answers.Detail.{Detail}
 use Rattle.capacity_report.specs.declared.answers.Detail.TheVariants as detail
 use Rattle.capacity_report.specs.Answers.{answer_rows, rate_row, report_rows, total_of, total_row}

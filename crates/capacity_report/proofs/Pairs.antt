@@ -9,7 +9,7 @@ use Rattle.plan_model.specs.declared.cut.CutRow.{CutRow}
 use Rattle.plan_model.specs.Members.{member, members, member_count, no_member}
 use Rattle.headway_table.specs.Table.{between}
 use Rattle.critical_chain.proofs.Walk.{read}
-use Rattle.row_text.specs.Row.{Row}
+use Rattle.row_text.specs.SheetRows.{Row}
 use Rattle.capacity_report.specs.Rows.{headway_row, rows_from}
 use Rattle.capacity_report.specs.Pairs.{name_of, names_of, head_of, rows_to, pair_rows}
 

@@ -7,8 +7,7 @@ use Rattle.std.proofs.lemmas.List.{length-map, get_or-map}
 use Rattle.std.proofs.lemmas.List.Concat.{flat_map-append}
 use Rattle.std.proofs.lemmas.Nat.{div-add-mod', div_below, div-mul-add, le-div, mul-le}
 use Rattle.rayon.specs.Shown.{run-append}
-use Rattle.row_text.specs.Row.{Row}
-use Rattle.row_text.specs.SheetRows.{text_of_row, text_of_rows}
+use Rattle.row_text.specs.SheetRows.{Row, text_of_row, text_of_rows}
 use Rattle.capacity_report.specs.Parts.{start_of, text_between, GivesTexts}
 
 -- the rows of the items from a to b, and then to c, are those from a to c

@@ -11,13 +11,10 @@ use Rattle.plan_model.specs.declared.answer.Tie.{Tie}
 use Rattle.plan_model.specs.declared.answer.Tie.TheVariants.{Start, After}
 use Rattle.plan_model.specs.declared.answer.Plan.{Plan}
 use Rattle.plan_model.specs.declared.answer.Answer.TheVariants as answer
-use Rattle.plan_model.specs.Places.{place_name, place_count, block_count, blocks}
-use Rattle.plan_model.specs.Members.{member, member_count, members, no_member, uses_place}
+use Rattle.plan_model.specs.Members.{place_name, place_count, block_count, blocks, member, member_count, members, no_member, uses_place}
 use Rattle.plan_model.specs.Cut.{IsSoundCut}
-use Rattle.plan_model.specs.Schedule.{IsSchedule, end_by}
-use Rattle.plan_model.specs.Occupancy.{occupancy, busiest, critical, time_kept, used_blocks, users, last_member, last_end}
-use Rattle.plan_model.specs.Tie.{tie_of}
-use Rattle.plan_model.specs.Answer.{placed_at, plan_of}
+use Rattle.plan_model.specs.Schedule.{IsSchedule, end_by, tie_of}
+use Rattle.plan_model.specs.Answer.{occupancy, busiest, critical, time_kept, used_blocks, users, last_member, last_end, placed_at, plan_of}
 use Rattle.plan_model.proofs.MemberTests.{filter-has, in_range}
 use Rattle.critical_chain.specs.Chain.{IsPlan}
 use Rattle.critical_chain.proofs.Ties.{bound, found}

@@ -6,18 +6,16 @@ use Rattle.rail_model.specs.declared.items.Section.{Section}
 use Rattle.rail_model.specs.declared.items.Item.TheVariants as item
 use Rattle.rail_model.specs.declared.tables.Tables.{Tables}
 use Rattle.rail_model.specs.Name.{is_same}
-use Rattle.rail_model.specs.Sound.{Stands, IsSound}
+use Rattle.rail_model.specs.Rules.{Stands, IsSound}
 use Rattle.line_tables.proofs.Found.{find_some}
 use Rattle.plan_model.specs.declared.cut.Cut.{Cut}
 use Rattle.plan_model.specs.declared.answer.Answer.{Answer}
 use Rattle.plan_model.specs.declared.journal.Act.{Act}
 use Rattle.plan_model.specs.declared.journal.Act.TheVariants as act
 use Rattle.plan_model.specs.declared.journal.Entry.{Entry}
-use Rattle.plan_model.specs.Cut.{IsSoundCut}
-use Rattle.plan_model.specs.SectionCut.{section_cut, cut_of}
+use Rattle.plan_model.specs.Cut.{IsSoundCut, section_cut, cut_of}
 use Rattle.plan_model.specs.Journal.{tables_at}
-use Rattle.plan_model.specs.Touch.{cut_at}
-use Rattle.plan_model.specs.Legal.{IsAnswerAt, MayFollow, AllFollow, Opens, IsLegal}
+use Rattle.plan_model.specs.Legal.{cut_at, IsAnswerAt, MayFollow, AllFollow, Opens, IsLegal}
 use Rattle.plan_model.proofs.Legality.{tables_are_sound, next_is_legal}
 use Rattle.section_cut.proofs.SoundCut.{sound_cut}
 use Rattle.capacity_report.specs.Answers.{IsAnswerOfSome}

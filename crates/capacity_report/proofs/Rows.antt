@@ -13,13 +13,12 @@ use Rattle.rail_model.specs.declared.path.Path.{Path}
 use Rattle.rail_model.specs.declared.tables.Tables.{Tables}
 use Rattle.rail_model.specs.declared.items.Block.{Block}
 use Rattle.rail_model.specs.declared.items.Run.{Run}
-use Rattle.rail_model.specs.Path.{hop, hop_count, no_hop}
+use Rattle.rail_model.specs.Blocking.{hop, hop_count, no_hop}
 use Rattle.rail_model.specs.Tables.{no_block, path_in}
 use Rattle.line_tables.specs.Paths.{no_path, paths_of, path_at}
 use Rattle.line_tables.proofs.PathsOf.{paths_count}
 use Rattle.std.proofs.Math.ListN.{get_or-map as get_or-map-any}
-use Rattle.row_text.specs.Row.{Row}
-use Rattle.row_text.specs.SheetRows.{SheetRows}
+use Rattle.row_text.specs.SheetRows.{Row, SheetRows}
 use Rattle.row_text.specs.Adds.{AddsFirst, Adds}
 use Rattle.capacity_report.specs.Rows.{hop_row, run_rows, stairs_rows}
 use Rattle.capacity_report.specs.Blockings.{blocking_row, named_row, rows_by_names, rows_at, names_of}

@@ -6,16 +6,14 @@ use Rattle.std.proofs.lemmas.List.FromFn.{length-map-range_with_len}
 use Rattle.rail_model.specs.declared.path.Path.{Path}
 use Rattle.rail_model.specs.declared.stair.Use.{Use}
 use Rattle.rail_model.specs.declared.tables.Tables.{Tables}
-use Rattle.rail_model.specs.Path.{hop_count, Fits}
-use Rattle.rail_model.specs.Blocking.{use_of, stairway, stair_of}
+use Rattle.rail_model.specs.Blocking.{hop_count, Fits, use_of, stairway, stair_of}
 use Rattle.rail_model.specs.Tables.{no_run, run_at, path_in}
-use Rattle.rail_model.specs.Sound.{IsSound}
+use Rattle.rail_model.specs.Rules.{IsSound}
 use Rattle.rail_model.proofs.NameOrder.{is_same-before, is_same-from}
 use Rattle.rail_model.proofs.Paths.{path_at_fits}
 use Rattle.rail_model.proofs.Lists.{All-from_one}
 use Rattle.blocking_time.proofs.Uses.{not_empty, blocks_differ}
-use Rattle.rail_model.specs.Timetable.{IsStairway, IsTimetable}
-use Rattle.rail_model.specs.Timetable.{timetable}
+use Rattle.rail_model.specs.Conflict.{IsStairway, IsTimetable, timetable}
 use Rattle.rail_model.proofs.Timetables.{stair_at, stairs_count}
 
 stairway_fits : (path : Path) → Fits path → IsStairway (stair_of path)

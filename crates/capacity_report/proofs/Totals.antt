@@ -4,7 +4,7 @@ use Rattle.std.specs.Prelude.{Bool, cond, not, count_by}
 use Rattle.std.proofs.lemmas.List.Sums.{sum_by-cons}
 use Rattle.plan_model.specs.declared.answer.Answer.{Answer}
 use Rattle.plan_model.specs.declared.answer.Answer.TheVariants as answer
-use Rattle.plan_model.specs.Rates.{is_within}
+use Rattle.plan_model.specs.Answer.{is_within}
 use Rattle.capacity_report.specs.Answers.{consumption_of, is_ordered, is_within_capacity, is_over_capacity, is_disordered, is_crowded}
 use Rattle.capacity_report.specs.Laws.{TotalAddsUp}
 

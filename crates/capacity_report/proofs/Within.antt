@@ -2,7 +2,7 @@
 use Rattle.std.proofs.Common.{◌≡◌, ℕ, ◌*◌, ◌<◌, ◌≤◌, nat_le, sym, arith}
 use Rattle.std.proofs.Math.Nat.{le_of_mul-le-mul_left, mul-le-mul_left}
 use Rattle.std.proofs.lemmas.Bool.Decides.{nat_tests}
-use Rattle.plan_model.specs.Rates.{Fraction, IsReduced, reduced, is_within}
+use Rattle.plan_model.specs.Answer.{Fraction, IsReduced, reduced, is_within}
 use Rattle.plan_model.proofs.Reduced.{fraction_is_reduced}
 
 up : (a b n d : ℕ) → 0 < b → n * b ≡ a * d → a ≤ b → n ≤ d

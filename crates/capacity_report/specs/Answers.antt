@@ -4,23 +4,21 @@ use Rattle.std.specs.Fmt.{signed_decimal}
 use Rattle.std.specs.List.{flat_map, AllZip}
 use Rattle.rail_model.specs.declared.items.Section.{Section}
 use Rattle.rail_model.specs.declared.tables.Tables.{Tables}
-use Rattle.row_text.specs.Row.{Row}
+use Rattle.row_text.specs.SheetRows.{Row}
 use Rattle.plan_model.specs.declared.answer.Answer.{Answer}
 use Rattle.plan_model.specs.declared.answer.Answer.TheVariants as answer
 use Rattle.plan_model.specs.declared.answer.Placed.{Placed}
 use Rattle.plan_model.specs.declared.answer.Plan.{Plan}
 use Rattle.plan_model.specs.declared.answer.Tie.{Tie}
 use Rattle.plan_model.specs.declared.answer.Tie.TheVariants as tie
-use Rattle.plan_model.specs.Rates.{Fraction, rate, consumption, is_within}
+use Rattle.plan_model.specs.Answer.{Fraction, rate, consumption, is_within, IsAnswer}
 use Rattle.plan_model.specs.declared.cut.Cut.{Cut}
-use Rattle.plan_model.specs.Cut.{IsSoundCut}
-use Rattle.plan_model.specs.Answer.{IsAnswer}
-use Rattle.plan_model.specs.SectionCut.{section_cut}
+use Rattle.plan_model.specs.Cut.{IsSoundCut, section_cut}
 use Rattle.critical_chain.specs.Chain.{train_at, chain_of}
 use Rattle.answer_parts.specs.Rows.{start_fields, after_fields, link_row}
 use Rattle.answer_parts.specs.Rows as rates
 pub use Rattle.answer_parts.specs.Rows.{opposite_row, ring_rows, crowded_row}
-use Rattle.capacity_report.specs.declared.answers.Detail.{Detail}
+use Rattle.capacity_report.specs.Types.{Detail}
 use Rattle.capacity_report.specs.declared.answers.Detail.TheVariants as detail
 
 -- a plan's occupancy time rate and its capacity consumption, by the length of its window

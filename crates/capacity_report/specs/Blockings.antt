@@ -6,9 +6,9 @@ use Rattle.blocking_time.specs.declared.walk.Blocking.{Blocking}
 use Rattle.blocking_time.specs.Blocking.{blocking_of}
 use Rattle.rail_model.specs.declared.path.Path.{Path}
 use Rattle.rail_model.specs.declared.tables.Tables.{Tables}
-use Rattle.rail_model.specs.Path.{hop_count}
+use Rattle.rail_model.specs.Blocking.{hop_count}
 use Rattle.line_tables.specs.Paths.{path_at}
-use Rattle.row_text.specs.Row.{Row}
+use Rattle.row_text.specs.SheetRows.{Row}
 
 -- the row of a blocking: its head, its block, its use and its six parts
 abbrev pub blocking_row : Row → Row → Blocking → Row

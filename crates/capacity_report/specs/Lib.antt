@@ -1,8 +1,8 @@
+pub mod Types
 pub mod Blockings
 pub mod Parts
 pub mod Answers
 pub mod Pairs
-pub mod Journal
 pub mod Published
 pub mod Shown
 pub mod Laws

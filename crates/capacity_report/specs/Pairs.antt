@@ -5,7 +5,7 @@ use Rattle.plan_model.specs.declared.cut.CutRow.{CutRow}
 use Rattle.plan_model.specs.declared.cut.Cut.{Cut}
 use Rattle.plan_model.specs.Members.{member}
 use Rattle.headway_table.specs.Table.{between}
-use Rattle.row_text.specs.Row.{Row}
+use Rattle.row_text.specs.SheetRows.{Row}
 
 -- the name of a member, as the field of a row, and those of all in the order of the rows
 abbrev pub name_of : CutRow → Row

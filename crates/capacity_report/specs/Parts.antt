@@ -2,8 +2,7 @@
 use Rattle.std.specs.Prelude.{◌≡◌, ℕ, ◌-◌, ◌*◌, ◌/◌, ◌≤◌, List, Result, IfOk}
 use Rattle.std.specs.List.{flat_map, range_with_len}
 use Rattle.std.specs.declared.vec.Vec.{Vec}
-use Rattle.row_text.specs.Row.{Row}
-use Rattle.row_text.specs.SheetRows.{text_of_rows}
+use Rattle.row_text.specs.SheetRows.{Row, text_of_rows}
 
 -- the number of a part's first item, where so many items are in so many parts
 abbrev pub start_of : ℕ → ℕ → ℕ → ℕ

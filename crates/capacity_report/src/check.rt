@@ -1,10 +1,9 @@
 //! The rows of `check`.
 ghost use Rattle.std.specs.Prelude.{◌≡◌, ◌<◌, ◌++◌, ◌∷◌, [], List, length, map, All, OnOk, OnErr};
-ghost use Rattle.rail_model.specs.Conflict.{Conflict as Whole, AreConflicts};
+ghost use Rattle.rail_model.specs.Conflict.{Conflict as Whole, AreConflicts, timetable};
 ghost use Rattle.conflict_finder.specs.Found.{IsFound};
 ghost use Rattle.row_text.specs.SheetRows.{with_row};
 ghost use Rattle.row_text.specs.Adds.{Adds, AddsFirst};
-ghost use Rattle.rail_model.specs.Timetable.{timetable};
 ghost use Rattle.capacity_report.specs.Rows as rows;
 
 use conflict_finder::{Conflict, Conflicts};

@@ -4,8 +4,8 @@ ghost use Rattle.std.specs.Prelude.{OnOk, OnErr};
 ghost use Rattle.plan_model.specs.Legal.{IsLegal};
 ghost use Rattle.row_text.specs.SheetRows.{with_row, with_fields};
 ghost use Rattle.row_text.specs.Adds.{Adds, AddsFirst};
-ghost use Rattle.row_text.specs.Spelling.{edit_row};
-ghost use Rattle.capacity_report.specs.Journal as rows;
+ghost use Rattle.row_text.specs.Lines.{edit_row};
+ghost use Rattle.capacity_report.specs.Rows as rows;
 ghost use Rattle.capacity_report.specs.Published.{PublishesAnswer};
 ghost use Rattle.capacity_report.specs.Answers.{IsAnswerOfSome};
 

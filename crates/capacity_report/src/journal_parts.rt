@@ -3,7 +3,7 @@ ghost use Rattle.std.specs.Prelude.{◌≡◌, ◌<◌, ◌≤◌, length, All, 
 ghost use Rattle.std.specs.List.{slice_range};
 ghost use Rattle.plan_model.specs.Legal.{IsLegal};
 ghost use Rattle.row_text.specs.SheetRows.{text_of_rows};
-ghost use Rattle.capacity_report.specs.Journal as rows;
+ghost use Rattle.capacity_report.specs.Rows as rows;
 ghost use Rattle.capacity_report.specs.Published.{PublishesAnswer};
 
 use crate::journal::rows_of_entries;

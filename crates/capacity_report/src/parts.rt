@@ -1,8 +1,7 @@
 //! Texts that are made in parts, by as many threads as there are processors.
 ghost use Rattle.std.specs.Prelude.{◌≡◌, ℕ, ◌+◌, ◌<◌, ◌≤◌, List, IfOk, map, Ok};
 ghost use Rattle.std.specs.List.{flat_map, range_with_len};
-ghost use Rattle.row_text.specs.Row.{Row};
-ghost use Rattle.row_text.specs.SheetRows.{text_of_rows};
+ghost use Rattle.row_text.specs.SheetRows.{Row, text_of_rows};
 ghost use Rattle.capacity_report.specs.Parts.{start_of, AcceptsParts, GivesTexts};
 
 use rail_model::OutOfMemory;

@@ -1,7 +1,7 @@
 //! The rates of a compressed timetable.
 ghost use Rattle.std.specs.Prelude.{◌≡◌, ◌<◌, ◌^◌, OnOk, OnErr};
 ghost use Rattle.row_text.specs.SheetRows.{with_row};
-ghost use Rattle.plan_model.specs.Rates as rates;
+ghost use Rattle.plan_model.specs.Answer as rates;
 ghost use Rattle.capacity_report.specs.Answers as rows;
 
 use occupancy_rate::{Fraction, consumption};

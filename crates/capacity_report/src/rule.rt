@@ -1,6 +1,6 @@
 //! The text of a rule.
 ghost use Rattle.std.specs.Prelude.{◌≡◌};
-ghost use Rattle.capacity_report.specs.Journal.{rule_text};
+ghost use Rattle.capacity_report.specs.Rows.{rule_text};
 
 use rail_model::Rule;
 

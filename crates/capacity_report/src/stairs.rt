@@ -2,7 +2,7 @@
 ghost use Rattle.std.specs.Prelude.{◌≡◌, ◌<◌, ◌≤◌, ◌∷◌, [], length, map, All, codes};
 ghost use Rattle.std.specs.Prelude.{OnOk, OnErr, IfOk};
 ghost use Rattle.std.specs.List.{flat_map, range_with_len};
-ghost use Rattle.rail_model.specs.Path.{Fits};
+ghost use Rattle.rail_model.specs.Blocking.{Fits};
 ghost use Rattle.row_text.specs.SheetRows.{with_row, text_of_rows};
 ghost use Rattle.row_text.specs.Adds.{Adds};
 ghost use Rattle.capacity_report.specs.Rows as rows;

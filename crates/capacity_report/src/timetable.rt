@@ -1,7 +1,6 @@
 //! The timetable of a line, whose conflicts are looked for.
 ghost use Rattle.std.specs.Prelude.{◌≡◌, IfOk};
-ghost use Rattle.rail_model.specs.Timetable.{IsTimetable};
-ghost use Rattle.rail_model.specs.Timetable.{timetable};
+ghost use Rattle.rail_model.specs.Conflict.{IsTimetable, timetable};
 
 use line_tables::LineTables;
 use rail_model::{List, OutOfMemory, Stair};

@@ -9,9 +9,7 @@ use Rattle.plan_model.specs.declared.answer.Plan.{Plan}
 use Rattle.plan_model.specs.Members.{member_count, members}
 use Rattle.plan_model.specs.Cut.{IsSoundCut}
 use Rattle.plan_model.specs.Schedule.{entry_at}
-use Rattle.plan_model.specs.Occupancy.{occupancy}
-use Rattle.plan_model.specs.Closing.{IsClosingEntry}
-use Rattle.plan_model.specs.Answer.{placed_at, entries_of, IsCompressed}
+use Rattle.plan_model.specs.Answer.{occupancy, IsClosingEntry, placed_at, entries_of, IsCompressed}
 use Rattle.plan_model.proofs.Planned.{none_is_later}
 use Rattle.plan_model.proofs.Closing.{occupancy_is_to_closing}
 use Rattle.plan_model.proofs.Reaching.{occupancy_reaches_closing}

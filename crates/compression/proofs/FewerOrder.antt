@@ -5,8 +5,7 @@ use Rattle.std.specs.List.{list_any}
 use Rattle.std.proofs.lemmas.Bool.{eq-eqb, or_left}
 use Rattle.std.proofs.lemmas.List.Folds.{Any-from_list_any, list_any_at}
 use Rattle.plan_model.specs.declared.cut.Cut.{Cut}
-use Rattle.plan_model.specs.Members.{member, member_count, members}
-use Rattle.plan_model.specs.Precedence.{precedes_somewhere}
+use Rattle.plan_model.specs.Members.{member, member_count, members, precedes_somewhere}
 use Rattle.plan_model.specs.Disorder.{preceded, after_rounds, remaining}
 use Rattle.plan_model.proofs.MemberTests.{has, in_range, filter-has}
 use Rattle.plan_model.proofs.Preceded.{remain}

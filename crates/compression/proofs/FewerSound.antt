@@ -12,8 +12,7 @@ use Rattle.rail_model.specs.declared.stair.Use.{Use}
 use Rattle.rail_model.specs.Name.{IsBefore}
 use Rattle.plan_model.specs.declared.cut.CutRow.{CutRow}
 use Rattle.plan_model.specs.declared.cut.Cut.{Cut}
-use Rattle.plan_model.specs.Places.{block_count}
-use Rattle.plan_model.specs.Members.{member, no_member, uses_place}
+use Rattle.plan_model.specs.Members.{block_count, member, no_member, uses_place}
 use Rattle.plan_model.specs.Cut.{IsSoundUse, IsSoundRow}
 use Rattle.compression.specs.Laws.{cut_without, SoundWithout}
 

@@ -4,7 +4,7 @@ use Rattle.std.specs.Prelude.{if◌then◌else◌}
 use Rattle.std.specs.List.{list_any}
 use Rattle.std.proofs.lemmas.Bool.{cases_Bool}
 use Rattle.plan_model.specs.declared.cut.Cut.{Cut}
-use Rattle.plan_model.specs.Precedence.{precedes_somewhere}
+use Rattle.plan_model.specs.Members.{precedes_somewhere}
 use Rattle.plan_model.specs.Disorder.{preceded, after_rounds}
 use Rattle.plan_model.proofs.MemberTests.{has, has_any, has-filter}
 

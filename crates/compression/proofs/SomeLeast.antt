@@ -7,10 +7,8 @@ use Rattle.std.proofs.lemmas.Bool.{cases_Bool, cases_eq, and_parts}
 use Rattle.std.proofs.lemmas.Int.{ints, clamps}
 use Rattle.std.proofs.lemmas.List.FromFn.{length-map-range_with_len, get_or-map-range_with_len}
 use Rattle.plan_model.specs.declared.cut.Cut.{Cut}
-use Rattle.plan_model.specs.Places.{place_count, places}
-use Rattle.plan_model.specs.Members.{member, member_count, members, use_at}
+use Rattle.plan_model.specs.Members.{place_count, places, member, member_count, members, use_at, precedes}
 use Rattle.plan_model.specs.Cut.{IsSoundCut}
-use Rattle.plan_model.specs.Precedence.{precedes}
 use Rattle.plan_model.specs.Disorder.{remaining}
 use Rattle.plan_model.specs.Schedule.{entry_at, start_at, end_at, start_by, IsScheduleFrom}
 use Rattle.plan_model.proofs.MemberTests.{has-range, has_any}

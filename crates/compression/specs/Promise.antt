@@ -8,9 +8,8 @@ use Rattle.plan_model.specs.declared.answer.Answer.TheVariants as answer
 use Rattle.plan_model.specs.Members.{member_count}
 use Rattle.plan_model.specs.Schedule.{entry_at}
 use Rattle.plan_model.specs.Planned.{IsFreeOfConflict, KeepsConnections}
-use Rattle.plan_model.specs.Closing.{PrecedesOnAllBlocks, IsClosingEntry}
+use Rattle.plan_model.specs.Answer.{PrecedesOnAllBlocks, IsClosingEntry, entries_of}
 use Rattle.plan_model.specs.Reading.{Shown, after_taking, use_count}
-use Rattle.plan_model.specs.Answer.{entries_of}
 
 -- nothing is taken of a crowded reading, and of another all uses, once; nothing else changes
 pub record IsTaken (before after : Shown) : Type 0 where

@@ -13,11 +13,10 @@ use Rattle.rail_model.specs.declared.stair.Use.{Use}
 use Rattle.rail_model.specs.declared.stair.Stair.{Stair}
 use Rattle.rail_model.specs.Name.{IsBefore}
 use Rattle.rail_model.specs.Conflict as whole
-use Rattle.rail_model.specs.Conflict.{IsConflict, IsListedBefore, AreConflicts, Makes, Overlap}
+use Rattle.rail_model.specs.Conflict.{IsConflict, IsListedBefore, AreConflicts, Makes, Overlap, IsTimetable, no_stair}
 use Rattle.rail_model.proofs.NameOrder.{never_before_itself, IsBefore-trans}
 use Rattle.conflict_finder.specs.declared.ranked.Ranked.{Ranked}
 use Rattle.conflict_finder.specs.declared.visits.Visit.{Visit}
-use Rattle.rail_model.specs.Timetable.{IsTimetable, no_stair}
 use Rattle.conflict_finder.specs.Runs.{no_ranked, ranked_at, visit_of, uses_of, all_visits, key_of, key_cmp}
 use Rattle.conflict_finder.specs.Sweep.{ComesBefore, IsSwept, meets, conflict_of, no_visit, conflicts_at, all_conflicts}
 use Rattle.rail_model.proofs.Lists.{AllPairs-map}

@@ -3,8 +3,7 @@ use Rattle.std.specs.Prelude.{◌≡◌, ◌-◌, ℕ, ◌+◌, List, length, ma
 use Rattle.rail_model.specs.declared.stair.Stair.{Stair}
 use Rattle.rail_model.specs.Conflict as whole
 use Rattle.rail_model.specs.Conflict.{AreConflicts}
-use Rattle.conflict_finder.specs.declared.found.Conflict.{Conflict}
-use Rattle.conflict_finder.specs.declared.found.Conflicts.{Conflicts}
+use Rattle.conflict_finder.specs.Types.{Conflict, Conflicts}
 use Rattle.conflict_finder.specs.declared.found.TheConstants.{LISTED}
 
 -- a conflict as it is listed: the start of the first run's use is left out

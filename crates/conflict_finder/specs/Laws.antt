@@ -3,7 +3,7 @@ use Rattle.std.specs.Prelude.{◌≡◌, List}
 use Rattle.rail_model.specs.declared.stair.Stair.{Stair}
 use Rattle.rail_model.specs.Conflict as whole
 use Rattle.rail_model.specs.Conflict.{AreConflicts}
-use Rattle.conflict_finder.specs.declared.found.Conflicts.{Conflicts}
+use Rattle.conflict_finder.specs.Types.{Conflicts}
 use Rattle.conflict_finder.specs.Found.{IsFound}
 
 -- a timetable has one list of conflicts

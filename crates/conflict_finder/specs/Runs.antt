@@ -5,10 +5,8 @@ use Rattle.std.specs.declared.cmp.Ordering.{Ordering}
 use Rattle.std.specs.Ordering.{nat_cmp, int_cmp, ordering_then, is_lt}
 use Rattle.rail_model.specs.declared.stair.Use.{Use}
 use Rattle.rail_model.specs.declared.stair.Stair.{Stair}
-use Rattle.rail_model.specs.Timetable.{stair_at}
-use Rattle.conflict_finder.specs.declared.ranked.Ranked.{Ranked}
-use Rattle.conflict_finder.specs.declared.visits.Visit.{Visit}
-use Rattle.conflict_finder.specs.declared.run_starts.RunStart.{RunStart}
+use Rattle.rail_model.specs.Conflict.{stair_at}
+use Rattle.conflict_finder.specs.Types.{Ranked, Visit, RunStart}
 
 -- a placeholder where there is none
 abbrev pub no_ranked : Ranked

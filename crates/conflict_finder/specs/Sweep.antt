@@ -4,9 +4,7 @@ use Rattle.std.specs.Int.{int_min}
 use Rattle.std.specs.List.{AllZip, flat_map, range_with_len, take_while}
 use Rattle.std.specs.declared.alloc.Global.{Global}
 use Rattle.rail_model.specs.Conflict as whole
-use Rattle.conflict_finder.specs.declared.ranked.Ranked.{Ranked}
-use Rattle.conflict_finder.specs.declared.visits.Visit.{Visit}
-use Rattle.conflict_finder.specs.declared.found.Conflicts.{Conflicts}
+use Rattle.conflict_finder.specs.Types.{Ranked, Visit, Conflicts}
 use Rattle.conflict_finder.specs.Runs.{no_ranked}
 use Rattle.conflict_finder.specs.Found.{IsListed}
 

@@ -3,7 +3,7 @@ ghost use Rattle.std.specs.Prelude.{◌≡◌, ◌-◌, ◌*◌, ◌<◌, ◌≤
 ghost use Rattle.std.specs.Prelude.{All, map, take, length, IfOk, OnOk};
 ghost use Rattle.std.specs.List.{take_while, prefix_len};
 ghost use Rattle.std.specs.List.Sorted.{IsPartitionedBy};
-ghost use Rattle.rail_model.specs.Timetable.{IsTimetable};
+ghost use Rattle.rail_model.specs.Conflict.{IsTimetable};
 ghost use Rattle.conflict_finder.specs.Found.{IsFound, IsListed, as_listed};
 ghost use Rattle.conflict_finder.specs.ByBlock.{one_after_another};
 ghost use Rattle.conflict_finder.specs.Sweep as swept;

@@ -11,8 +11,7 @@ use Rattle.plan_model.specs.declared.answer.Tie.TheVariants.{Start, After}
 use Rattle.plan_model.specs.declared.answer.Plan.{Plan}
 use Rattle.plan_model.specs.Cut.{IsSoundCut}
 use Rattle.plan_model.specs.Disorder.{remaining}
-use Rattle.plan_model.specs.Schedule.{window_start, window_floor, entry_at, IsLeast}
-use Rattle.plan_model.specs.Tie.{tie_of, touch}
+use Rattle.plan_model.specs.Schedule.{window_start, window_floor, entry_at, IsLeast, tie_of, touch}
 use Rattle.plan_model.specs.Laws.{IsTied}
 use Rattle.plan_model.specs.Answer.{plan_of, IsCompressed}
 use Rattle.plan_model.proofs.Tied.{tied_is_least}

@@ -8,13 +8,10 @@ use Rattle.std.proofs.lemmas.List.Folds.{Any-from_list_any}
 use Rattle.rail_model.specs.declared.limits.TheConstants.{GREATEST_MOMENT_S}
 use Rattle.plan_model.specs.declared.limits.TheConstants.{MEMBERS}
 use Rattle.plan_model.specs.declared.cut.Cut.{Cut}
-use Rattle.plan_model.specs.Places.{places, place_count}
-use Rattle.plan_model.specs.Members.{member, member_count, use_at}
-use Rattle.plan_model.specs.Precedence.{precedes}
+use Rattle.plan_model.specs.Members.{places, place_count, member, member_count, use_at, precedes}
 use Rattle.plan_model.specs.Cut.{IsMoment, IsSoundCut}
 use Rattle.plan_model.specs.Disorder.{remaining}
-use Rattle.plan_model.specs.Schedule.{window_start, entry_at, start_by, end_by}
-use Rattle.plan_model.specs.Tie.{touches}
+use Rattle.plan_model.specs.Schedule.{window_start, entry_at, start_by, end_by, touches}
 use Rattle.plan_model.specs.Laws.{IsTied}
 use Rattle.plan_model.proofs.MemberTests.{has, has_any, has-range}
 use Rattle.plan_model.proofs.Uses.{place_there}

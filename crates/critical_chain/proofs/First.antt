@@ -5,10 +5,9 @@ use Rattle.std.specs.List.{list_any}
 use Rattle.std.proofs.lemmas.List.{append-nil}
 use Rattle.plan_model.specs.declared.cut.Cut.{Cut}
 use Rattle.plan_model.specs.declared.answer.Tie.TheVariants.{After}
-use Rattle.plan_model.specs.Places.{places, place_count, first_by_name, first_with, AnswersFirst}
-use Rattle.plan_model.specs.Members.{member_count, members}
+use Rattle.plan_model.specs.Members.{places, place_count, first_by_name, first_with, AnswersFirst, member_count, members}
 use Rattle.plan_model.specs.Cut.{IsSoundCut}
-use Rattle.plan_model.specs.Tie.{touches, touch, touching_place}
+use Rattle.plan_model.specs.Schedule.{touches, touch, touching_place}
 use Rattle.plan_model.proofs.MemberTests.{has, has-range, has_any, has-filter, filter-has, in_range}
 use Rattle.plan_model.proofs.FirstWith.{one_more, is_first}
 use Rattle.train_order.proofs.Find.{find_some}

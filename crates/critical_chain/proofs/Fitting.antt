@@ -15,8 +15,7 @@ use Rattle.plan_model.specs.declared.answer.Plan.{Plan}
 use Rattle.plan_model.specs.Members.{member_count, members}
 use Rattle.plan_model.specs.Cut.{IsSoundCut, IsBounded}
 use Rattle.plan_model.specs.Disorder.{remaining}
-use Rattle.plan_model.specs.Schedule.{window_start, entry_at, start_by, end_by}
-use Rattle.plan_model.specs.Tie.{tie_of}
+use Rattle.plan_model.specs.Schedule.{window_start, entry_at, start_by, end_by, tie_of}
 use Rattle.plan_model.specs.Answer.{placed_at, plan_of}
 use Rattle.plan_model.proofs.Uses.{place_there}
 use Rattle.critical_chain.specs.Chain.{no_train, train_at}

@@ -10,7 +10,7 @@ use Rattle.rail_model.proofs.Numbers.{le_both_ways, le_from_lt, le_from_not_lt, 
 use Rattle.plan_model.specs.declared.cut.Cut.{Cut}
 use Rattle.plan_model.specs.Members.{member, member_count, members, uses_place}
 use Rattle.plan_model.specs.Schedule.{end_by}
-use Rattle.plan_model.specs.Occupancy.{users, last_end, last_member}
+use Rattle.plan_model.specs.Answer.{users, last_end, last_member}
 use Rattle.plan_model.proofs.MemberTests.{has}
 use Rattle.plan_model.proofs.Greatest.{above_each, greatest_within}
 use Rattle.critical_chain.specs.declared.last.Latest.{Latest}

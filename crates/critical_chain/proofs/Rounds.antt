@@ -3,8 +3,7 @@ use Rattle.std.proofs.Common.{◌≡◌, ℕ, zero, suc, ◌<◌, true, false, L
 use Rattle.std.specs.List.{list_any}
 use Rattle.std.proofs.lemmas.Bool.{cases_Bool, both_ways, false_from_ne_true}
 use Rattle.plan_model.specs.declared.cut.Cut.{Cut}
-use Rattle.plan_model.specs.Members.{member_count, members}
-use Rattle.plan_model.specs.Precedence.{precedes_somewhere}
+use Rattle.plan_model.specs.Members.{member_count, members, precedes_somewhere}
 use Rattle.plan_model.specs.Disorder.{preceded, after_rounds}
 use Rattle.plan_model.proofs.MemberTests.{has, has-range, has_any, has-filter, filter-has}
 

@@ -11,12 +11,9 @@ use Rattle.rail_model.specs.Name.{is_before}
 use Rattle.plan_model.specs.declared.cut.Cut.{Cut}
 use Rattle.plan_model.specs.declared.answer.Tie.{Tie}
 use Rattle.plan_model.specs.declared.answer.Tie.TheVariants.{Start, After}
-use Rattle.plan_model.specs.Places.{places, place_name, place_count}
-use Rattle.plan_model.specs.Members.{member, member_count}
-use Rattle.plan_model.specs.Precedence.{precedes}
+use Rattle.plan_model.specs.Members.{places, place_name, place_count, member, member_count, precedes}
 use Rattle.plan_model.specs.Cut.{IsSoundCut}
-use Rattle.plan_model.specs.Schedule.{window_start, entry_at, start_by, end_by}
-use Rattle.plan_model.specs.Tie.{touches, touch, touching_member, touching_place, tie_of}
+use Rattle.plan_model.specs.Schedule.{window_start, entry_at, start_by, end_by, touches, touch, touching_member, touching_place, tie_of}
 use Rattle.plan_model.proofs.MemberTests.{has-range, has_any, has-filter, filter-has, in_range}
 use Rattle.plan_model.proofs.FirstByName.{first_is, one_passes}
 use Rattle.plan_model.proofs.Uses.{place_there}

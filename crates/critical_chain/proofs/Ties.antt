@@ -9,11 +9,8 @@ use Rattle.rail_model.specs.Name.{is_before}
 use Rattle.plan_model.specs.declared.cut.Cut.{Cut}
 use Rattle.plan_model.specs.declared.answer.Tie.{Tie}
 use Rattle.plan_model.specs.declared.answer.Tie.TheVariants.{Start, After}
-use Rattle.plan_model.specs.Places.{places, place_name, place_count}
-use Rattle.plan_model.specs.Members.{member, member_count, members}
-use Rattle.plan_model.specs.Precedence.{precedes, precedes_somewhere}
-use Rattle.plan_model.specs.Schedule.{window_start, entry_at}
-use Rattle.plan_model.specs.Tie.{touches, touch, touching_member, touching_place, tie_of}
+use Rattle.plan_model.specs.Members.{places, place_name, place_count, member, member_count, members, precedes, precedes_somewhere}
+use Rattle.plan_model.specs.Schedule.{window_start, entry_at, touches, touch, touching_member, touching_place, tie_of}
 use Rattle.plan_model.proofs.MemberTests.{has, has_any, filter-has, in_range}
 pub use Rattle.train_order.proofs.Find.{found}
 

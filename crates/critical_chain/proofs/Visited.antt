@@ -6,13 +6,11 @@ use Rattle.std.specs.Ordering.{int_eq}
 use Rattle.std.proofs.lemmas.Int.{ints}
 use Rattle.rail_model.specs.declared.stair.Use.{Use}
 use Rattle.plan_model.specs.declared.cut.Cut.{Cut}
-use Rattle.plan_model.specs.Members.{member, uses_place, use_of, use_at}
-use Rattle.plan_model.specs.Precedence.{comes_before}
+use Rattle.plan_model.specs.Members.{member, uses_place, use_of, use_at, comes_before}
 use Rattle.plan_model.specs.Cut.{IsSoundCut, IsMoment}
 use Rattle.plan_model.specs.declared.answer.Tie.{Tie}
 use Rattle.plan_model.specs.declared.answer.Placed.{Placed}
-use Rattle.plan_model.specs.Schedule.{entry_at, start_by, end_by}
-use Rattle.plan_model.specs.Tie.{touches}
+use Rattle.plan_model.specs.Schedule.{entry_at, start_by, end_by, touches}
 use Rattle.plan_model.proofs.Uses.{takes_time}
 use Rattle.plan_model.proofs.Sound.{use_sound}
 use Rattle.train_order.specs.declared.visits.Visit.{Visit}

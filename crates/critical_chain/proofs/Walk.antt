@@ -10,9 +10,8 @@ use Rattle.plan_model.specs.declared.answer.Tie.TheVariants.{Start, After}
 use Rattle.plan_model.specs.declared.answer.Placed.{Placed}
 use Rattle.plan_model.specs.declared.answer.Plan.{Plan}
 use Rattle.plan_model.specs.declared.answer.Link.{Link}
-use Rattle.plan_model.specs.Places.{place_count}
-use Rattle.plan_model.specs.Members.{member_count}
-use Rattle.plan_model.specs.Tie.{tie_of}
+use Rattle.plan_model.specs.Members.{place_count, member_count}
+use Rattle.plan_model.specs.Schedule.{tie_of}
 use Rattle.plan_model.specs.Answer.{placed_at}
 use Rattle.plan_model.proofs.MemberTests.{has}
 use Rattle.critical_chain.specs.Chain.{IsPlan, IsPlanOf, no_train, tie_at, link_at, Leads, through_tie, chain_back}

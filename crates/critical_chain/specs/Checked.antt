@@ -6,8 +6,7 @@ use Rattle.plan_model.specs.declared.answer.Plan.{Plan}
 use Rattle.plan_model.specs.Members.{member_count}
 use Rattle.plan_model.specs.Cut.{IsSoundCut}
 use Rattle.plan_model.specs.Disorder.{remaining, opposite}
-use Rattle.plan_model.specs.Schedule.{window_start, entry_at, IsSchedule}
-use Rattle.plan_model.specs.Tie.{tie_of}
+use Rattle.plan_model.specs.Schedule.{window_start, entry_at, IsSchedule, tie_of}
 use Rattle.plan_model.specs.Answer.{plan_of, IsCompressed}
 pub use Rattle.plan_model.specs.Answer.{entries_of}
 

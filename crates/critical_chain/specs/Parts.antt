@@ -7,12 +7,9 @@ use Rattle.plan_model.specs.declared.answer.Tie.{Tie}
 use Rattle.plan_model.specs.declared.answer.Tie.TheVariants.{Start, After}
 use Rattle.plan_model.specs.declared.answer.Placed.{Placed}
 use Rattle.plan_model.specs.declared.answer.Plan.{Plan}
-use Rattle.plan_model.specs.Places.{place_names, place_count, comes_first as first_by_names}
-use Rattle.plan_model.specs.Members.{member, member_count, uses_place}
-use Rattle.plan_model.specs.Precedence.{precedes}
-use Rattle.plan_model.specs.Schedule.{window_start, entry_at, start_by, end_by}
-use Rattle.plan_model.specs.Tie.{touches}
-use Rattle.plan_model.specs.Occupancy.{occupancy, busiest, critical}
+use Rattle.plan_model.specs.Members.{place_names, place_count, comes_first as first_by_names, member, member_count, uses_place, precedes}
+use Rattle.plan_model.specs.Schedule.{window_start, entry_at, start_by, end_by, touches}
+use Rattle.plan_model.specs.Answer.{occupancy, busiest, critical}
 use Rattle.train_order.specs.declared.visits.Visit.{Visit}
 use Rattle.train_order.specs.Visits.{no_visit}
 use Rattle.critical_chain.specs.declared.last.Latest.{Latest}

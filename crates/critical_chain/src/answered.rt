@@ -1,8 +1,7 @@
 //! Whether an answer is that of a cut.
 ghost use Rattle.std.specs.Prelude.{◌≡◌, ◌≢◌, ◌<◌, ◌≤◌, ◌↔◌, ◌++◌, [], None, Some, true, IsTrue, length, map, drop, take};
 ghost use Rattle.std.specs.List.{zip};
-ghost use Rattle.plan_model.specs.Members.{member_count};
-ghost use Rattle.plan_model.specs.Precedence.{precedes_somewhere};
+ghost use Rattle.plan_model.specs.Members.{member_count, precedes_somewhere};
 ghost use Rattle.plan_model.specs.Cut.{IsSoundCut};
 ghost use Rattle.plan_model.specs.Disorder as disorder;
 ghost use Rattle.plan_model.specs.Answer.{IsAnswer};

@@ -1,10 +1,9 @@
 //! Whether a plan is the compressed timetable of a cut whose trains have an order.
 ghost use Rattle.std.specs.Prelude.{◌≡◌, ℕ, ◌<◌, ◌≤◌, ◌↔◌, [], All, IsTrue, length, map, take};
-ghost use Rattle.plan_model.specs.Members.{member, member_count, no_member};
-ghost use Rattle.plan_model.specs.Places.{place_names, place_count};
+ghost use Rattle.plan_model.specs.Members.{member, member_count, no_member, place_names, place_count};
 ghost use Rattle.plan_model.specs.Cut.{IsSoundCut, IsBounded};
 ghost use Rattle.plan_model.specs.Disorder.{remaining};
-ghost use Rattle.plan_model.specs.Occupancy as occupied;
+ghost use Rattle.plan_model.specs.Answer as occupied;
 ghost use Rattle.critical_chain.specs.Chain.{train_at};
 ghost use Rattle.critical_chain.specs.Checked.{IsChecked, entries_of};
 ghost use Rattle.critical_chain.specs.Parts as parts;

@@ -1,8 +1,7 @@
 //! Whether the trains of a plan keep a place one after the other, in the order of precedence.
 ghost use Rattle.std.specs.Prelude.{◌≡◌, ℕ, ◌+◌, ◌<◌, ◌↔◌, All, IsTrue, length};
 ghost use Rattle.plan_model.specs.Cut.{IsBounded, IsSoundCut};
-ghost use Rattle.plan_model.specs.Members.{member_count};
-ghost use Rattle.plan_model.specs.Places.{place_count};
+ghost use Rattle.plan_model.specs.Members.{member_count, place_count};
 ghost use Rattle.train_order.specs.Visits.{AreInTurn};
 ghost use Rattle.critical_chain.specs.Parts as parts;
 

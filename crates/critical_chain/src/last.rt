@@ -2,7 +2,7 @@
 ghost use Rattle.std.specs.Prelude.{◌≡◌, All, length, option_and_then};
 ghost use Rattle.plan_model.specs.Cut.{IsBounded};
 ghost use Rattle.plan_model.specs.Members.{member_count};
-ghost use Rattle.plan_model.specs.Occupancy.{last_member};
+ghost use Rattle.plan_model.specs.Answer.{last_member};
 ghost use Rattle.critical_chain.specs.Parts as parts;
 
 use crate::moved::moved;

@@ -1,10 +1,8 @@
 //! Whether a train is touched as its tie says.
 ghost use Rattle.std.specs.Prelude.{◌≡◌, ◌<◌, ◌↔◌, All, IsTrue, length};
-ghost use Rattle.plan_model.specs.Members.{member, member_count};
-ghost use Rattle.plan_model.specs.Places.{place_count};
+ghost use Rattle.plan_model.specs.Members.{member, member_count, place_count, precedes, comes_before};
 ghost use Rattle.plan_model.specs.Cut.{IsBounded};
-ghost use Rattle.plan_model.specs.Precedence.{precedes, comes_before};
-ghost use Rattle.plan_model.specs.Tie.{touches};
+ghost use Rattle.plan_model.specs.Schedule.{touches};
 ghost use Rattle.critical_chain.specs.Parts as parts;
 
 use crate::moved::moved;

@@ -9,9 +9,7 @@ use Rattle.std.proofs.lemmas.List.Elements.{All-nil}
 use Rattle.std.proofs.lemmas.List.Folds.{list_any-append, list_any_at}
 use Rattle.rail_model.specs.declared.stair.Use.{Use}
 use Rattle.plan_model.specs.declared.cut.Cut.{Cut}
-use Rattle.plan_model.specs.Places.{block_count, place_count, is_among}
-use Rattle.plan_model.specs.Members.{member, member_count, no_member, no_use, uses_place, use_at}
-use Rattle.plan_model.specs.Precedence.{precedes}
+use Rattle.plan_model.specs.Members.{block_count, place_count, is_among, member, member_count, no_member, no_use, uses_place, use_at, precedes}
 use Rattle.plan_model.specs.Cut.{IsSoundCut}
 use Rattle.plan_model.specs.Schedule.{entry_at, start_by, end_by}
 use Rattle.plan_model.proofs.Order.{one_precedes}

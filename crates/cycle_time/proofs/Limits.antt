@@ -8,8 +8,7 @@ use Rattle.std.proofs.lemmas.List.Elements.{filter_passes}
 use Rattle.std.proofs.lemmas.List.Folds.{list_any-append, list_any_at}
 use Rattle.rail_model.specs.declared.stair.Use.{Use}
 use Rattle.plan_model.specs.declared.cut.Cut.{Cut}
-use Rattle.plan_model.specs.Places.{block_count}
-use Rattle.plan_model.specs.Members.{member, member_count, no_member, no_use, uses_place, use_at}
+use Rattle.plan_model.specs.Members.{block_count, member, member_count, no_member, no_use, uses_place, use_at}
 use Rattle.plan_model.specs.Cut.{IsSoundCut, is_block, block_uses, connection_uses}
 use Rattle.plan_model.specs.Schedule.{entry_at}
 use Rattle.plan_model.proofs.Uses.{takes_time}

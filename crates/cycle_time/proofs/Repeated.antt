@@ -7,7 +7,7 @@ use Rattle.rail_model.proofs.Numbers.{le_both_ways}
 use Rattle.plan_model.specs.declared.cut.Cut.{Cut}
 use Rattle.plan_model.specs.Members.{member_count}
 use Rattle.plan_model.specs.Schedule.{entry_at, start_by, end_by}
-use Rattle.plan_model.specs.Occupancy.{users, used_blocks, first_start, last_end, time_kept, occupancy}
+use Rattle.plan_model.specs.Answer.{users, used_blocks, first_start, last_end, time_kept, occupancy}
 use Rattle.plan_model.proofs.Users.{is_user, is_used}
 use Rattle.plan_model.proofs.Greatest.{above_each, below_each, longest_above}
 use Rattle.cycle_time.specs.declared.found.Cycle.{Cycle}

@@ -8,9 +8,7 @@ use Rattle.std.proofs.lemmas.List.Elements.{All-replicate, All-get_or, All-head,
 use Rattle.std.proofs.lemmas.List.Sums.{sum_by-cons}
 use Rattle.plan_model.specs.declared.cut.Cut.{Cut}
 use Rattle.plan_model.specs.declared.limits.TheConstants.{MEMBERS}
-use Rattle.plan_model.specs.Places.{is_among}
-use Rattle.plan_model.specs.Members.{member_count}
-use Rattle.plan_model.specs.Precedence.{precedes_somewhere}
+use Rattle.plan_model.specs.Members.{is_among, member_count, precedes_somewhere}
 use Rattle.plan_model.specs.Disorder.{remaining, IsPrecededAmong}
 use Rattle.plan_model.specs.Cut.{IsSoundCut}
 use Rattle.plan_model.specs.Schedule.{window_start, entry_at}

@@ -4,9 +4,7 @@ use Rattle.std.specs.Prelude.{ℤ, pos, ◌+ℤ◌, ◌-ℤ◌, ◌≤ℤ◌, �
 use Rattle.std.proofs.lemmas.Bool.{cases_Bool, cases_eq, both_ways}
 use Rattle.std.proofs.lemmas.Int.{ints, by_lt_z}
 use Rattle.plan_model.specs.declared.cut.Cut.{Cut}
-use Rattle.plan_model.specs.Places.{block_count, place_count}
-use Rattle.plan_model.specs.Members.{member, member_count, uses_place, use_at}
-use Rattle.plan_model.specs.Precedence.{precedes}
+use Rattle.plan_model.specs.Members.{block_count, place_count, member, member_count, uses_place, use_at, precedes}
 use Rattle.plan_model.specs.Cut.{IsSoundCut, IsMoment}
 use Rattle.plan_model.specs.Schedule.{window_start, entry_at, start_by, end_by}
 use Rattle.plan_model.proofs.Sound.{usable, use_sound}

@@ -1,13 +1,12 @@
 -- What is looked at of a cycle that is shown.
 use Rattle.std.specs.Prelude.{◌≡◌, ℕ, ◌<◌, ◌≤ℤ◌, ℤ, List, length, slice_index_or, All, pos, ◌-ℤ◌, ◌*ℤ◌, ◌<ℤ◌, ◌≢◌}
 use Rattle.plan_model.specs.declared.cut.Cut.{Cut}
-use Rattle.plan_model.specs.Places.{place_count}
-use Rattle.plan_model.specs.Members.{member_count}
+use Rattle.plan_model.specs.Members.{place_count, member_count}
 use Rattle.plan_model.specs.Schedule.{window_start}
 use Rattle.train_order.specs.declared.visits.Visit.{Visit}
 use Rattle.cycle_time.specs.Edges.{KeepsPlace}
 use Rattle.cycle_time.specs.Laying.{KeepTurns, KeepsAgain}
-use Rattle.cycle_time.specs.declared.found.Step.{Step}
+use Rattle.cycle_time.specs.Types.{Step}
 use Rattle.cycle_time.specs.Cycle.{IsStep, no_step}
 
 -- entries keep all places

@@ -1,18 +1,14 @@
 -- The least cycle time of a cut: entries that repeat, the ring that refuses each lesser period, and the rows that tell both.
 use Rattle.std.specs.Prelude.{ℕ, ◌<◌, ℤ, pos, ◌+ℤ◌, ◌≤ℤ◌, List, IsTrue, ◌≡◌, ◌≢◌, ◌≤◌, ◌-ℤ◌, ◌*ℤ◌, ◌<ℤ◌, true, false, [], ◌∷◌, All, AllPairs, count_by, slice_index_or, zero, suc, ⊤, Result, Ok, Err, None, Bool, if◌then◌else◌, ◌++◌, length, map, codes, decimal}
 use Rattle.std.specs.Fmt.{signed_decimal}
-use Rattle.row_text.specs.Row.{Row}
+use Rattle.row_text.specs.SheetRows.{Row}
 use Rattle.plan_model.specs.declared.cut.Cut.{Cut}
-use Rattle.plan_model.specs.Places.{block_count, place_name, place_count}
-use Rattle.plan_model.specs.Members.{member, member_count, uses_place, members}
+use Rattle.plan_model.specs.Members.{block_count, place_name, place_count, member, member_count, uses_place, members, precedes, headway_at}
 use Rattle.plan_model.specs.Schedule.{entry_at, start_by, end_by, IsSchedule}
-use Rattle.plan_model.specs.Precedence.{precedes}
-use Rattle.plan_model.specs.Headway.{headway_at}
 use Rattle.plan_model.specs.declared.answer.Disorder.{Disorder}
 use Rattle.plan_model.specs.Disorder.{opposite, remaining}
 use Rattle.train_order.specs.Ordering.{IsOrdering}
-use Rattle.cycle_time.specs.declared.found.Step.{Step}
-use Rattle.cycle_time.specs.declared.found.Cycle.{Cycle}
+use Rattle.cycle_time.specs.Types.{Step, Cycle}
 
 -- a list of entries repeats in a period: it is a schedule, and each train has left each block that it uses before any
 -- train of the next pattern, itself too, starts there, or as it starts. Connections bind within one pattern alone

@@ -1,12 +1,9 @@
 -- Steps with their weights, and entries that keep them.
 use Rattle.std.specs.Prelude.{◌≡◌, ℕ, ◌<◌, ℤ, pos, ◌+ℤ◌, ◌-ℤ◌, ◌≤ℤ◌, Bool, if◌then◌else◌, List, All, IsTrue}
 use Rattle.plan_model.specs.declared.cut.Cut.{Cut}
-use Rattle.plan_model.specs.Places.{block_count, place_count}
-use Rattle.plan_model.specs.Members.{member, member_count, uses_place}
-use Rattle.plan_model.specs.Precedence.{precedes}
+use Rattle.plan_model.specs.Members.{block_count, place_count, member, member_count, uses_place, precedes}
 use Rattle.plan_model.specs.Schedule.{entry_at, start_by, end_by}
-use Rattle.cycle_time.specs.declared.edge.Edge.{Edge}
-use Rattle.cycle_time.specs.declared.found.Step.{Step}
+use Rattle.cycle_time.specs.Types.{Edge, Step}
 use Rattle.cycle_time.specs.Cycle.{IsStep, weight}
 
 -- the step from member i to member j on a place

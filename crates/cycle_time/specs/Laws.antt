@@ -5,9 +5,8 @@ use Rattle.plan_model.specs.declared.answer.Disorder.{Disorder}
 use Rattle.plan_model.specs.Cut.{IsSoundCut}
 use Rattle.plan_model.specs.Disorder.{opposite, remaining}
 use Rattle.plan_model.specs.Schedule.{IsSchedule}
-use Rattle.plan_model.specs.Occupancy.{occupancy}
-use Rattle.cycle_time.specs.declared.found.Step.{Step}
-use Rattle.cycle_time.specs.declared.found.Cycle.{Cycle}
+use Rattle.plan_model.specs.Answer.{occupancy}
+use Rattle.cycle_time.specs.Types.{Step, Cycle}
 use Rattle.cycle_time.specs.Cycle.{IsRepeating, Refuses, IsCycle, IsCycleOf, IsAnswered}
 
 -- the ring alone refuses each lesser period: no list of entries repeats in one

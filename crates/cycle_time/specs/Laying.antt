@@ -3,16 +3,12 @@ use Rattle.std.specs.Prelude.{◌≡◌, ℕ, ◌+◌, ◌-◌, ◌<◌, ℤ, po
 use Rattle.std.specs.List.{list_any}
 use Rattle.rail_model.specs.declared.stair.Use.{Use}
 use Rattle.plan_model.specs.declared.cut.Cut.{Cut}
-use Rattle.plan_model.specs.Places.{block_count, place_count, is_among}
-use Rattle.plan_model.specs.Members.{member, member_count, uses_place, use_at}
+use Rattle.plan_model.specs.Members.{block_count, place_count, is_among, member, member_count, uses_place, use_at, precedes}
 use Rattle.plan_model.specs.Cut.{IsMoment}
-use Rattle.plan_model.specs.Precedence.{precedes}
 use Rattle.plan_model.specs.Schedule.{start_by, end_by}
 use Rattle.train_order.specs.declared.visits.Visit.{Visit}
 use Rattle.train_order.specs.Visits.{no_visit}
-use Rattle.cycle_time.specs.declared.edge.Edge.{Edge}
-use Rattle.cycle_time.specs.declared.stay.Stay.{Stay}
-use Rattle.cycle_time.specs.declared.stay.Ends.{Ends}
+use Rattle.cycle_time.specs.Types.{Edge, Stay, Ends}
 use Rattle.cycle_time.specs.Edges.{step_on, edge_on, IsSpan, IsEdge, Keeps}
 
 -- a visit of a place by one of its users

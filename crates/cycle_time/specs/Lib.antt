@@ -1,3 +1,4 @@
+pub mod Types
 pub mod Cycle
 pub mod Laws
 pub mod Edges

@@ -3,7 +3,7 @@ use Rattle.std.specs.Prelude.{◌≡◌, ◌⊎◌, ℕ, ◌<◌, ◌^◌, ℤ, 
 use Rattle.plan_model.specs.declared.cut.Cut.{Cut}
 use Rattle.plan_model.specs.Members.{member_count}
 use Rattle.plan_model.specs.Schedule.{window_start, entry_at}
-use Rattle.cycle_time.specs.declared.edge.Edge.{Edge}
+use Rattle.cycle_time.specs.Types.{Edge}
 use Rattle.cycle_time.specs.Edges.{IsEdge, asks, Keeps}
 use Rattle.cycle_time.specs.Cycle.{IsRepeating}
 

@@ -4,11 +4,8 @@ use Rattle.plan_model.specs.declared.limits.TheConstants.{MEMBERS}
 use Rattle.plan_model.specs.declared.cut.Cut.{Cut}
 use Rattle.plan_model.specs.Members.{member_count}
 use Rattle.train_order.specs.Taking.{IsDistinct}
-use Rattle.cycle_time.specs.declared.edge.Edge.{Edge}
-use Rattle.cycle_time.specs.declared.settling.Settled.{Settled}
+use Rattle.cycle_time.specs.Types.{Edge, Settled, Step, Found}
 use Rattle.cycle_time.specs.declared.settling.Settled.TheVariants as settled
-use Rattle.cycle_time.specs.declared.found.Step.{Step}
-use Rattle.cycle_time.specs.declared.least_period.Found.{Found}
 use Rattle.cycle_time.specs.Cycle.{no_step, Refuses, IsLeastRepeating}
 use Rattle.cycle_time.specs.Edges.{IsEdge}
 use Rattle.cycle_time.specs.Raising.{cause_at}

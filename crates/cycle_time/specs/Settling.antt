@@ -1,6 +1,6 @@
 -- A round along some edges, so far.
 use Rattle.std.specs.Prelude.{ℕ, ◌<◌, ℤ, List, length, Option, None, Some}
-use Rattle.cycle_time.specs.declared.edge.Edge.{Edge}
+use Rattle.cycle_time.specs.Types.{Edge}
 use Rattle.cycle_time.specs.Raising.{room, IsSettled}
 
 -- no train was raised, or some were and one of them is named

@@ -1,8 +1,7 @@
 //! Whether entries repeat in a period.
 ghost use Rattle.std.specs.Prelude.{◌≡◌, ◌+ℤ◌, ◌≤ℤ◌, ◌<◌, ◌↔◌, All, IsTrue, length};
 ghost use Rattle.plan_model.specs.Cut.{IsSoundCut};
-ghost use Rattle.plan_model.specs.Members.{member_count};
-ghost use Rattle.plan_model.specs.Places.{place_count};
+ghost use Rattle.plan_model.specs.Members.{member_count, place_count};
 ghost use Rattle.plan_model.specs.Schedule.{entry_at};
 ghost use Rattle.train_order.specs.Visits.{AreInTurn};
 ghost use Rattle.cycle_time.specs.Edges.{Keeps, KeepsPlace, asks};

@@ -3,7 +3,7 @@
 //! one after the other only the heaviest stays: who keeps it keeps them all.
 ghost use Rattle.std.specs.Prelude.{◌≡◌, ◌+◌, ◌<◌, [], None, Some, IfOk, IfSome, OnOk, length, replicate, slice_index, slice_set, take};
 ghost use Rattle.plan_model.specs.Cut.{IsSoundCut};
-ghost use Rattle.plan_model.specs.Places.{place_count};
+ghost use Rattle.plan_model.specs.Members.{place_count};
 ghost use Rattle.train_order.specs.Laws.{ComesNext};
 ghost use Rattle.train_order.specs.Ordering.{IsOrder};
 ghost use Rattle.cycle_time.specs.Edges.{AreEnough, IsSpan};

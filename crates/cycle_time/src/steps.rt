@@ -2,7 +2,6 @@
 ghost use Rattle.std.specs.Prelude.{◌≡◌, ◌<◌, ◌↔◌, IsTrue};
 ghost use Rattle.plan_model.specs.Cut.{IsSoundUse};
 ghost use Rattle.plan_model.specs.Members as members;
-ghost use Rattle.plan_model.specs.Precedence as given;
 ghost use Rattle.cycle_time.specs.Checking.{IsStepFrom};
 ghost use Rattle.cycle_time.specs.Edges.{IsLight};
 ghost use Rattle.cycle_time.specs.Cycle as rings;
@@ -47,7 +46,7 @@ fn are_users(cut: &SoundCut, i: u32, j: u32, block: u32) -> bool
 fn precedes(cut: &SoundCut, i: u32, j: u32, place: u32) -> bool
     requires one { i < members.member_count cut.now }
     requires other { j < members.member_count cut.now }
-    ensures { result ≡ given.precedes (members.member cut.now i) (members.member cut.now j) place }
+    ensures { result ≡ members.precedes (members.member cut.now i) (members.member cut.now j) place }
 {
     if !uses(cut, i, place) || !uses(cut, j, place) {
         return false;
@@ -59,7 +58,7 @@ fn precedes(cut: &SoundCut, i: u32, j: u32, place: u32) -> bool
 
 // Whether one train starts before another or, at one moment, its name is the lesser.
 fn comes_before(row: &CutRow, start: i64, next: &CutRow, other: i64) -> bool
-    ensures { result ≡ given.comes_before start row.now.name other next.now.name }
+    ensures { result ≡ members.comes_before start row.now.name other next.now.name }
 {
     start < other || start == other && row.name < next.name
 }

@@ -8,13 +8,11 @@ use Rattle.std.proofs.lemmas.Bool.{cases_Bool, and_parts, both_ways, false_from_
 use Rattle.std.proofs.lemmas.Int.{ints, clamps}
 use Rattle.std.proofs.lemmas.List.FromFn.{length-map-range_with_len, get_or-map-range_with_len}
 use Rattle.plan_model.specs.declared.cut.Cut.{Cut}
-use Rattle.plan_model.specs.Places.{place_count, places}
-use Rattle.plan_model.specs.Members.{member, member_count, members, use_at}
+use Rattle.plan_model.specs.Members.{place_count, places, member, member_count, members, use_at, precedes, precedes_somewhere}
 use Rattle.plan_model.specs.Cut.{IsSoundCut}
-use Rattle.plan_model.specs.Precedence.{precedes, precedes_somewhere}
 use Rattle.plan_model.specs.Disorder.{preceded, after_rounds, remaining}
 use Rattle.plan_model.specs.Schedule.{entry_at, start_at, end_at, start_by, IsScheduleFrom, IsLeastFrom}
-use Rattle.plan_model.specs.Occupancy.{greatest}
+use Rattle.plan_model.specs.Answer.{greatest}
 use Rattle.plan_model.proofs.MemberTests.{has, has-range, in_range, has_any, has-filter}
 use Rattle.plan_model.proofs.Greatest.{above_each, greatest_within}
 use Rattle.plan_model.proofs.Uses.{place_there}

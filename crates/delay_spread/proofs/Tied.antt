@@ -9,10 +9,8 @@ use Rattle.std.proofs.lemmas.List.FromFn.{length-map-range_with_len, get_or-map-
 use Rattle.rail_model.specs.Name.{is_before}
 use Rattle.plan_model.specs.declared.cut.Cut.{Cut}
 use Rattle.plan_model.specs.declared.answer.Tie.TheVariants.{Start, After}
-use Rattle.plan_model.specs.Places.{places, place_name, place_count}
-use Rattle.plan_model.specs.Members.{member_count, members}
-use Rattle.plan_model.specs.Schedule.{entry_at}
-use Rattle.plan_model.specs.Tie.{touches, touching_member, touching_place, tie_from}
+use Rattle.plan_model.specs.Members.{places, place_name, place_count, member_count, members}
+use Rattle.plan_model.specs.Schedule.{entry_at, touches, touching_member, touching_place, tie_from}
 use Rattle.plan_model.proofs.MemberTests.{filter-has, in_range}
 use Rattle.train_order.proofs.Find.{found}
 use Rattle.delay_spread.specs.declared.found.Held.{Held}

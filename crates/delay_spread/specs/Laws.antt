@@ -8,7 +8,7 @@ use Rattle.plan_model.specs.Disorder.{remaining}
 use Rattle.plan_model.specs.Schedule.{entry_at, IsSchedule}
 use Rattle.plan_model.specs.Planned.{planned_entries}
 use Rattle.delay_spread.specs.Spreading.{delay_at, delayed_floor, knock_on, IsDelayedSchedule, IsLeastDelayed, IsSpread, IsSpreading}
-use Rattle.delay_spread.specs.declared.found.Spread.{Spread}
+use Rattle.delay_spread.specs.Types.{Spread}
 
 -- where no train is delayed and the planned entries are a schedule, no train has a knock-on delay
 abbrev pub NoneIsKnockedOn : Type 0

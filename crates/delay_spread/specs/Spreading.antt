@@ -1,20 +1,17 @@
 -- Delays that are spread over the trains of a cut, and the rows that tell them.
 use Rattle.std.specs.Prelude.{ℕ, ℤ, pos, ◌+ℤ◌, ◌-ℤ◌, nat_abs, List, slice_index_or, ◌≡◌, nat_lt, [], map, count_by, sum_by, Result, Ok, Err, None, ◌<◌, ◌∷◌, ◌++◌, length, All, codes, decimal, ⊤}
 use Rattle.std.specs.Fmt.{signed_decimal}
-use Rattle.row_text.specs.Row.{Row}
+use Rattle.row_text.specs.SheetRows.{Row}
 use Rattle.plan_model.specs.declared.cut.Cut.{Cut}
-use Rattle.plan_model.specs.Members.{member, members, member_count}
-use Rattle.plan_model.specs.Schedule.{entry_at, IsScheduleFrom, IsLeastFrom}
+use Rattle.plan_model.specs.Members.{member, members, member_count, place_name, place_count}
+use Rattle.plan_model.specs.Schedule.{entry_at, IsScheduleFrom, IsLeastFrom, tie_from}
 use Rattle.plan_model.specs.declared.answer.Disorder.{Disorder}
 use Rattle.plan_model.specs.Disorder.{opposite, remaining}
-use Rattle.plan_model.specs.Tie.{tie_from}
 use Rattle.plan_model.specs.declared.answer.Tie.{Tie}
 use Rattle.plan_model.specs.declared.answer.Tie.TheVariants as tie
-use Rattle.plan_model.specs.Places.{place_name, place_count}
 use Rattle.train_order.specs.Ordering.{IsOrdering}
 use Rattle.answer_parts.specs.Rows.{start_fields, after_fields}
-use Rattle.delay_spread.specs.declared.found.Held.{Held}
-use Rattle.delay_spread.specs.declared.found.Spread.{Spread}
+use Rattle.delay_spread.specs.Types.{Held, Spread}
 
 -- the delay of member i, in seconds
 abbrev pub delay_at : List ℕ → ℕ → ℕ
@@ -71,10 +68,6 @@ IsSpreading cut delays (Err disorder) = IsOrdering cut (Err disorder)
 abbrev pub IsSpreadOf : Cut → Spread → Type 0
 IsSpreadOf cut spread = (delays : List ℕ) × IsSpread cut delays spread
 
--- stands where no train is held
-abbrev pub no_held : Held
-no_held = record { train = []; delay = 0; entry = pos 0; tie = tie.Start }
-
 -- start, or after,TRAIN,PLACE
 abbrev pub tie_fields : Cut → Tie → Row
 tie_fields cut tie.Start = start_fields
@@ -83,7 +76,7 @@ tie_fields cut (tie.After train block) = after_fields (member cut train).name (p
 -- held,NAME,DELAY,ENTRY,KNOCKON and its tie
 abbrev pub held_row : Cut → List Held → ℕ → Row
 held_row cut held i =
-    let h = slice_index_or held i no_held in
+    let h = slice_index_or held i (record { train = []; delay = 0; entry = pos 0; tie = tie.Start }) in
     codes "held" ∷ h.train ∷ decimal h.delay ∷ signed_decimal h.entry
     ∷ decimal (later_by (member cut i).entry h.delay h.entry) ∷ tie_fields cut h.tie
 

@@ -4,7 +4,7 @@ ghost use Rattle.plan_model.specs.declared.limits.TheConstants.{MEMBERS};
 ghost use Rattle.plan_model.specs.Cut.{IsSoundCut};
 ghost use Rattle.plan_model.specs.Members.{member, member_count, members};
 ghost use Rattle.plan_model.specs.Disorder.{remaining};
-ghost use Rattle.plan_model.specs.Tie.{tie_from};
+ghost use Rattle.plan_model.specs.Schedule.{tie_from};
 ghost use Rattle.train_order.specs.Ordering.{IsOrder};
 ghost use Rattle.delay_spread.specs.declared.spreading.TheConstants.{GREATEST_DELAY_S};
 ghost use Rattle.delay_spread.specs.Spreading.{delayed_floor, knock_on, IsSpread, IsSpreading, held_at, spread_by};

@@ -8,8 +8,7 @@ use Rattle.std.proofs.lemmas.Int.{ints, int_max_is}
 use Rattle.rail_model.specs.declared.stair.Use.{Use}
 use Rattle.plan_model.specs.declared.cut.CutRow.{CutRow}
 use Rattle.plan_model.specs.Cut.{IsMoment, IsUsable, AreOfOtherPlaces}
-use Rattle.plan_model.specs.Members.{uses_place, use_at}
-use Rattle.plan_model.specs.Headway.{headway, headway_at, shared_places}
+use Rattle.plan_model.specs.Members.{uses_place, use_at, headway, headway_at, shared_places}
 use Rattle.headway_table.specs.declared.starts.TheConstants.{FREE}
 use Rattle.headway_table.specs.declared.row.TheConstants.{NEVER, LEAST_HEADWAY}
 use Rattle.headway_table.specs.Starts.{start_in}

@@ -8,8 +8,7 @@ use Rattle.rail_model.specs.declared.stair.Use.{Use}
 use Rattle.plan_model.specs.declared.cut.CutRow.{CutRow}
 use Rattle.plan_model.specs.declared.cut.Cut.{Cut}
 use Rattle.plan_model.specs.Cut.{IsSoundCut}
-use Rattle.plan_model.specs.Places.{place_count}
-use Rattle.plan_model.specs.Members.{member, member_count}
+use Rattle.plan_model.specs.Members.{place_count, member, member_count}
 use Rattle.headway_table.specs.declared.row.TheConstants.{NEVER}
 use Rattle.headway_table.specs.Table.{between, row_of}
 use Rattle.headway_table.specs.Starts.{start_in_table, start_in, AreStarts}

@@ -8,9 +8,8 @@ use Rattle.rail_model.specs.declared.stair.Use.{Use}
 use Rattle.rail_model.proofs.Numbers.{le_both_ways}
 use Rattle.plan_model.specs.declared.cut.CutRow.{CutRow}
 use Rattle.plan_model.specs.Cut.{AreOfOtherPlaces}
-use Rattle.plan_model.specs.Members.{uses_place, use_at}
-use Rattle.plan_model.specs.Headway.{headway, headway_at, greatest_of, shared_places}
-use Rattle.plan_model.specs.Occupancy.{greatest}
+use Rattle.plan_model.specs.Members.{uses_place, use_at, headway, headway_at, greatest_of, shared_places}
+use Rattle.plan_model.specs.Answer.{greatest}
 use Rattle.plan_model.proofs.MemberTests.{has, has-filter, filter-has}
 use Rattle.plan_model.proofs.Greatest.{above_each, greatest_within}
 use Rattle.headway_table.specs.Walk.{end_in, greater, with_use, walked}

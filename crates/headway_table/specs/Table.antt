@@ -1,8 +1,7 @@
 -- The headways of all pairs of a cut's members.
 use Rattle.std.specs.Prelude.{◌≡◌, ℕ, ◌==◌, ℤ, if◌then◌else◌, List, [], length, map, All, Option, None, slice_index_or}
 use Rattle.plan_model.specs.declared.cut.Cut.{Cut}
-use Rattle.plan_model.specs.Members.{member, members}
-use Rattle.plan_model.specs.Headway.{headway}
+use Rattle.plan_model.specs.Members.{member, members, headway}
 
 -- the headway from member i to member j, and none from a member to itself
 abbrev pub between : Cut → ℕ → ℕ → Option ℤ

@@ -2,7 +2,7 @@
 ghost use Rattle.std.specs.Prelude.{◌≡◌, ◌-ℤ◌, ◌==◌, find, IfSome};
 ghost use Rattle.std.specs.List.{All};
 ghost use Rattle.plan_model.specs.Cut.{IsMoment};
-ghost use Rattle.plan_model.specs.Headway as given;
+ghost use Rattle.plan_model.specs.Members as given;
 ghost use Rattle.headway_table.specs.Rows.{AreRows, IsRow};
 ghost use Rattle.headway_table.specs.Walk as walks;
 

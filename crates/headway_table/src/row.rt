@@ -1,8 +1,7 @@
 //! The headways from one train to all others of a cut.
 ghost use Rattle.std.specs.Prelude.{◌≡◌, ℕ, ◌<◌, ◌-ℤ◌, length, fold, pos, slice_index_or, All, IfOk};
 ghost use Rattle.plan_model.specs.Cut.{IsUsable};
-ghost use Rattle.plan_model.specs.Members.{member_count, no_use};
-ghost use Rattle.plan_model.specs.Places.{place_count};
+ghost use Rattle.plan_model.specs.Members.{member_count, no_use, place_count};
 ghost use Rattle.headway_table.specs.Table as tables;
 ghost use Rattle.headway_table.specs.Walk as walks;
 ghost use Rattle.headway_table.specs.Starts as by_place;

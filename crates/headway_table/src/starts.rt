@@ -1,7 +1,7 @@
 //! How long after their entries the trains of a cut start their uses, by place and train.
 ghost use Rattle.std.specs.Prelude.{◌≡◌, ℕ, ◌<◌, ◌≤◌, ◌^◌, length, fold, slice_index_or, slice_set, replicate, [], All, IfOk};
 ghost use Rattle.plan_model.specs.Cut.{IsMoment, IsUsable};
-ghost use Rattle.plan_model.specs.Places.{place_count};
+ghost use Rattle.plan_model.specs.Members.{place_count};
 ghost use Rattle.headway_table.specs.Walk as walks;
 ghost use Rattle.headway_table.specs.Starts as by_place;
 

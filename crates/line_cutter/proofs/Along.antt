@@ -7,7 +7,7 @@ use Rattle.std.proofs.lemmas.List.Kept.{AllPairs-cons}
 use Rattle.plan_model.specs.declared.cut.Cut.{Cut}
 use Rattle.plan_model.specs.declared.answer.Disorder.{Disorder}
 use Rattle.plan_model.specs.declared.answer.Disorder.TheVariants as disorder
-use Rattle.plan_model.specs.Places.{block_count}
+use Rattle.plan_model.specs.Members.{block_count}
 use Rattle.train_order.specs.Ordering.{IsOrdering}
 use Rattle.line_cutter.specs.declared.found.Stretch.{Stretch}
 use Rattle.line_cutter.specs.Cutting.{piece, IsOrderly, AreOrderly, IsStretch, AreStretches}

@@ -10,9 +10,7 @@ use Rattle.rail_model.specs.Name.{is_before}
 use Rattle.rail_model.proofs.Numbers.{lt_from_test}
 use Rattle.plan_model.specs.declared.cut.Cut.{Cut}
 use Rattle.plan_model.specs.declared.cut.CutRow.{CutRow}
-use Rattle.plan_model.specs.Places.{place_count}
-use Rattle.plan_model.specs.Members.{member, uses_place, use_at}
-use Rattle.plan_model.specs.Precedence.{precedes, precedes_somewhere, comes_before}
+use Rattle.plan_model.specs.Members.{place_count, member, uses_place, use_at, precedes, precedes_somewhere, comes_before}
 use Rattle.plan_model.specs.Disorder.{are_opposite}
 use Rattle.plan_model.proofs.Sound.{of_all}
 use Rattle.line_cutter.specs.declared.opposed.Span.{Span}

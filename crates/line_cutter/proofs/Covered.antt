@@ -3,9 +3,7 @@ use Rattle.std.proofs.Common.{◌≡◌, ℕ, ◌<◌, ◌≤◌, true, List, []
 use Rattle.std.proofs.lemmas.Bool.{or_left, eq-eqb}
 use Rattle.plan_model.specs.declared.cut.CutRow.{CutRow}
 use Rattle.plan_model.specs.declared.cut.Cut.{Cut}
-use Rattle.plan_model.specs.Places.{place_count, places}
-use Rattle.plan_model.specs.Members.{member, member_count, no_member}
-use Rattle.plan_model.specs.Precedence.{precedes, precedes_somewhere}
+use Rattle.plan_model.specs.Members.{place_count, places, member, member_count, no_member, precedes, precedes_somewhere}
 use Rattle.plan_model.specs.Disorder.{remaining}
 use Rattle.plan_model.proofs.MemberTests.{has, has-range, has_any}
 use Rattle.plan_model.proofs.Preceded.{remain}

@@ -1,7 +1,7 @@
 -- One piece more.
 use Rattle.std.proofs.Common.{◌≡◌, ℕ, ◌<◌, List, [], ◌∷◌, ◌++◌, sym, subst}
 use Rattle.plan_model.specs.declared.cut.Cut.{Cut}
-use Rattle.plan_model.specs.Places.{block_count}
+use Rattle.plan_model.specs.Members.{block_count}
 use Rattle.line_cutter.specs.declared.found.Stretch.{Stretch}
 use Rattle.line_cutter.specs.Cutting.{AreOrderly, IsStretch, AreStretches}
 use Rattle.line_cutter.specs.Search.{IsFitting, AreCutTo}

@@ -16,9 +16,8 @@ use Rattle.rail_model.specs.Tables.{number_of, block_name, path_in}
 use Rattle.rail_model.specs.Blocking.{stairway}
 use Rattle.rail_model.proofs.NameOrder.{same_name}
 use Rattle.plan_model.specs.declared.cut.CutRow.{CutRow}
-use Rattle.plan_model.specs.Places.{place_count}
-use Rattle.plan_model.specs.Members.{no_member}
-use Rattle.plan_model.specs.SectionCut.{position_in_section, use_in_section, section_uses, entry_of, is_member, binding_connections, connection_use, uses_of_connections, row_of, section_cut}
+use Rattle.plan_model.specs.Members.{place_count, no_member}
+use Rattle.plan_model.specs.Cut.{position_in_section, use_in_section, section_uses, entry_of, is_member, binding_connections, connection_use, uses_of_connections, row_of, section_cut}
 use Rattle.critical_chain.proofs.Opposite.{ordered_is_not_opposite}
 use Rattle.line_cutter.specs.Cutting.{is_within, moved_use, piece_uses, uses_piece, piece_row, piece}
 use Rattle.line_cutter.specs.Laws.{IsOverPiece, OverPieceIsOrderly}

@@ -5,8 +5,7 @@ use Rattle.std.specs.List.{list_any}
 use Rattle.std.proofs.lemmas.Bool.{cases_Bool, cases_eq, and_parts, and_from, both_ways, leb-true, ltb-true, le-leb, lt-ltb, eqb-true, eq-eqb, ne_eqb, or_cases, or_left, or_right}
 use Rattle.rail_model.specs.declared.stair.Use.{Use}
 use Rattle.plan_model.specs.declared.cut.CutRow.{CutRow}
-use Rattle.plan_model.specs.Members.{no_use}
-use Rattle.plan_model.specs.Precedence.{precedes}
+use Rattle.plan_model.specs.Members.{no_use, precedes}
 use Rattle.line_cutter.specs.Cutting.{is_within, moved_use, piece_row}
 
 pub within_from : (a b : ℕ) (u : Use) → a ≤ u.block → u.block < b → is_within a b u ≡ true

@@ -2,8 +2,7 @@
 use Rattle.std.proofs.Common.{◌≡◌, ℕ, ◌<◌, true, arith}
 use Rattle.std.specs.List.{list_any}
 use Rattle.plan_model.specs.declared.cut.Cut.{Cut}
-use Rattle.plan_model.specs.Members.{member_count, members}
-use Rattle.plan_model.specs.Precedence.{precedes_somewhere}
+use Rattle.plan_model.specs.Members.{member_count, members, precedes_somewhere}
 use Rattle.plan_model.specs.Disorder.{preceded, remaining}
 use Rattle.plan_model.proofs.MemberTests.{has, in_range, filter-has}
 use Rattle.plan_model.proofs.Remaining.{remaining_is_left}

@@ -9,9 +9,7 @@ use Rattle.rail_model.specs.Name.{is_before}
 use Rattle.rail_model.proofs.NameOrder.{is_before-itself, is_before-back}
 use Rattle.rail_model.proofs.Numbers.{lt_from_test}
 use Rattle.plan_model.specs.declared.cut.Cut.{Cut}
-use Rattle.plan_model.specs.Places.{place_count}
-use Rattle.plan_model.specs.Members.{member, member_count, no_member, uses_place, use_at}
-use Rattle.plan_model.specs.Precedence.{precedes, precedes_somewhere}
+use Rattle.plan_model.specs.Members.{place_count, member, member_count, no_member, uses_place, use_at, precedes, precedes_somewhere}
 use Rattle.plan_model.specs.Disorder.{remaining}
 use Rattle.plan_model.specs.Cut.{IsMoment, IsSoundCut}
 use Rattle.plan_model.proofs.MemberTests.{has}

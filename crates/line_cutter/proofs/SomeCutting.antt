@@ -6,7 +6,7 @@ use Rattle.std.proofs.lemmas.Bool.{cases_lt}
 use Rattle.plan_model.specs.declared.cut.Cut.{Cut}
 use Rattle.plan_model.specs.declared.answer.Disorder.{Disorder}
 use Rattle.plan_model.specs.declared.answer.Disorder.TheVariants as disorder
-use Rattle.plan_model.specs.Places.{block_count}
+use Rattle.plan_model.specs.Members.{block_count}
 use Rattle.plan_model.specs.Cut.{IsSoundCut}
 use Rattle.plan_model.specs.Disorder.{Opposite, opposite, remaining, ring}
 use Rattle.train_order.specs.Ordering.{IsOrdering}

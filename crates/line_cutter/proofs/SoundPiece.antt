@@ -16,8 +16,7 @@ use Rattle.rail_model.proofs.Places.{filter_all, filter_none}
 use Rattle.rail_model.proofs.Lists.{AllPairs-map}
 use Rattle.plan_model.specs.declared.cut.CutRow.{CutRow}
 use Rattle.plan_model.specs.declared.cut.Cut.{Cut}
-use Rattle.plan_model.specs.Places.{block_count, place_count, place_names}
-use Rattle.plan_model.specs.Members.{member_count}
+use Rattle.plan_model.specs.Members.{block_count, place_count, place_names, member_count}
 use Rattle.plan_model.specs.Cut.{least, is_block, block_uses, connection_uses, IsSoundUse, IsSoundRow, IsSoundCut}
 use Rattle.plan_model.proofs.Sound.{least_most}
 use Rattle.line_cutter.specs.Cutting.{is_within, moved_use, piece_uses, uses_piece, piece_row, piece}

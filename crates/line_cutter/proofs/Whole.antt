@@ -6,9 +6,7 @@ use Rattle.std.proofs.lemmas.Bool.{cases_Bool, and_parts, or_left, eq-eqb}
 use Rattle.std.proofs.lemmas.List.{length-take, length-drop}
 use Rattle.plan_model.specs.declared.cut.CutRow.{CutRow}
 use Rattle.plan_model.specs.declared.cut.Cut.{Cut}
-use Rattle.plan_model.specs.Places.{place_count, places}
-use Rattle.plan_model.specs.Members.{member, member_count, no_member, uses_place}
-use Rattle.plan_model.specs.Precedence.{precedes, precedes_somewhere}
+use Rattle.plan_model.specs.Members.{place_count, places, member, member_count, no_member, uses_place, precedes, precedes_somewhere}
 use Rattle.plan_model.specs.Disorder.{remaining}
 use Rattle.plan_model.proofs.MemberTests.{has, has-range, has_any, in_range}
 use Rattle.plan_model.proofs.Preceded.{remain}

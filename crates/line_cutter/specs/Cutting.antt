@@ -8,10 +8,9 @@ use Rattle.plan_model.specs.declared.cut.CutRow.{CutRow}
 use Rattle.plan_model.specs.declared.cut.Cut.{Cut}
 use Rattle.plan_model.specs.Cut.{least}
 use Rattle.plan_model.specs.Disorder.{opposite, remaining}
-use Rattle.plan_model.specs.Places.{block_count}
+use Rattle.plan_model.specs.Members.{block_count}
 use Rattle.train_order.specs.Ordering.{IsOrdering}
-use Rattle.line_cutter.specs.declared.found.Stretch.{Stretch}
-use Rattle.line_cutter.specs.declared.found.Cutting.{Cutting}
+use Rattle.line_cutter.specs.Types.{Stretch, Cutting}
 
 -- a use of one of the blocks from a to before b
 abbrev pub is_within : ℕ → ℕ → Use → Bool

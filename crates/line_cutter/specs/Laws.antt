@@ -3,10 +3,8 @@ use Rattle.std.specs.Prelude.{◌≡◌, ◌≢◌, ℕ, ◌+◌, ◌<◌, ◌�
 use Rattle.rail_model.specs.declared.items.Section.{Section}
 use Rattle.rail_model.specs.declared.tables.Tables.{Tables}
 use Rattle.plan_model.specs.declared.cut.Cut.{Cut}
-use Rattle.plan_model.specs.Cut.{IsSoundCut}
-use Rattle.plan_model.specs.SectionCut.{is_member, binding_connections, section_cut}
-use Rattle.line_cutter.specs.declared.found.Stretch.{Stretch}
-use Rattle.line_cutter.specs.declared.found.Cutting.{Cutting}
+use Rattle.plan_model.specs.Cut.{IsSoundCut, is_member, binding_connections, section_cut}
+use Rattle.line_cutter.specs.Types.{Stretch, Cutting}
 use Rattle.line_cutter.specs.Cutting.{piece, IsOrderly, AreOrderly, IsCutting}
 
 -- a part of an orderly piece is orderly

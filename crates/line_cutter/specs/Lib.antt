@@ -1,3 +1,4 @@
+pub mod Types
 pub mod Cutting
 pub mod Laws
 pub mod Rows

@@ -7,7 +7,7 @@ use Rattle.plan_model.specs.declared.cut.Cut.{Cut}
 use Rattle.plan_model.specs.Members.{member_count}
 use Rattle.plan_model.specs.Disorder.{are_opposite}
 use Rattle.train_order.specs.Ordering.{AreOpposed}
-use Rattle.line_cutter.specs.declared.opposed.Span.{Span}
+use Rattle.line_cutter.specs.Types.{Span}
 
 -- all starts lie in the span
 pub record IsSpan (uses : List Use) (span : Span) : Type 0 where

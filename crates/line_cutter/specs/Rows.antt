@@ -5,10 +5,9 @@ use Rattle.rail_model.specs.declared.items.Section.{Section}
 use Rattle.plan_model.specs.declared.cut.Cut.{Cut}
 use Rattle.plan_model.specs.declared.answer.Disorder.{Disorder}
 use Rattle.plan_model.specs.declared.answer.Disorder.TheVariants as disorder
-use Rattle.row_text.specs.Row.{Row}
+use Rattle.row_text.specs.SheetRows.{Row}
 use Rattle.answer_parts.specs.Rows.{opposite_row, ring_rows}
-use Rattle.line_cutter.specs.declared.found.Stretch.{Stretch}
-use Rattle.line_cutter.specs.declared.found.Cutting.{Cutting}
+use Rattle.line_cutter.specs.Types.{Stretch, Cutting}
 
 -- the name of a section's block, by its position
 abbrev pub block_at : Section → ℕ → List ℕ

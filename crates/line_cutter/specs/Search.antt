@@ -2,10 +2,9 @@
 use Rattle.std.specs.Prelude.{◌≡◌, ℕ, ◌+◌, ◌<◌, ◌≤◌, List, [], ◌∷◌, Option, None, Some, Err}
 use Rattle.plan_model.specs.declared.cut.Cut.{Cut}
 use Rattle.plan_model.specs.declared.answer.Disorder.{Disorder}
-use Rattle.plan_model.specs.Places.{block_count}
+use Rattle.plan_model.specs.Members.{block_count}
 use Rattle.train_order.specs.Ordering.{IsOrdering}
-use Rattle.line_cutter.specs.declared.found.Stretch.{Stretch}
-use Rattle.line_cutter.specs.declared.longest.Longest.{Longest}
+use Rattle.line_cutter.specs.Types.{Stretch, Longest}
 use Rattle.line_cutter.specs.Cutting.{piece, IsOrderly, IsStretch}
 
 -- a piece is orderly, or this is its disorder

@@ -2,8 +2,7 @@
 ghost use Rattle.std.specs.Prelude.{◌≡◌, ◌+◌, ◌<◌, ◌≤◌, ℕ, All, AllPairs, IfOk, List as Items, length};
 ghost use Rattle.plan_model.specs.declared.limits.TheConstants.{MEMBERS};
 ghost use Rattle.plan_model.specs.Cut.{IsSoundCut};
-ghost use Rattle.plan_model.specs.Members.{member_count};
-ghost use Rattle.plan_model.specs.Places.{block_count};
+ghost use Rattle.plan_model.specs.Members.{member_count, block_count};
 ghost use Rattle.line_cutter.specs.Cutting.{AreOrderly, IsCutting};
 ghost use Rattle.line_cutter.specs.Laws.{IsLongest, IsCutAmong, AreDisjoint};
 ghost use Rattle.line_cutter.specs.Search.{AreCutTo};

@@ -1,7 +1,7 @@
 //! A cut's line, with what makes the search for its pieces quick.
 ghost use Rattle.std.specs.Prelude.{◌≡◌, ◌<◌, ◌≤◌, IfOk, IsTrue, length, true};
 ghost use Rattle.plan_model.specs.Cut.{IsSoundCut};
-ghost use Rattle.plan_model.specs.Places.{block_count};
+ghost use Rattle.plan_model.specs.Members.{block_count};
 ghost use Rattle.line_cutter.specs.Ways.{IsOneWay, AreOneWay, RiseUpTo, FallUpTo};
 
 use crate::breaks::breaks_of;

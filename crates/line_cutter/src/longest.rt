@@ -1,6 +1,6 @@
 //! The longest orderly piece from a block on.
 ghost use Rattle.std.specs.Prelude.{◌<◌, ◌≤◌, IfOk, Err};
-ghost use Rattle.plan_model.specs.Places.{block_count};
+ghost use Rattle.plan_model.specs.Members.{block_count};
 ghost use Rattle.train_order.specs.Ordering.{IsOrdering};
 ghost use Rattle.line_cutter.specs.Cutting as pieces;
 ghost use Rattle.line_cutter.specs.Search.{IsFitting, IsLongestFrom, IsTried};

@@ -6,7 +6,7 @@ ghost use Rattle.std.specs.Prelude.{◌≡◌, ◌<◌, ◌≤◌, ◌&&◌, int
 ghost use Rattle.std.specs.Int.{int_min, int_max};
 ghost use Rattle.plan_model.specs.Disorder.{are_opposite, opposite_pair};
 ghost use Rattle.plan_model.specs.Members.{member, member_count};
-ghost use Rattle.plan_model.specs.Precedence as given;
+ghost use Rattle.plan_model.specs.Members as given;
 ghost use Rattle.train_order.specs.Ordering.{AreOpposed, IsOrdering};
 ghost use Rattle.line_cutter.specs.Opposed.{AreSpans, IsSpan, IsNextOpposite};
 

@@ -2,8 +2,7 @@
 ghost use Rattle.std.specs.Prelude.{◌≡◌, ◌<◌, ◌≤◌, ◌++◌, [], ◌∷◌, IfOk, OnOk, IsTrue, filter, length, map};
 ghost use Rattle.plan_model.specs.declared.limits.TheConstants.{MEMBERS};
 ghost use Rattle.plan_model.specs.Cut.{IsSoundCut, least};
-ghost use Rattle.plan_model.specs.Members.{member_count};
-ghost use Rattle.plan_model.specs.Places.{block_count};
+ghost use Rattle.plan_model.specs.Members.{member_count, block_count};
 ghost use Rattle.line_cutter.specs.Cutting as pieces;
 ghost use Rattle.line_cutter.specs.Ways.{IsOneWay, AreOneWay, IsBeginning};
 

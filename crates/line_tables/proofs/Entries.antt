@@ -9,8 +9,7 @@ use Rattle.std.proofs.lemmas.List.Elements.{All-head, All-tail, All-weaker, filt
 use Rattle.std.proofs.lemmas.List.Folds.{find-append}
 use Rattle.std.proofs.lemmas.List.Kept.{AllPairs-filter}
 use Rattle.rail_model.specs.Name.{IsBefore, is_same, NamesRise}
-use Rattle.rail_model.specs.Rules.{is_named}
-use Rattle.rail_model.specs.Edits.{with_item, without}
+use Rattle.rail_model.specs.Rules.{is_named, with_item, without}
 use Rattle.rail_model.proofs.NameOrder.{same_name, is_same-from, is_same-before}
 use Rattle.rail_model.proofs.Places.{IsPlace, place, with_item-place, NamesRise-insert}
 use Rattle.line_tables.specs.Table.{with_change, named, key_of}

@@ -7,8 +7,7 @@ use Rattle.std.proofs.lemmas.List.Elements.{All-head, All-tail}
 use Rattle.std.proofs.lemmas.List.Folds.{map_fixed}
 use Rattle.std.proofs.lemmas.List.Sums.{sum_by-cons, sum_by-insert}
 use Rattle.rail_model.specs.Name.{is_same, NamesRise}
-use Rattle.rail_model.specs.Rules.{is_named}
-use Rattle.rail_model.specs.Edits.{with_item, without}
+use Rattle.rail_model.specs.Rules.{is_named, with_item, without}
 use Rattle.rail_model.proofs.NameOrder.{same_name, is_same-from, is_same-before, is_same-after}
 use Rattle.rail_model.proofs.Places.{place, with_item-place, filter_all}
 use Rattle.line_tables.specs.Table.{under, with_change, named, key_of, entry_of, item_of, IsTable}

@@ -4,8 +4,7 @@ use Rattle.std.specs.Prelude.{option_map, nat_lt}
 use Rattle.std.specs.List.{list_any}
 use Rattle.std.proofs.lemmas.Bool.{cases_Bool, ltb-false}
 use Rattle.rail_model.specs.Name.{is_same}
-use Rattle.rail_model.specs.Rules.{is_named}
-use Rattle.rail_model.specs.Edits.{with_item, without}
+use Rattle.rail_model.specs.Rules.{is_named, with_item, without}
 use Rattle.line_tables.specs.declared.linked.Linked.{Linked}
 use Rattle.line_tables.specs.Table.{under, with_change, named, key_of, item_of, IsTable}
 use Rattle.line_tables.specs.KeyCounts.{count_of, times}

@@ -12,7 +12,7 @@ use Rattle.std.proofs.lemmas.List.Edits.{length-insert, get_or-insert_at}
 use Rattle.std.proofs.lemmas.List.Folds.{list_any_at, find_at}
 use Rattle.std.proofs.lemmas.Option.{slice_get-get_or}
 use Rattle.rail_model.specs.Name.{IsBefore, is_same, NamesRise}
-use Rattle.rail_model.specs.Edits.{with_item, without}
+use Rattle.rail_model.specs.Rules.{with_item, without}
 use Rattle.rail_model.proofs.NameOrder.{is_same-from, is_same-before, is_same-after, never_before_itself}
 use Rattle.rail_model.proofs.Places.{IsPlace, place_searched, is_named-place, with_item-place, number_of-found, All-insert, filter_all}
 use Rattle.line_tables.specs.Table.{filed, under, with_change, named, name_at, key_of, item_of, IsTable, IsKept, IsPlaceOf, IsPlaceFor}

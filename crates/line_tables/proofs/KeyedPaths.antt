@@ -11,7 +11,7 @@ use Rattle.rail_model.specs.declared.items.Run.{Run}
 use Rattle.rail_model.specs.declared.items.Signal.{Signal}
 use Rattle.rail_model.specs.declared.path.Hop.{Hop}
 use Rattle.rail_model.specs.declared.path.Path.{Path}
-use Rattle.rail_model.specs.Path.{no_hop, Fits}
+use Rattle.rail_model.specs.Blocking.{no_hop, Fits}
 use Rattle.rail_model.specs.Tables.{no_signal, no_route, route_named, path_in}
 use Rattle.rail_model.proofs.Lists.{map_same}
 use Rattle.rail_model.proofs.Paths.{path_fits}

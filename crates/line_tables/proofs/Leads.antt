@@ -12,7 +12,7 @@ use Rattle.rail_model.specs.declared.items.Route.{Route}
 use Rattle.rail_model.specs.declared.items.Run.{Run}
 use Rattle.rail_model.specs.declared.path.Hop.{Hop}
 use Rattle.rail_model.specs.declared.path.Path.{Path}
-use Rattle.rail_model.specs.Path.{no_hop}
+use Rattle.rail_model.specs.Blocking.{no_hop}
 use Rattle.line_tables.specs.declared.linked.Linked.{Linked}
 use Rattle.line_tables.specs.Hops.{with_leg, with_legs, hops_at, keys_along, path_by_keys, paths_by_keys}
 

@@ -11,8 +11,7 @@ use Rattle.rail_model.specs.declared.edit.Kind.TheVariants as kind
 use Rattle.rail_model.specs.declared.tables.Tables.{Tables}
 use Rattle.rail_model.specs.Name.{is_same}
 use Rattle.rail_model.specs.Tables.{route_named}
-use Rattle.rail_model.specs.Rules.{makes_miscount, miscounts_legs, is_used}
-use Rattle.rail_model.specs.Sound.{IsSound}
+use Rattle.rail_model.specs.Rules.{makes_miscount, miscounts_legs, is_used, IsSound}
 use Rattle.rail_model.proofs.NameOrder.{same_name}
 
 -- a second test that depends on the first alone

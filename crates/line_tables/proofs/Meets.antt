@@ -13,9 +13,7 @@ use Rattle.rail_model.specs.declared.items.Item.TheVariants as item
 use Rattle.rail_model.specs.declared.tables.Tables.{Tables}
 use Rattle.rail_model.specs.Name.{is_same, has_repeat}
 use Rattle.rail_model.specs.Tables.{no_signal, signal_named}
-use Rattle.rail_model.specs.Rules.{is_named, lists, repeats_block, makes_repeat}
-use Rattle.rail_model.specs.Edits.{with_changed}
-use Rattle.rail_model.specs.Sound.{Stands}
+use Rattle.rail_model.specs.Rules.{is_named, lists, repeats_block, makes_repeat, with_changed, Stands}
 use Rattle.rail_model.proofs.NameOrder.{same_name, is_same-from, is_same-sym}
 use Rattle.rail_model.proofs.Members.{first-with_changed, kept_by_change}
 use Rattle.line_tables.specs.declared.linked.Linked.{Linked}

@@ -7,7 +7,7 @@ use Rattle.std.proofs.lemmas.Bool.Decides.{nat_tests}
 use Rattle.std.proofs.lemmas.List.Elements.{All-nil, All-cons, All-head, All-tail, All-weaker, All-filter, All-map}
 use Rattle.std.proofs.lemmas.List.Sums.{sum_by-cons}
 use Rattle.rail_model.specs.Name.{is_same}
-use Rattle.rail_model.specs.Edits.{with_item, without}
+use Rattle.rail_model.specs.Rules.{with_item, without}
 use Rattle.rail_model.proofs.NameOrder.{same_name, is_same-from}
 use Rattle.rail_model.proofs.Members.{All-with_item}
 use Rattle.line_tables.specs.declared.linked.Linked.{Linked}

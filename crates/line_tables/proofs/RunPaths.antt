@@ -10,9 +10,9 @@ use Rattle.rail_model.specs.declared.items.Item.TheVariants as item
 use Rattle.rail_model.specs.declared.path.Hop.{Hop}
 use Rattle.rail_model.specs.declared.path.Path.{Path}
 use Rattle.rail_model.specs.declared.tables.Tables.{Tables}
-use Rattle.rail_model.specs.Path.{Fits}
+use Rattle.rail_model.specs.Blocking.{Fits}
 use Rattle.rail_model.specs.Tables.{no_signal, no_route, route_named, path_in, no_run, run_at}
-use Rattle.rail_model.specs.Sound.{IsSound, Stands}
+use Rattle.rail_model.specs.Rules.{IsSound, Stands}
 use Rattle.line_tables.specs.declared.linked.Linked.{Linked}
 use Rattle.line_tables.specs.declared.line_tables.LineTables.TheInside.{Inside}
 use Rattle.line_tables.specs.Table.{under, key_of, IsTable}

@@ -7,7 +7,7 @@ use Rattle.rail_model.specs.declared.items.Leg.{Leg}
 use Rattle.rail_model.specs.declared.items.Route.{Route}
 use Rattle.rail_model.specs.declared.tables.Tables.{Tables}
 use Rattle.rail_model.specs.declared.path.Hop.{Hop}
-use Rattle.rail_model.specs.Path.{no_hop}
+use Rattle.rail_model.specs.Blocking.{no_hop}
 use Rattle.rail_model.specs.Tables.{signal_named, hop_beyond}
 use Rattle.rail_model.specs.Within.{no_leg}
 use Rattle.rail_model.proofs.Paths.{hops_in}

@@ -8,8 +8,7 @@ use Rattle.std.proofs.lemmas.List.{take-append-drop, get_or_default}
 use Rattle.std.proofs.lemmas.List.Elements.{All-head, All-tail}
 use Rattle.std.proofs.lemmas.List.Folds.{find-append}
 use Rattle.rail_model.specs.Name.{is_same}
-use Rattle.rail_model.specs.Rules.{is_named}
-use Rattle.rail_model.specs.Edits.{with_item, without}
+use Rattle.rail_model.specs.Rules.{is_named, with_item, without}
 use Rattle.rail_model.proofs.NameOrder.{same_name, is_same-from}
 use Rattle.rail_model.proofs.Numbers.{eqb-sym}
 use Rattle.rail_model.proofs.Places.{place, with_item-place}

@@ -11,8 +11,7 @@ use Rattle.std.proofs.lemmas.List.Folds.{find_at}
 use Rattle.rail_model.specs.Tables.{number_of}
 use Rattle.rail_model.proofs.Places.{number_of-missing}
 use Rattle.rail_model.specs.Name.{is_before, is_same}
-use Rattle.rail_model.specs.Rules.{is_named}
-use Rattle.rail_model.specs.Edits.{with_item, with_changed, without}
+use Rattle.rail_model.specs.Rules.{is_named, with_item, with_changed, without}
 use Rattle.rail_model.proofs.NameOrder.{same_name, is_same-from, is_same-before}
 use Rattle.rail_model.proofs.Lists.{map_same, find-map}
 use Rattle.line_tables.specs.Table.{under, with_change, key_of, entry_of, IsTable}

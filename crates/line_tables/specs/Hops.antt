@@ -9,9 +9,9 @@ use Rattle.rail_model.specs.declared.items.Signal.{Signal}
 use Rattle.rail_model.specs.declared.path.Hop.{Hop}
 use Rattle.rail_model.specs.declared.path.Path.{Path}
 use Rattle.std.specs.Option.{option_map_or}
-use Rattle.rail_model.specs.Path.{no_hop, Fits}
+use Rattle.rail_model.specs.Blocking.{no_hop, Fits}
 use Rattle.rail_model.specs.Tables.{no_signal, hop_beyond}
-use Rattle.rail_model.specs.Edits.{no_tables}
+use Rattle.rail_model.specs.Rules.{no_tables}
 use Rattle.line_tables.specs.declared.linked.Linked.{Linked}
 use Rattle.line_tables.specs.Table.{under}
 use Rattle.line_tables.specs.Links.{IsKey}

@@ -2,8 +2,7 @@
 //! memory the tables stay as they were.
 ghost use Rattle.std.specs.Prelude.{◌≡◌, ℕ, ◌+◌, false, Some, None, IfOk, IfErr, OnOk, OnErr};
 ghost use Rattle.rail_model.specs.declared.items.Item.TheVariants as item;
-ghost use Rattle.rail_model.specs.Rules.{rule_of_put, is_named};
-ghost use Rattle.rail_model.specs.Edits.{after_put, with_item};
+ghost use Rattle.rail_model.specs.Rules.{rule_of_put, is_named, after_put, with_item};
 ghost use Rattle.line_tables.specs.AnswersEdit.{AnswersEdit};
 ghost use Rattle.line_tables.specs.References.{rule_of_item};
 ghost use Rattle.line_tables.specs.Table.{under, IsTable};

@@ -1,7 +1,6 @@
 //! Edits of the tables.
 ghost use Rattle.std.specs.Prelude.{◌≡◌, Some, None, OnOk, OnErr, IfOk, IfErr};
-ghost use Rattle.rail_model.specs.Rules.{rule_of, rule_of_put, rule_of_change, rule_of_drop};
-ghost use Rattle.rail_model.specs.Edits.{after, after_put, after_change, after_drop};
+ghost use Rattle.rail_model.specs.Rules.{rule_of, rule_of_put, rule_of_change, rule_of_drop, after, after_put, after_change, after_drop};
 ghost use Rattle.line_tables.specs.AnswersEdit.{AnswersEdit};
 ghost use Rattle.line_tables.specs.References.{rule_before, rule_before_put, rule_before_change};
 

@@ -1,9 +1,7 @@
 //! The tables of a line: what they hold, and looking it up.
 ghost use Rattle.std.specs.Prelude.{◌≡◌, ◌<◌, length, map, Some, IfOk, IfSome, is_some, slice_get};
 ghost use Rattle.rail_model.specs.Tables.{number_of};
-ghost use Rattle.rail_model.specs.Rules.{has_block, has_run, has_section};
-ghost use Rattle.rail_model.specs.Edits.{no_tables};
-ghost use Rattle.rail_model.specs.Sound.{IsSound};
+ghost use Rattle.rail_model.specs.Rules.{has_block, has_run, has_section, no_tables, IsSound};
 ghost use Rattle.line_tables.specs.Inside.{tables_of, parts, IsJoined};
 
 use crate::kept_route::KeptRoute;

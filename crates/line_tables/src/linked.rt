@@ -3,8 +3,7 @@ ghost use Rattle.std.specs.Prelude.{◌≡◌, ◌≤◌, ◌+◌, ℕ, true, fa
 ghost use Rattle.std.specs.Prelude.{Some, None, is_some, IfSome, IfOk, OnOk, OnErr};
 ghost use Rattle.std.specs.Option.{option_map};
 ghost use Rattle.std.specs.List.{list_all};
-ghost use Rattle.rail_model.specs.Rules.{is_named};
-ghost use Rattle.rail_model.specs.Edits.{with_item, without};
+ghost use Rattle.rail_model.specs.Rules.{is_named, with_item, without};
 ghost use Rattle.line_tables.specs.Table as tables;
 ghost use Rattle.line_tables.specs.Links.{IsKey, block_of};
 ghost use Rattle.line_tables.specs.KeyCounts.{count_of, times, SameCounts, HasRoom};

@@ -1,6 +1,6 @@
 //! The path of a run: its route's signals and their blocks, by the keys that were found once.
 ghost use Rattle.std.specs.Prelude.{◌≡◌, ◌≤◌, ◌<◌, IfOk, length, map, All};
-ghost use Rattle.rail_model.specs.Path.{Fits};
+ghost use Rattle.rail_model.specs.Blocking.{Fits};
 ghost use Rattle.rail_model.specs.Tables.{path_in, run_at};
 ghost use Rattle.line_tables.specs.Table.{AreNumbered};
 ghost use Rattle.line_tables.specs.Links.{IsKey, IsLinked};

@@ -1,8 +1,7 @@
 //! Taking the item of a kind and a name out of the tables. No rule refuses it.
 ghost use Rattle.std.specs.Prelude.{◌≡◌, None};
 ghost use Rattle.rail_model.specs.declared.edit.Kind.TheVariants as kind;
-ghost use Rattle.rail_model.specs.Rules.{rule_of_drop};
-ghost use Rattle.rail_model.specs.Edits.{after_drop};
+ghost use Rattle.rail_model.specs.Rules.{rule_of_drop, after_drop};
 
 use crate::LineTables;
 use crate::linked::take_linked;

@@ -3,9 +3,8 @@
 ghost use Rattle.std.specs.Prelude.{◌≡◌, ◌≤◌, ◌+◌, ℕ, true, length, All, Some, None, IfOk, IfErr, OnOk, OnErr};
 ghost use Rattle.std.specs.Option.{option_map};
 ghost use Rattle.rail_model.specs.declared.items.Item.TheVariants as item;
-ghost use Rattle.rail_model.specs.Rules.{rule_of_change};
+ghost use Rattle.rail_model.specs.Rules.{rule_of_change, after_change};
 ghost use Rattle.rail_model.specs.Within.{is_within};
-ghost use Rattle.rail_model.specs.Edits.{after_change};
 ghost use Rattle.line_tables.specs.AnswersEdit.{AnswersEdit};
 ghost use Rattle.line_tables.specs.declared.linked.Linked.{Linked};
 ghost use Rattle.line_tables.specs.Table.{under, with_change};

@@ -7,7 +7,7 @@ ghost use Rattle.rail_model.specs.declared.edit.Rule.TheVariants as rule;
 ghost use Rattle.rail_model.specs.Rules as rules;
 ghost use Rattle.line_tables.specs.References.{IsNoRoute, rule_of_item, rule_of_references, rule_of_parts, rule_of_key};
 ghost use Rattle.line_tables.specs.References.{rule_before_put, rule_before_change, rule_before};
-ghost use Rattle.rail_model.specs.Sound.{IsSound};
+ghost use Rattle.rail_model.specs.Rules.{IsSound};
 
 use crate::LineTables;
 use crate::key_counts::KeyCounts;

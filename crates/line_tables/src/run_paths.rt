@@ -3,7 +3,7 @@
 //! What a signal and its block say of a hop is the same for every run that passes the signal, so it
 //! is made once for each signal, and a path adds the times of its run's legs.
 ghost use Rattle.std.specs.Prelude.{◌≡◌, ℕ, ◌+◌, ◌<◌, ◌≤◌, OnOk, IfOk, length, All, slice_index_or};
-ghost use Rattle.rail_model.specs.Path.{no_hop, Fits};
+ghost use Rattle.rail_model.specs.Blocking.{no_hop, Fits};
 ghost use Rattle.line_tables.specs.Table.{AreNumbered, AreAtKeys};
 ghost use Rattle.line_tables.specs.Links.{IsLinked};
 ghost use Rattle.line_tables.specs.Inside.{names_of_signal};

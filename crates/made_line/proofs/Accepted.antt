@@ -16,8 +16,7 @@ use Rattle.rail_model.specs.declared.items.Item.TheVariants as item
 use Rattle.rail_model.specs.declared.tables.Tables.{Tables}
 use Rattle.rail_model.specs.Name.{has_repeat}
 use Rattle.rail_model.specs.Within.{no_leg, is_block_within, is_leg_within, is_run_within, last_dwell, is_section_within, is_within}
-use Rattle.rail_model.specs.Edits.{no_tables}
-use Rattle.rail_model.specs.Rules.{rule_of, rule_of_put, is_taken, is_full, refers_to_known, repeats, miscounts_legs, repeats_block, is_named}
+use Rattle.rail_model.specs.Rules.{no_tables, rule_of, rule_of_put, is_taken, is_full, refers_to_known, repeats, miscounts_legs, repeats_block, is_named}
 use Rattle.made_line.specs.Base.{next_number, draw, after_draws, block_name, signal_name, made_block, block_of, first_blocks, made_signal, first_signals, signal_names, made_route, made_leg, first_legs, made_run, run_from, first_runs, made_runs, block_names, made_section, first_sections, put_block, put_signal, put_route, put_run, put_section, base_edits, base_tables}
 use Rattle.made_line.proofs.Lists.{joined_base}
 use Rattle.made_line.proofs.Images.{All-images, All-images_from}

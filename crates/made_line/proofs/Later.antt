@@ -15,8 +15,7 @@ use Rattle.rail_model.specs.declared.edit.Edit.TheVariants as edit
 use Rattle.rail_model.specs.declared.tables.Tables.{Tables}
 use Rattle.rail_model.specs.Name.{is_same}
 use Rattle.rail_model.specs.Within.{is_within}
-use Rattle.rail_model.specs.Edits.{with_changed, after}
-use Rattle.rail_model.specs.Rules.{rule_of, rule_of_change, is_there, is_named, refers_to_known, repeats, makes_repeat, miscounts_legs, makes_miscount}
+use Rattle.rail_model.specs.Rules.{with_changed, after, rule_of, rule_of_change, is_there, is_named, refers_to_known, repeats, makes_repeat, miscounts_legs, makes_miscount}
 use Rattle.rail_model.proofs.Lists.{map_same}
 use Rattle.rail_model.proofs.NameOrder.{is_same-from, is_same-before, is_same-after}
 use Rattle.made_line.specs.Base.{after_draws, run_name, run_of, first_runs, later_run, change_run, base_tables}

@@ -10,9 +10,7 @@ use Rattle.std.proofs.lemmas.List.Sorted.{IsPermutation-refl, IsPermutation-cons
 use Rattle.rail_model.specs.declared.edit.Edit.{Edit}
 use Rattle.rail_model.specs.declared.edit.Rule.{Rule}
 use Rattle.rail_model.specs.declared.tables.Tables.{Tables}
-use Rattle.rail_model.specs.Edits.{after}
-use Rattle.rail_model.specs.Rules.{rule_of}
-use Rattle.rail_model.specs.Edited.{after_edits}
+use Rattle.rail_model.specs.Rules.{after, rule_of, after_edits}
 use Rattle.plan_model.specs.declared.scripts.Task.{Task}
 use Rattle.plan_model.specs.declared.scripts.Task.TheVariants as task
 use Rattle.plan_model.specs.declared.journal.Act.{Act}

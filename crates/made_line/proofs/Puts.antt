@@ -7,9 +7,7 @@ use Rattle.std.proofs.lemmas.List.Folds.{list_any_at, list_any_none}
 use Rattle.rail_model.specs.declared.edit.Edit.{Edit}
 use Rattle.rail_model.specs.declared.tables.Tables.{Tables}
 use Rattle.rail_model.specs.Name.{IsBefore, is_before, is_same}
-use Rattle.rail_model.specs.Edits.{with_item, after}
-use Rattle.rail_model.specs.Rules.{rule_of, is_named}
-use Rattle.rail_model.specs.Edited.{after_edits, AreAccepted}
+use Rattle.rail_model.specs.Rules.{with_item, after, rule_of, is_named, after_edits, AreAccepted}
 use Rattle.rail_model.proofs.NameOrder.{is_before-from, is_before-back, is_same-before, is_same-from}
 use Rattle.rail_model.proofs.Places.{filter_all, filter_none}
 use Rattle.rail_model.proofs.Edited.{accepted_first, accepted_from}

@@ -6,9 +6,7 @@ use Rattle.std.specs.List.Sorted.{IsPermutation}
 use Rattle.std.proofs.lemmas.List.Folds.{flat_map-map}
 use Rattle.rail_model.specs.declared.edit.Edit.{Edit}
 use Rattle.rail_model.specs.declared.tables.Tables.{Tables}
-use Rattle.rail_model.specs.Edits.{after}
-use Rattle.rail_model.specs.Edited.{after_edits}
-use Rattle.rail_model.specs.Rules.{rule_of}
+use Rattle.rail_model.specs.Rules.{after, after_edits, rule_of}
 use Rattle.plan_model.specs.declared.scripts.Task.{Task}
 use Rattle.plan_model.specs.declared.journal.Act.TheVariants as act
 use Rattle.plan_model.specs.declared.journal.Entry.{Entry}

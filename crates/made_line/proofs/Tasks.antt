@@ -5,7 +5,7 @@ use Rattle.std.proofs.lemmas.List.FromFn.{map-range_with_len_more}
 use Rattle.rail_model.specs.declared.items.Run.{Run}
 use Rattle.rail_model.proofs.Lists.{flat_map-range_more}
 use Rattle.plan_model.specs.declared.scripts.Task.{Task}
-use Rattle.plan_model.specs.Scripts.{with_task}
+use Rattle.plan_model.specs.Journal.{with_task}
 use Rattle.made_line.specs.Base.{change_task, ask_task, first_tasks, first_scripts}
 
 last_script : (scripts : List (List Task)) (tasks : List Task)

@@ -6,9 +6,8 @@ use Rattle.plan_model.specs.declared.scripts.Task.{Task}
 use Rattle.rail_model.specs.declared.edit.Edit.TheVariants as edit
 use Rattle.row_text.specs.declared.line.Line.{Line}
 use Rattle.row_text.specs.declared.line.Line.TheVariants as line
-use Rattle.row_text.specs.Row.{Row}
-use Rattle.row_text.specs.Spelling.{row_in}
-use Rattle.row_text.specs.SheetRows.{text_of_rows}
+use Rattle.row_text.specs.SheetRows.{Row, text_of_rows}
+use Rattle.row_text.specs.Lines.{row_in}
 use Rattle.made_line.specs.Base.{base_edits, scripts_of_made}
 use Rattle.made_line.specs.Text.{line_of, script_lines, lines_of_scripts, made_lines, rows_of, made_text}
 

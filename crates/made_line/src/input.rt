@@ -1,6 +1,6 @@
 //! The text that spells the made line and its scripts.
 ghost use Rattle.std.specs.Prelude.{◌≡◌, ◌<◌, ◌++◌, ◌∷◌, [], length, map, IfOk, OnOk};
-ghost use Rattle.row_text.specs.Spelling.{row_in};
+ghost use Rattle.row_text.specs.Lines.{row_in};
 ghost use Rattle.row_text.specs.declared.line.Line.TheVariants as line;
 ghost use Rattle.made_line.specs.Text as made;
 

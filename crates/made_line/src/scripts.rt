@@ -1,6 +1,6 @@
 //! The scripts of the made line's planners.
 ghost use Rattle.std.specs.Prelude.{◌≡◌, ◌<◌, ◌≤◌, ◌++◌, ◌∷◌, [], length, All, IfOk, OnOk};
-ghost use Rattle.plan_model.specs.Scripts.{with_task};
+ghost use Rattle.plan_model.specs.Journal.{with_task};
 ghost use Rattle.plan_model.specs.declared.scripts.Task.TheVariants as task;
 ghost use Rattle.made_line.specs.Base as made;
 

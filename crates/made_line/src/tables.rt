@@ -1,8 +1,6 @@
 //! The tables of the made line.
 ghost use Rattle.std.specs.Prelude.{◌≡◌, None, IfOk, OnOk};
-ghost use Rattle.rail_model.specs.Rules.{rule_of};
-ghost use Rattle.rail_model.specs.Edits.{no_tables, after};
-ghost use Rattle.rail_model.specs.Edited.{after_edits, AreAccepted};
+ghost use Rattle.rail_model.specs.Rules.{rule_of, no_tables, after, after_edits, AreAccepted};
 ghost use Rattle.made_line.specs.Base as base;
 ghost use Rattle.made_line.specs.Base.{base_tables};
 

@@ -3,7 +3,7 @@ use Rattle.std.proofs.Common.{◌≡◌, ℕ, ◌<◌, ◌/◌, sym, ap, subst, 
 use Rattle.std.specs.Int.{IsGcd}
 use Rattle.std.proofs.Math.Nat.{pos_of_dvd_of_pos}
 use Rattle.std.proofs.lemmas.Nat.Gcd.{same_from_IsGcd}
-use Rattle.plan_model.specs.Rates.{Fraction, reduced, IsReduced, common_divisor}
+use Rattle.plan_model.specs.Answer.{Fraction, reduced, IsReduced, common_divisor}
 use Rattle.plan_model.proofs.Reduced.{common_divisor_is, fraction_is_reduced}
 
 abbrev pub divided : ℕ → ℕ → ℕ → Fraction

@@ -9,9 +9,9 @@ use Rattle.std.proofs.lemmas.Simd.{map-map}
 use Rattle.std.proofs.lemmas.List.FromFn.{length-map-range_with_len, get_or-map-range_with_len}
 use Rattle.rail_model.proofs.Lists.{range_more}
 use Rattle.plan_model.specs.declared.cut.Cut.{Cut}
-use Rattle.plan_model.specs.Places.{blocks, block_count, first_by_name, first_with, AnswersFirst}
+use Rattle.plan_model.specs.Members.{blocks, block_count, first_by_name, first_with, AnswersFirst}
 use Rattle.plan_model.specs.Cut.{IsSoundCut}
-use Rattle.plan_model.specs.Occupancy.{used_blocks, time_kept, occupancy, busiest}
+use Rattle.plan_model.specs.Answer.{used_blocks, time_kept, occupancy, busiest}
 use Rattle.plan_model.proofs.MemberTests.{has, in_range, filter-has}
 use Rattle.plan_model.proofs.FirstWith.{is_first, one_more}
 use Rattle.occupancy_rate.specs.declared.spans.Span.{Span}

@@ -14,7 +14,7 @@ use Rattle.plan_model.specs.declared.cut.Cut.{Cut}
 use Rattle.plan_model.specs.Cut.{IsSoundCut, AreOfOtherPlaces, least}
 use Rattle.plan_model.specs.Members.{member, member_count, members, uses_place, no_use}
 use Rattle.plan_model.specs.Schedule.{entry_at, start_at, end_at, start_by, end_by}
-use Rattle.plan_model.specs.Occupancy.{greatest}
+use Rattle.plan_model.specs.Answer.{greatest}
 use Rattle.plan_model.proofs.MemberTests.{has, in_range}
 use Rattle.plan_model.proofs.Sound.{differ}
 use Rattle.plan_model.proofs.UseFound.{no_other}

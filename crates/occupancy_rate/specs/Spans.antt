@@ -5,10 +5,9 @@ use Rattle.std.specs.List.{list_any, range_with_len}
 use Rattle.rail_model.specs.declared.stair.Use.{Use}
 use Rattle.plan_model.specs.declared.cut.CutRow.{CutRow}
 use Rattle.plan_model.specs.declared.cut.Cut.{Cut}
-use Rattle.plan_model.specs.Places.{block_count}
-use Rattle.plan_model.specs.Members.{member, members, uses_place}
+use Rattle.plan_model.specs.Members.{block_count, member, members, uses_place}
 use Rattle.plan_model.specs.Schedule.{entry_at}
-use Rattle.plan_model.specs.Occupancy.{first_start, last_end}
+use Rattle.plan_model.specs.Answer.{first_start, last_end}
 use Rattle.occupancy_rate.specs.declared.spans.Span.{Span}
 pub use Rattle.plan_model.specs.Cut.{IsBounded}
 

@@ -1,7 +1,7 @@
 //! Reduced fractions.
 ghost use Rattle.std.specs.Prelude.{◌≡◌, ◌<◌, ◌≤◌, ◌^◌};
 ghost use Rattle.std.specs.Int.{IsGcd};
-ghost use Rattle.plan_model.specs.Rates as rates;
+ghost use Rattle.plan_model.specs.Answer as rates;
 
 use std::marker::Model;
 
@@ -15,7 +15,7 @@ pub struct Fraction {
 impl Model for Fraction {
     ghost use Rattle.std.specs.Prelude.{ℕ, ◌<◌};
     ghost use Rattle.std.specs.Int.{IsGcd};
-    ghost use Rattle.plan_model.specs.Rates.{Fraction};
+    ghost use Rattle.plan_model.specs.Answer.{Fraction};
 
     ghost Value = { Fraction };
 

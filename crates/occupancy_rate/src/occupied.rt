@@ -2,9 +2,8 @@
 ghost use Rattle.std.specs.Prelude.{◌≡◌, ◌<◌, List, ℤ, length, if◌then◌else◌, IfSome};
 ghost use Rattle.std.specs.List.{All};
 ghost use Rattle.plan_model.specs.Cut.{IsSoundCut};
-ghost use Rattle.plan_model.specs.Places.{block_count, place_count, first_with, AnswersFirst};
-ghost use Rattle.plan_model.specs.Members.{member_count};
-ghost use Rattle.plan_model.specs.Occupancy as occupied;
+ghost use Rattle.plan_model.specs.Members.{block_count, place_count, first_with, AnswersFirst, member_count};
+ghost use Rattle.plan_model.specs.Answer as occupied;
 ghost use Rattle.occupancy_rate.specs.Spans as spans;
 ghost use Rattle.occupancy_rate.specs.Spans.{AreSpans, lasting};
 

@@ -1,8 +1,7 @@
 //! From when until when each block of a section is used.
 ghost use Rattle.std.specs.Prelude.{◌≡◌, ℕ, ◌<◌, ◌≤◌, length, map, fold, max, slice_index_or, All, None};
 ghost use Rattle.plan_model.specs.Cut.{IsBounded, IsMoment, IsUsable};
-ghost use Rattle.plan_model.specs.Members.{member_count};
-ghost use Rattle.plan_model.specs.Places.{block_count, place_count};
+ghost use Rattle.plan_model.specs.Members.{member_count, block_count, place_count};
 ghost use Rattle.occupancy_rate.specs.Spans as given;
 
 use plan_model::{CutRow, SoundCut, shift};

@@ -9,11 +9,10 @@ use Rattle.std.proofs.Math.Nat.{mul-le-mul_right}
 use Rattle.rail_model.proofs.Numbers.{le_both_ways}
 use Rattle.plan_model.specs.declared.cut.CutRow.{CutRow}
 use Rattle.plan_model.specs.declared.cut.Cut.{Cut}
-use Rattle.plan_model.specs.Places.{block_count, blocks}
-use Rattle.plan_model.specs.Members.{member, member_count, members, no_member, uses_place, use_at}
+use Rattle.plan_model.specs.Members.{block_count, blocks, member, member_count, members, no_member, uses_place, use_at}
 use Rattle.plan_model.specs.Cut.{IsSoundCut}
 use Rattle.plan_model.specs.Schedule.{entry_at, start_at, end_at, start_by, end_by, IsLeast}
-use Rattle.plan_model.specs.Occupancy.{users, used_blocks, first_start, last_end, time_kept, occupancy}
+use Rattle.plan_model.specs.Answer.{users, used_blocks, first_start, last_end, time_kept, occupancy}
 use Rattle.plan_model.proofs.MemberTests.{has, in_range, filter-has, some_member}
 use Rattle.plan_model.proofs.Uses.{takes_time}
 use Rattle.plan_model.proofs.Users.{is_user, user, is_used}

@@ -7,8 +7,7 @@ use Rattle.std.proofs.lemmas.Bool.Decides.{nat_tests}
 use Rattle.rail_model.specs.declared.stair.Use.{Use}
 use Rattle.plan_model.specs.declared.cut.CutRow.{CutRow}
 use Rattle.plan_model.specs.declared.cut.Cut.{Cut}
-use Rattle.plan_model.specs.Places.{block_count}
-use Rattle.plan_model.specs.Members.{member, member_count, no_member, no_use, uses_place, use_of, use_at}
+use Rattle.plan_model.specs.Members.{block_count, member, member_count, no_member, no_use, uses_place, use_of, use_at}
 use Rattle.plan_model.specs.Cut.{IsSoundCut}
 use Rattle.path_fill.specs.Search.{where_used}
 

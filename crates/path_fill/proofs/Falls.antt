@@ -1,9 +1,8 @@
 -- With more copies neither the filled occupancy nor the consumption is less.
 use Rattle.std.proofs.Common.{◌≡◌, ℕ, zero, suc, ◌+◌, ◌*◌, ◌<◌, ◌≤◌, arith}
 use Rattle.std.proofs.Math.Nat.{mul-le-mul_right, le_of_mul-le-mul_right}
-use Rattle.plan_model.specs.Rates.{period, reduced, IsReduced}
+use Rattle.plan_model.specs.Answer.{period, reduced, IsReduced, occupancy}
 use Rattle.plan_model.proofs.Reduced.{fraction_is_reduced}
-use Rattle.plan_model.specs.Occupancy.{occupancy}
 use Rattle.path_fill.specs.Search.{filled_time}
 use Rattle.path_fill.specs.Laws.{OccupancyNeverFalls, ConsumptionNeverFalls}
 use Rattle.path_fill.proofs.Merged.{members_enter_as_compressed}

@@ -6,11 +6,10 @@ use Rattle.std.proofs.lemmas.Int.{ints}
 use Rattle.std.proofs.Common.{length-append}
 use Rattle.plan_model.specs.declared.cut.Cut.{Cut}
 use Rattle.plan_model.specs.declared.answer.Tie.{Tie}
-use Rattle.plan_model.specs.Places.{block_count, place_count}
-use Rattle.plan_model.specs.Members.{member, member_count, uses_place, use_at}
+use Rattle.plan_model.specs.Members.{block_count, place_count, member, member_count, uses_place, use_at}
 use Rattle.plan_model.specs.Cut.{IsSoundCut}
 use Rattle.plan_model.specs.Schedule.{window_start, window_floor, start_at, end_by, entry_at}
-use Rattle.plan_model.specs.Closing.{IsAfterAll}
+use Rattle.plan_model.specs.Answer.{IsAfterAll}
 use Rattle.plan_model.proofs.Uses.{takes_time}
 use Rattle.train_order.specs.Ordering.{IsOrder}
 use Rattle.train_order.proofs.Next.{is_there}

@@ -5,12 +5,11 @@ use Rattle.std.proofs.lemmas.Int.{ints}
 use Rattle.plan_model.specs.declared.limits.TheConstants.{MEMBERS}
 use Rattle.plan_model.specs.declared.cut.Cut.{Cut}
 use Rattle.plan_model.specs.declared.answer.Tie.{Tie}
-use Rattle.plan_model.specs.Places.{block_count}
-use Rattle.plan_model.specs.Members.{member, member_count, uses_place}
+use Rattle.plan_model.specs.Members.{block_count, member, member_count, uses_place}
 use Rattle.plan_model.specs.Cut.{IsBounded, IsSoundCut}
 use Rattle.plan_model.specs.Disorder.{remaining}
 use Rattle.plan_model.specs.Schedule.{window_start, window_floor}
-use Rattle.plan_model.specs.Occupancy.{occupancy}
+use Rattle.plan_model.specs.Answer.{occupancy}
 use Rattle.train_order.specs.Ordering.{IsOrder}
 use Rattle.train_order.proofs.Next.{count}
 use Rattle.train_placing.specs.declared.last.Last.{Last}

@@ -6,10 +6,9 @@ use Rattle.std.proofs.lemmas.Int.{ints}
 use Rattle.std.proofs.lemmas.List.FromFn.{length-map-range_with_len, get_or-map-range_with_len}
 use Rattle.std.proofs.Math.Nat.{mul-le-mul_right}
 use Rattle.plan_model.specs.declared.cut.Cut.{Cut}
-use Rattle.plan_model.specs.Places.{block_count}
-use Rattle.plan_model.specs.Members.{member, member_count, uses_place, use_at}
+use Rattle.plan_model.specs.Members.{block_count, member, member_count, uses_place, use_at}
 use Rattle.plan_model.specs.Schedule.{window_start, entry_at, start_at, end_by, IsLeast}
-use Rattle.plan_model.specs.Closing.{IsAfterAll}
+use Rattle.plan_model.specs.Answer.{IsAfterAll}
 use Rattle.path_fill.specs.Filling.{IsFilled, IsLeastFilled, FollowsCopy}
 use Rattle.path_fill.specs.Search.{time_at}
 use Rattle.path_fill.proofs.FirstCopy.{IsFirstCopy}

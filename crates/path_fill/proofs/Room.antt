@@ -5,7 +5,7 @@ use Rattle.std.proofs.lemmas.Bool.{cases_lt}
 use Rattle.std.proofs.lemmas.Bool.Decides.{nat_tests}
 use Rattle.std.proofs.Math.Nat.{mul-le-mul_right, le_of_mul-le-mul_right, div-mul-le_self, lt-div-mul-add}
 use Rattle.rail_model.specs.declared.items.Section.{Section}
-use Rattle.plan_model.specs.Rates.{period, reduced, IsReduced}
+use Rattle.plan_model.specs.Answer.{period, reduced, IsReduced}
 use Rattle.plan_model.proofs.Reduced.{fraction_is_reduced}
 use Rattle.path_fill.specs.Filling.{has_room}
 use Rattle.path_fill.specs.Search.{filled_time}

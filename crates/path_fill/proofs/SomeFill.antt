@@ -3,11 +3,10 @@ use Rattle.std.proofs.Common.{◌≡◌, ℕ, zero, suc, ◌<◌, List, inl, inr
 use Rattle.std.specs.Prelude.{ℤ, pos, ◌+ℤ◌, ◌-ℤ◌, ◌≤ℤ◌, nat_abs, Bool}
 use Rattle.std.proofs.lemmas.Int.{ints}
 use Rattle.plan_model.specs.declared.cut.Cut.{Cut}
-use Rattle.plan_model.specs.Places.{block_count}
-use Rattle.plan_model.specs.Members.{member, member_count, uses_place, use_at}
+use Rattle.plan_model.specs.Members.{block_count, member, member_count, uses_place, use_at}
 use Rattle.plan_model.specs.Cut.{IsSoundCut}
 use Rattle.plan_model.specs.Schedule.{window_start, window_floor, start_at, end_by, IsLeast}
-use Rattle.plan_model.specs.Occupancy.{occupancy}
+use Rattle.plan_model.specs.Answer.{occupancy}
 use Rattle.compression.proofs.SomeLeast.{least_is_there}
 use Rattle.path_fill.specs.Filling.{IsFilledOccupancy}
 use Rattle.path_fill.specs.Laws.{FilledOccupancyIsThere}

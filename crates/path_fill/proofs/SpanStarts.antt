@@ -5,11 +5,10 @@ use Rattle.std.proofs.lemmas.Bool.{cases_Bool}
 use Rattle.std.proofs.lemmas.Int.{ints}
 use Rattle.std.proofs.lemmas.List.Elements.{All-from_get_or, All-get_or}
 use Rattle.plan_model.specs.declared.cut.Cut.{Cut}
-use Rattle.plan_model.specs.Places.{block_count}
-use Rattle.plan_model.specs.Members.{member, member_count, uses_place, use_at}
+use Rattle.plan_model.specs.Members.{block_count, member, member_count, uses_place, use_at}
 use Rattle.plan_model.specs.Cut.{IsBounded, IsMoment, IsSoundCut}
 use Rattle.plan_model.specs.Schedule.{entry_at, start_by, end_at}
-use Rattle.plan_model.specs.Occupancy.{users, first_start}
+use Rattle.plan_model.specs.Answer.{users, first_start}
 use Rattle.plan_model.proofs.MemberTests.{some_member, has_any, has-range}
 use Rattle.plan_model.proofs.Users.{is_user, user}
 use Rattle.plan_model.proofs.Greatest.{below_each, least_within}

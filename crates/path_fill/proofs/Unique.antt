@@ -6,7 +6,7 @@ use Rattle.rail_model.proofs.Numbers.{le_both_ways}
 use Rattle.plan_model.specs.declared.cut.Cut.{Cut}
 use Rattle.plan_model.specs.Members.{member_count}
 use Rattle.plan_model.specs.Schedule.{entry_at}
-use Rattle.plan_model.specs.Occupancy.{occupancy}
+use Rattle.plan_model.specs.Answer.{occupancy}
 use Rattle.path_fill.specs.Filling.{IsLeastFilled, with_copies}
 use Rattle.path_fill.specs.Laws.{FilledOccupancyIsUnique}
 

@@ -1,21 +1,17 @@
 -- How many copies of a train a section can take, behind all its trains, and the rows that tell it.
 use Rattle.std.specs.Prelude.{◌≡◌, ℕ, ◌<◌, ℤ, ◌≤ℤ◌, List, ◌++◌, length, replicate, All, AllPairs, IsTrue, ◌+◌, ◌≤◌, Bool, true, false, [], Result, Ok, Err, None, ⊤, ◌∷◌, codes, decimal}
 use Rattle.rail_model.specs.declared.items.Section.{Section}
-use Rattle.row_text.specs.Row.{Row}
+use Rattle.row_text.specs.SheetRows.{Row}
 use Rattle.plan_model.specs.declared.cut.Cut.{Cut}
-use Rattle.plan_model.specs.Places.{block_count}
-use Rattle.plan_model.specs.Members.{member, member_count, uses_place}
+use Rattle.plan_model.specs.Members.{block_count, member, member_count, uses_place}
 use Rattle.plan_model.specs.Schedule.{window_start, entry_at, start_at, end_at, IsSchedule}
-use Rattle.plan_model.specs.Closing.{IsAfterAll}
-use Rattle.plan_model.specs.Occupancy.{occupancy}
+use Rattle.plan_model.specs.Answer.{IsAfterAll, occupancy, IsAnswer, Fraction, period, consumption, is_within}
 use Rattle.plan_model.specs.declared.limits.TheConstants.{MEMBERS}
 use Rattle.plan_model.specs.declared.answer.Answer.{Answer}
 use Rattle.plan_model.specs.declared.answer.Answer.TheVariants as answer
 use Rattle.plan_model.specs.Disorder.{opposite, remaining}
-use Rattle.plan_model.specs.Answer.{IsAnswer}
-use Rattle.plan_model.specs.Rates.{Fraction, period, consumption, is_within}
 use Rattle.answer_parts.specs.Rows.{consumption_fields}
-use Rattle.path_fill.specs.declared.found.Fill.{Fill}
+use Rattle.path_fill.specs.Types.{Fill}
 use Rattle.path_fill.specs.declared.found.Fill.TheVariants as fill
 
 -- one copy of member r comes after another: on each block that the member uses, the first ends its use before the later

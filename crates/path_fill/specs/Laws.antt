@@ -6,8 +6,8 @@ use Rattle.plan_model.specs.Members.{member_count}
 use Rattle.plan_model.specs.Cut.{IsSoundCut}
 use Rattle.plan_model.specs.Disorder.{remaining}
 use Rattle.plan_model.specs.Schedule.{IsLeast}
-use Rattle.plan_model.specs.Rates.{Fraction}
-use Rattle.path_fill.specs.declared.found.Fill.{Fill}
+use Rattle.plan_model.specs.Answer.{Fraction}
+use Rattle.path_fill.specs.Types.{Fill}
 use Rattle.path_fill.specs.Filling.{IsLeastFilled, IsFilledOccupancy, consumption_of, IsFill, IsFilling}
 
 -- with so many copies there is at most one filled occupancy

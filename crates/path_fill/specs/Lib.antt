@@ -1,3 +1,4 @@
+pub mod Types
 pub mod Filling
 pub mod Laws
 pub mod Search

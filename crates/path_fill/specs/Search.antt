@@ -5,10 +5,10 @@ use Rattle.rail_model.specs.declared.items.Section.{Section}
 use Rattle.plan_model.specs.declared.cut.Cut.{Cut}
 use Rattle.plan_model.specs.Members.{member, use_at}
 use Rattle.plan_model.specs.Schedule.{end_at}
-use Rattle.plan_model.specs.Occupancy.{first_start}
+use Rattle.plan_model.specs.Answer.{first_start}
 use Rattle.occupancy_rate.specs.declared.spans.Span.{Span}
 use Rattle.train_placing.specs.declared.last.Last.{Last}
-use Rattle.path_fill.specs.declared.found.Fill.{Fill}
+use Rattle.path_fill.specs.Types.{Fill}
 use Rattle.path_fill.specs.declared.found.Fill.TheVariants as fill
 use Rattle.path_fill.specs.Filling.{has_room}
 

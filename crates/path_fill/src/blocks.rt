@@ -4,9 +4,8 @@ ghost use Rattle.std.specs.Prelude.{◌≡◌, ℕ, ◌<◌, ◌≤◌, ◌^◌,
 ghost use Rattle.std.specs.List.{All};
 ghost use Rattle.train_placing.specs.Last.{IsNear, IsNearLast};
 ghost use Rattle.plan_model.specs.Cut.{IsBounded, IsMoment};
-ghost use Rattle.plan_model.specs.Members.{member, member_count, uses_place};
-ghost use Rattle.plan_model.specs.Places.{block_count, place_count};
-ghost use Rattle.plan_model.specs.Occupancy.{occupancy};
+ghost use Rattle.plan_model.specs.Members.{member, member_count, uses_place, block_count, place_count};
+ghost use Rattle.plan_model.specs.Answer.{occupancy};
 ghost use Rattle.plan_model.specs.Schedule.{window_start};
 ghost use Rattle.path_fill.specs.Search as given;
 ghost use Rattle.path_fill.specs.Search.{IsGreatest};

@@ -10,9 +10,7 @@ use Rattle.plan_model.specs.declared.journal.Entry.{Entry}
 use Rattle.plan_model.specs.declared.outcome.NotTaken.{NotTaken}
 use Rattle.plan_model.specs.declared.outcome.NotTaken.TheVariants as not_taken
 use Rattle.plan_model.specs.Journal.{Opening, opening, edit_of, issued, issues, done_by, task_of, last_number, last_publication}
-use Rattle.plan_model.specs.Changes.{Stays}
-use Rattle.plan_model.specs.Touch.{cut_at, cut_now, IsCurrent, IsLastTouching}
-use Rattle.plan_model.specs.Legal.{IsJournal, IsAnswerAt, MayBePublished}
+use Rattle.plan_model.specs.Legal.{Stays, cut_at, cut_now, IsCurrent, IsLastTouching, IsJournal, IsAnswerAt, MayBePublished}
 use Rattle.plan_model.proofs.Growing.{opening-more, issued-more, done_by-more, others_keep_tables}
 use Rattle.plan_model.proofs.Changing.{same_from, stays_within}
 use Rattle.plan_model.proofs.Legality.{legal_has_one}

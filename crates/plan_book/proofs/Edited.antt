@@ -7,17 +7,14 @@ use Rattle.rail_model.specs.declared.items.Section.{Section}
 use Rattle.rail_model.specs.declared.edit.Edit.{Edit}
 use Rattle.rail_model.specs.declared.tables.Tables.{Tables}
 use Rattle.rail_model.specs.Name.{is_same, NamesRise}
-use Rattle.rail_model.specs.Rules.{is_named}
-use Rattle.rail_model.specs.Edits.{after}
+use Rattle.rail_model.specs.Rules.{is_named, after}
 use Rattle.rail_model.proofs.NameOrder.{same_name}
 use Rattle.plan_model.specs.declared.journal.Entry.{Entry}
-use Rattle.plan_model.specs.Cut.{stamped}
-use Rattle.plan_model.specs.SectionCut.{section_cut, cut_of}
+use Rattle.plan_model.specs.Cut.{stamped, section_cut, cut_of}
 use Rattle.plan_model.specs.Journal.{Opening, opening, edit_of, edits, last_number, tables_of, issues, publication_of}
 use Rattle.plan_model.specs.declared.scripts.Task.TheVariants as task
 use Rattle.plan_model.specs.declared.journal.Act.TheVariants as act
-use Rattle.plan_model.specs.Legal.{IsNext, IsJournal}
-use Rattle.plan_model.specs.Touch.{cut_at, cut_now, IsLastTouching}
+use Rattle.plan_model.specs.Legal.{IsNext, IsJournal, cut_at, cut_now, IsLastTouching}
 use Rattle.plan_model.proofs.Growing.{opening-more, tables_at-past}
 use Rattle.plan_model.proofs.Legality.{legal_has_one}
 use Rattle.plan_book.specs.declared.changes.ShelfChange.{ShelfChange}

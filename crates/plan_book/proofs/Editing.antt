@@ -3,15 +3,14 @@ use Rattle.std.proofs.Common.{◌≡◌, ℕ, ◌+◌, ◌<◌, ◌≤◌, List,
 use Rattle.std.specs.Prelude.{◌≢◌, option_map, All, IfSome}
 use Rattle.rail_model.specs.declared.edit.Edit.{Edit}
 use Rattle.rail_model.specs.Name.{is_same}
-use Rattle.rail_model.specs.Edits.{after}
+use Rattle.rail_model.specs.Rules.{after}
 use Rattle.rail_model.proofs.Lists.{find-map}
 use Rattle.plan_model.specs.declared.cut.CutRow.{CutRow}
 use Rattle.plan_model.specs.declared.cut.Cut.{Cut}
 use Rattle.plan_model.specs.declared.journal.Entry.{Entry}
-use Rattle.plan_model.specs.Cut.{stamped_row, stamped, IsSoundCut}
-use Rattle.plan_model.specs.SectionCut.{cut_of}
+use Rattle.plan_model.specs.Cut.{stamped_row, stamped, IsSoundCut, cut_of}
 use Rattle.plan_model.specs.Journal.{opening, edit_of, edits, last_number, tables_of, publication_of}
-use Rattle.plan_model.specs.Touch.{row_named, cut_at, row_at, IsLastTouching, IsStamp}
+use Rattle.plan_model.specs.Legal.{row_named, cut_at, row_at, IsLastTouching, IsStamp}
 use Rattle.plan_model.proofs.Growing.{opening-more, last_number-more, tables_of-more, tables_at-past, cut_at-more, row_at-more}
 use Rattle.plan_book.specs.declared.changes.ShelfChange.{ShelfChange}
 use Rattle.plan_book.specs.declared.changes.ShelfChange.TheVariants as change

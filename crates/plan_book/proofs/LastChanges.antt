@@ -1,7 +1,7 @@
 -- The last change of a value: where the value goes on, and of another value that agrees with it.
 use Rattle.std.proofs.Common.{◌≡◌, ℕ, ◌+◌, ◌-◌, ◌≤◌, inl, inr, sym, ap, ◌∙◌, arith}
 use Rattle.std.specs.Prelude.{◌≢◌}
-use Rattle.plan_model.specs.Changes.{IsLastChange}
+use Rattle.plan_model.specs.Legal.{IsLastChange}
 use Rattle.plan_model.proofs.Changing.{stays_at, stays_more, stays_too}
 
 -- of another value that is the same up to the last number

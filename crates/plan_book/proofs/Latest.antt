@@ -3,8 +3,7 @@ use Rattle.std.proofs.Common.{◌≡◌, ℕ, ◌<◌, List, Option, Some, None,
 use Rattle.std.proofs.lemmas.Bool.{cases_lt}
 use Rattle.plan_model.specs.declared.journal.Entry.{Entry}
 use Rattle.plan_model.specs.Journal.{Publication, last_number}
-use Rattle.plan_model.specs.Touch.{cut_at, IsCurrent}
-use Rattle.plan_model.specs.Legal.{IsJournal}
+use Rattle.plan_model.specs.Legal.{cut_at, IsCurrent, IsJournal}
 use Rattle.plan_model.proofs.Changing.{stays_within}
 use Rattle.plan_model.proofs.Touching.{touched_since, last_is_right}
 use Rattle.plan_book.specs.declared.shelf.Published.{Published}

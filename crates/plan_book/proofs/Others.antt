@@ -6,7 +6,7 @@ use Rattle.plan_model.specs.declared.cut.CutRow.{CutRow}
 use Rattle.plan_model.specs.declared.cut.Cut.{Cut}
 use Rattle.plan_model.specs.declared.journal.Entry.{Entry}
 use Rattle.plan_model.specs.Journal.{opening, edit_of, edits, last_number, publication_of}
-use Rattle.plan_model.specs.Touch.{cut_at, row_at, IsLastTouching, IsStamp}
+use Rattle.plan_model.specs.Legal.{cut_at, row_at, IsLastTouching, IsStamp}
 use Rattle.plan_model.proofs.Growing.{opening-more, last_publication-more, others_keep_tables}
 use Rattle.plan_book.specs.declared.shelf.Published.{Published}
 use Rattle.plan_book.specs.declared.shelf.Shelf.{Shelf}

@@ -4,10 +4,9 @@ use Rattle.std.specs.Prelude.{option_map}
 use Rattle.rail_model.specs.declared.items.Section.{Section}
 use Rattle.rail_model.specs.Tables.{no_section, section_at}
 use Rattle.plan_model.specs.declared.journal.Entry.{Entry}
-use Rattle.plan_model.specs.SectionCut.{section_cut}
+use Rattle.plan_model.specs.Cut.{section_cut}
 use Rattle.plan_model.specs.Journal.{tables_of}
-use Rattle.plan_model.specs.Touch.{cut_now}
-use Rattle.plan_model.specs.Legal.{IsJournal}
+use Rattle.plan_model.specs.Legal.{cut_now, IsJournal}
 use Rattle.plan_model.specs.Outcome.{section_name}
 use Rattle.plan_model.proofs.Legality.{tables_are_sound}
 use Rattle.section_cut.proofs.Rows.{found_at}

@@ -8,17 +8,14 @@ use Rattle.std.proofs.lemmas.Simd.{map-map}
 use Rattle.rail_model.specs.declared.items.Section.{Section}
 use Rattle.rail_model.specs.declared.tables.Tables.{Tables}
 use Rattle.rail_model.specs.Name.{is_same, IsBefore, NamesRise}
-use Rattle.rail_model.specs.Sound.{IsSound}
+use Rattle.rail_model.specs.Rules.{IsSound}
 use Rattle.rail_model.proofs.Lists.{find-map, AllPairs-map}
 use Rattle.plan_model.specs.declared.scripts.Task.{Task}
 use Rattle.plan_model.specs.declared.journal.Entry.{Entry}
-use Rattle.plan_model.specs.Cut.{stamped, stamped_row, IsSoundCut}
-use Rattle.plan_model.specs.SectionCut.{is_member, row_of, section_cut, cut_of}
+use Rattle.plan_model.specs.Cut.{stamped, stamped_row, IsSoundCut, is_member, row_of, section_cut, cut_of}
 use Rattle.plan_model.specs.Session.{opened}
-use Rattle.plan_model.specs.Journal.{last_number, tables_of, issued, last_publication, done_by}
-use Rattle.plan_model.specs.Journal.{planners as planners_of, script_of}
-use Rattle.plan_model.specs.Changes.{IsLastChange}
-use Rattle.plan_model.specs.Touch.{cut_at, row_at, cut_now, IsStamp}
+use Rattle.plan_model.specs.Journal.{last_number, tables_of, issued, last_publication, done_by, planners as planners_of, script_of}
+use Rattle.plan_model.specs.Legal.{IsLastChange, cut_at, row_at, cut_now, IsStamp}
 use Rattle.plan_model.proofs.Changing.{stays_at}
 use Rattle.plan_model.proofs.Growing.{tables_at-past}
 use Rattle.plan_book.specs.declared.book.TheConstants.{PLANNERS, TASKS, FIRST_NUMBER}

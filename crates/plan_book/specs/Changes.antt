@@ -3,8 +3,7 @@ use Rattle.std.specs.Prelude.{◌≡◌, ℕ, ◌<◌, List, length, true, All, 
 use Rattle.rail_model.specs.declared.tables.Tables.{Tables}
 use Rattle.rail_model.specs.Name.{NamesRise}
 use Rattle.rail_model.specs.Rules.{is_named}
-use Rattle.plan_model.specs.Cut.{stamped, IsSoundCut}
-use Rattle.plan_model.specs.SectionCut.{cut_of}
+use Rattle.plan_model.specs.Cut.{stamped, IsSoundCut, cut_of}
 use Rattle.section_cut.specs.declared.cut_changes.CutChange.{CutChange}
 use Rattle.section_cut.specs.declared.cut_changes.CutChange.TheVariants as cut_change
 use Rattle.plan_book.specs.declared.changes.ShelfChange.{ShelfChange}

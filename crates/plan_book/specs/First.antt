@@ -2,8 +2,7 @@
 use Rattle.std.specs.Prelude.{◌≡◌, ℕ, List, map, None, Some, IfSome, All}
 use Rattle.rail_model.specs.declared.items.Section.{Section}
 use Rattle.rail_model.specs.declared.tables.Tables.{Tables}
-use Rattle.plan_model.specs.Cut.{stamped, IsSoundCut}
-use Rattle.plan_model.specs.SectionCut.{section_cut}
+use Rattle.plan_model.specs.Cut.{stamped, IsSoundCut, section_cut}
 use Rattle.plan_book.specs.declared.shelf.Shelf.{Shelf}
 use Rattle.plan_book.specs.declared.stored.Stored.TheVariants as stored
 use Rattle.plan_book.specs.Shelves.{kept_cut}

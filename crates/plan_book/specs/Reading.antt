@@ -3,7 +3,7 @@ use Rattle.std.specs.Prelude.{◌≡◌, ℕ, ◌<◌, ◌≤◌, List, Some}
 use Rattle.plan_model.specs.declared.journal.Entry.{Entry}
 use Rattle.plan_model.specs.Reading.{Shown}
 use Rattle.plan_model.specs.Journal.{last_number}
-use Rattle.plan_model.specs.Touch.{IsCurrent, IsReading}
+use Rattle.plan_model.specs.Legal.{IsCurrent, IsReading}
 use Rattle.plan_model.specs.Outcome.{IsOfShare, section_name}
 use Rattle.plan_book.specs.declared.shelf.Published.{Published}
 use Rattle.plan_book.specs.declared.shelf.Shelf.{Shelf}

@@ -11,7 +11,7 @@ use Rattle.plan_model.specs.declared.outcome.NotTaken.{NotTaken}
 use Rattle.plan_model.specs.declared.outcome.NotTaken.TheVariants as not_taken
 use Rattle.plan_model.specs.Cut.{stamped, IsSoundCut}
 use Rattle.plan_model.specs.Journal.{last_publication}
-use Rattle.plan_model.specs.Touch.{cut_now, IsLastTouching, IsStamp}
+use Rattle.plan_model.specs.Legal.{cut_now, IsLastTouching, IsStamp}
 use Rattle.plan_book.specs.declared.shelf.Published.{Published}
 use Rattle.plan_book.specs.declared.shelf.Shelf.{Shelf}
 use Rattle.plan_book.specs.Stored.{cut_in}

@@ -3,13 +3,12 @@ ghost use Rattle.std.specs.Prelude.{◌≡◌, ◌+◌, ◌≤◌, ◌<◌, ◌+
 ghost use Rattle.std.specs.Prelude.{IfOk, OnOk, OnErr, MatchResult};
 ghost use Rattle.plan_model.specs.Journal.{opening, last_number, tables_of, issued, tasks_left};
 ghost use Rattle.plan_model.specs.Legal.{IsJournal, IsNext, MayBePublished};
-ghost use Rattle.rail_model.specs.Sound.{IsSound};
+ghost use Rattle.rail_model.specs.Rules.{IsSound, rule_of};
 ghost use Rattle.plan_model.specs.Session.{opened};
 ghost use Rattle.plan_model.specs.Board.{Gives};
 ghost use Rattle.plan_model.specs.Outcome.{AddsEntry, EditsTo, AsksTo, PublishesTo, IsDone, IsNotTaken};
 ghost use Rattle.plan_model.specs.Outcome.{reply_of};
-ghost use Rattle.rail_model.specs.Rules.{rule_of};
-ghost use Rattle.rail_model.specs.Edits as edits;
+ghost use Rattle.rail_model.specs.Rules as edits;
 ghost use Rattle.plan_model.specs.declared.journal.Act.TheVariants as acts;
 ghost use Rattle.plan_model.specs.declared.scripts.Task.TheVariants as tasks;
 ghost use Rattle.plan_book.specs.Kept.{IsQuiet, IsBy, MayDo, IsAnswered};

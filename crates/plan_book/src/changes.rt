@@ -1,7 +1,7 @@
 //! What an edit makes of what a book knows of sections.
 ghost use Rattle.std.specs.Prelude.{◌≡◌, ◌<◌, ◌≤◌, true, All, IfOk, IfSome, OnOk, length};
 ghost use Rattle.std.specs.Option.{option_copied};
-ghost use Rattle.rail_model.specs.Edits as edits;
+ghost use Rattle.rail_model.specs.Rules as edits;
 ghost use Rattle.rail_model.specs.Name.{NamesRise};
 ghost use Rattle.rail_model.specs.Rules.{is_named};
 ghost use Rattle.plan_model.specs.Cut.{IsSoundCut};

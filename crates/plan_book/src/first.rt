@@ -1,7 +1,7 @@
 //! What a book knows of sections when it is started.
 ghost use Rattle.std.specs.Prelude.{◌≡◌, ◌<◌, length, map, All, IfOk, IfSome};
 ghost use Rattle.rail_model.specs.Tables.{section_at};
-ghost use Rattle.rail_model.specs.Timetable.{timetable};
+ghost use Rattle.rail_model.specs.Conflict.{timetable};
 ghost use Rattle.plan_model.specs.Cut.{IsSoundCut};
 ghost use Rattle.plan_book.specs.First as firsts;
 ghost use Rattle.plan_book.specs.Shelves.{kept_cut};

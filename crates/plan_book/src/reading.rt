@@ -1,8 +1,7 @@
 //! What a book reads next.
 ghost use Rattle.std.specs.Prelude.{◌≡◌, ◌<◌, ◌↔◌, IsTrue, IfOk, MatchOption, length};
 ghost use Rattle.plan_model.specs.Journal.{opening, tables_of, tasks_left};
-ghost use Rattle.plan_model.specs.Touch.{IsCurrent};
-ghost use Rattle.plan_model.specs.Legal.{IsLegal, IsJournal};
+ghost use Rattle.plan_model.specs.Legal.{IsCurrent, IsLegal, IsJournal};
 ghost use Rattle.plan_model.specs.Outcome.{section_name, ShareIsCurrent, ReadsTo};
 ghost use Rattle.plan_book.specs.Shelves.{IsShelf};
 ghost use Rattle.plan_book.specs.Kept.{IsWithin, AreDone};

@@ -1,6 +1,6 @@
 //! A line's tables, kept twice.
 ghost use Rattle.std.specs.Prelude.{◌≡◌, IfOk, IfSome};
-ghost use Rattle.rail_model.specs.Edits as edits;
+ghost use Rattle.rail_model.specs.Rules as edits;
 
 use line_tables::LineTables;
 use rail_model::{Edit, OutOfMemory};

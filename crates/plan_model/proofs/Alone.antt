@@ -16,11 +16,9 @@ use Rattle.plan_model.specs.declared.journal.Act.TheVariants as act
 use Rattle.plan_model.specs.declared.journal.Entry.{Entry}
 use Rattle.plan_model.specs.declared.journal.Reply.{Reply}
 use Rattle.plan_model.specs.Answer.{IsAnswer}
-use Rattle.plan_model.specs.SectionCut.{section_cut}
+use Rattle.plan_model.specs.Cut.{section_cut}
 use Rattle.plan_model.specs.Journal.{last_number, tables_at, edits, publications, task_of}
-use Rattle.plan_model.specs.Changes.{Stays}
-use Rattle.plan_model.specs.Touch.{cut_at, IsCurrent}
-use Rattle.plan_model.specs.Legal.{MayBePublished, MayFollow, IsNext, AllFollow, IsLegal}
+use Rattle.plan_model.specs.Legal.{Stays, cut_at, IsCurrent, MayBePublished, MayFollow, IsNext, AllFollow, IsLegal}
 use Rattle.plan_model.specs.Session.{opened, IsMade, AllAreCurrent, IsPublicationAt, BringsUpToDate, tasks_in_turn, GoesInTurn}
 use Rattle.plan_model.specs.JournalLaws.{SessionAloneIsOne}
 use Rattle.plan_model.proofs.Growing.{others_keep_tables, tables_at-past, last_publication-more}

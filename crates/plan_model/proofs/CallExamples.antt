@@ -14,9 +14,8 @@ use Rattle.plan_model.specs.declared.journal.Entry.{Entry}
 use Rattle.plan_model.specs.declared.outcome.Asked.TheVariants as asked
 use Rattle.plan_model.specs.declared.outcome.Stepped.TheVariants as stepped
 use Rattle.plan_model.specs.declared.outcome.NotTaken.TheVariants as not_taken
-use Rattle.plan_model.specs.Journal.{last_number, tables_at, tables_of, last_publication, issued, done_by}
-use Rattle.plan_model.specs.Touch.{cut_at}
-use Rattle.plan_model.specs.Scripts.{script}
+use Rattle.plan_model.specs.Journal.{last_number, tables_at, tables_of, last_publication, issued, done_by, script}
+use Rattle.plan_model.specs.Legal.{cut_at}
 use Rattle.plan_model.specs.Disorder.{HaveOrder}
 use Rattle.plan_model.specs.Outcome.{StepsTo, PublishesTo, next_task}
 use Rattle.plan_model.proofs.Changing.{stays_at}

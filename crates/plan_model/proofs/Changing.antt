@@ -1,7 +1,7 @@
 -- Values that change with edits: what stays, and the last change.
 use Rattle.std.proofs.Common.{◌≡◌, ℕ, zero, suc, ◌+◌, ◌-◌, ◌≤◌, inl, inr, sym, ap, ◌∙◌, subst, arith}
 use Rattle.std.proofs.lemmas.Bool.{cases_lt}
-use Rattle.plan_model.specs.Changes.{Stays}
+use Rattle.plan_model.specs.Legal.{Stays}
 
 -- no number lies between a number and itself
 pub stays_at : {X : Type 0} (value : ℕ → X) (number : ℕ) → Stays value number number

@@ -8,12 +8,10 @@ use Rattle.std.proofs.lemmas.List.Folds.{list_any_at}
 use Rattle.rail_model.specs.declared.stair.Use.{Use}
 use Rattle.rail_model.proofs.Numbers.{le_both_ways}
 use Rattle.plan_model.specs.declared.cut.Cut.{Cut}
-use Rattle.plan_model.specs.Places.{block_count, blocks}
-use Rattle.plan_model.specs.Members.{member, members, no_member, uses_place, use_at, no_use}
+use Rattle.plan_model.specs.Members.{block_count, blocks, member, members, no_member, uses_place, use_at, no_use}
 use Rattle.plan_model.specs.Cut.{IsSoundCut, is_block}
 use Rattle.plan_model.specs.Schedule.{entry_at, start_at, start_by, end_by, IsSchedule}
-use Rattle.plan_model.specs.Occupancy.{users, used_blocks, first_start, last_end, time_kept, occupancy}
-use Rattle.plan_model.specs.Closing.{PrecedesOnAllBlocks, IsAfterAll, IsClosingEntry}
+use Rattle.plan_model.specs.Answer.{users, used_blocks, first_start, last_end, time_kept, occupancy, PrecedesOnAllBlocks, IsAfterAll, IsClosingEntry}
 use Rattle.plan_model.specs.Laws.{OccupancyIsToClosing}
 use Rattle.plan_model.proofs.MemberTests.{has, in_range, filter-has, some_member}
 use Rattle.plan_model.proofs.Uses.{takes_time}

@@ -18,14 +18,10 @@ use Rattle.plan_model.specs.declared.answer.Placed.{Placed}
 use Rattle.plan_model.specs.declared.answer.Link.{Link}
 use Rattle.plan_model.specs.declared.answer.Answer.{Answer}
 use Rattle.plan_model.specs.declared.answer.Answer.TheVariants as answer
-use Rattle.plan_model.specs.Members.{member, member_count, members}
-use Rattle.plan_model.specs.Precedence.{precedes}
-use Rattle.plan_model.specs.SectionCut.{cut_of}
+use Rattle.plan_model.specs.Members.{member, member_count, members, precedes, headway}
+use Rattle.plan_model.specs.Cut.{cut_of, IsSoundCut}
 use Rattle.plan_model.specs.Disorder.{opposite, remaining}
-use Rattle.plan_model.specs.Headway.{headway}
-use Rattle.plan_model.specs.Rates.{rate, consumption, is_within, hundredths_up}
-use Rattle.plan_model.specs.Answer.{plan_of, IsAnswer}
-use Rattle.plan_model.specs.Cut.{IsSoundCut}
+use Rattle.plan_model.specs.Answer.{rate, consumption, is_within, hundredths_up, plan_of, IsAnswer}
 use Rattle.plan_model.proofs.SoundTest.{sound}
 use Rattle.plan_model.proofs.ScheduleTest.{is_schedule, is_tied, least}
 

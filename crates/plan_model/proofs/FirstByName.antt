@@ -6,7 +6,7 @@ use Rattle.std.proofs.lemmas.Bool.{cases_Bool, cases_order, eqb-true, eq-eqb, an
 use Rattle.rail_model.specs.Name.{is_before}
 use Rattle.rail_model.proofs.NameOrder.{same_if_neither}
 use Rattle.plan_model.specs.declared.cut.Cut.{Cut}
-use Rattle.plan_model.specs.Places.{place_name, place_count, first_by_name}
+use Rattle.plan_model.specs.Members.{place_name, place_count, first_by_name}
 use Rattle.plan_model.specs.Cut.{IsSoundCut}
 use Rattle.plan_model.proofs.MemberTests.{has}
 

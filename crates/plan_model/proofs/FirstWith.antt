@@ -6,7 +6,7 @@ use Rattle.std.proofs.lemmas.List.Folds.{list_any-append}
 use Rattle.rail_model.specs.Name.{is_before}
 use Rattle.rail_model.proofs.NameOrder.{IsBefore-from, is_before-itself, is_before-through, is_before-from, IsBefore-trans}
 use Rattle.plan_model.specs.declared.cut.Cut.{Cut}
-use Rattle.plan_model.specs.Places.{place_name, place_count, first_by_name, is_among, leads, first_with, IsFirstPlace, AnswersFirst}
+use Rattle.plan_model.specs.Members.{place_name, place_count, first_by_name, is_among, leads, first_with, IsFirstPlace, AnswersFirst}
 use Rattle.plan_model.specs.Cut.{IsSoundCut}
 use Rattle.plan_model.proofs.FirstByName.{first_is}
 

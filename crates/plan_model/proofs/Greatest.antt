@@ -5,7 +5,7 @@ use Rattle.std.specs.Int.{int_min, int_max}
 use Rattle.std.proofs.lemmas.Bool.{or_cases, or_left, or_right, eqb-true, eq-eqb}
 use Rattle.std.proofs.lemmas.Int.{ints}
 use Rattle.plan_model.specs.Cut.{least}
-use Rattle.plan_model.specs.Occupancy.{greatest}
+use Rattle.plan_model.specs.Answer.{greatest}
 use Rattle.plan_model.proofs.MemberTests.{has}
 
 -- ---- along a fold

@@ -4,10 +4,10 @@ use Rattle.std.specs.List.{last_or}
 use Rattle.std.proofs.lemmas.List.{take-append-le, take_all, append-nil}
 use Rattle.std.proofs.lemmas.List.Elements.{filter_map-append}
 use Rattle.std.proofs.lemmas.List.Sums.{fold-append, sum_by-append}
-use Rattle.rail_model.specs.Edited.{after_edits}
+use Rattle.rail_model.specs.Rules.{after_edits}
 use Rattle.plan_model.specs.declared.journal.Entry.{Entry}
 use Rattle.plan_model.specs.Journal.{opening, edit_of, edits, last_number, tables_at, tables_of, publication_of, publications, last_publication, issues, issued, task_of, done_by}
-use Rattle.plan_model.specs.Touch.{cut_at, row_at}
+use Rattle.plan_model.specs.Legal.{cut_at, row_at}
 use Rattle.plan_model.specs.JournalLaws.{LongerAgrees, OthersKeepTables, LongerIssuesNoFewer}
 
 pub opening-more : (xs ys : List Entry) → 0 < length xs → opening (xs ++ ys) ≡ opening xs

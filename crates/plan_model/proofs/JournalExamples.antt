@@ -9,9 +9,7 @@ use Rattle.rail_model.specs.declared.items.Item.TheVariants as item
 use Rattle.rail_model.specs.declared.edit.Edit.{Edit}
 use Rattle.rail_model.specs.declared.edit.Edit.TheVariants as edit
 use Rattle.rail_model.specs.declared.tables.Tables.{Tables}
-use Rattle.rail_model.specs.Edits.{no_tables, after}
-use Rattle.rail_model.specs.Rules.{rule_of}
-use Rattle.rail_model.specs.Sound.{AreSound, IsSound}
+use Rattle.rail_model.specs.Rules.{no_tables, after, rule_of, AreSound, IsSound}
 use Rattle.rail_model.proofs.Sound.{IsSound-after_put}
 use Rattle.plan_model.specs.declared.cut.Cut.{Cut}
 use Rattle.plan_model.specs.declared.answer.Tie.TheVariants.{Start, After}
@@ -24,8 +22,7 @@ use Rattle.plan_model.specs.declared.journal.Act.TheVariants as act
 use Rattle.plan_model.specs.declared.journal.Entry.{Entry}
 use Rattle.plan_model.specs.Answer.{IsAnswer}
 use Rattle.plan_model.specs.Journal.{last_number, tables_at, tables_of, last_publication, issued, done_by, tasks_left}
-use Rattle.plan_model.specs.Touch.{cut_at, Touches, IsCurrent}
-use Rattle.plan_model.specs.Legal.{IsAnswerAt, IsNext, IsLegal}
+use Rattle.plan_model.specs.Legal.{cut_at, Touches, IsCurrent, IsAnswerAt, IsNext, IsLegal}
 use Rattle.plan_model.specs.Session.{IsByPlanner, IsMade, IsPublicationAt, AllAreCurrent, tasks_in_turn, GoesInTurn, IsSessionAlone}
 use Rattle.plan_model.proofs.Changing.{stays_at}
 use Rattle.plan_model.proofs.Touching.{touched_since}

@@ -8,12 +8,9 @@ use Rattle.std.proofs.lemmas.Bool.Decides.{Decides-int_eq}
 use Rattle.std.proofs.lemmas.Int.{ints}
 use Rattle.std.proofs.lemmas.List.{length-set, get_or-set_same, get_or-set_other}
 use Rattle.plan_model.specs.declared.cut.Cut.{Cut}
-use Rattle.plan_model.specs.Places.{places, place_count}
-use Rattle.plan_model.specs.Members.{member, member_count, members, use_at}
-use Rattle.plan_model.specs.Precedence.{precedes}
+use Rattle.plan_model.specs.Members.{places, place_count, member, member_count, members, use_at, precedes}
 use Rattle.plan_model.specs.Cut.{IsSoundCut}
-use Rattle.plan_model.specs.Schedule.{entry_at, start_by, end_by, IsScheduleFrom, IsLeastFrom}
-use Rattle.plan_model.specs.Tie.{touches}
+use Rattle.plan_model.specs.Schedule.{entry_at, start_by, end_by, IsScheduleFrom, IsLeastFrom, touches}
 use Rattle.plan_model.specs.Laws.{LeastIsTied}
 use Rattle.plan_model.proofs.MemberTests.{has-range, has_any, some_member}
 use Rattle.plan_model.proofs.Uses.{place_there}

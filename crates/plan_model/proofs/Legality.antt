@@ -4,14 +4,12 @@ use Rattle.std.specs.List.{cons_option}
 use Rattle.std.proofs.lemmas.Bool.{cases_lt}
 use Rattle.std.proofs.lemmas.List.{append-nil, take_all}
 use Rattle.rail_model.specs.declared.edit.Edit.{Edit}
-use Rattle.rail_model.specs.Edited.{after_edits}
-use Rattle.rail_model.specs.Sound.{IsSound}
+use Rattle.rail_model.specs.Rules.{after_edits, IsSound}
 use Rattle.rail_model.proofs.Sound.{IsSound-after}
 use Rattle.plan_model.specs.declared.journal.Act.{Act}
 use Rattle.plan_model.specs.declared.journal.Act.TheVariants as act
 use Rattle.plan_model.specs.declared.journal.Entry.{Entry}
-use Rattle.plan_model.specs.Journal.{edit_of, last_number, tables_at, tables_of, done_by}
-use Rattle.plan_model.specs.Scripts.{script}
+use Rattle.plan_model.specs.Journal.{edit_of, last_number, tables_at, tables_of, done_by, script}
 use Rattle.plan_model.specs.Legal.{MayFollow, IsNext, AllFollow, Opens, IsLegal, KeepsToScript}
 use Rattle.plan_model.specs.JournalLaws.{BeginningIsLegal, BeginningIsJournal, EachIsNext, NextIsLegal, TablesAreSound}
 use Rattle.plan_model.proofs.Growing.{opening-more, last_number-more, tables_at-more, tables_at-past, tables_of-more, done_by-more}

@@ -22,11 +22,9 @@ use Rattle.plan_model.specs.declared.outcome.Next.TheVariants as next
 use Rattle.plan_model.specs.declared.outcome.NotTaken.{NotTaken}
 use Rattle.plan_model.specs.declared.outcome.NotTaken.TheVariants as not_taken
 use Rattle.plan_model.specs.Journal.{Publication, opening, last_number}
-use Rattle.plan_model.specs.Changes.{Stays, IsLastChange}
+use Rattle.plan_model.specs.Legal.{Stays, IsLastChange, cut_at, row_at, IsUntouchedSince, IsStamp, IsReading, WasPublishedAt, IsTouchedSince, IsReply, IsLegal}
 use Rattle.plan_model.specs.Cut.{stamped_row, stamped}
 use Rattle.plan_model.specs.Reading.{Shown}
-use Rattle.plan_model.specs.Touch.{cut_at, row_at, IsUntouchedSince, IsStamp, IsReading}
-use Rattle.plan_model.specs.Legal.{WasPublishedAt, IsTouchedSince, IsReply, IsLegal}
 use Rattle.plan_model.specs.Outcome.{EditsTo, reply_of, GivesLast, AsksTo, next_task, StepsTo, section_name, IsNextReading, ReadsTo, IsDone, PublishesTo}
 use Rattle.plan_model.specs.JournalLaws.{CallsEndInOneWay}
 use Rattle.plan_model.proofs.Touching.{same_one, last_is_right, current_since}

@@ -9,8 +9,7 @@ use Rattle.rail_model.specs.Name.{IsBefore, is_before}
 use Rattle.rail_model.proofs.NameOrder.{is_before-from, IsBefore-from}
 use Rattle.rail_model.proofs.Numbers.{same_if_neither_less}
 use Rattle.plan_model.specs.declared.cut.Cut.{Cut}
-use Rattle.plan_model.specs.Members.{member, member_count, uses_place, use_at, no_member}
-use Rattle.plan_model.specs.Precedence.{precedes, comes_before}
+use Rattle.plan_model.specs.Members.{member, member_count, uses_place, use_at, no_member, precedes, comes_before}
 use Rattle.plan_model.specs.Cut.{IsSoundCut}
 use Rattle.plan_model.specs.Laws.{UsesAreApart, ComesBeforeIsTested}
 

@@ -11,9 +11,7 @@ use Rattle.rail_model.proofs.NameOrder.{is_before-itself}
 use Rattle.rail_model.proofs.Numbers.{lt_from_test, test_from_lt, le_from_not_lt, lt_through}
 use Rattle.plan_model.specs.declared.cut.CutRow.{CutRow}
 use Rattle.plan_model.specs.declared.cut.Cut.{Cut}
-use Rattle.plan_model.specs.Places.{block_count}
-use Rattle.plan_model.specs.Members.{member, member_count, no_member, use_at}
-use Rattle.plan_model.specs.Precedence.{precedes, comes_before}
+use Rattle.plan_model.specs.Members.{block_count, member, member_count, no_member, use_at, precedes, comes_before}
 use Rattle.plan_model.specs.Cut.{IsSoundCut}
 use Rattle.plan_model.specs.Schedule.{entry_at, IsSchedule}
 use Rattle.plan_model.specs.Planned.{planned_entries, IsFreeOfConflict, KeepsConnections}

@@ -5,8 +5,7 @@ use Rattle.std.proofs.lemmas.Int.{ints}
 use Rattle.plan_model.specs.declared.cut.Cut.{Cut}
 use Rattle.plan_model.specs.Members.{member, use_at}
 use Rattle.plan_model.specs.Schedule.{entry_at, start_by, end_by}
-use Rattle.plan_model.specs.Occupancy.{users, used_blocks, first_start, last_end, time_kept, occupancy}
-use Rattle.plan_model.specs.Closing.{IsAfterAll}
+use Rattle.plan_model.specs.Answer.{users, used_blocks, first_start, last_end, time_kept, occupancy, IsAfterAll}
 use Rattle.plan_model.specs.Laws.{OccupancyReachesClosing}
 use Rattle.plan_model.proofs.Users.{user_there, is_user, is_used}
 use Rattle.plan_model.proofs.Greatest.{above_each, below_each, longest_above}

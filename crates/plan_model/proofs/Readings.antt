@@ -7,11 +7,10 @@ use Rattle.rail_model.specs.Name.{is_same}
 use Rattle.rail_model.proofs.NameOrder.{same_name}
 use Rattle.plan_model.specs.declared.cut.Cut.{Cut}
 use Rattle.plan_model.specs.declared.journal.Entry.{Entry}
-use Rattle.plan_model.specs.Cut.{stamped}
-use Rattle.plan_model.specs.SectionCut.{section_cut}
+use Rattle.plan_model.specs.Cut.{stamped, section_cut}
 use Rattle.plan_model.specs.Reading.{Shown}
 use Rattle.plan_model.specs.Journal.{opening, last_number, tables_at}
-use Rattle.plan_model.specs.Touch.{cut_at, IsReading}
+use Rattle.plan_model.specs.Legal.{cut_at, IsReading}
 use Rattle.plan_model.specs.Outcome.{section_name, IsNextReading, IsAnswerOf, IsDone}
 use Rattle.plan_model.specs.declared.answer.Done.{Done}
 use Rattle.plan_model.specs.JournalLaws.{ReadingMayBePublished, DoneStays}

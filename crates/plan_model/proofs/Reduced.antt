@@ -3,7 +3,7 @@ use Rattle.std.proofs.Common.{◌≡◌, ℕ, zero, suc, ◌*◌, ◌/◌, ◌%�
 use Rattle.std.specs.Int.{IsGcd, ◌∣◌}
 use Rattle.std.proofs.Math.Nat.{mul-sub, mul-div-mul_left, mod-eq-sub-mul-div, div-eq_of_eq-mul_left, eq_of_mul-eq-mul_left, one-dvd, dvd-mul_left, mul-dvd-mul_left, dvd_of_mul-dvd-mul_left, mul-div_cancel', pos_of_dvd_of_pos}
 use Rattle.std.proofs.lemmas.Nat.Gcd.{IsGcd-from_zero, IsGcd-from_mod, same_from_IsGcd}
-use Rattle.plan_model.specs.Rates.{common_divisor}
+use Rattle.plan_model.specs.Answer.{common_divisor}
 use Rattle.plan_model.specs.Laws.{FractionIsReduced, ReducedIsUnique}
 
 -- the divisions find the greatest common divisor

@@ -8,8 +8,7 @@ use Rattle.rail_model.specs.declared.edit.Rule.TheVariants.{Range, Twice}
 use Rattle.plan_model.specs.declared.journal.Reply.TheVariants as reply
 use Rattle.plan_model.specs.declared.journal.Act.TheVariants as act
 use Rattle.plan_model.specs.Journal.{last_number, tables_at, tables_of, last_publication, issued}
-use Rattle.plan_model.specs.Touch.{cut_at}
-use Rattle.plan_model.specs.Legal.{MayBePublished, MayFollow, IsNext}
+use Rattle.plan_model.specs.Legal.{cut_at, MayBePublished, MayFollow, IsNext}
 use Rattle.plan_model.proofs.Changing.{stays_at}
 use Rattle.plan_model.proofs.JournalExamples.{s, at_8, at_9, move, two_runs, moved_1, moved_2, moved_3, moved_touches, s_current_2}
 

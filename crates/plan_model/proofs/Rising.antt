@@ -12,8 +12,7 @@ use Rattle.plan_model.specs.declared.journal.Act.{Act}
 use Rattle.plan_model.specs.declared.journal.Act.TheVariants as act
 use Rattle.plan_model.specs.declared.journal.Entry.{Entry}
 use Rattle.plan_model.specs.Journal.{Publication, last_number, publication_of, publications, last_publication}
-use Rattle.plan_model.specs.Touch.{cut_at}
-use Rattle.plan_model.specs.Legal.{MayBePublished, MayFollow, IsNext, AllFollow}
+use Rattle.plan_model.specs.Legal.{cut_at, MayBePublished, MayFollow, IsNext, AllFollow}
 use Rattle.plan_model.specs.JournalLaws.{PublicationsRise}
 use Rattle.plan_model.proofs.Growing.{last_or-append}
 use Rattle.plan_model.proofs.Changing.{stays_within}

@@ -6,13 +6,10 @@ use Rattle.std.proofs.lemmas.Bool.{and_parts, or_cases, not-true, eqb-true, both
 use Rattle.rail_model.specs.declared.stair.Use.{Use}
 use Rattle.rail_model.proofs.Numbers.{le_from_test}
 use Rattle.plan_model.specs.declared.cut.Cut.{Cut}
-use Rattle.plan_model.specs.Members.{member, member_count, members}
-use Rattle.plan_model.specs.Precedence.{precedes}
+use Rattle.plan_model.specs.Members.{member, member_count, members, precedes, places}
 use Rattle.plan_model.proofs.MemberTests.{at_member, some_member, at_use}
 use Rattle.plan_model.specs.Disorder.{remaining}
-use Rattle.plan_model.specs.Schedule.{window_start, window_floor, entry_at, start_by, end_by, IsSchedule, IsLeast}
-use Rattle.plan_model.specs.Tie.{touches}
-use Rattle.plan_model.specs.Places.{places}
+use Rattle.plan_model.specs.Schedule.{window_start, window_floor, entry_at, start_by, end_by, IsSchedule, IsLeast, touches}
 use Rattle.plan_model.specs.Laws.{IsTied}
 use Rattle.plan_model.proofs.Tied.{tied_is_least}
 use Rattle.std.specs.Ordering.{int_eq}

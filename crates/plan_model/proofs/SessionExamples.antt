@@ -8,8 +8,7 @@ use Rattle.plan_model.specs.declared.journal.Act.TheVariants as act
 use Rattle.plan_model.specs.declared.journal.Entry.{Entry}
 use Rattle.plan_model.specs.Answer.{IsAnswer}
 use Rattle.plan_model.specs.Journal.{opening, last_number, tables_at, tables_of, last_publication, issued, done_by}
-use Rattle.plan_model.specs.Touch.{cut_at, Touches, IsCurrent}
-use Rattle.plan_model.specs.Legal.{IsNext}
+use Rattle.plan_model.specs.Legal.{cut_at, Touches, IsCurrent, IsNext}
 use Rattle.plan_model.specs.Session.{IsMade, IsSession}
 use Rattle.plan_model.proofs.Changing.{stays_at}
 use Rattle.plan_model.proofs.Touching.{touched_since}

@@ -9,8 +9,7 @@ use Rattle.rail_model.specs.declared.stair.Use.{Use}
 use Rattle.rail_model.specs.declared.limits.TheConstants.{GREATEST_MOMENT_S}
 use Rattle.plan_model.specs.declared.cut.CutRow.{CutRow}
 use Rattle.plan_model.specs.declared.cut.Cut.{Cut}
-use Rattle.plan_model.specs.Places.{block_count, place_count}
-use Rattle.plan_model.specs.Members.{member, member_count, no_member, uses_place, use_of, use_at, no_use}
+use Rattle.plan_model.specs.Members.{block_count, place_count, member, member_count, no_member, uses_place, use_of, use_at, no_use}
 use Rattle.plan_model.specs.Cut.{least, is_block, block_uses, IsMoment, IsBounded, IsSoundUse, IsSoundRow, IsSoundCut, IsUsable, AreOfOtherPlaces, AreBlocksFirst, MembersAreUsable}
 
 -- the least start of some uses that start by a moment

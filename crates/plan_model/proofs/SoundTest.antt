@@ -15,8 +15,7 @@ use Rattle.rail_model.proofs.NameOrder.{is_same-from, IsBefore-from}
 use Rattle.rail_model.proofs.Numbers.{le_from_test, lt_from_test}
 use Rattle.plan_model.specs.declared.cut.CutRow.{CutRow}
 use Rattle.plan_model.specs.declared.cut.Cut.{Cut}
-use Rattle.plan_model.specs.Places.{place_names, block_count, place_count, places}
-use Rattle.plan_model.specs.Members.{uses_place}
+use Rattle.plan_model.specs.Members.{place_names, block_count, place_count, places, uses_place}
 use Rattle.plan_model.specs.Cut.{least, is_block, block_uses, IsMoment, IsSoundUse, IsSoundRow, IsSoundCut}
 
 -- ---- lists

@@ -6,17 +6,15 @@ use Rattle.std.proofs.lemmas.List.Kept.{AllPairs-filter}
 use Rattle.rail_model.specs.declared.items.Section.{Section}
 use Rattle.rail_model.specs.declared.tables.Tables.{Tables}
 use Rattle.rail_model.specs.Name.{is_same, IsBefore, NamesRise}
-use Rattle.rail_model.specs.Sound.{IsSound}
+use Rattle.rail_model.specs.Rules.{IsSound}
 use Rattle.rail_model.proofs.NameOrder.{is_same-from, is_same-before}
 use Rattle.rail_model.proofs.Lists.{AllPairs-map}
 use Rattle.plan_model.specs.declared.cut.CutRow.{CutRow}
 use Rattle.plan_model.specs.declared.cut.Cut.{Cut}
 use Rattle.plan_model.specs.declared.journal.Entry.{Entry}
-use Rattle.plan_model.specs.Cut.{stamped_row, stamped}
-use Rattle.plan_model.specs.SectionCut.{is_member, row_of, section_cut}
+use Rattle.plan_model.specs.Cut.{stamped_row, stamped, is_member, row_of, section_cut}
 use Rattle.plan_model.specs.Journal.{last_number, tables_at}
-use Rattle.plan_model.specs.Touch.{cut_at, row_at, IsStamp, IsReading}
-use Rattle.plan_model.specs.Legal.{IsLegal}
+use Rattle.plan_model.specs.Legal.{cut_at, row_at, IsStamp, IsReading, IsLegal}
 use Rattle.plan_model.specs.JournalLaws.{StampTellsRow}
 use Rattle.plan_model.proofs.Growing.{row_at-more}
 use Rattle.plan_model.proofs.Legality.{legal_has_one, tables_are_sound}

@@ -8,12 +8,9 @@ use Rattle.std.proofs.lemmas.Bool.Decides.{Decides-int_eq}
 use Rattle.std.proofs.lemmas.Int.{ints}
 use Rattle.std.proofs.lemmas.List.Folds.{Any-from_list_any, list_any_at}
 use Rattle.plan_model.specs.declared.cut.Cut.{Cut}
-use Rattle.plan_model.specs.Places.{places}
-use Rattle.plan_model.specs.Members.{member, member_count, members, use_at}
-use Rattle.plan_model.specs.Precedence.{precedes, precedes_somewhere}
+use Rattle.plan_model.specs.Members.{places, member, member_count, members, use_at, precedes, precedes_somewhere}
 use Rattle.plan_model.specs.Disorder.{preceded, after_rounds, remaining}
-use Rattle.plan_model.specs.Schedule.{entry_at, start_by, end_by, IsScheduleFrom}
-use Rattle.plan_model.specs.Tie.{touches}
+use Rattle.plan_model.specs.Schedule.{entry_at, start_by, end_by, IsScheduleFrom, touches}
 use Rattle.plan_model.specs.Laws.{IsTiedFrom, TiedIsLeast}
 use Rattle.plan_model.proofs.MemberTests.{has, has-range, has_any, has-filter}
 

@@ -14,8 +14,7 @@ use Rattle.plan_model.specs.declared.journal.Reply.TheVariants as reply
 use Rattle.plan_model.specs.declared.journal.Act.TheVariants as act
 use Rattle.plan_model.specs.declared.journal.Entry.{Entry}
 use Rattle.plan_model.specs.Journal.{last_number, tables_at, tables_of, last_publication, issued, done_by}
-use Rattle.plan_model.specs.Touch.{cut_at, row_at, Touches, IsUntouchedSince, IsLastTouching, IsCurrent, IsStamp, IsReading}
-use Rattle.plan_model.specs.Legal.{MayBePublished, IsLegal}
+use Rattle.plan_model.specs.Legal.{cut_at, row_at, Touches, IsUntouchedSince, IsLastTouching, IsCurrent, IsStamp, IsReading, MayBePublished, IsLegal}
 use Rattle.plan_model.specs.Session.{IsMade, IsPublicationAt, tasks_in_turn, GoesInTurn, IsSessionAlone}
 use Rattle.plan_model.proofs.Changing.{stays_at, stays_more}
 use Rattle.plan_model.proofs.Examples.{section, train, row, kept, t2, two_trains}

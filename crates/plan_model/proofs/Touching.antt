@@ -11,9 +11,7 @@ use Rattle.plan_model.specs.declared.journal.Act.{Act}
 use Rattle.plan_model.specs.declared.journal.Act.TheVariants as act
 use Rattle.plan_model.specs.declared.journal.Entry.{Entry}
 use Rattle.plan_model.specs.Journal.{Publication, last_number, publication_of, last_publication, edits, tables_of}
-use Rattle.plan_model.specs.Changes.{Stays}
-use Rattle.plan_model.specs.Touch.{cut_at, Touches, IsCurrent}
-use Rattle.plan_model.specs.Legal.{IsAnswerAt, IsCurrentSince, MayFollow, IsNext, AllFollow, Opens, IsLegal}
+use Rattle.plan_model.specs.Legal.{Stays, cut_at, Touches, IsCurrent, IsAnswerAt, IsCurrentSince, MayFollow, IsNext, AllFollow, Opens, IsLegal}
 use Rattle.plan_model.specs.Outcome.{section_name, ShareIsCurrent}
 use Rattle.plan_model.specs.JournalLaws.{CurrentStays, CurrentIsAnswered}
 use Rattle.plan_model.proofs.Growing.{others_keep_tables, opening-more, last_number-more, cut_at-more, last_publication-more}

@@ -13,9 +13,7 @@ use Rattle.rail_model.proofs.Lists.{AllPairs-map}
 use Rattle.plan_model.specs.declared.cut.CutRow.{CutRow}
 use Rattle.plan_model.specs.declared.cut.Cut.{Cut}
 use Rattle.plan_model.specs.declared.answer.Link.{Link}
-use Rattle.plan_model.specs.Places.{place_count, places, first_by_name, first_with, AnswersFirst}
-use Rattle.plan_model.specs.Members.{no_member, member, member_count, members}
-use Rattle.plan_model.specs.Precedence.{precedes, places_of_precedence, precedes_somewhere}
+use Rattle.plan_model.specs.Members.{place_count, places, first_by_name, first_with, AnswersFirst, no_member, member, member_count, members, precedes, places_of_precedence, precedes_somewhere}
 use Rattle.plan_model.specs.Cut.{IsSoundCut}
 use Rattle.plan_model.specs.Disorder.{preceded, after_rounds, remaining, predecessor, circuit, ring_members, link_of}
 use Rattle.plan_model.specs.Laws.{IsTrueLink, IsTrueRing, RingIsTrue}

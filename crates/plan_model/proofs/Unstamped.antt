@@ -9,13 +9,10 @@ use Rattle.plan_model.specs.declared.cut.Cut.{Cut}
 use Rattle.plan_model.specs.declared.answer.Answer.{Answer}
 use Rattle.plan_model.specs.declared.answer.Answer.TheVariants as answer
 use Rattle.plan_model.specs.declared.answer.Tie.TheVariants.{Start, After}
-use Rattle.plan_model.specs.Answer.{plan_of, IsAnswer}
+use Rattle.plan_model.specs.Answer.{plan_of, IsAnswer, greatest}
 use Rattle.plan_model.specs.Cut.{stamped_row, stamped, least}
 use Rattle.plan_model.specs.Disorder.{link_place, pairs, opposite_pair, opposite, preceded, after_rounds, remaining, predecessor, circuit, from_least, ring}
-use Rattle.plan_model.specs.Members.{no_member, member, member_count, members, uses_place}
-use Rattle.plan_model.specs.Occupancy.{greatest}
-use Rattle.plan_model.specs.Places.{is_among, place_name, place_count, first_by_name, blocks, places}
-use Rattle.plan_model.specs.Precedence.{precedes, precedes_somewhere}
+use Rattle.plan_model.specs.Members.{no_member, member, member_count, members, uses_place, is_among, place_name, place_count, first_by_name, blocks, places, precedes, precedes_somewhere}
 use Rattle.plan_model.specs.Schedule.{start_at, end_at, entry_at, window_floor, IsScheduleFrom, IsLeast}
 
 row_unstamped : (rows : List CutRow) (i : ℕ) → get_or (map (stamped_row 0) rows) i no_member ≡ stamped_row 0 (get_or rows i no_member)

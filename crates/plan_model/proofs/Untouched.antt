@@ -8,7 +8,7 @@ use Rattle.rail_model.specs.declared.stair.Use.{Use}
 use Rattle.rail_model.specs.declared.items.Section.{Section}
 use Rattle.plan_model.specs.declared.cut.CutRow.{CutRow}
 use Rattle.plan_model.specs.declared.cut.Cut.{Cut}
-use Rattle.plan_model.specs.Touch.{cut_at}
+use Rattle.plan_model.specs.Legal.{cut_at}
 use Rattle.plan_model.specs.JournalLaws.{UntouchedIsNoneTouches}
 
 -- any two values are equal, or they differ

@@ -4,9 +4,8 @@ use Rattle.std.specs.List.{list_any}
 use Rattle.std.proofs.lemmas.Bool.{cases_lt}
 use Rattle.std.proofs.lemmas.List.{get_or_past}
 use Rattle.plan_model.specs.declared.cut.Cut.{Cut}
-use Rattle.plan_model.specs.Places.{block_count, blocks}
-use Rattle.plan_model.specs.Members.{member, member_count, members, no_member, uses_place}
-use Rattle.plan_model.specs.Occupancy.{users, used_blocks}
+use Rattle.plan_model.specs.Members.{block_count, blocks, member, member_count, members, no_member, uses_place}
+use Rattle.plan_model.specs.Answer.{users, used_blocks}
 use Rattle.plan_model.proofs.MemberTests.{has, has-range, in_range, has_any, has-filter, filter-has}
 
 module _ (cut : Cut) where

@@ -4,11 +4,10 @@ use Rattle.std.specs.Prelude.{◌<ℤ◌, ◌==◌, Some, find, unwrap_or}
 use Rattle.std.specs.List.{list_any}
 use Rattle.std.proofs.lemmas.Bool.{cases_Bool, eqb-true}
 use Rattle.std.proofs.lemmas.List.Folds.{Any-from_list_any}
-use Rattle.plan_model.specs.Places.{place_count}
+use Rattle.plan_model.specs.Members.{place_count, member, member_count, no_member, uses_place, use_of, use_at, no_use}
 use Rattle.rail_model.specs.declared.stair.Use.{Use}
 use Rattle.plan_model.specs.declared.cut.CutRow.{CutRow}
 use Rattle.plan_model.specs.declared.cut.Cut.{Cut}
-use Rattle.plan_model.specs.Members.{member, member_count, no_member, uses_place, use_of, use_at, no_use}
 use Rattle.plan_model.specs.Cut.{IsSoundCut}
 
 -- what passes a test is found at some place

@@ -17,8 +17,7 @@ use Rattle.plan_model.specs.declared.outcome.Stepped.{Stepped}
 use Rattle.plan_model.specs.declared.outcome.Stepped.TheVariants as stepped
 use Rattle.plan_model.specs.declared.outcome.NotTaken.{NotTaken}
 use Rattle.plan_model.specs.declared.outcome.NotTaken.TheVariants as not_taken
-use Rattle.plan_model.specs.Scripts.{script}
-use Rattle.plan_model.specs.Journal.{opening, planners, task_of, done_by, script_of, left_of}
+use Rattle.plan_model.specs.Journal.{script, opening, planners, task_of, done_by, script_of, left_of}
 use Rattle.plan_model.specs.Legal.{IsNext, KeepsToScript, IsJournal}
 use Rattle.plan_model.specs.Outcome.{AddsEntry, EditsTo, next_task, StepsTo, PublishesTo}
 use Rattle.plan_model.specs.JournalLaws.{CallsLeaveJournals}

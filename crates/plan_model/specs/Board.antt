@@ -1,8 +1,7 @@
 -- What contracts see of a board, and what a call of it does.
 use Rattle.std.specs.Prelude.{◌≡◌, ℕ, ◌+◌, ◌-◌, ◌^◌, ◌<◌, min, List, Result, Ok, Err, MatchResult, Contains}
 use Rattle.rail_model.specs.declared.memory.OutOfMemory.{OutOfMemory}
-use Rattle.plan_model.specs.declared.journal.Entry.{Entry}
-use Rattle.plan_model.specs.declared.outcome.Next.{Next}
+use Rattle.plan_model.specs.Types.{Entry, Next}
 use Rattle.plan_model.specs.declared.outcome.Next.TheVariants as next
 use Rattle.plan_model.specs.Journal.{issued}
 use Rattle.plan_model.specs.Legal.{IsJournal}

@@ -1,6 +1,6 @@
 -- A call by a pass: what the pass has seen before and after it.
 use Rattle.std.specs.Prelude.{◌≡◌, ℕ, List, ◌++◌, All, Contains}
-use Rattle.plan_model.specs.declared.journal.Entry.{Entry}
+use Rattle.plan_model.specs.Types.{Entry}
 
 -- an entry is of others: it carries none of these numbers
 abbrev pub IsOthers : List ℕ → Entry → Type 0

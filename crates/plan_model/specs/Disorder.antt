@@ -1,11 +1,8 @@
 -- Disorder: members whose order differs from place to place, so that they have no order in time.
 use Rattle.std.specs.Prelude.{◌≡◌, ℕ, zero, suc, ◌+◌, ◌-◌, ◌<◌, Bool, true, ◌&&◌, ◌==◌, nat_le, if◌then◌else◌, List, [], ◌∷◌, ◌++◌, map, filter, find, take, drop, reverse, zip, Option, option_map, unwrap_or, slice_index}
 use Rattle.std.specs.List.{list_any, list_all, flat_map, range_with_len, position_or_len}
-use Rattle.plan_model.specs.declared.cut.Cut.{Cut}
-use Rattle.plan_model.specs.declared.answer.Link.{Link}
-use Rattle.plan_model.specs.Places.{place_name, place_count, first_by_name, is_among}
-use Rattle.plan_model.specs.Members.{member, member_count, members}
-use Rattle.plan_model.specs.Precedence.{places_of_precedence, precedes_somewhere}
+use Rattle.plan_model.specs.Types.{Cut, Link}
+use Rattle.plan_model.specs.Members.{place_name, place_count, first_by_name, is_among, member, member_count, members, places_of_precedence, precedes_somewhere}
 
 -- the name of the first place by name at which member i precedes member j
 abbrev pub link_place : Cut → ℕ → ℕ → List ℕ

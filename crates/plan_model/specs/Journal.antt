@@ -1,19 +1,22 @@
--- What a journal says: its opening, its edits with the tables that they leave, its publications, the passes that it
--- issues, and the tasks that it does.
-use Rattle.std.specs.Prelude.{ℕ, ◌+◌, ◌-◌, ◌==◌, Bool, true, false, if◌then◌else◌, List, [], ◌∷◌, length, take, drop, filter_map, count_by, sum_by, Option, None, Some}
+-- Scripts: what each planner wants done, in order.
+use Rattle.std.specs.Prelude.{ℕ, ◌-◌, List, [], ◌∷◌, ◌++◌, length, slice_index_or, slice_set, ◌+◌, ◌==◌, Bool, true, false, if◌then◌else◌, take, drop, filter_map, count_by, sum_by, Option, None, Some}
+use Rattle.plan_model.specs.Types.{Task, Answer, Act, Entry}
 use Rattle.std.specs.List.{last_or, range_with_len}
 use Rattle.rail_model.specs.declared.edit.Edit.{Edit}
 use Rattle.rail_model.specs.declared.tables.Tables.{Tables}
 use Rattle.rail_model.specs.Name.{is_same}
-use Rattle.rail_model.specs.Edits.{no_tables}
-use Rattle.rail_model.specs.Edited.{after_edits}
-use Rattle.plan_model.specs.declared.answer.Answer.{Answer}
-use Rattle.plan_model.specs.declared.scripts.Task.{Task}
+use Rattle.rail_model.specs.Rules.{no_tables, after_edits}
 use Rattle.plan_model.specs.declared.scripts.Task.TheVariants as task
-use Rattle.plan_model.specs.declared.journal.Act.{Act}
 use Rattle.plan_model.specs.declared.journal.Act.TheVariants as act
-use Rattle.plan_model.specs.declared.journal.Entry.{Entry}
-use Rattle.plan_model.specs.Scripts.{script}
+
+-- the scripts, with one task more at the end of the last
+abbrev pub with_task : List (List Task) → Task → List (List Task)
+with_task scripts task =
+    let last = length scripts - 1 in slice_set scripts last (slice_index_or scripts last [] ++ task ∷ [])
+
+-- the script of a planner, from 1; planner 0 has none
+abbrev pub script : List (List Task) → ℕ → List Task
+script scripts planner = slice_index_or ([] ∷ scripts) planner []
 
 -- ---- the opening
 

@@ -3,22 +3,12 @@ use Rattle.std.specs.Prelude.{◌≡◌, ◌↔◌, ℕ, ◌<◌, ◌≤◌, Lis
 use Rattle.rail_model.specs.declared.edit.Edit.{Edit}
 use Rattle.rail_model.specs.declared.edit.Rule.{Rule}
 use Rattle.rail_model.specs.declared.tables.Tables.{Tables}
-use Rattle.rail_model.specs.Sound.{IsSound}
-use Rattle.plan_model.specs.declared.cut.CutRow.{CutRow}
-use Rattle.plan_model.specs.declared.cut.Cut.{Cut}
-use Rattle.plan_model.specs.declared.answer.Done.{Done}
-use Rattle.plan_model.specs.declared.scripts.Task.{Task}
+use Rattle.rail_model.specs.Rules.{IsSound}
+use Rattle.plan_model.specs.Types.{CutRow, Cut, Done, Task, Entry, Asked, Stepped, Next, NotTaken}
 use Rattle.plan_model.specs.declared.journal.Act.TheVariants as act
-use Rattle.plan_model.specs.declared.journal.Entry.{Entry}
-use Rattle.plan_model.specs.declared.outcome.Asked.{Asked}
-use Rattle.plan_model.specs.declared.outcome.Stepped.{Stepped}
-use Rattle.plan_model.specs.declared.outcome.Next.{Next}
-use Rattle.plan_model.specs.declared.outcome.NotTaken.{NotTaken}
 use Rattle.plan_model.specs.Answer.{IsAnswer}
 use Rattle.plan_model.specs.Journal.{edits, last_number, tables_at, tables_of, publications, issued, done_by, script_of, tasks_left}
-use Rattle.plan_model.specs.Changes.{Stays}
-use Rattle.plan_model.specs.Touch.{cut_at, cut_now, Touches, IsUntouchedSince, IsCurrent, IsReading}
-use Rattle.plan_model.specs.Legal.{IsNext, IsLegal, IsJournal}
+use Rattle.plan_model.specs.Legal.{Stays, cut_at, cut_now, Touches, IsUntouchedSince, IsCurrent, IsReading, IsNext, IsLegal, IsJournal}
 use Rattle.plan_model.specs.Session.{IsSessionAlone}
 use Rattle.plan_model.specs.Reading.{Shown}
 use Rattle.plan_model.specs.Outcome.{AddsEntry, EditsTo, AsksTo, IsPlanner, StepsTo, IsNextReading, ReadsTo, IsAnswerOf, IsDone, PublishesTo}

@@ -2,22 +2,13 @@
 use Rattle.std.specs.Prelude.{◌≡◌, ◌≢◌, ◌⊎◌, ◌↔◌, ℕ, ◌<◌, ◌≤◌, ℤ, pos, ◌-ℤ◌, ◌≤ℤ◌, List, [], ◌++◌, map, take, drop, slice_index, IsTrue, All, AllPairs}
 use Rattle.std.specs.List.{list_any}
 use Rattle.rail_model.specs.Conflict.{ComesBefore, Overlap}
-use Rattle.plan_model.specs.declared.cut.CutRow.{CutRow}
-use Rattle.plan_model.specs.declared.cut.Cut.{Cut}
-use Rattle.plan_model.specs.declared.answer.Link.{Link}
-use Rattle.plan_model.specs.declared.answer.Answer.{Answer}
-use Rattle.plan_model.specs.Places.{place_name, place_count, places}
-use Rattle.plan_model.specs.Members.{member, member_count, uses_place, use_at}
-use Rattle.plan_model.specs.Precedence.{comes_before, precedes}
+use Rattle.plan_model.specs.Types.{CutRow, Cut, Link, Answer}
+use Rattle.plan_model.specs.Members.{place_name, place_count, places, member, member_count, uses_place, use_at, comes_before, precedes}
 use Rattle.plan_model.specs.Cut.{IsSoundCut}
 use Rattle.plan_model.specs.Disorder.{preceded, remaining, HaveOrder, ring_members, ring}
-use Rattle.plan_model.specs.Schedule.{window_floor, entry_at, start_by, end_by, IsScheduleFrom, IsLeastFrom, IsSchedule, IsLeast}
-use Rattle.plan_model.specs.Tie.{touches}
-use Rattle.plan_model.specs.Answer.{IsAnswer}
-use Rattle.plan_model.specs.Occupancy.{occupancy}
+use Rattle.plan_model.specs.Schedule.{window_floor, entry_at, start_by, end_by, IsScheduleFrom, IsLeastFrom, IsSchedule, IsLeast, touches}
+use Rattle.plan_model.specs.Answer.{IsAnswer, occupancy, PrecedesOnAllBlocks, IsClosingEntry, Fraction, reduced, IsReduced}
 use Rattle.plan_model.specs.Planned.{conflicts, IsFreeOfConflict, KeepsConnections}
-use Rattle.plan_model.specs.Closing.{PrecedesOnAllBlocks, IsClosingEntry}
-use Rattle.plan_model.specs.Rates.{Fraction, reduced, IsReduced}
 
 -- from its floors a cut has at most one least schedule
 abbrev pub LeastIsUnique : Type 0

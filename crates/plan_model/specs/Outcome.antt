@@ -3,27 +3,18 @@ use Rattle.std.specs.Prelude.{◌≡◌, ℕ, ◌%◌, ◌<◌, ◌≤◌, List,
 use Rattle.rail_model.specs.declared.edit.Edit.{Edit}
 use Rattle.rail_model.specs.declared.edit.Rule.{Rule}
 use Rattle.rail_model.specs.Tables.{section_at}
-use Rattle.plan_model.specs.declared.answer.Done.{Done}
-use Rattle.plan_model.specs.declared.scripts.Task.{Task}
+use Rattle.plan_model.specs.Types.{Done, Task, Reply, Act, Entry, Asked, Stepped, Next, NotTaken}
 use Rattle.plan_model.specs.declared.scripts.Task.TheVariants as task
-use Rattle.plan_model.specs.declared.journal.Reply.{Reply}
 use Rattle.plan_model.specs.declared.journal.Reply.TheVariants as reply
-use Rattle.plan_model.specs.declared.journal.Act.{Act}
 use Rattle.plan_model.specs.declared.journal.Act.TheVariants as act
-use Rattle.plan_model.specs.declared.journal.Entry.{Entry}
-use Rattle.plan_model.specs.declared.outcome.Asked.{Asked}
 use Rattle.plan_model.specs.declared.outcome.Asked.TheVariants as asked
-use Rattle.plan_model.specs.declared.outcome.Stepped.{Stepped}
 use Rattle.plan_model.specs.declared.outcome.Stepped.TheVariants as stepped
-use Rattle.plan_model.specs.declared.outcome.Next.{Next}
 use Rattle.plan_model.specs.declared.outcome.Next.TheVariants as next
-use Rattle.plan_model.specs.declared.outcome.NotTaken.{NotTaken}
 use Rattle.plan_model.specs.declared.outcome.NotTaken.TheVariants as not_taken
 use Rattle.plan_model.specs.Answer.{IsAnswer}
 use Rattle.plan_model.specs.Reading.{Shown}
 use Rattle.plan_model.specs.Journal.{opening, last_number, tables_of, last_publication, left_of, tasks_left}
-use Rattle.plan_model.specs.Touch.{IsUntouchedSince, IsCurrent, IsReading}
-use Rattle.plan_model.specs.Legal.{IsAnswerAt, IsTouchedSince, IsCurrentSince, IsNext}
+use Rattle.plan_model.specs.Legal.{IsUntouchedSince, IsCurrent, IsReading, IsAnswerAt, IsTouchedSince, IsCurrentSince, IsNext}
 
 -- a call adds this one entry, which is a legal next one
 pub record AddsEntry (pass : ℕ) (a : Act) (found after : List Entry) : Type 0 where

@@ -1,10 +1,7 @@
 -- The planned timetable of a cut: its entries, and whether it is free of conflict and keeps its connections.
 use Rattle.std.specs.Prelude.{◌≡◌, ◌≢◌, ℕ, ◌<◌, ◌≤◌, ℤ, ◌≤ℤ◌, Bool, false, ◌&&◌, int_lt, List, map, IsTrue}
-use Rattle.plan_model.specs.declared.cut.CutRow.{CutRow}
-use Rattle.plan_model.specs.declared.cut.Cut.{Cut}
-use Rattle.plan_model.specs.Places.{block_count}
-use Rattle.plan_model.specs.Members.{member, member_count, uses_place, use_at}
-use Rattle.plan_model.specs.Precedence.{precedes}
+use Rattle.plan_model.specs.Types.{CutRow, Cut}
+use Rattle.plan_model.specs.Members.{block_count, member, member_count, uses_place, use_at, precedes}
 
 -- the planned entries
 abbrev pub planned_entries : Cut → List ℤ

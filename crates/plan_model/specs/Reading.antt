@@ -3,7 +3,7 @@ use Rattle.std.specs.Prelude.{◌≡◌, ℕ, ◌+◌, ◌-◌, ◌^◌, min, Li
 use Rattle.std.specs.Borrow.{Fml, RattleType, MutBor}
 use Rattle.std.specs.Io.BufRead.{Rests}
 use Rattle.rail_model.specs.declared.stair.Use.{Use}
-use Rattle.plan_model.specs.declared.cut.Cut.{Cut}
+use Rattle.plan_model.specs.Types.{Cut}
 use Rattle.plan_model.specs.declared.reading.Held.{Held}
 use Rattle.plan_model.specs.declared.reading.Held.TheVariants as held
 use Rattle.plan_model.specs.Members.{member}

@@ -3,14 +3,10 @@ use Rattle.std.specs.Prelude.{◌≡◌, ℕ, zero, suc, ◌+◌, ◌<◌, ◌�
 use Rattle.std.specs.List.{range_with_len, enumerate_from}
 use Rattle.rail_model.specs.declared.tables.Tables.{Tables}
 use Rattle.rail_model.specs.Name.{NamesRise}
-use Rattle.plan_model.specs.declared.answer.Answer.{Answer}
-use Rattle.plan_model.specs.declared.scripts.Task.{Task}
-use Rattle.plan_model.specs.declared.journal.Act.{Act}
+use Rattle.plan_model.specs.Types.{Answer, Task, Act, Entry}
 use Rattle.plan_model.specs.declared.journal.Act.TheVariants as act
-use Rattle.plan_model.specs.declared.journal.Entry.{Entry}
 use Rattle.plan_model.specs.Journal.{last_number, tables_of, task_of, done_by}
-use Rattle.plan_model.specs.Touch.{IsCurrent}
-use Rattle.plan_model.specs.Legal.{IsLegal}
+use Rattle.plan_model.specs.Legal.{IsCurrent, IsLegal}
 
 -- ---- who makes which entry
 

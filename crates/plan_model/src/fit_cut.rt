@@ -4,7 +4,6 @@ ghost use Rattle.plan_model.specs.declared.limits.TheConstants.{MEMBERS};
 ghost use Rattle.rail_model.specs.declared.limits.TheConstants.{RUNS, PATH_HOPS};
 ghost use Rattle.plan_model.specs.Cut.{IsSoundCut, IsSoundUse, IsMoment, IsBounded, IsUsable, AreOfOtherPlaces, AreBlocksFirst};
 ghost use Rattle.plan_model.specs.Members as members;
-ghost use Rattle.plan_model.specs.Places as places;
 ghost use Rattle.plan_model.specs.Schedule as schedule;
 
 use crate::{Cut, CutRow};
@@ -60,7 +59,7 @@ impl<'a> SoundCut<'a> {
 
     /// How many places are blocks: the first ones.
     pub fn block_count(&self) -> u32
-        ensures count { result ≡ places.block_count self.now }
+        ensures count { result ≡ members.block_count self.now }
         ensures most { result ≤ PATH_HOPS }
     {
         self.cut.section.blocks.len() as u32
@@ -68,7 +67,7 @@ impl<'a> SoundCut<'a> {
 
     /// How many places there are.
     pub fn place_count(&self) -> u32
-        ensures { result ≡ places.place_count self.now }
+        ensures { result ≡ members.place_count self.now }
     {
         (self.cut.section.blocks.len() + self.cut.connections.len()) as u32
     }
@@ -85,7 +84,7 @@ impl<'a> SoundCut<'a> {
     pub fn rows(&self) -> &'a [CutRow]
         ensures rows { result.now ≡ self.now.rows }
         ensures sound { IsSoundCut self.now }
-        ensures usable { All (IsUsable (places.place_count self.now)) result.now }
+        ensures usable { All (IsUsable (members.place_count self.now)) result.now }
     {
         self.cut.rows.slice()
     }
@@ -95,15 +94,15 @@ impl<'a> SoundCut<'a> {
         requires { i < members.member_count self.now }
         ensures row { result.now ≡ members.member self.now i }
         ensures sound { IsSoundCut self.now }
-        ensures usable { IsUsable (places.place_count self.now) result.now }
+        ensures usable { IsUsable (members.place_count self.now) result.now }
     {
         &self.rows()[i as usize]
     }
 
     /// The name of a place: of a block or of a connection.
     pub fn place_name(&self, place: u32) -> &'a Name
-        requires { place < places.place_count self.now }
-        ensures { result.now ≡ places.place_name self.now place }
+        requires { place < members.place_count self.now }
+        ensures { result.now ≡ members.place_name self.now place }
     {
         let blocks = self.cut.section.blocks.slice();
         let place = place as usize;
@@ -116,7 +115,7 @@ impl<'a> SoundCut<'a> {
 
     /// The names of all places.
     pub fn place_names(&self, alloc: Global) -> Result<List<Name>, OutOfMemory>
-        ensures { IfOk result (λ names. names ≡ places.place_names self.now) }
+        ensures { IfOk result (λ names. names ≡ members.place_names self.now) }
     {
         joined(
             alloc,
@@ -166,18 +165,18 @@ impl<'a> SoundCut<'a> {
 
     /// Whether a member and one of its places come before another pair of them, by name.
     pub fn comes_first(&self, a: (u32, u32), b: (u32, u32)) -> bool
-        requires first { a.1 < places.place_count self.now }
-        requires second { b.1 < places.place_count self.now }
-        ensures { result ≡ places.comes_first self.now a b }
+        requires first { a.1 < members.place_count self.now }
+        requires second { b.1 < members.place_count self.now }
+        ensures { result ≡ members.comes_first self.now a b }
     {
         a.0 < b.0 || a.0 == b.0 && self.place_name(a.1) < self.place_name(b.1)
     }
 
     /// Whether the name of a place comes before that of the best so far, or there is none so far.
     pub fn leads(&self, best: Option<u32>, place: u32) -> bool
-        requires there { place < places.place_count self.now }
-        requires best { IfSome best (λ b. b < places.place_count self.now) }
-        ensures { result ≡ places.leads self.now best place }
+        requires there { place < members.place_count self.now }
+        requires best { IfSome best (λ b. b < members.place_count self.now) }
+        ensures { result ≡ members.leads self.now best place }
     {
         match best {
             Some(best) => self.place_name(place) < self.place_name(best),
@@ -187,10 +186,10 @@ impl<'a> SoundCut<'a> {
 
     /// The first by name of the best so far and of one place more.
     pub fn first_with(&self, best: Option<u32>, place: u32) -> Option<u32>
-        requires there { place < places.place_count self.now }
-        requires best { IfSome best (λ b. b < places.place_count self.now) }
-        ensures first { result ≡ places.first_with self.now best place }
-        ensures there { IfSome result (λ b. b < places.place_count self.now) }
+        requires there { place < members.place_count self.now }
+        requires best { IfSome best (λ b. b < members.place_count self.now) }
+        ensures first { result ≡ members.first_with self.now best place }
+        ensures there { IfSome result (λ b. b < members.place_count self.now) }
     {
         if self.leads(best, place) {
             Some(place)

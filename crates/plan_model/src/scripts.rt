@@ -1,6 +1,6 @@
 //! What planners want done, each in an order of its own.
 ghost use Rattle.std.specs.Prelude.{◌≡◌, ◌<◌, ◌++◌, ◌∷◌, [], length, slice_index_or, OnOk, OnErr};
-ghost use Rattle.plan_model.specs.Scripts.{with_task};
+ghost use Rattle.plan_model.specs.Journal.{with_task};
 
 use rail_model::{Edit, List, Name, OutOfMemory};
 use std::alloc::Global;

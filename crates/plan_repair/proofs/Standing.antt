@@ -7,8 +7,7 @@ use Rattle.std.proofs.lemmas.Option.{MatchOption-at_some, IfSome_then}
 use Rattle.std.proofs.lemmas.Bool.{cases_lt, cases_order}
 use Rattle.plan_model.specs.declared.cut.CutRow.{CutRow}
 use Rattle.plan_model.specs.declared.cut.Cut.{Cut}
-use Rattle.plan_model.specs.Members.{no_member}
-use Rattle.plan_model.specs.Places.{place_names}
+use Rattle.plan_model.specs.Members.{no_member, place_names}
 use Rattle.train_net.specs.Mended.{stood, IsOrigin}
 use Rattle.plan_repair.specs.declared.held.Held.{Held}
 use Rattle.plan_repair.specs.Left.{EndsWith, StoodAt}

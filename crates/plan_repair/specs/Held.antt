@@ -4,7 +4,7 @@ use Rattle.rail_model.specs.Name.{NamesRise}
 use Rattle.plan_model.specs.declared.limits.TheConstants.{MEMBERS}
 use Rattle.plan_model.specs.declared.cut.CutRow.{CutRow}
 use Rattle.plan_model.specs.declared.cut.Cut.{Cut}
-use Rattle.plan_model.specs.Places.{place_names}
+use Rattle.plan_model.specs.Members.{place_names}
 use Rattle.plan_model.specs.Cut.{IsSoundCut}
 use Rattle.train_net.specs.Held.{IsNetOf}
 use Rattle.train_net.specs.Mended.{IsOrigin}

@@ -3,8 +3,7 @@ ghost use Rattle.std.specs.Prelude.{◌≡◌, ◌≤◌, ◌++◌, length, IfOk
 ghost use Rattle.std.specs.Prelude.{count_by, is_none};
 ghost use Rattle.plan_model.specs.declared.limits.TheConstants.{MEMBERS};
 ghost use Rattle.plan_model.specs.Cut.{IsSoundCut};
-ghost use Rattle.plan_model.specs.Members.{member_count};
-ghost use Rattle.plan_model.specs.Places.{place_names};
+ghost use Rattle.plan_model.specs.Members.{member_count, place_names};
 ghost use Rattle.plan_model.specs.Answer.{IsAnswer};
 ghost use Rattle.train_order.specs.Ordering.{IsOrdering};
 ghost use Rattle.plan_repair.specs.Held.{IsHeldOf, IsHeldBefore};

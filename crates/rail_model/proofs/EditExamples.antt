@@ -14,8 +14,7 @@ use Rattle.rail_model.specs.declared.edit.Kind.{Kind}
 use Rattle.rail_model.specs.declared.edit.Kind.TheVariants as kind
 use Rattle.rail_model.specs.declared.edit.Rule.TheVariants.{Range, Twice, Unknown, Count, InUse}
 use Rattle.rail_model.specs.declared.tables.Tables.{Tables}
-use Rattle.rail_model.specs.Edits.{after}
-use Rattle.rail_model.specs.Rules.{rule_of}
+use Rattle.rail_model.specs.Rules.{after, rule_of}
 use Rattle.rail_model.specs.Within.{is_within}
 
 abbrev block : List ℕ → Block

@@ -5,9 +5,7 @@ use Rattle.std.specs.Option.{option_or}
 use Rattle.rail_model.specs.declared.edit.Edit.{Edit}
 use Rattle.rail_model.specs.declared.edit.Rule.{Rule}
 use Rattle.rail_model.specs.declared.tables.Tables.{Tables}
-use Rattle.rail_model.specs.Edits.{after}
-use Rattle.rail_model.specs.Rules.{rule_of}
-use Rattle.rail_model.specs.Edited.{Refused, one_further, after_edits, first_refused, AreAccepted}
+use Rattle.rail_model.specs.Rules.{after, rule_of, Refused, one_further, after_edits, first_refused, AreAccepted}
 use Rattle.rail_model.specs.Laws.{SoundAfterEdits, IsFirstRefused, RefusedIsFirst}
 use Rattle.rail_model.proofs.Sound.{IsSound-after}
 

@@ -11,8 +11,7 @@ use Rattle.std.proofs.lemmas.List.Folds.{find_at, list_any_at, list_any_none}
 use Rattle.std.proofs.lemmas.List.Kept.{AllPairs-filter}
 use Rattle.rail_model.specs.Name.{IsBefore, is_before, is_same, NamesRise}
 use Rattle.rail_model.specs.Tables.{number_of}
-use Rattle.rail_model.specs.Edits.{with_item, with_changed, without}
-use Rattle.rail_model.specs.Rules.{is_named}
+use Rattle.rail_model.specs.Rules.{with_item, with_changed, without, is_named}
 use Rattle.rail_model.proofs.NameOrder.{same_name, is_same-from}
 use Rattle.rail_model.proofs.Places.{place, with_item-place, NamesRise-insert, list_any-insert, first-insert}
 

@@ -16,12 +16,11 @@ use Rattle.rail_model.specs.declared.items.Item.TheVariants as item
 use Rattle.rail_model.specs.declared.tables.Tables.{Tables}
 use Rattle.rail_model.specs.declared.path.Hop.{Hop}
 use Rattle.rail_model.specs.declared.limits.TheConstants.{GREATEST_LENGTH_M}
-use Rattle.rail_model.specs.Path.{no_hop, Fits, IsHopWithin}
+use Rattle.rail_model.specs.Blocking.{no_hop, Fits, IsHopWithin}
 use Rattle.rail_model.specs.Name.{has_repeat}
 use Rattle.rail_model.specs.Tables.{block_number, block_named, signal_named, route_named, no_block, no_signal, no_route, no_run, run_at, hop_beyond, path_in}
 use Rattle.rail_model.specs.Within.{is_leg_within, no_leg}
-use Rattle.rail_model.specs.Rules.{has_block, has_signal, has_route}
-use Rattle.rail_model.specs.Sound.{Stands, IsSound}
+use Rattle.rail_model.specs.Rules.{has_block, has_signal, has_route, Stands, IsSound}
 use Rattle.rail_model.proofs.Facts.{from_one, run_facts, signal_facts, leg_facts}
 use Rattle.rail_model.proofs.Members.{none_passes}
 

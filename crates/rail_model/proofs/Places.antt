@@ -19,8 +19,7 @@ use Rattle.std.proofs.lemmas.List.Sums.{position_or_len_is}
 use Rattle.std.proofs.lemmas.Option.{unwrap_or-slice_get}
 use Rattle.rail_model.specs.Name.{IsBefore, is_before, is_same, NamesRise}
 use Rattle.rail_model.specs.Tables.{number_of}
-use Rattle.rail_model.specs.Edits.{with_item}
-use Rattle.rail_model.specs.Rules.{is_named}
+use Rattle.rail_model.specs.Rules.{with_item, is_named}
 use Rattle.rail_model.proofs.NameOrder.{is_before-from, is_before-back, is_same-before, is_same-after, is_same-equal, is_same-from, IsBefore-trans, IsBefore-flip}
 
 pub filter_all : {X : Type 0} (p : X → Bool) (xs : List X) → All (λ x. p x ≡ true) xs → filter p xs ≡ xs

@@ -23,9 +23,7 @@ use Rattle.rail_model.specs.declared.limits.TheConstants.{BLOCKS, SIGNALS, ROUTE
 use Rattle.rail_model.specs.Name.{is_same, has_repeat}
 use Rattle.rail_model.specs.Tables.{no_signal, no_route, signal_named, route_named}
 use Rattle.rail_model.specs.Within.{is_within}
-use Rattle.rail_model.specs.Edits.{with_item, with_changed, without, after_put, after_change, after_drop, after}
-use Rattle.rail_model.specs.Rules.{is_named, has_block, has_signal, has_run, has_connection, has, lists, is_there, is_taken, is_full, refers_to_known, repeats_block, repeats, miscounts_legs, makes_repeat, makes_miscount, is_used, rule_of_put, rule_of_change, rule_of_drop, rule_of}
-use Rattle.rail_model.specs.Sound.{Stands, AreSound, IsSound}
+use Rattle.rail_model.specs.Rules.{with_item, with_changed, without, after_put, after_change, after_drop, after, is_named, has_block, has_signal, has_run, has_connection, has, lists, is_there, is_taken, is_full, refers_to_known, repeats_block, repeats, miscounts_legs, makes_repeat, makes_miscount, is_used, rule_of_put, rule_of_change, rule_of_drop, rule_of, Stands, AreSound, IsSound}
 use Rattle.rail_model.proofs.Members.{never, not_never, Keeps, none_passes, grown_by_put, All-with_item, not_named-with_item, length-with_changed, is_named-with_changed, NamesRise-with_changed, kept_by_change, first-with_changed, All-with_changed, kept_by_drop, NamesRise-without, length-without, not_named-without}
 use Rattle.rail_model.proofs.NameOrder.{same_name, is_same-sym}
 

@@ -6,12 +6,10 @@ use Rattle.std.proofs.lemmas.List.Elements.{All-contains}
 use Rattle.rail_model.specs.declared.stair.Use.{Use}
 use Rattle.rail_model.specs.declared.stair.Stair.{Stair}
 use Rattle.rail_model.specs.declared.tables.Tables.{Tables}
-use Rattle.rail_model.specs.Path.{hop_count, no_hop}
-use Rattle.rail_model.specs.Blocking.{use_of, stairway, stair_of}
-use Rattle.rail_model.specs.Conflict.{Conflict, HasUse, IsConflict}
+use Rattle.rail_model.specs.Blocking.{hop_count, no_hop, use_of, stairway, stair_of}
+use Rattle.rail_model.specs.Conflict.{Conflict, HasUse, IsConflict, timetable}
 use Rattle.rail_model.specs.Tables.{no_run, run_at, path_in}
-use Rattle.rail_model.specs.Timetable.{timetable}
-use Rattle.rail_model.specs.Sound.{IsSound}
+use Rattle.rail_model.specs.Rules.{IsSound}
 use Rattle.rail_model.proofs.Lists.{All-from_one}
 use Rattle.rail_model.proofs.Paths.{path_at_numbered}
 

@@ -1,10 +1,7 @@
 -- Laws of edits.
 use Rattle.std.specs.Prelude.{◌≡◌, ◌<◌, List, length, take, Some, slice_index_or}
-use Rattle.rail_model.specs.declared.edit.Edit.{Edit}
-use Rattle.rail_model.specs.declared.tables.Tables.{Tables}
-use Rattle.rail_model.specs.Rules.{rule_of}
-use Rattle.rail_model.specs.Sound.{IsSound}
-use Rattle.rail_model.specs.Edited.{Refused, after_edits, first_refused, AreAccepted}
+use Rattle.rail_model.specs.Types.{Edit, Tables}
+use Rattle.rail_model.specs.Rules.{rule_of, IsSound, Refused, after_edits, first_refused, AreAccepted}
 
 -- sound tables stay sound by edits that no rule refuses
 abbrev pub SoundAfterEdits : Type 0

@@ -1,15 +1,10 @@
+pub mod Types
 pub mod Name
 pub mod List
-pub mod Path
-pub mod Motion
 pub mod Moment
 pub mod Blocking
 pub mod Conflict
 pub mod Tables
-pub mod Timetable
 pub mod Within
-pub mod Edits
 pub mod Rules
-pub mod Edited
-pub mod Sound
 pub mod Laws

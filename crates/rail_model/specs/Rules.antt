@@ -1,21 +1,65 @@
--- The rules that refuse an edit.
-use Rattle.std.specs.Prelude.{ℕ, Bool, true, false, not, ◌&&◌, ◌||◌, ◌==◌, nat_le, if◌then◌else◌, List, length, map, Option, Some, None}
-use Rattle.std.specs.List.{list_any, list_all}
-use Rattle.rail_model.specs.declared.items.Route.{Route}
-use Rattle.rail_model.specs.declared.items.Item.{Item}
+-- The rules that refuse an edit, the tables after edits, and sound tables.
+use Rattle.std.specs.Prelude.{ℕ, not, if◌then◌else◌, List, [], ◌∷◌, ◌++◌, map, filter, Bool, true, false, ◌&&◌, ◌||◌, ◌==◌, nat_le, length, Option, Some, None, ◌≡◌, ◌+◌, fold, option_map, ◌≤◌, IsTrue, All}
+use Rattle.rail_model.specs.Types.{Item, Kind, Edit, Tables, Route, Rule}
 use Rattle.rail_model.specs.declared.items.Item.TheVariants as item
-use Rattle.rail_model.specs.declared.edit.Kind.{Kind}
 use Rattle.rail_model.specs.declared.edit.Kind.TheVariants as kind
-use Rattle.rail_model.specs.declared.edit.Edit.{Edit}
 use Rattle.rail_model.specs.declared.edit.Edit.TheVariants as edit
-use Rattle.rail_model.specs.declared.edit.Rule.{Rule}
+use Rattle.rail_model.specs.Name.{is_before, is_same, has_repeat, NamesRise}
+use Rattle.std.specs.List.{list_any, list_all}
 use Rattle.rail_model.specs.declared.edit.Rule.TheVariants.{Range, Twice, Unknown, Limit, Count, InUse}
-use Rattle.rail_model.specs.declared.tables.Tables.{Tables}
 use Rattle.rail_model.specs.declared.limits.TheConstants.{BLOCKS, SIGNALS, ROUTES, RUNS, SECTIONS, CONNECTIONS}
-use Rattle.rail_model.specs.Name.{is_same, has_repeat}
 use Rattle.rail_model.specs.Tables.{signal_named, route_named}
 use Rattle.rail_model.specs.Within.{is_within}
-use Rattle.rail_model.specs.Edits.{with_changed}
+use Rattle.std.specs.Option.{option_or}
+
+-- tables without items
+abbrev pub no_tables : Tables
+no_tables = record { blocks = []; signals = []; routes = []; runs = []; sections = []; connections = [] }
+
+-- the items with one more, in the order of their names
+abbrev pub with_item : {X : Type 0} → (X → List ℕ) → List X → X → List X
+with_item name items x =
+    filter (λ y. is_before (name y) (name x)) items ++ (x ∷ filter (λ y. is_before (name x) (name y)) items)
+
+-- the items with this one in the place of the one of its name
+abbrev pub with_changed : {X : Type 0} → (X → List ℕ) → List X → X → List X
+with_changed name items x = map (λ y. if is_same (name y) (name x) then x else y) items
+
+-- the items without the one of a name
+abbrev pub without : {X : Type 0} → (X → List ℕ) → List X → List ℕ → List X
+without name items n = filter (λ y. not (is_same (name y) n)) items
+
+-- a put adds the item
+abbrev pub after_put : Tables → Item → Tables
+after_put tables (item.Block b) = record tables { blocks = with_item (λ x. x.name) tables.blocks b }
+after_put tables (item.Signal s) = record tables { signals = with_item (λ x. x.name) tables.signals s }
+after_put tables (item.Route r) = record tables { routes = with_item (λ x. x.name) tables.routes r }
+after_put tables (item.Run r) = record tables { runs = with_item (λ x. x.name) tables.runs r }
+after_put tables (item.Section s) = record tables { sections = with_item (λ x. x.name) tables.sections s }
+after_put tables (item.Connection c) = record tables { connections = with_item (λ x. x.name) tables.connections c }
+
+-- a change replaces the item of its name
+abbrev pub after_change : Tables → Item → Tables
+after_change tables (item.Block b) = record tables { blocks = with_changed (λ x. x.name) tables.blocks b }
+after_change tables (item.Signal s) = record tables { signals = with_changed (λ x. x.name) tables.signals s }
+after_change tables (item.Route r) = record tables { routes = with_changed (λ x. x.name) tables.routes r }
+after_change tables (item.Run r) = record tables { runs = with_changed (λ x. x.name) tables.runs r }
+after_change tables (item.Section s) = record tables { sections = with_changed (λ x. x.name) tables.sections s }
+after_change tables (item.Connection c) = record tables { connections = with_changed (λ x. x.name) tables.connections c }
+
+-- a drop takes the item out
+abbrev pub after_drop : Tables → Kind → List ℕ → Tables
+after_drop tables kind.Block n = record tables { blocks = without (λ x. x.name) tables.blocks n }
+after_drop tables kind.Signal n = record tables { signals = without (λ x. x.name) tables.signals n }
+after_drop tables kind.Route n = record tables { routes = without (λ x. x.name) tables.routes n }
+after_drop tables kind.Run n = record tables { runs = without (λ x. x.name) tables.runs n }
+after_drop tables kind.Section n = record tables { sections = without (λ x. x.name) tables.sections n }
+after_drop tables kind.Connection n = record tables { connections = without (λ x. x.name) tables.connections n }
+
+abbrev pub after : Tables → Edit → Tables
+after tables (edit.Put x) = after_put tables x
+after tables (edit.Change x) = after_change tables x
+after tables (edit.Drop k n) = after_drop tables k n
 
 -- ---- names
 
@@ -163,3 +207,50 @@ abbrev pub rule_of : Tables → Edit → Option Rule
 rule_of tables (edit.Put x) = rule_of_put tables x
 rule_of tables (edit.Change x) = rule_of_change tables x
 rule_of tables (edit.Drop k n) = rule_of_drop tables k n
+
+-- the tables after edits, made one after the other
+abbrev pub after_edits : Tables → List Edit → Tables
+after_edits tables edits = fold after tables edits
+
+-- an edit that is refused: its place in a list of edits, from 0, and the rule
+pub record Refused : Type 0 where
+  pub place : ℕ
+  pub rule : Rule
+
+-- a refused edit's place and rule, where the list has one edit more in front
+abbrev pub one_further : Refused → Refused
+one_further refused = record refused { place = refused.place + 1 }
+
+-- the first of some edits that a rule refuses, where those before it are made
+abbrev pub first_refused : Tables → List Edit → Option Refused
+first_refused tables [] = None
+first_refused tables (e ∷ edits) =
+    option_or (option_map (λ rule. record { place = 0; rule = rule }) (rule_of tables e))
+    (option_map one_further (first_refused (after tables e) edits))
+
+-- no rule refuses one of the edits
+abbrev pub AreAccepted : Tables → List Edit → Type 0
+AreAccepted tables edits = first_refused tables edits ≡ None
+
+-- no rule but that of its own name being there would refuse an item of the tables
+pub record Stands (tables : Tables) (x : Item) : Type 0 where
+  pub within : IsTrue (is_within x)
+  pub known : IsTrue (refers_to_known tables x)
+  pub no_repeat : IsTrue (not (repeats tables x))
+  pub count : IsTrue (not (miscounts_legs tables x))
+
+-- the items of one kind: their names rise, there are no more of them than may be, and each one stands
+pub record AreSound {X : Type 0} (tables : Tables) (kind : X → Item) (name : X → List ℕ) (limit : ℕ) (items : List X) : Type 0 where
+  pub names : NamesRise name items
+  pub most : length items ≤ limit
+  pub each : All (λ x. Stands tables (kind x)) items
+
+-- sound tables: each kind is sound, and no connection has the name of a block
+pub record IsSound (tables : Tables) : Type 0 where
+  pub blocks : AreSound tables item.Block (λ x. x.name) BLOCKS tables.blocks
+  pub signals : AreSound tables item.Signal (λ x. x.name) SIGNALS tables.signals
+  pub routes : AreSound tables item.Route (λ x. x.name) ROUTES tables.routes
+  pub runs : AreSound tables item.Run (λ x. x.name) RUNS tables.runs
+  pub sections : AreSound tables item.Section (λ x. x.name) SECTIONS tables.sections
+  pub connections : AreSound tables item.Connection (λ x. x.name) CONNECTIONS tables.connections
+  pub apart : All (λ c. has tables kind.Block c.name ≡ false) tables.connections

@@ -1,18 +1,9 @@
 -- Looking things up in tables, and the path of a run.
 use Rattle.std.specs.Prelude.{ℕ, List, [], map, slice_index_or}
 use Rattle.std.specs.List.{position_or_len, zip}
-use Rattle.rail_model.specs.declared.items.Block.{Block}
-use Rattle.rail_model.specs.declared.items.Signal.{Signal}
-use Rattle.rail_model.specs.declared.items.Route.{Route}
-use Rattle.rail_model.specs.declared.items.Leg.{Leg}
-use Rattle.rail_model.specs.declared.items.Run.{Run}
-use Rattle.rail_model.specs.declared.items.Section.{Section}
-use Rattle.rail_model.specs.declared.tables.Tables.{Tables}
-use Rattle.rail_model.specs.declared.path.Hop.{Hop}
-use Rattle.rail_model.specs.declared.path.Path.{Path}
+use Rattle.rail_model.specs.Types.{Block, Signal, Route, Leg, Run, Section, Tables, Hop, Path}
 use Rattle.rail_model.specs.Name.{is_same}
-use Rattle.rail_model.specs.Path.{hop_count}
-use Rattle.rail_model.specs.Motion.{arrival}
+use Rattle.rail_model.specs.Blocking.{hop_count, arrival}
 
 -- the place of a name among items, from 0, or how many there are where it isn't there
 abbrev pub number_of : {X : Type 0} → (X → List ℕ) → List X → List ℕ → ℕ
@@ -45,12 +36,9 @@ section_at tables n = slice_index_or tables.sections n no_section
 abbrev pub block_name : Tables → ℕ → List ℕ
 block_name tables n = (slice_index_or tables.blocks n no_block).name
 
--- the number of a block, and of a route
+-- the number of a block
 abbrev pub block_number : Tables → List ℕ → ℕ
 block_number tables name = number_of (λ b. b.name) tables.blocks name
-
-abbrev pub route_number : Tables → List ℕ → ℕ
-route_number tables name = number_of (λ r. r.name) tables.routes name
 
 -- the items of these names
 abbrev pub block_named : Tables → List ℕ → Block
@@ -60,7 +48,7 @@ abbrev pub signal_named : Tables → List ℕ → Signal
 signal_named tables name = slice_index_or tables.signals (number_of (λ s. s.name) tables.signals name) no_signal
 
 abbrev pub route_named : Tables → List ℕ → Route
-route_named tables name = slice_index_or tables.routes (route_number tables name) no_route
+route_named tables name = slice_index_or tables.routes (number_of (λ r. r.name) tables.routes name) no_route
 
 abbrev pub run_named : Tables → List ℕ → Run
 run_named tables name = slice_index_or tables.runs (number_of (λ r. r.name) tables.runs name) no_run

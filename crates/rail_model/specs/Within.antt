@@ -1,14 +1,7 @@
 -- Numbers and lists within their limits.
 use Rattle.std.specs.Prelude.{ℕ, ◌-◌, Bool, ◌&&◌, ◌==◌, nat_lt, nat_le, List, length, slice_index_or}
 use Rattle.std.specs.List.{list_all}
-use Rattle.rail_model.specs.declared.items.Block.{Block}
-use Rattle.rail_model.specs.declared.items.Signal.{Signal}
-use Rattle.rail_model.specs.declared.items.Route.{Route}
-use Rattle.rail_model.specs.declared.items.Leg.{Leg}
-use Rattle.rail_model.specs.declared.items.Run.{Run}
-use Rattle.rail_model.specs.declared.items.Section.{Section}
-use Rattle.rail_model.specs.declared.items.Connection.{Connection}
-use Rattle.rail_model.specs.declared.items.Item.{Item}
+use Rattle.rail_model.specs.Types.{Block, Signal, Route, Leg, Run, Section, Connection, Item}
 use Rattle.rail_model.specs.declared.items.Item.TheVariants as item
 use Rattle.rail_model.specs.declared.limits.TheConstants.{PATH_HOPS, GREATEST_LENGTH_M, GREATEST_START_S, GREATEST_TIME_S, GREATEST_WINDOW_END_S, GREATEST_RATE}
 

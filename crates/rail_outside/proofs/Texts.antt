@@ -5,7 +5,7 @@ use Rattle.std.specs.String.{string_bytes}
 use Rattle.std.specs.Str.{IsUtf8}
 use Rattle.std.proofs.lemmas.List.Elements.{All-map}
 use Rattle.std.proofs.lemmas.Str.{IsUtf8-string_bytes}
-use Rattle.rail_outside.specs.Words.{AreWords, HasNoText}
+use Rattle.rail_outside.specs.InCall.{AreWords, HasNoText}
 
 -- where each is UTF-8, none isn't
 pub all_text : (words : List (List ℕ)) → All IsUtf8 words → ¬ (HasNoText words)

@@ -1,8 +1,34 @@
--- A source and a sink in a call: what they tell of themselves, and their states before and after it.
-use Rattle.std.specs.Prelude.{◌≡◌, ℕ, ◌-◌, ◌^◌, ◌<◌, ◌≤◌, ◌++◌, List, length, take, Option}
+-- What a call does to its source and its sink, counts of faults, and the words of a call.
+use Rattle.std.specs.Prelude.{◌≡◌, ℕ, ◌+◌, ◌-◌, ◌^◌, min, Result, is_ok, if◌then◌else◌, List, length, Option, IfSome, Contains, ◌<◌, ◌≤◌, ◌++◌, take}
+use Rattle.std.specs.Str.{IsUtf8}
 use Rattle.std.specs.Io.KnownBytes.{Consumes, Appends, IsAtEnd}
-use Rattle.rail_outside.specs.Faults.{RoseByOne}
-use Rattle.rail_outside.specs.Sink.{IsFlushed}
+
+-- the count after one more, which stands still at its type's end
+abbrev pub raised : ℕ → ℕ
+raised count = min (count + 1) (2 ^ 64 - 1)
+
+-- one call failed, and no other: the count rose by exactly one, or stands at its type's end
+abbrev pub RoseByOne : ℕ → ℕ → Type 0
+RoseByOne before now = now ≡ raised before
+
+-- a call that answers a fault raises the count by one, and any other leaves it
+abbrev pub CountsFaults : {T E : Type 0} → Result T E → ℕ → ℕ → Type 0
+CountsFaults answer before now = now ≡ (if is_ok answer then before else raised before)
+
+-- all bytes taken are flushed
+abbrev pub IsFlushed : List ℕ → ℕ → Type 0
+IsFlushed taken n = n ≡ length taken
+
+-- these are the words, all of them and in their order
+abbrev pub AreWords : Option (List (List ℕ)) → List (List ℕ) → Type 0
+AreWords told words = IfSome told (λ all. words ≡ all)
+
+-- one of the words isn't UTF-8
+abbrev pub HasNoText : List (List ℕ) → Type 0
+HasNoText words = (word : List ℕ) × Contains words word × ¬ (IsUtf8 word)
+
+abbrev pub AreNotText : Option (List (List ℕ)) → Type 0
+AreNotText told = IfSome told HasNoText
 
 -- a source: the bytes that it gave so far, those that it has left, where it tells them, whether its last read found the end,
 -- its count of faults, and whether its last read failed

@@ -1,10 +1,7 @@
-pub mod Faults
-pub mod Sink
 pub mod MemorySource
 pub mod MemorySink
 pub mod FromReader
 pub mod ToWriter
 pub mod InCall
-pub mod Words
 pub mod MemoryWords
 pub mod StdWords

@@ -1,6 +1,6 @@
 -- What a sink in memory holds, and what a write and a flush make of it.
 use Rattle.std.specs.Prelude.{◌≡◌, ◌⊎◌, ◌↔◌, ◌+◌, ◌<◌, ◌≤◌, ◌++◌, ℕ, List, length, take, min, ⊤, Result, IsErr, IfOk, OnOk, OnErr, Contains}
-use Rattle.rail_outside.specs.Faults.{raised, CountsFaults}
+use Rattle.rail_outside.specs.InCall.{raised, CountsFaults}
 use Rattle.rail_outside.specs.declared.faults.Failed.{Failed}
 use Rattle.rail_outside.specs.declared.memory_sink.MemorySink.{MemorySink}
 

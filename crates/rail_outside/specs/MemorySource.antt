@@ -1,6 +1,6 @@
 -- What a source in memory holds, and what a read makes of it.
 use Rattle.std.specs.Prelude.{◌≡◌, ◌<◌, ◌≤◌, ◌↔◌, ◌++◌, ℕ, Bool, IsTrue, Ok, List, length, take, drop, min, Result, IsErr, IfOk, OnErr, Contains}
-use Rattle.rail_outside.specs.Faults.{raised, CountsFaults}
+use Rattle.rail_outside.specs.InCall.{raised, CountsFaults}
 use Rattle.rail_outside.specs.declared.faults.Failed.{Failed}
 use Rattle.rail_outside.specs.declared.memory_source.MemorySource.{MemorySource}
 

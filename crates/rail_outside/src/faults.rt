@@ -1,6 +1,6 @@
 //! A failed call, and the counts of them.
 ghost use Rattle.std.specs.Prelude.{◌≡◌, ◌↔◌, IsTrue, Contains};
-ghost use Rattle.rail_outside.specs.Faults.{raised};
+ghost use Rattle.rail_outside.specs.InCall.{raised};
 
 use rail_model::List;
 

@@ -40,7 +40,7 @@ impl<R: Read> FromReader<R> {
 }
 
 impl<R> FromReader<R> {
-    ghost use Rattle.rail_outside.specs.Faults.{CountsFaults};
+    ghost use Rattle.rail_outside.specs.InCall.{CountsFaults};
     ghost use Rattle.rail_outside.specs.FromReader.{reader_of, reader_given, reader_ended, reader_at_fault, reader_faults};
 
     // Notes what the reader answered to a read.

@@ -2,7 +2,7 @@
 ghost use Rattle.std.specs.Prelude.{◌≡◌, ◌↔◌, Some, IfOk, OnErr, IsTrue, IsFalse, All};
 ghost use Rattle.std.specs.String.{string_bytes};
 ghost use Rattle.std.specs.Str.{IsUtf8};
-ghost use Rattle.rail_outside.specs.Words.{HasNoText};
+ghost use Rattle.rail_outside.specs.InCall.{HasNoText};
 
 use crate::{NotText, Words};
 use rail_model::{List, OutOfMemory};

@@ -2,8 +2,7 @@
 ghost use Rattle.std.specs.Prelude.{◌≡◌, ◌≤◌, ◌++◌, ℕ, length, take, OnOk, OnErr};
 ghost use Rattle.std.specs.List.{flat_map};
 ghost use Rattle.std.specs.Io.KnownBytes.{Appends};
-ghost use Rattle.rail_outside.specs.Faults.{RoseByOne};
-ghost use Rattle.rail_outside.specs.Sink.{IsFlushed};
+ghost use Rattle.rail_outside.specs.InCall.{RoseByOne, IsFlushed};
 
 use crate::{Failed, Sink};
 

@@ -1,8 +1,7 @@
 //! Where bytes go.
 ghost use Rattle.std.specs.Prelude.{◌≡◌, ◌<◌, ◌≤◌, ◌++◌, ℕ, List, Option, length, take, IfOk, OnOk, OnErr};
 ghost use Rattle.std.specs.Io.KnownBytes.{Appends, Keeps};
-ghost use Rattle.rail_outside.specs.Faults.{RoseByOne};
-ghost use Rattle.rail_outside.specs.Sink.{IsFlushed};
+ghost use Rattle.rail_outside.specs.InCall.{RoseByOne, IsFlushed};
 
 use crate::Failed;
 

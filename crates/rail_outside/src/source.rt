@@ -1,7 +1,7 @@
 //! Where bytes come from.
 ghost use Rattle.std.specs.Prelude.{◌≡◌, ◌<◌, ◌≤◌, ◌++◌, ◌↔◌, ℕ, List, Option, length, take, IsTrue, IsErr, IfOk, OnOk, OnErr};
 ghost use Rattle.std.specs.Io.KnownBytes.{Consumes, Keeps, IsAtEnd};
-ghost use Rattle.rail_outside.specs.Faults.{RoseByOne};
+ghost use Rattle.rail_outside.specs.InCall.{RoseByOne};
 
 use crate::Failed;
 

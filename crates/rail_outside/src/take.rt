@@ -1,7 +1,7 @@
 //! Reading a whole input.
 ghost use Rattle.std.specs.Prelude.{◌≡◌, ◌≢◌, ◌+◌, ◌-◌, ◌^◌, ◌<◌, ◌≤◌, ◌++◌, ℕ, List, length, IfOk, IsErrOf};
 ghost use Rattle.std.specs.Io.KnownBytes.{Consumes, IsAtEnd};
-ghost use Rattle.rail_outside.specs.Faults.{RoseByOne};
+ghost use Rattle.rail_outside.specs.InCall.{RoseByOne};
 
 use crate::Source;
 use rail_model::{List, OutOfMemory};

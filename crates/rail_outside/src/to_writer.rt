@@ -34,8 +34,7 @@ impl<W: Write> ToWriter<W> {
 }
 
 impl<W> ToWriter<W> {
-    ghost use Rattle.rail_outside.specs.Faults.{CountsFaults};
-    ghost use Rattle.rail_outside.specs.Sink.{IsFlushed};
+    ghost use Rattle.rail_outside.specs.InCall.{CountsFaults, IsFlushed};
     ghost use Rattle.rail_outside.specs.ToWriter.{writer_of, writer_taken, writer_flushed, writer_faults};
 
     // Notes what the writer answered to a write. One that takes none of some bytes would be tried

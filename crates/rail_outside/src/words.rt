@@ -1,7 +1,7 @@
 //! The words of a call.
 ghost use Rattle.std.specs.Prelude.{◌≡◌, ◌↔◌, ℕ, List, Option, map, IsSome, IsOk, IsErr, IfOk, OnOk, OnErr};
 ghost use Rattle.std.specs.String.{string_bytes};
-ghost use Rattle.rail_outside.specs.Words.{AreWords, AreNotText};
+ghost use Rattle.rail_outside.specs.InCall.{AreWords, AreNotText};
 
 use rail_model::OutOfMemory;
 use std::alloc::Global;

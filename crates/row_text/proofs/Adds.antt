@@ -3,8 +3,7 @@ use Rattle.std.proofs.Common.{◌≡◌, List, [], ◌∷◌, ◌++◌, length, 
 use Rattle.std.specs.Prelude.{IsErrAnd}
 use Rattle.std.proofs.lemmas.List.{take-append-drop}
 use Rattle.std.proofs.Math.Seq.{take-append_seam}
-use Rattle.row_text.specs.Row.{Row}
-use Rattle.row_text.specs.SheetRows.{SheetRows, with_row}
+use Rattle.row_text.specs.SheetRows.{Row, SheetRows, with_row}
 use Rattle.row_text.specs.Adds.{AddsFirst, Adds}
 
 -- rows that a list begins with are a prefix of it

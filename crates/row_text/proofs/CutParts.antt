@@ -14,7 +14,7 @@ use Rattle.row_text.specs.Cuts.{CutsIn, fields_cut_at}
 use Rattle.row_text.specs.Parts.{AreParts, EndsPart, EndsRise, HasPlaces, IsPart}
 use Rattle.row_text.specs.Pieces.{pieces}
 use Rattle.row_text.specs.PlainRows.{cut_rows, ends_line, HasCutAll, is_blank, with_line}
-use Rattle.row_text.specs.Row.{Row}
+use Rattle.row_text.specs.SheetRows.{Row}
 use Rattle.row_text.proofs.Cuts.{each-weaker, rows-same}
 use Rattle.row_text.proofs.Pieces.{pieces-more}
 use Rattle.row_text.proofs.PlainReads.{cut-byte, cut-comma, cut-line, cut-none}

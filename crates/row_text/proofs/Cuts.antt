@@ -8,7 +8,7 @@ use Rattle.std.proofs.Math.Seq.{drop-append_seam}
 use Rattle.csv.specs.Records.{last_end}
 use Rattle.csv.proofs.RecordFacts.{last-append}
 use Rattle.row_text.specs.Cuts.{CutsIn, EndsAt, fields_cut_at, PutsField, with_first}
-use Rattle.row_text.specs.Row.{field}
+use Rattle.row_text.specs.SheetRows.{field}
 
 -- there is a place more than fields
 pub length-fields_cut_at : (bytes cuts : List ℕ) → length (fields_cut_at bytes cuts) ≡ length cuts - 1

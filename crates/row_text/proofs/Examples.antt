@@ -12,9 +12,7 @@ use Rattle.row_text.specs.declared.line.Line.TheVariants as line
 use Rattle.row_text.specs.declared.word.Word.{Word}
 use Rattle.row_text.specs.declared.word.Word.TheVariants as word
 use Rattle.row_text.specs.Words.{shape_of, word_of, allows}
-use Rattle.row_text.specs.Lines.{read_in}
-use Rattle.row_text.specs.Spelling.{row_in, has_times_in}
-use Rattle.row_text.specs.Versions.{version_of}
+use Rattle.row_text.specs.Lines.{read_in, row_in, has_times_in, version_of}
 
 -- block,A,1000
 block : read_in 1 (codes "block" ∷ codes "A" ∷ codes "1000" ∷ []) ≡ Ok (line.Edit (edit.Put (item.Block (record { name = codes "A"; length_m = 1000 }))))

@@ -2,8 +2,8 @@
 use Rattle.std.proofs.Common.{◌≡◌, ℕ, ◌+◌, ◌<◌, false, ◌==◌, List, [], ◌∷◌, ◌++◌, length, drop, Result, Ok, Err, refl, arith}
 use Rattle.rail_model.specs.declared.form.Form.{Form}
 use Rattle.rail_model.specs.declared.items.Leg.{Leg}
-use Rattle.row_text.specs.Row.{Row, field}
-use Rattle.row_text.specs.Sorts.{number_in, time_in}
+use Rattle.row_text.specs.SheetRows.{Row, field}
+use Rattle.row_text.specs.Words.{number_in, time_in}
 use Rattle.row_text.specs.Lines.{◌>>=◌, read_each, legs_of, legs_in}
 use Rattle.row_text.proofs.Reading.{after, then_rest, after-push, read_each-drop}
 

@@ -11,8 +11,8 @@ use Rattle.std.proofs.Common.{append_assoc}
 use Rattle.std.proofs.lemmas.List.Folds.{list_all-append}
 use Rattle.std.proofs.lemmas.List.Sums.{fold-append}
 use Rattle.std.proofs.lemmas.Fmt.{decimal_by_steps, length-decimal-le, decimal_nonempty, decimal_step}
-use Rattle.row_text.specs.Sorts.{value_of, number_of, number_in, rate_in, has_clock_form, clock_of, time_in}
-use Rattle.row_text.specs.Spelling.{two_digits, hours_text, clock_text, time_text}
+use Rattle.row_text.specs.Words.{value_of, number_of, number_in, rate_in, has_clock_form, clock_of, time_in}
+use Rattle.row_text.specs.Lines.{two_digits, hours_text, clock_text, time_text}
 
 is_digit : (d : ℕ) → d < 10 → is_ascii_digit (48 + d) ≡ true
 is_digit d lt = grind (arith, nat_tests)

@@ -14,7 +14,7 @@ use Rattle.csv.specs.declared.parser.Action.{Action}
 use Rattle.csv.specs.declared.parser.Action.TheVariants as act
 use Rattle.csv.specs.declared.parser.Terminator.TheVariants as term
 use Rattle.row_text.specs.PlainRows.{cut_rows, ends_line, HasNoQuote, is_blank, with_line}
-use Rattle.row_text.specs.Row.{Row}
+use Rattle.row_text.specs.SheetRows.{Row}
 use Rattle.row_text.specs.Rows.{rows_of}
 use Rattle.row_text.proofs.Records.{records_from-end}
 

@@ -1,7 +1,7 @@
 -- Fields that are read one after the other: what was read so far, and what the rest reads as.
 use Rattle.std.proofs.Common.{◌≡◌, ℕ, zero, suc, ◌+◌, ◌<◌, List, [], ◌∷◌, ◌++◌, length, drop, Result, Ok, Err, refl, ap, append_assoc, add-one, arith}
 use Rattle.rail_model.specs.declared.form.Form.{Form}
-use Rattle.row_text.specs.Row.{Row, field}
+use Rattle.row_text.specs.SheetRows.{Row, field}
 use Rattle.row_text.specs.Lines.{◌>>=◌, read_each}
 
 -- what was read so far before what the rest reads as

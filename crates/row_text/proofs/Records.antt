@@ -12,7 +12,7 @@ use Rattle.csv.specs.Reading.{ReadRecord, default_config}
 use Rattle.csv.proofs.ReadFacts.{rows-more, rows-end}
 use Rattle.std.proofs.lemmas.List.{append-nil}
 use Rattle.row_text.specs.Rows.{rows_of, HasRead}
-use Rattle.row_text.specs.Row.{Row}
+use Rattle.row_text.specs.SheetRows.{Row}
 
 -- a record takes a byte, or ends the text
 abbrev Takes : List ℕ → Read → Type 0

@@ -14,8 +14,8 @@ use Rattle.rail_model.specs.Name.{is_name, is_same}
 use Rattle.rail_model.specs.declared.form.Form.{Form}
 use Rattle.rail_model.specs.declared.form.Form.TheVariants as form
 use Rattle.std.specs.Option.{option_or, ok_or}
-use Rattle.row_text.specs.Row.{Row}
-use Rattle.row_text.specs.Sorts.{value_of, is_number, number_of, classes, class_rate, rate_of, has_clock_form, clock_after, clock_of, time_of, name_in, number_in, rate_in, time_in}
+use Rattle.row_text.specs.SheetRows.{Row}
+use Rattle.row_text.specs.Words.{value_of, is_number, number_of, classes, class_rate, rate_of, has_clock_form, clock_after, clock_of, time_of, name_in, number_in, rate_in, time_in}
 use Rattle.row_text.specs.Lines.{◌>>=◌, read_each}
 
 -- the value before a read that goes on

@@ -10,9 +10,8 @@ use Rattle.csv.specs.Writing.{default_writer, row_text, row_body, fields_text, f
 use Rattle.csv.specs.declared.parser.State.TheVariants as st
 use Rattle.csv.proofs.RoundTrip.{read-write}
 use Rattle.row_text.specs.declared.sheet.Sheet.TheInside.{Inside}
-use Rattle.row_text.specs.Row.{Row}
+use Rattle.row_text.specs.SheetRows.{Row, SheetRows, text_of_row, text_of_rows, has_fields}
 use Rattle.row_text.specs.Put.{separator, more_text}
-use Rattle.row_text.specs.SheetRows.{SheetRows, text_of_row, text_of_rows, has_fields}
 use Rattle.row_text.specs.Sheet.{ended_text, open_text, ended_row, first_row, sheet_rows}
 use Rattle.row_text.specs.SheetText.{HoldsRows, IsSheet}
 

@@ -10,9 +10,8 @@ use Rattle.std.proofs.lemmas.List.Folds.{list_all-append}
 use Rattle.std.proofs.lemmas.List.Concat.{flat_map-append}
 use Rattle.csv.specs.Writing.{default_writer, row_body}
 use Rattle.row_text.specs.declared.sheet.Sheet.TheInside.{Inside}
-use Rattle.row_text.specs.Row.{Row}
+use Rattle.row_text.specs.SheetRows.{Row, text_of_row, text_of_rows, has_fields}
 use Rattle.row_text.specs.Put.{more_text}
-use Rattle.row_text.specs.SheetRows.{text_of_row, text_of_rows, has_fields}
 use Rattle.row_text.specs.Sheet.{ended_text, open_text, sheet_rows}
 use Rattle.row_text.specs.SheetText.{HoldsRows, IsSheet}
 use Rattle.row_text.proofs.SheetRows.{IsTrue-true, IsTrue-from, row_body-append, has_fields-append, ended_row-text}

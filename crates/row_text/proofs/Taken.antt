@@ -5,7 +5,7 @@ use Rattle.std.proofs.lemmas.List.Elements.{All-nil, All-push}
 use Rattle.csv.specs.Records.{Rising, cut_from, last_end, prev}
 use Rattle.csv.proofs.RecordFacts.{field-bounds, field-cut, field-get, last-append, last-take, rising-end, rising-more}
 use Rattle.row_text.specs.declared.row_list.Taken.{Taken}
-use Rattle.row_text.specs.Row.{Row}
+use Rattle.row_text.specs.SheetRows.{Row}
 use Rattle.row_text.specs.Pieces.{pieces}
 use Rattle.row_text.specs.Cuts.{CutsIn, fields_cut_at, PutsField, RowsIn}
 use Rattle.row_text.specs.Rows.{HasPut, HasSame, HasTaken}

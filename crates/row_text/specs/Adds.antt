@@ -1,7 +1,6 @@
 -- What a call that adds rows to a sheet leaves of it.
 use Rattle.std.specs.Prelude.{◌≡◌, ℕ, List, ◌++◌, [], take, Result, Ok, Err}
-use Rattle.row_text.specs.Row.{Row}
-use Rattle.row_text.specs.SheetRows.{SheetRows}
+use Rattle.row_text.specs.SheetRows.{Row, SheetRows}
 
 -- all of these rows were added to a sheet, and none is open
 pub record AddsAll (before after : SheetRows) (added : List Row) : Type 0 where

@@ -2,7 +2,7 @@
 use Rattle.std.specs.Prelude.{◌≡◌, ℕ, ◌+◌, ◌-◌, ◌^◌, ◌<◌, ◌≤◌, List, [], ◌∷◌, ◌++◌, length, map, slice_range, take}
 use Rattle.std.specs.List.{All}
 use Rattle.csv.specs.Records.{Rising, last_end}
-use Rattle.row_text.specs.Row.{Row}
+use Rattle.row_text.specs.SheetRows.{Row}
 use Rattle.row_text.specs.Pieces.{pieces}
 
 -- the fields that are cut from bytes at these places: each starts at its place and ends a byte

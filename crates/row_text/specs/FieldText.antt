@@ -1,7 +1,7 @@
 -- The text of a field that is written.
 use Rattle.std.specs.Prelude.{ℕ, List, decimal}
 use Rattle.std.specs.Fmt.{signed_decimal}
-use Rattle.row_text.specs.declared.write_field.Field.{Field}
+use Rattle.row_text.specs.Types.{Field}
 use Rattle.row_text.specs.declared.write_field.Field.TheVariants as written
 
 -- bytes and names are written as they are, numbers in plain decimal

@@ -1,13 +1,10 @@
-pub mod Row
+pub mod Types
 pub mod Pieces
 pub mod Cuts
 pub mod Rows
-pub mod Sorts
 pub mod Words
 pub mod Reads
 pub mod Lines
-pub mod Versions
-pub mod Spelling
 pub mod FieldText
 pub mod SheetRows
 pub mod Adds

@@ -1,5 +1,5 @@
--- Which line a row spells, or its first form fault.
-use Rattle.std.specs.Prelude.{ℕ, ◌-◌, Bool, false, ◌||◌, ◌==◌, nat_lt, if◌then◌else◌, List, [], ◌∷◌, length, drop, Result, Ok, Err}
+-- Which line a row spells, or its first form fault; and the row that spells a line.
+use Rattle.std.specs.Prelude.{ℕ, ◌-◌, Bool, false, ◌||◌, ◌==◌, nat_lt, if◌then◌else◌, List, [], ◌∷◌, length, drop, Result, Ok, Err, codes, slice_index_or, ◌≡◌, ◌+◌, ◌/◌, ◌%◌, true, ◌&&◌, nat_le, ◌++◌, map, decimal}
 use Rattle.std.specs.Option.{ok_or}
 use Rattle.rail_model.specs.declared.form.Form.{Form}
 use Rattle.rail_model.specs.declared.form.Form.TheVariants as form
@@ -9,13 +9,16 @@ use Rattle.rail_model.specs.declared.edit.Edit.TheVariants as edit
 use Rattle.rail_model.specs.declared.items.Leg.{Leg}
 use Rattle.rail_model.specs.declared.items.Item.{Item}
 use Rattle.rail_model.specs.declared.items.Item.TheVariants as item
-use Rattle.row_text.specs.declared.line.Line.{Line}
+use Rattle.row_text.specs.Types.{Line, Word, Part}
 use Rattle.row_text.specs.declared.line.Line.TheVariants as line
-use Rattle.row_text.specs.declared.word.Word.{Word}
 use Rattle.row_text.specs.declared.word.Word.TheVariants as word
-use Rattle.row_text.specs.Row.{Row, field}
-use Rattle.row_text.specs.Sorts.{name_in, number_in, rate_in, time_in}
-use Rattle.row_text.specs.Words.{shape_of, word_of, allows}
+use Rattle.row_text.specs.SheetRows.{Row, field}
+use Rattle.row_text.specs.Words.{name_in, number_in, rate_in, time_in, shape_of, word_of, allows, word_text}
+use Rattle.rail_model.specs.Name.{is_same}
+use Rattle.std.specs.List.{list_all}
+use Rattle.rail_model.specs.declared.edit.Edit.{Edit}
+use Rattle.row_text.specs.declared.line_row.Part.TheVariants as part
+use Rattle.row_text.specs.declared.time_text.TheConstants.{GREATEST_CLOCK_S}
 
 -- what comes next where there is no fault
 infixl 10 ◌>>=◌
@@ -128,3 +131,115 @@ abbrev pub read_in : ℕ → Row → Result Line Form
 read_in version row = do
   w ← ok_or (word_of (field row 0)) form.Kind
   if allows (shape_of w) (length row) then line_of version w row else Err form.Fields
+
+-- version,N, as the first row of a text, says the version of all rows after it
+abbrev pub has_version_row : List Row → Bool
+has_version_row rows = is_same (field (slice_index_or rows 0 []) 0) (codes "version")
+
+-- the version that such a row says, 1 or 2, or its fault
+abbrev pub known_version : ℕ → Result ℕ Form
+known_version version = if (version == 1) || (version == 2) then Ok version else Err form.Number
+
+abbrev pub version_in : Row → Result ℕ Form
+version_in row = if length row == 2 then number_in (field row 1) >>= known_version else Err form.Fields
+
+-- the version of the rows of a text: 1 where no row says it
+abbrev pub version_of : List Row → Result ℕ Form
+version_of rows = if has_version_row rows then version_in (slice_index_or rows 0 []) else Ok 1
+
+-- the place of the first row that is to spell a line
+abbrev pub first_line : List Row → ℕ
+first_line rows = if has_version_row rows then 1 else 0
+
+-- a number below 100 in two digits
+abbrev pub two_digits : ℕ → List ℕ
+two_digits n = (48 + n / 10) ∷ (48 + n % 10) ∷ []
+
+-- a time of day: HOURS:MM:SS, with at least two digits of hours
+abbrev pub hours_text : ℕ → List ℕ
+hours_text hours = if nat_lt hours 10 then 48 ∷ decimal hours else decimal hours
+
+abbrev pub clock_text : ℕ → List ℕ
+clock_text seconds =
+    hours_text (seconds / 3600) ++ (58 ∷ two_digits (seconds / 60 % 60)) ++ (58 ∷ two_digits (seconds % 60))
+
+-- a time in a version of the rows
+abbrev pub time_text : ℕ → ℕ → List ℕ
+time_text version seconds = if version == 2 then clock_text seconds else decimal seconds
+
+-- a running and a dwell time for each leg, but no dwell time for the last
+abbrev pub leg_times : List Leg → List ℕ
+leg_times [] = []
+leg_times (leg ∷ []) = leg.running_s ∷ []
+leg_times (leg ∷ next ∷ legs) = leg.running_s ∷ leg.dwell_s ∷ leg_times (next ∷ legs)
+
+-- the times at which steps end that begin at a time
+abbrev pub sums : ℕ → List ℕ → List ℕ
+sums before [] = []
+sums before (step ∷ steps) = (before + step) ∷ sums (before + step) steps
+
+-- the times after a run's start: in version 1 the running and dwell times, in version 2 the arrivals and departures
+abbrev pub run_times : ℕ → ℕ → List Leg → List ℕ
+run_times version start legs = if version == 2 then sums start (leg_times legs) else leg_times legs
+
+abbrev pub kind_of_item : Item → Kind
+kind_of_item (item.Block b) = kind.Block
+kind_of_item (item.Signal s) = kind.Signal
+kind_of_item (item.Route r) = kind.Route
+kind_of_item (item.Run r) = kind.Run
+kind_of_item (item.Section s) = kind.Section
+kind_of_item (item.Connection c) = kind.Connection
+
+-- the fields of an item's row after its word
+abbrev pub item_fields : ℕ → Item → Row
+item_fields version (item.Block b) = b.name ∷ decimal b.length_m ∷ []
+item_fields version (item.Signal s) =
+    s.name ∷ s.block ∷ map decimal (s.approach_m ∷ s.watch_s ∷ s.form_s ∷ s.overlap_m ∷ s.release_s ∷ [])
+item_fields version (item.Route r) = r.name ∷ r.signals
+item_fields version (item.Run r) =
+    r.name ∷ r.route ∷ decimal r.length_m ∷ decimal r.tail_s
+    ∷ map (time_text version) (r.start_s ∷ run_times version r.start_s r.legs)
+item_fields version (item.Section s) =
+    s.name ∷ time_text version s.from_s ∷ time_text version s.to_s ∷ decimal s.add_percent ∷ s.blocks
+item_fields version (item.Connection c) = c.name ∷ c.first ∷ c.second ∷ decimal c.minimum_s ∷ []
+
+-- the field of a row that says a name, a number or a time
+abbrev pub part_text : ℕ → Part → List ℕ
+part_text version (part.Name name) = name.now
+part_text version (part.Number n) = decimal n
+part_text version (part.Time seconds) = time_text version seconds
+
+-- the row of a line in a version of the rows
+abbrev pub edit_row : ℕ → Edit → Row
+edit_row version (edit.Put x) = word_text (word.Put (kind_of_item x)) ∷ item_fields version x
+edit_row version (edit.Change x) = word_text (word.Change (kind_of_item x)) ∷ item_fields version x
+edit_row version (edit.Drop k name) = word_text (word.Drop k) ∷ name ∷ []
+
+abbrev pub row_in : ℕ → Line → Row
+row_in version (line.Edit e) = edit_row version e
+row_in version (line.Ask name) = word_text word.Ask ∷ name ∷ []
+row_in version (line.Planner n) = word_text word.Planner ∷ decimal n ∷ []
+
+-- all times can be written as times of day
+abbrev pub are_clock_times : List ℕ → Bool
+are_clock_times times = list_all (λ time. nat_le time GREATEST_CLOCK_S) times
+
+-- every time of an item can be written as a time of day
+abbrev pub has_clock_times : Item → Bool
+has_clock_times (item.Run r) =
+    nat_le r.start_s GREATEST_CLOCK_S && are_clock_times (sums r.start_s (leg_times r.legs))
+has_clock_times (item.Section s) = nat_le s.from_s GREATEST_CLOCK_S && nat_le s.to_s GREATEST_CLOCK_S
+has_clock_times x = true
+
+-- every time of an item, and of a line, can be written in a version of the rows
+abbrev pub has_item_times_in : ℕ → Item → Bool
+has_item_times_in version x = if version == 2 then has_clock_times x else true
+
+abbrev pub has_times_in : ℕ → Line → Bool
+has_times_in version (line.Edit (edit.Put x)) = has_item_times_in version x
+has_times_in version (line.Edit (edit.Change x)) = has_item_times_in version x
+has_times_in version l = true
+
+-- a row of some version spells the line
+abbrev pub IsSpelled : Line → Type 0
+IsSpelled l = (version : ℕ) × (row : Row) × (read_in version row ≡ Ok l)

@@ -2,8 +2,7 @@
 use Rattle.std.specs.Prelude.{◌≡◌, ◌⊎◌, ℕ, ◌+◌, ◌-◌, ◌<◌, ◌≤◌, List, [], ◌++◌, length, map, get_or, slice_index, slice_index_or, take, Result, Ok, Option, Some, IfOk, IfSome}
 use Rattle.std.specs.List.{All}
 use Rattle.csv.specs.Records.{Rising, last_end, prev}
-use Rattle.row_text.specs.declared.plain_rows.CutFields.{CutFields}
-use Rattle.row_text.specs.declared.places.Places.{Places}
+use Rattle.row_text.specs.Types.{CutFields, Places}
 use Rattle.row_text.specs.Cuts.{rows_cut_at, RowsIn}
 use Rattle.row_text.specs.PlainRows.{cut_rows, HasCutAll, HasNoQuote}
 

@@ -2,10 +2,10 @@
 use Rattle.std.specs.Prelude.{◌≡◌, ◌≢◌, ℕ, ◌==◌, ◌&&◌, ◌||◌, ◌+◌, ◌≤◌, ◌<◌, Bool, List, [], ◌∷◌, ◌++◌, length, drop, get_or, slice_range, if◌then◌else◌}
 use Rattle.std.specs.List.{All}
 use Rattle.csv.specs.Records.{Rising, last_end}
-use Rattle.row_text.specs.declared.plain_rows.CutFields.{CutFields}
+use Rattle.row_text.specs.Types.{CutFields}
 use Rattle.row_text.specs.Cuts.{CutsIn, fields_cut_at, rows_cut_at}
 use Rattle.row_text.specs.Pieces.{pieces}
-use Rattle.row_text.specs.Row.{Row}
+use Rattle.row_text.specs.SheetRows.{Row}
 
 -- whether a byte ends a line: a carriage return or a line feed
 abbrev pub ends_line : ℕ → Bool

@@ -1,7 +1,7 @@
 -- What stands in the text of a row for its fields.
 use Rattle.std.specs.Prelude.{ℕ, Bool, true, if◌then◌else◌, List, [], ◌∷◌, ◌++◌}
 use Rattle.csv.specs.Writing.{default_writer, field_text}
-use Rattle.row_text.specs.Row.{Row}
+use Rattle.row_text.specs.SheetRows.{Row}
 
 -- a comma, unless the field after it is the first of its row
 abbrev pub separator : Bool → List ℕ

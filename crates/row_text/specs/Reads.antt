@@ -1,7 +1,7 @@
 -- What reading gives, where memory suffices.
 use Rattle.std.specs.Prelude.{◌≡◌, Result, Ok, Err}
 use Rattle.rail_model.specs.declared.form.Form.{Form}
-use Rattle.row_text.specs.declared.unread.Unread.{Unread}
+use Rattle.row_text.specs.Types.{Unread}
 use Rattle.row_text.specs.declared.unread.Unread.TheVariants.{Fault, OutOfMemory}
 
 -- a read gives what is defined, a value or a fault, or finds no memory

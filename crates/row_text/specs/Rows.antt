@@ -7,8 +7,8 @@ use Rattle.csv.specs.declared.parser.State.TheVariants as st
 use Rattle.csv.specs.declared.reader.Reader.{Reader}
 use Rattle.csv.specs.declared.reader.Trim.TheVariants as trim
 use Rattle.csv.specs.Records.{Rising, field_count, last_end, text_of, Row as Record}
-use Rattle.row_text.specs.declared.row_list.Taken.{Taken}
-use Rattle.row_text.specs.Row.{Row}
+use Rattle.row_text.specs.Types.{Taken}
+use Rattle.row_text.specs.SheetRows.{Row}
 use Rattle.row_text.specs.Pieces.{pieces}
 use Rattle.row_text.specs.Cuts.{CutsIn, EndsAt, fields_cut_at, rows_cut_at}
 

@@ -4,8 +4,7 @@ use Rattle.csv.specs.Machine.{next_record}
 use Rattle.csv.specs.Reading.{default_config, records}
 use Rattle.csv.specs.declared.parser.State.TheVariants as st
 use Rattle.row_text.specs.declared.sheet.Sheet.TheInside.{Inside}
-use Rattle.row_text.specs.Row.{Row}
-use Rattle.row_text.specs.SheetRows.{SheetRows}
+use Rattle.row_text.specs.SheetRows.{Row, SheetRows}
 
 -- the bytes of the rows that were ended, and those of the row that is being written
 abbrev pub ended_text : Inside → List ℕ

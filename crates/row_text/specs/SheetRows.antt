@@ -1,8 +1,15 @@
--- What a sheet is seen as.
-use Rattle.std.specs.Prelude.{◌≡◌, ℕ, Bool, true, false, List, [], ◌∷◌, ◌++◌, take}
+-- Rows and their fields, and what a sheet is seen as.
+use Rattle.std.specs.Prelude.{ℕ, List, [], slice_index_or, ◌≡◌, Bool, true, false, ◌∷◌, ◌++◌, take}
 use Rattle.std.specs.List.{flat_map}
 use Rattle.csv.specs.Writing.{default_writer, row_text}
-use Rattle.row_text.specs.Row.{Row}
+
+-- a row is its fields, each a list of bytes
+abbrev pub Row : Type 0
+Row = List (List ℕ)
+
+-- the field at a place, from 0 for the row's word
+abbrev pub field : Row → ℕ → List ℕ
+field row i = slice_index_or row i []
 
 -- the rows that were ended, and the fields so far of the row that is being written
 pub record SheetRows : Type 0 where

@@ -3,8 +3,7 @@ use Rattle.std.specs.Prelude.{◌≡◌, ◌≤◌, List, length, IsTrue}
 use Rattle.std.specs.List.{list_all}
 use Rattle.csv.specs.Writing.{default_writer, row_body}
 use Rattle.row_text.specs.declared.sheet.Sheet.TheInside.{Inside}
-use Rattle.row_text.specs.Row.{Row}
-use Rattle.row_text.specs.SheetRows.{text_of_rows, has_fields}
+use Rattle.row_text.specs.SheetRows.{Row, text_of_rows, has_fields}
 use Rattle.row_text.specs.Sheet.{ended_text, open_text, sheet_rows}
 
 pub record HoldsRows (sheet : Inside) (rows : List Row) (row : Row) : Type 0 where

@@ -2,7 +2,7 @@
 ghost use Rattle.std.specs.Prelude.{◌≡◌, ◌+◌, ◌<◌, ◌≤◌, ◌^◌, ◌↔◌, [], ◌∷◌, ◌++◌, length, slice_index, take, drop, vec_len, vec_capacity, IsTrue, IfSome, IfOk, OnOk, OnErr};
 ghost use Rattle.csv.specs.Records.{prev};
 ghost use Rattle.row_text.specs.Cuts.{CutsIn, fields_cut_at, PutsField, with_first};
-ghost use Rattle.row_text.specs.Row.{field};
+ghost use Rattle.row_text.specs.SheetRows.{field};
 
 use crate::put::{make_room, put_piece};
 use rail_model::OutOfMemory;

@@ -1,7 +1,7 @@
 //! The times of a run's legs as the row has them.
 ghost use Rattle.std.specs.Prelude.{◌≡◌, ◌≤◌, nat_le, IfOk, IsTrue};
 ghost use Rattle.std.specs.List.{list_all};
-ghost use Rattle.row_text.specs.Spelling as spelling;
+ghost use Rattle.row_text.specs.Lines as spelling;
 
 use crate::time_text::GREATEST_CLOCK_S;
 use rail_model::{Leg, List, OutOfMemory};

@@ -1,9 +1,9 @@
 //! Lines to rows.
 ghost use Rattle.std.specs.Prelude.{◌≡◌, ◌++◌, ◌∷◌, [], map, decimal, IfOk, OnOk, IsTrue, Ok, true, ◌==◌, if◌then◌else◌};
 ghost use Rattle.rail_model.specs.declared.items.Item.TheVariants as item;
-ghost use Rattle.row_text.specs.Spelling as spelling;
+ghost use Rattle.row_text.specs.Lines as spelling;
 ghost use Rattle.row_text.specs.Lines.{read_in};
-ghost use Rattle.row_text.specs.Row.{field};
+ghost use Rattle.row_text.specs.SheetRows.{field};
 ghost use Rattle.row_text.specs.Words.{word_text};
 
 use crate::fields::Fields;

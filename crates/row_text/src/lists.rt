@@ -1,7 +1,7 @@
 //! The fields that stand at the end of a row: names, or the times of a run.
 ghost use Rattle.std.specs.Prelude.{◌≡◌, ◌+◌, ◌<◌, ◌≤◌, ◌^◌, length, drop, IfOk};
 ghost use Rattle.row_text.specs.Reads.{Reads};
-ghost use Rattle.row_text.specs.Sorts.{name_in, time_in};
+ghost use Rattle.row_text.specs.Words.{name_in, time_in};
 ghost use Rattle.row_text.specs.Lines as lines;
 
 use crate::fields::Row;

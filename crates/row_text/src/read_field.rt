@@ -1,7 +1,7 @@
 //! What the fields of a row say.
 ghost use Rattle.std.specs.Prelude.{◌≡◌, ◌<◌, ◌^◌, length, IfSome};
-ghost use Rattle.row_text.specs.Row.{field};
-ghost use Rattle.row_text.specs.Sorts.{name_in, number_in, rate_in, time_in, number_of, class_rate, rate_of, clock_of, time_of};
+ghost use Rattle.row_text.specs.SheetRows.{field};
+ghost use Rattle.row_text.specs.Words.{name_in, number_in, rate_in, time_in, number_of, class_rate, rate_of, clock_of, time_of};
 
 use crate::fields::Row;
 use crate::word::is_word;

@@ -2,9 +2,8 @@
 ghost use Rattle.std.specs.Prelude.{◌≡◌, ◌<◌, ◌≤◌, ◌^◌, [], length, slice_index_or, IfOk, OnOk, IsTrue, ◌↔◌};
 ghost use Rattle.csv.specs.Records.{fields_of, IsRecord};
 ghost use Rattle.row_text.specs.Cuts.{rows_cut_at, RowsIn};
-ghost use Rattle.row_text.specs.Row.{field};
-ghost use Rattle.row_text.specs.Lines.{read_in};
-ghost use Rattle.row_text.specs.Versions.{has_version_row, version_of, version_in, first_line};
+ghost use Rattle.row_text.specs.SheetRows.{field};
+ghost use Rattle.row_text.specs.Lines.{read_in, has_version_row, version_of, version_in, first_line};
 
 use crate::fields::{Fields, Row, end_after, put_reserved, span};
 use crate::line::{Line, read_line};

@@ -3,8 +3,7 @@ ghost use Rattle.std.specs.Prelude.{◌≡◌, ◌<◌, ◌++◌, [], length, ma
 ghost use Rattle.std.specs.Fmt.{signed_decimal};
 ghost use Rattle.csv.specs.Writing.{default_writer, needs_quotes};
 ghost use Rattle.row_text.specs.FieldText.{text_of};
-ghost use Rattle.row_text.specs.SheetRows.{with_field, with_fields, with_row, text_of_rows};
-ghost use Rattle.row_text.specs.SheetRows.{IsBeginningOf};
+ghost use Rattle.row_text.specs.SheetRows.{with_field, with_fields, with_row, text_of_rows, IsBeginningOf};
 
 use crate::fields::Fields;
 use crate::put::{make_room, put_bytes, put_end, put_numbers, put_signed, put_text, put_unsigned};

@@ -1,6 +1,6 @@
 //! Times in the fields that are written.
 ghost use Rattle.std.specs.Prelude.{◌≡◌, ◌<◌, ◌≤◌, ◌++◌, ◌∷◌, IfOk, OnOk, if◌then◌else◌};
-ghost use Rattle.row_text.specs.Spelling as spelling;
+ghost use Rattle.row_text.specs.Lines as spelling;
 
 use itoa::Buffer;
 use rail_model::OutOfMemory;

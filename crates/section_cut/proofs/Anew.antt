@@ -8,8 +8,7 @@ use Rattle.rail_model.specs.declared.tables.Tables.{Tables}
 use Rattle.rail_model.specs.Name.{is_same}
 use Rattle.plan_model.specs.declared.cut.CutRow.{CutRow}
 use Rattle.plan_model.specs.declared.cut.Cut.{Cut}
-use Rattle.plan_model.specs.Cut.{stamped_row, stamped}
-use Rattle.plan_model.specs.SectionCut.{is_member, row_of, section_cut, cut_of}
+use Rattle.plan_model.specs.Cut.{stamped_row, stamped, is_member, row_of, section_cut, cut_of}
 use Rattle.section_cut.specs.declared.cut_changes.CutChange.{CutChange}
 use Rattle.section_cut.specs.Change.{IsChange}
 

@@ -13,15 +13,13 @@ use Rattle.rail_model.specs.declared.items.Section.{Section}
 use Rattle.rail_model.specs.declared.items.Connection.{Connection}
 use Rattle.rail_model.specs.declared.stair.Use.{Use}
 use Rattle.rail_model.specs.declared.tables.Tables.{Tables}
-use Rattle.rail_model.specs.Edits.{with_changed}
+use Rattle.rail_model.specs.Rules.{with_changed, is_named, has_run}
 use Rattle.rail_model.specs.Name.{is_same, is_before, IsBefore, NamesRise}
-use Rattle.rail_model.specs.Rules.{is_named, has_run}
 use Rattle.rail_model.specs.Tables.{number_of, run_at, run_named, last_arrival}
 use Rattle.rail_model.proofs.NameOrder.{same_name, is_same-from, is_same-after, is_before-itself}
 use Rattle.plan_model.specs.declared.cut.CutRow.{CutRow}
 use Rattle.plan_model.specs.declared.cut.Cut.{Cut}
-use Rattle.plan_model.specs.Cut.{stamped_row}
-use Rattle.plan_model.specs.SectionCut.{section_uses, entry_of, is_member, binds, binding_connections, uses_of_connections, row_of, section_cut}
+use Rattle.plan_model.specs.Cut.{stamped_row, section_uses, entry_of, is_member, binds, binding_connections, uses_of_connections, row_of, section_cut}
 use Rattle.section_cut.specs.declared.cut_changes.StoredCut.{StoredCut}
 use Rattle.section_cut.specs.Connected.{row_in}
 use Rattle.section_cut.specs.EditedConnection.{IsOfSameRuns, IsMinimumChanged, ending, uses_ending}

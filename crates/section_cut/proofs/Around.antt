@@ -8,7 +8,7 @@ use Rattle.std.proofs.lemmas.List.Folds.{find_at}
 use Rattle.std.proofs.lemmas.Option.{unwrap_or-slice_get}
 use Rattle.rail_model.specs.Tables.{number_of}
 use Rattle.rail_model.specs.Name.{IsBefore, is_before, is_same, NamesRise}
-use Rattle.rail_model.specs.Edits.{with_item, with_changed, without}
+use Rattle.rail_model.specs.Rules.{with_item, with_changed, without}
 use Rattle.rail_model.proofs.NameOrder.{same_name, is_same-from, is_same-before, is_same-after, is_before-from, is_before-back, is_before-itself, same_or_after, IsBefore-trans, IsBefore-from}
 use Rattle.rail_model.proofs.Lists.{find_none}
 use Rattle.rail_model.proofs.Places.{filter_all, filter_none}

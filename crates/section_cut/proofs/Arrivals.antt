@@ -7,10 +7,9 @@ use Rattle.std.proofs.lemmas.List.Sums.{sum_by-cons}
 use Rattle.rail_model.specs.declared.items.Leg.{Leg}
 use Rattle.rail_model.specs.declared.tables.Tables.{Tables}
 use Rattle.rail_model.specs.declared.path.Hop.{Hop}
-use Rattle.rail_model.specs.Path.{hop_count}
-use Rattle.rail_model.specs.Motion.{departure}
+use Rattle.rail_model.specs.Blocking.{hop_count, departure}
 use Rattle.rail_model.specs.Tables.{signal_named, route_named, run_at, hop_beyond, path_in, last_arrival}
-use Rattle.rail_model.specs.Sound.{IsSound}
+use Rattle.rail_model.specs.Rules.{IsSound}
 use Rattle.rail_model.proofs.Paths.{run_stands, path_at_fits}
 use Rattle.blocking_time.proofs.Places.{departure_most}
 use Rattle.blocking_time.proofs.Clearing.{arrival_is}

@@ -10,7 +10,7 @@ use Rattle.rail_model.specs.declared.tables.Tables.{Tables}
 use Rattle.rail_model.specs.Name.{is_same}
 use Rattle.rail_model.specs.Tables.{no_run, number_of, run_at, run_named}
 use Rattle.rail_model.proofs.NameOrder.{same_name}
-use Rattle.plan_model.specs.SectionCut.{entry_of, is_member}
+use Rattle.plan_model.specs.Cut.{entry_of, is_member}
 use Rattle.section_cut.specs.declared.members.Member.{Member}
 use Rattle.section_cut.specs.Members.{member_at}
 use Rattle.section_cut.specs.Bound.{IsMember}

@@ -11,11 +11,11 @@ use Rattle.rail_model.specs.declared.tables.Tables.{Tables}
 use Rattle.rail_model.specs.declared.stair.Use.{Use}
 use Rattle.rail_model.specs.Name.{is_same}
 use Rattle.rail_model.specs.Tables.{no_run, run_named}
-use Rattle.rail_model.specs.Sound.{IsSound}
+use Rattle.rail_model.specs.Rules.{IsSound}
 use Rattle.rail_model.proofs.NameOrder.{is_same-from, names_apart}
 use Rattle.plan_model.specs.declared.cut.CutRow.{CutRow}
 use Rattle.plan_model.specs.Members.{no_member}
-use Rattle.plan_model.specs.SectionCut.{connection_use}
+use Rattle.plan_model.specs.Cut.{connection_use}
 use Rattle.section_cut.specs.declared.connections.Bound.{Bound}
 use Rattle.section_cut.specs.Members.{members_of}
 use Rattle.section_cut.specs.Bound.{with_use, first_use, second_use, use_added, both_added, with_connections, IsBound}

@@ -13,9 +13,8 @@ use Rattle.rail_model.specs.declared.stair.Use.{Use}
 use Rattle.rail_model.specs.Name.{is_same}
 use Rattle.rail_model.specs.Tables.{run_named, last_arrival}
 use Rattle.plan_model.specs.declared.cut.CutRow.{CutRow}
-use Rattle.plan_model.specs.Cut.{least}
-use Rattle.plan_model.specs.Precedence.{comes_before}
-use Rattle.plan_model.specs.SectionCut.{section_uses, entry_of, is_member, binds, binding_connections, connection_use, row_of}
+use Rattle.plan_model.specs.Cut.{least, section_uses, entry_of, is_member, binds, binding_connections, connection_use, row_of}
+use Rattle.plan_model.specs.Members.{comes_before}
 use Rattle.section_cut.specs.Members.{enters}
 use Rattle.section_cut.specs.Connected.{entry_in}
 

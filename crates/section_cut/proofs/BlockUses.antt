@@ -15,11 +15,9 @@ use Rattle.rail_model.specs.declared.tables.Tables.{Tables}
 use Rattle.rail_model.specs.declared.stair.Use.{Use}
 use Rattle.rail_model.specs.declared.limits.TheConstants.{PATH_HOPS}
 use Rattle.rail_model.specs.Name.{is_same}
-use Rattle.rail_model.specs.Path.{hop, hop_count}
-use Rattle.rail_model.specs.Motion.{departure}
-use Rattle.rail_model.specs.Blocking.{approach_moment, use_of, stairway}
+use Rattle.rail_model.specs.Blocking.{hop, hop_count, departure, approach_moment, use_of, stairway}
 use Rattle.rail_model.specs.Tables.{no_block, run_at, path_in, last_arrival, block_name}
-use Rattle.rail_model.specs.Sound.{IsSound}
+use Rattle.rail_model.specs.Rules.{IsSound}
 use Rattle.rail_model.proofs.NameOrder.{same_name, is_same-from, names_apart}
 use Rattle.rail_model.proofs.Paths.{path_at_fits}
 use Rattle.rail_model.specs.Moment.{IsMoment}
@@ -28,8 +26,7 @@ use Rattle.blocking_time.proofs.Bounds.{approach_before_entry, entry_before_exit
 use Rattle.rail_model.proofs.Numbers.{lt_from_test, le_from_test}
 use Rattle.rail_model.proofs.Lists.{All-from_one, AllPairs-map}
 use Rattle.blocking_time.proofs.Uses.{not_empty, bounded, blocks_differ}
-use Rattle.plan_model.specs.Cut.{least}
-use Rattle.plan_model.specs.SectionCut.{position_in_section, use_in_section, section_uses, entry_of, is_member}
+use Rattle.plan_model.specs.Cut.{least, position_in_section, use_in_section, section_uses, entry_of, is_member}
 use Rattle.section_cut.proofs.Lists.{few_pass}
 use Rattle.rail_model.proofs.Timetables.{used_there}
 use Rattle.section_cut.proofs.Arrivals.{last_departure}

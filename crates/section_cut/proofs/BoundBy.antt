@@ -8,8 +8,8 @@ use Rattle.rail_model.specs.declared.items.Section.{Section}
 use Rattle.rail_model.specs.declared.items.Connection.{Connection}
 use Rattle.rail_model.specs.declared.tables.Tables.{Tables}
 use Rattle.rail_model.specs.Tables.{no_run, number_of, run_named, last_arrival}
-use Rattle.plan_model.specs.Precedence.{comes_before}
-use Rattle.plan_model.specs.SectionCut.{entry_of, is_member, binds}
+use Rattle.plan_model.specs.Members.{comes_before}
+use Rattle.plan_model.specs.Cut.{entry_of, is_member, binds}
 use Rattle.section_cut.specs.declared.members.Member.{Member}
 use Rattle.section_cut.specs.declared.connections.Bound.{Bound}
 use Rattle.section_cut.specs.Members.{members_of}

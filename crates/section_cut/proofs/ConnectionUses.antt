@@ -12,7 +12,7 @@ use Rattle.rail_model.specs.declared.tables.Tables.{Tables}
 use Rattle.rail_model.specs.declared.stair.Use.{Use}
 use Rattle.rail_model.specs.Name.{is_same}
 use Rattle.rail_model.specs.Tables.{last_arrival}
-use Rattle.plan_model.specs.SectionCut.{entry_of, connection_use}
+use Rattle.plan_model.specs.Cut.{entry_of, connection_use}
 
 -- a use of one of the places from a first one on, with what else holds of it
 abbrev pub IsAmong : (Use → Type 0) → ℕ → ℕ → Use → Type 0

@@ -11,13 +11,11 @@ use Rattle.rail_model.specs.declared.items.Connection.{Connection}
 use Rattle.rail_model.specs.declared.tables.Tables.{Tables}
 use Rattle.rail_model.specs.Name.{is_same}
 use Rattle.rail_model.specs.Tables.{number_of, run_named, no_section, section_at}
-use Rattle.rail_model.specs.Rules.{has_section}
-use Rattle.rail_model.specs.Sound.{IsSound}
+use Rattle.rail_model.specs.Rules.{has_section, IsSound}
 use Rattle.rail_model.proofs.Places.{number_of-missing}
 use Rattle.plan_model.specs.declared.cut.CutRow.{CutRow}
 use Rattle.plan_model.specs.declared.cut.Cut.{Cut}
-use Rattle.plan_model.specs.Cut.{stamped_row, stamped}
-use Rattle.plan_model.specs.SectionCut.{section_uses, entry_of, connection_use, binding_connections, row_of, section_cut, cut_of}
+use Rattle.plan_model.specs.Cut.{stamped_row, stamped, section_uses, entry_of, connection_use, binding_connections, row_of, section_cut, cut_of}
 use Rattle.section_cut.specs.Members.{members_of, row_on_blocks}
 use Rattle.section_cut.specs.Bound.{with_connections}
 use Rattle.rail_model.proofs.Lists.{map_same}

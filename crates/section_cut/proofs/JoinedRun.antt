@@ -10,14 +10,12 @@ use Rattle.rail_model.specs.declared.stair.Stair.{Stair}
 use Rattle.rail_model.specs.declared.stair.Use.{Use}
 use Rattle.rail_model.specs.declared.tables.Tables.{Tables}
 use Rattle.rail_model.specs.Name.{is_same}
-use Rattle.rail_model.specs.Rules.{is_named, has_run}
-use Rattle.rail_model.specs.Sound.{IsSound}
+use Rattle.rail_model.specs.Rules.{is_named, has_run, IsSound}
 use Rattle.rail_model.specs.Tables.{no_run, number_of, run_at, run_named}
 use Rattle.rail_model.proofs.NameOrder.{same_name, is_same-from}
 use Rattle.plan_model.specs.declared.cut.CutRow.{CutRow}
 use Rattle.plan_model.specs.declared.cut.Cut.{Cut}
-use Rattle.plan_model.specs.Cut.{least}
-use Rattle.plan_model.specs.SectionCut.{section_uses, binds, binding_connections, is_member}
+use Rattle.plan_model.specs.Cut.{least, section_uses, binds, binding_connections, is_member}
 use Rattle.section_cut.specs.Members.{enters, member_row}
 use Rattle.section_cut.specs.declared.cut_changes.StoredCut.{StoredCut}
 use Rattle.section_cut.specs.Stored.{IsStored}

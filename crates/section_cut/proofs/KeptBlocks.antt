@@ -9,7 +9,7 @@ use Rattle.rail_model.specs.declared.edit.Edit.TheVariants as edit
 use Rattle.rail_model.specs.declared.tables.Tables.{Tables}
 use Rattle.rail_model.specs.Name.{is_same}
 use Rattle.rail_model.specs.Tables.{no_block}
-use Rattle.rail_model.specs.Edits.{with_changed, after_put, after_change, after}
+use Rattle.rail_model.specs.Rules.{with_changed, after_put, after_change, after}
 use Rattle.rail_model.proofs.NameOrder.{same_name}
 use Rattle.section_cut.specs.ReachedRuns.{PutKeepsBlocks, ChangeKeepsBlocks, KeepsBlocks, IsSameTraffic}
 

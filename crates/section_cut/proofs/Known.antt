@@ -13,14 +13,13 @@ use Rattle.rail_model.specs.declared.tables.Tables.{Tables}
 use Rattle.rail_model.specs.declared.limits.TheConstants.{CONNECTIONS, GREATEST_START_S, GREATEST_TIME_S}
 use Rattle.rail_model.specs.Name.{is_same}
 use Rattle.rail_model.specs.Tables.{no_run, run_at, number_of, run_named}
-use Rattle.rail_model.specs.Rules.{has_run}
-use Rattle.rail_model.specs.Sound.{IsSound}
+use Rattle.rail_model.specs.Rules.{has_run, IsSound}
 use Rattle.rail_model.proofs.Facts.{run_facts}
 use Rattle.rail_model.proofs.NameOrder.{same_name}
 use Rattle.rail_model.proofs.Paths.{run_stands}
 use Rattle.rail_model.proofs.Places.{number_of-found}
 use Rattle.plan_model.specs.declared.cut.CutRow.{CutRow}
-use Rattle.plan_model.specs.SectionCut.{binds}
+use Rattle.plan_model.specs.Cut.{binds}
 use Rattle.section_cut.specs.Bound.{with_connections}
 use Rattle.section_cut.proofs.Lists.{few_pass}
 

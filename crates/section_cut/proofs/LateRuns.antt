@@ -9,13 +9,12 @@ use Rattle.rail_model.specs.declared.items.Section.{Section}
 use Rattle.rail_model.specs.declared.tables.Tables.{Tables}
 use Rattle.rail_model.specs.declared.stair.Use.{Use}
 use Rattle.rail_model.specs.declared.stair.Stair.{Stair}
-use Rattle.rail_model.specs.Path.{hop_count}
-use Rattle.rail_model.specs.Blocking.{use_of, stairway, stair_of}
+use Rattle.rail_model.specs.Blocking.{hop_count, use_of, stairway, stair_of}
 use Rattle.rail_model.specs.Tables.{no_run, run_at, path_in}
-use Rattle.rail_model.specs.Sound.{IsSound}
+use Rattle.rail_model.specs.Rules.{IsSound}
 use Rattle.rail_model.proofs.Lists.{All-from_one}
 use Rattle.line_tables.specs.Paths.{paths_of}
-use Rattle.plan_model.specs.SectionCut.{use_in_section, section_uses, is_member}
+use Rattle.plan_model.specs.Cut.{use_in_section, section_uses, is_member}
 use Rattle.section_cut.specs.Late.{IsLead, bare_stair, stair_to, IsStairFor, AreStairsFor}
 use Rattle.section_cut.specs.Positions.{IsPositions, uses_in}
 use Rattle.section_cut.specs.Members.{member_row}

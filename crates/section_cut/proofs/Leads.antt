@@ -5,9 +5,7 @@ use Rattle.std.proofs.lemmas.Int.{ints}
 use Rattle.rail_model.specs.declared.tables.Tables.{Tables}
 use Rattle.rail_model.specs.declared.path.Hop.{Hop}
 use Rattle.rail_model.specs.declared.path.Path.{Path}
-use Rattle.rail_model.specs.Path.{hop, hop_count, no_hop}
-use Rattle.rail_model.specs.Motion.{place, departure, reach_down, blocks_before}
-use Rattle.rail_model.specs.Blocking.{approach_moment, blocking_start}
+use Rattle.rail_model.specs.Blocking.{hop, hop_count, no_hop, place, departure, reach_down, blocks_before, approach_moment, blocking_start}
 use Rattle.rail_model.specs.Tables.{run_at, path_in}
 use Rattle.blocking_time.specs.Mark.{stop_mark}
 use Rattle.blocking_time.proofs.Stops.{approach_is}

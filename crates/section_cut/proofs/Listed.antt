@@ -13,13 +13,12 @@ use Rattle.rail_model.specs.declared.items.Section.{Section}
 use Rattle.rail_model.specs.declared.items.Connection.{Connection}
 use Rattle.rail_model.specs.declared.tables.Tables.{Tables}
 use Rattle.rail_model.specs.Name.{is_same, IsBefore, NamesRise}
-use Rattle.rail_model.specs.Rules.{is_named}
-use Rattle.rail_model.specs.Sound.{IsSound}
+use Rattle.rail_model.specs.Rules.{is_named, IsSound}
 use Rattle.rail_model.specs.Tables.{number_of}
 use Rattle.rail_model.proofs.Lists.{AllPairs-map}
 use Rattle.rail_model.proofs.NameOrder.{is_same-from, is_same-before, is_same-after}
 use Rattle.rail_model.proofs.Places.{number_of-found}
-use Rattle.plan_model.specs.SectionCut.{binds, binding_connections, connection_use, uses_of_connections}
+use Rattle.plan_model.specs.Cut.{binds, binding_connections, connection_use, uses_of_connections}
 use Rattle.section_cut.specs.Connected.{joins, use_if_listed}
 
 module _ {X : Type 0} (name : X → List ℕ) (p : X → Bool) where

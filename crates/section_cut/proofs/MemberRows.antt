@@ -12,9 +12,9 @@ use Rattle.rail_model.specs.declared.tables.Tables.{Tables}
 use Rattle.rail_model.specs.declared.stair.Use.{Use}
 use Rattle.rail_model.specs.Blocking.{stairway}
 use Rattle.rail_model.specs.Tables.{no_run, run_at, path_in}
-use Rattle.rail_model.specs.Sound.{IsSound}
+use Rattle.rail_model.specs.Rules.{IsSound}
 use Rattle.plan_model.specs.declared.cut.CutRow.{CutRow}
-use Rattle.plan_model.specs.SectionCut.{use_in_section, section_uses, is_member}
+use Rattle.plan_model.specs.Cut.{use_in_section, section_uses, is_member}
 use Rattle.section_cut.specs.declared.members.Member.{Member}
 use Rattle.section_cut.specs.Positions.{IsPositions, with_position, uses_in}
 use Rattle.section_cut.specs.OneRun.{uses_of_section}

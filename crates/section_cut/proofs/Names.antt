@@ -9,9 +9,9 @@ use Rattle.rail_model.specs.declared.items.Section.{Section}
 use Rattle.rail_model.specs.declared.tables.Tables.{Tables}
 use Rattle.rail_model.specs.Name.{IsBefore, NamesRise}
 use Rattle.rail_model.specs.Tables.{no_run, run_named}
-use Rattle.rail_model.specs.Sound.{IsSound}
+use Rattle.rail_model.specs.Rules.{IsSound}
 use Rattle.rail_model.proofs.Places.{number_of-found}
-use Rattle.plan_model.specs.SectionCut.{is_member}
+use Rattle.plan_model.specs.Cut.{is_member}
 use Rattle.section_cut.specs.Members.{members_of}
 
 module _ (tables : Tables) (sound : IsSound tables) where

@@ -17,11 +17,9 @@ use Rattle.rail_model.specs.declared.edit.Edit.TheVariants as edit
 use Rattle.rail_model.specs.declared.tables.Tables.{Tables}
 use Rattle.rail_model.specs.Name.{is_same}
 use Rattle.rail_model.specs.Tables.{no_block, no_signal, no_route, number_of, signal_named, route_named}
-use Rattle.rail_model.specs.Rules.{is_named, has_block, has_signal, has_route}
-use Rattle.rail_model.specs.Edits.{with_item, without, after_put, after_drop, after}
-use Rattle.rail_model.specs.Sound.{Stands, IsSound}
+use Rattle.rail_model.specs.Rules.{is_named, has_block, has_signal, has_route, with_item, without, after_put, after_drop, after, Stands, IsSound}
 use Rattle.rail_model.proofs.Paths.{signal_stands, route_stands}
-use Rattle.plan_model.specs.SectionCut.{cut_of}
+use Rattle.plan_model.specs.Cut.{cut_of}
 use Rattle.section_cut.specs.Reach.{PutReachesNoRun, DropReachesNoRun, ReachesNoRun}
 use Rattle.section_cut.proofs.Around.{named_still, put_front, put_back, drop_front, drop_back}
 use Rattle.section_cut.proofs.Standing.{IsSameWay, IsSameLine, cuts_still}

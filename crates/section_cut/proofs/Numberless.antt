@@ -9,9 +9,8 @@ use Rattle.std.proofs.lemmas.Simd.{map-map}
 use Rattle.rail_model.specs.declared.path.Hop.{Hop}
 use Rattle.rail_model.specs.declared.path.Path.{Path}
 use Rattle.rail_model.specs.declared.stair.Use.{Use}
-use Rattle.rail_model.specs.Path.{hop, hop_count, no_hop}
-use Rattle.rail_model.specs.Motion as motion
-use Rattle.rail_model.specs.Blocking as blocking
+use Rattle.rail_model.specs.Blocking.{hop, hop_count, no_hop}
+use Rattle.rail_model.specs.Blocking as motion
 use Rattle.rail_model.proofs.Lists.{map_same, map_itself, All-from_one}
 
 -- a hop with another number for its block, and a path with other numbers for its blocks
@@ -85,59 +84,59 @@ module _ (f : ℕ → ℕ) where
         let k = motion.blocks_before path x in
         rw (before_is x, departure_is k, place_is k, hop_field (λ h. h.running_s) (λ h. refl) (k + 1), hop_field (λ h. h.block_m) (λ h. refl) (k + 1)) refl
 
-    point_is : (k : ℕ) → blocking.approach_point other k ≡ blocking.approach_point path k
+    point_is : (k : ℕ) → motion.approach_point other k ≡ motion.approach_point path k
     point_is k = rw (place_is (k - 1), hop_field (λ h. h.approach_m) (λ h. refl) k) refl
 
-    stops_are : (k y : ℕ) → blocking.stops_from other k y ≡ blocking.stops_from path k y
+    stops_are : (k y : ℕ) → motion.stops_from other k y ≡ motion.stops_from path k y
     stops_are k y =
         filter_agree (λ m. ltb 0 (hop other m).dwell_s && leb y (motion.place other m)) (λ m. ltb 0 (hop path m).dwell_s && leb y (motion.place path m))
         (λ m. rw (hop_field (λ h. h.dwell_s) (λ h. refl) m, place_is m) refl) (range_with_len 1 (k - 1))
 
-    approach_is : (k : ℕ) → blocking.approach_moment other k ≡ blocking.approach_moment path k
+    approach_is : (k : ℕ) → motion.approach_moment other k ≡ motion.approach_moment path k
     approach_is k =
-        let y = blocking.approach_point path k in
+        let y = motion.approach_point path k in
         rw (point_is k, reach_down_is y, stops_are k y)
-        (ap (fold max (motion.reach_down path y)) (map_agree (motion.departure other) (motion.departure path) departure_is (blocking.stops_from path k y)))
+        (ap (fold max (motion.reach_down path y)) (map_agree (motion.departure other) (motion.departure path) departure_is (motion.stops_from path k y)))
 
-    clearing_place_is : (k : ℕ) → blocking.clearing_place other k ≡ blocking.clearing_place path k
+    clearing_place_is : (k : ℕ) → motion.clearing_place other k ≡ motion.clearing_place path k
     clearing_place_is k = rw (place_is k, hop_field (λ h. h.overlap_m) (λ h. refl) k) refl
 
-    clearing_is : (k : ℕ) → blocking.clearing_moment other k ≡ blocking.clearing_moment path k
+    clearing_is : (k : ℕ) → motion.clearing_moment other k ≡ motion.clearing_moment path k
     clearing_is k =
         let n = hop_count path in
-        clearing_by path.tail_s (blocking.clearing_place other k) (blocking.clearing_place path k)
+        clearing_by path.tail_s (motion.clearing_place other k) (motion.clearing_place path k)
         (motion.place other (hop_count other)) (motion.place path n)
-        (motion.reach other (blocking.clearing_place other k)) (motion.reach path (blocking.clearing_place path k))
+        (motion.reach other (motion.clearing_place other k)) (motion.reach path (motion.clearing_place path k))
         (motion.arrival other (hop_count other)) (motion.arrival path n)
         (clearing_place_is k) (ap (motion.place other) count_is ∙ place_is n)
-        (ap (motion.reach other) (clearing_place_is k) ∙ reach_is (blocking.clearing_place path k))
+        (ap (motion.reach other) (clearing_place_is k) ∙ reach_is (motion.clearing_place path k))
         (ap (motion.arrival other) count_is ∙ arrival_is n)
 
-    start_is : (k : ℕ) → blocking.blocking_start other k ≡ blocking.blocking_start path k
+    start_is : (k : ℕ) → motion.blocking_start other k ≡ motion.blocking_start path k
     start_is k = rw (approach_is k, hop_field (λ h. h.watch_s) (λ h. refl) k, hop_field (λ h. h.form_s) (λ h. refl) k) refl
 
-    end_is : (k : ℕ) → blocking.blocking_end other k ≡ blocking.blocking_end path k
+    end_is : (k : ℕ) → motion.blocking_end other k ≡ motion.blocking_end path k
     end_is k = rw (clearing_is k, hop_field (λ h. h.release_s) (λ h. refl) k) refl
 
     number_is : (k : ℕ) → 1 ≤ k → k ≤ hop_count path → f (hop path k).block ≡ (hop other k).block
     number_is k some on =
         ap (λ (h : Hop). h.block) (sym (get_or-map (renumbered_hop f) path.hops (k - 1) no_hop no_hop (omega arith)))
 
-    use_is : (k : ℕ) → 1 ≤ k → k ≤ hop_count path → record (blocking.use_of path k) { block = f (hop path k).block } ≡ blocking.use_of other k
+    use_is : (k : ℕ) → 1 ≤ k → k ≤ hop_count path → record (motion.use_of path k) { block = f (hop path k).block } ≡ motion.use_of other k
     use_is k some on =
         let use_at : ℕ → ℤ → ℤ → Use = λ b s e. record { block = b; start = s; «end» = e } in
-        let end = blocking.blocking_end path k in
-        ap (λ b. use_at b (blocking.blocking_start path k) end) (number_is k some on)
+        let end = motion.blocking_end path k in
+        ap (λ b. use_at b (motion.blocking_start path k) end) (number_is k some on)
         ∙ ap (λ t. use_at (hop other k).block t end) (sym (start_is k))
-        ∙ ap (use_at (hop other k).block (blocking.blocking_start other k)) (sym (end_is k))
+        ∙ ap (use_at (hop other k).block (motion.blocking_start other k)) (sym (end_is k))
 
     -- so a stairway with other numbers for its blocks is that of the path with these numbers
-    pub uses_renumbered : map (λ (u : Use). record u { block = f u.block }) (blocking.stairway path) ≡ blocking.stairway other
+    pub uses_renumbered : map (λ (u : Use). record u { block = f u.block }) (motion.stairway path) ≡ motion.stairway other
     uses_renumbered =
         let all = range_with_len 1 (hop_count path) in
-        let one : ℕ → Use = λ k. record (blocking.use_of path k) { block = f (hop path k).block } in
-        let Same : ℕ → Type 0 = λ k. one k ≡ blocking.use_of other k in
-        map-map (λ (u : Use). record u { block = f u.block }) (blocking.use_of path) all
-        ∙ map_same one (blocking.use_of other) all
+        let one : ℕ → Use = λ k. record (motion.use_of path k) { block = f (hop path k).block } in
+        let Same : ℕ → Type 0 = λ k. one k ≡ motion.use_of other k in
+        map-map (λ (u : Use). record u { block = f u.block }) (motion.use_of path) all
+        ∙ map_same one (motion.use_of other) all
         (subst (All Same) (map_itself all) (All-from_one Same (λ k. k) (hop_count path) (λ k some on. use_is k some on)))
-        ∙ ap (λ n. map (blocking.use_of other) (range_with_len 1 n)) (sym count_is)
+        ∙ ap (λ n. map (motion.use_of other) (range_with_len 1 n)) (sym count_is)

@@ -6,13 +6,12 @@ use Rattle.rail_model.specs.declared.items.Section.{Section}
 use Rattle.rail_model.specs.declared.items.Connection.{Connection}
 use Rattle.rail_model.specs.declared.tables.Tables.{Tables}
 use Rattle.rail_model.specs.Name.{NamesRise, is_same}
-use Rattle.rail_model.specs.Sound.{IsSound}
+use Rattle.rail_model.specs.Rules.{IsSound}
 use Rattle.rail_model.specs.Tables.{no_run, run_at}
 use Rattle.rail_model.proofs.Lists.{find-map}
 use Rattle.plan_model.specs.declared.cut.CutRow.{CutRow}
 use Rattle.plan_model.specs.declared.cut.Cut.{Cut}
-use Rattle.plan_model.specs.Cut.{stamped_row, stamped}
-use Rattle.plan_model.specs.SectionCut.{section_uses, entry_of, is_member, binds, binding_connections, row_of, section_cut}
+use Rattle.plan_model.specs.Cut.{stamped_row, stamped, section_uses, entry_of, is_member, binds, binding_connections, row_of, section_cut}
 use Rattle.section_cut.specs.Connected.{entry_in, block_part}
 use Rattle.section_cut.proofs.Listed.{names_rise}
 use Rattle.section_cut.proofs.Rows.{found_passing}

@@ -9,13 +9,12 @@ use Rattle.rail_model.specs.declared.items.Section.{Section}
 use Rattle.rail_model.specs.declared.items.Connection.{Connection}
 use Rattle.rail_model.specs.declared.tables.Tables.{Tables}
 use Rattle.rail_model.specs.Name.{is_same, NamesRise}
-use Rattle.rail_model.specs.Rules.{is_named, has_run}
-use Rattle.rail_model.specs.Sound.{IsSound}
+use Rattle.rail_model.specs.Rules.{is_named, has_run, IsSound}
 use Rattle.rail_model.specs.Tables.{number_of, run_at, run_named, last_arrival}
 use Rattle.rail_model.proofs.NameOrder.{same_name}
 use Rattle.plan_model.specs.declared.cut.CutRow.{CutRow}
 use Rattle.plan_model.specs.declared.cut.Cut.{Cut}
-use Rattle.plan_model.specs.SectionCut.{section_uses, is_member, binds, binding_connections, section_cut}
+use Rattle.plan_model.specs.Cut.{section_uses, is_member, binds, binding_connections, section_cut}
 use Rattle.section_cut.specs.declared.cut_changes.CutChange.TheVariants as change
 use Rattle.section_cut.specs.declared.cut_changes.StoredCut.{StoredCut}
 use Rattle.section_cut.specs.Stored.{IsStored, IsChangeOf}

@@ -13,11 +13,10 @@ use Rattle.rail_model.specs.declared.tables.Tables.{Tables}
 use Rattle.rail_model.specs.Name.{is_same, is_before, NamesRise}
 use Rattle.plan_model.specs.declared.cut.CutRow.{CutRow}
 use Rattle.plan_model.specs.declared.cut.Cut.{Cut}
-use Rattle.plan_model.specs.Cut.{stamped_row, stamped}
-use Rattle.plan_model.specs.SectionCut.{section_uses, is_member, binding_connections, row_of, section_cut}
+use Rattle.plan_model.specs.Cut.{stamped_row, stamped, section_uses, is_member, binding_connections, row_of, section_cut, cut_of}
 use Rattle.section_cut.specs.Members.{enters, member_row}
 use Rattle.line_tables.proofs.Found.{find_some}
-use Rattle.rail_model.specs.Sound.{IsSound}
+use Rattle.rail_model.specs.Rules.{IsSound, has_run}
 use Rattle.rail_model.specs.Blocking.{stairway, stair_of}
 use Rattle.rail_model.specs.Tables.{no_run, number_of, run_at, run_named, path_in, last_arrival}
 use Rattle.std.proofs.lemmas.Option.{get_or_from_slice_get}
@@ -25,11 +24,9 @@ use Rattle.section_cut.specs.Connected.{with_bound, row_in}
 use Rattle.section_cut.proofs.BindsBy.{row_by}
 use Rattle.rail_model.proofs.NameOrder.{same_name}
 use Rattle.rail_model.proofs.Timetables.{used_there}
-use Rattle.plan_model.specs.SectionCut.{cut_of}
 use Rattle.std.proofs.lemmas.Bool.{cases_Bool}
 use Rattle.std.proofs.lemmas.Option.{slice_get-get_or, slice_get_past}
 use Rattle.std.proofs.lemmas.List.Folds.{find_at}
-use Rattle.rail_model.specs.Rules.{has_run}
 use Rattle.rail_model.proofs.Places.{number_of-missing}
 use Rattle.std.proofs.lemmas.List.{get_or_default}
 use Rattle.section_cut.specs.declared.cut_changes.CutChange.{CutChange}

@@ -16,17 +16,15 @@ use Rattle.rail_model.specs.declared.stair.Use.{Use}
 use Rattle.rail_model.specs.declared.stair.Stair.{Stair}
 use Rattle.rail_model.specs.declared.tables.Tables.{Tables}
 use Rattle.rail_model.specs.Name.{is_same}
-use Rattle.rail_model.specs.Path.{hop, hop_count, no_hop}
-use Rattle.rail_model.specs.Blocking.{use_of, stairway, stair_of}
+use Rattle.rail_model.specs.Blocking.{hop, hop_count, no_hop, use_of, stairway, stair_of}
 use Rattle.rail_model.specs.Tables.{no_block, no_section, number_of, section_at, block_number, block_name, signal_named, route_named, path_in}
-use Rattle.rail_model.specs.Rules.{has_block, has_signal, has_section}
-use Rattle.rail_model.specs.Sound.{Stands, IsSound}
+use Rattle.rail_model.specs.Rules.{has_block, has_signal, has_section, Stands, IsSound}
 use Rattle.rail_model.proofs.Lists.{All-from_one}
 use Rattle.rail_model.proofs.Members.{none_passes}
 use Rattle.rail_model.proofs.NameOrder.{same_name, is_same-sym}
 use Rattle.rail_model.proofs.Paths.{hop_in_at, length-hops_in, place_within, signal_stands, route_stands}
 use Rattle.rail_model.proofs.Places.{filter_none, number_of-missing}
-use Rattle.plan_model.specs.SectionCut.{position_in_section, use_in_section, section_uses}
+use Rattle.plan_model.specs.Cut.{position_in_section, use_in_section, section_uses}
 use Rattle.line_tables.specs.Passing.{passes_block, passes_section}
 use Rattle.line_tables.proofs.Found.{find_some}
 use Rattle.section_cut.specs.OneRun.{row_of_stair, PassesBy}

@@ -23,7 +23,7 @@ use Rattle.rail_model.specs.declared.tables.Tables.{Tables}
 use Rattle.rail_model.specs.Name.{is_same}
 use Rattle.rail_model.specs.Blocking.{stair_of}
 use Rattle.rail_model.specs.Tables.{no_block, no_signal, no_route, no_run, number_of, run_at, block_number, signal_named, route_named, hop_beyond, path_in}
-use Rattle.rail_model.specs.Edits.{with_item, with_changed, after_put, after_change, after}
+use Rattle.rail_model.specs.Rules.{with_item, with_changed, after_put, after_change, after}
 use Rattle.rail_model.proofs.NameOrder.{same_name, is_same-from}
 use Rattle.rail_model.proofs.Members.{none_passes}
 use Rattle.section_cut.specs.OneRun.{before, behind}

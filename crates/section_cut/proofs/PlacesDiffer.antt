@@ -10,12 +10,11 @@ use Rattle.rail_model.specs.declared.items.Connection.{Connection}
 use Rattle.rail_model.specs.declared.items.Item.TheVariants as item
 use Rattle.rail_model.specs.declared.tables.Tables.{Tables}
 use Rattle.rail_model.specs.Name.{IsBefore, is_same, has_repeat}
-use Rattle.rail_model.specs.Rules.{has_block}
-use Rattle.rail_model.specs.Sound.{Stands, IsSound}
+use Rattle.rail_model.specs.Rules.{has_block, Stands, IsSound}
 use Rattle.rail_model.proofs.NameOrder.{is_same-before, is_same-from}
 use Rattle.rail_model.proofs.Members.{none_passes}
-use Rattle.plan_model.specs.Places.{place_names}
-use Rattle.plan_model.specs.SectionCut.{binds, binding_connections, section_cut}
+use Rattle.plan_model.specs.Members.{place_names}
+use Rattle.plan_model.specs.Cut.{binds, binding_connections, section_cut}
 use Rattle.rail_model.proofs.Lists.{AllPairs-map, AllPairs-append}
 
 -- names without a repeat differ

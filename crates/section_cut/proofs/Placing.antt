@@ -11,8 +11,7 @@ use Rattle.rail_model.specs.declared.tables.Tables.{Tables}
 use Rattle.rail_model.specs.declared.stair.Use.{Use}
 use Rattle.rail_model.specs.Name.{is_same}
 use Rattle.rail_model.specs.Tables.{number_of, no_block, section_at, block_number, block_name}
-use Rattle.rail_model.specs.Rules.{has_block}
-use Rattle.rail_model.specs.Sound.{IsSound}
+use Rattle.rail_model.specs.Rules.{has_block, IsSound}
 use Rattle.rail_model.proofs.NameOrder.{same_name, is_same-sym, names_apart}
 use Rattle.rail_model.proofs.Paths.{place_within}
 use Rattle.section_cut.proofs.Sections.{section_stands}

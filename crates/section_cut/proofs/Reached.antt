@@ -3,7 +3,7 @@ use Rattle.std.proofs.Common.{◌≡◌, ℕ, List, Option, Some, None, refl, sy
 use Rattle.std.specs.Prelude.{find, option_map}
 use Rattle.rail_model.specs.declared.items.Run.{Run}
 use Rattle.rail_model.specs.declared.items.Section.{Section}
-use Rattle.plan_model.specs.SectionCut.{section_cut, cut_of}
+use Rattle.plan_model.specs.Cut.{section_cut, cut_of}
 use Rattle.rail_model.specs.declared.items.Item.{Item}
 use Rattle.rail_model.specs.declared.items.Item.TheVariants as item
 use Rattle.rail_model.specs.declared.edit.Kind.{Kind}
@@ -15,7 +15,7 @@ use Rattle.rail_model.specs.declared.tables.Tables.{Tables}
 use Rattle.rail_model.specs.Name.{is_same}
 use Rattle.rail_model.specs.Blocking.{stair_of}
 use Rattle.rail_model.specs.Tables.{path_in}
-use Rattle.rail_model.specs.Edits.{after_put, after_change, after_drop, after}
+use Rattle.rail_model.specs.Rules.{after_put, after_change, after_drop, after}
 use Rattle.rail_model.specs.declared.items.Connection.{Connection}
 use Rattle.section_cut.specs.declared.one_connection.EditedConnection.{EditedConnection}
 use Rattle.section_cut.specs.EditedConnection.{connection_of_item, connection_of_kind, connection_edited, IsEditedConnection}

@@ -17,13 +17,12 @@ use Rattle.rail_model.specs.declared.tables.Tables.{Tables}
 use Rattle.rail_model.specs.Name.{is_same}
 use Rattle.rail_model.specs.Blocking.{stairway, stair_of}
 use Rattle.rail_model.specs.Tables.{no_run, number_of, run_at, block_name, path_in, last_arrival}
-use Rattle.rail_model.specs.Sound.{IsSound}
+use Rattle.rail_model.specs.Rules.{IsSound}
 use Rattle.rail_model.proofs.Lists.{map_same}
 use Rattle.rail_model.proofs.Timetables.{used_there}
 use Rattle.plan_model.specs.declared.cut.CutRow.{CutRow}
 use Rattle.plan_model.specs.declared.cut.Cut.{Cut}
-use Rattle.plan_model.specs.Cut.{least, stamped_row, stamped, AreBlocksFirst}
-use Rattle.plan_model.specs.SectionCut.{use_in_section, section_uses, entry_of, is_member, binds, binding_connections, connection_use, uses_of_connections, row_of, section_cut, cut_of}
+use Rattle.plan_model.specs.Cut.{least, stamped_row, stamped, AreBlocksFirst, use_in_section, section_uses, entry_of, is_member, binds, binding_connections, connection_use, uses_of_connections, row_of, section_cut, cut_of}
 use Rattle.section_cut.specs.Connected.{joins, entry_in, block_part, with_rest}
 use Rattle.section_cut.specs.Members.{enters, member_row, row_with}
 use Rattle.section_cut.specs.Positions.{uses_in}

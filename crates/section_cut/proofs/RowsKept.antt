@@ -6,11 +6,10 @@ use Rattle.rail_model.specs.declared.items.Section.{Section}
 use Rattle.rail_model.specs.declared.tables.Tables.{Tables}
 use Rattle.rail_model.specs.declared.stair.Use.{Use}
 use Rattle.rail_model.specs.Name.{is_same}
-use Rattle.rail_model.specs.Sound.{IsSound}
+use Rattle.rail_model.specs.Rules.{IsSound}
 use Rattle.rail_model.specs.Tables.{run_at}
 use Rattle.plan_model.specs.declared.cut.CutRow.{CutRow}
-use Rattle.plan_model.specs.Cut.{stamped_row, AreBlocksFirst}
-use Rattle.plan_model.specs.SectionCut.{section_uses, entry_of, is_member, row_of}
+use Rattle.plan_model.specs.Cut.{stamped_row, AreBlocksFirst, section_uses, entry_of, is_member, row_of}
 use Rattle.section_cut.specs.declared.cut_changes.StoredCut.{StoredCut}
 use Rattle.section_cut.specs.Stored.{IsStored}
 use Rattle.section_cut.specs.Members.{member_row}

@@ -3,7 +3,7 @@ use Rattle.std.proofs.Common.{◌≡◌, ℕ, List, ap, ◌∙◌}
 use Rattle.rail_model.specs.declared.items.Section.{Section}
 use Rattle.rail_model.specs.declared.tables.Tables.{Tables}
 use Rattle.plan_model.specs.declared.cut.Cut.{Cut}
-use Rattle.plan_model.specs.SectionCut.{section_cut}
+use Rattle.plan_model.specs.Cut.{section_cut}
 use Rattle.section_cut.specs.Change.{HasSameRows}
 
 abbrev of_section : Section → Cut → Cut

@@ -11,13 +11,12 @@ use Rattle.rail_model.specs.declared.items.Section.{Section}
 use Rattle.rail_model.specs.declared.items.Connection.{Connection}
 use Rattle.rail_model.specs.declared.tables.Tables.{Tables}
 use Rattle.rail_model.specs.Name.{is_same}
-use Rattle.rail_model.specs.Rules.{has_run}
-use Rattle.rail_model.specs.Sound.{IsSound}
+use Rattle.rail_model.specs.Rules.{has_run, IsSound}
 use Rattle.rail_model.specs.Tables.{no_run, number_of, run_at, run_named, last_arrival}
 use Rattle.rail_model.proofs.NameOrder.{is_same-from}
 use Rattle.plan_model.specs.declared.cut.CutRow.{CutRow}
 use Rattle.plan_model.specs.declared.cut.Cut.{Cut}
-use Rattle.plan_model.specs.SectionCut.{section_uses, is_member, binds, binding_connections, row_of, section_cut, cut_of}
+use Rattle.plan_model.specs.Cut.{section_uses, is_member, binds, binding_connections, row_of, section_cut, cut_of}
 use Rattle.section_cut.specs.Members.{enters}
 use Rattle.section_cut.specs.Connected.{joins, entry_in}
 use Rattle.section_cut.proofs.Arrivals.{leg_time, last_arrival_is}

@@ -8,11 +8,10 @@ use Rattle.rail_model.specs.declared.items.Section.{Section}
 use Rattle.rail_model.specs.declared.items.Item.TheVariants as item
 use Rattle.rail_model.specs.declared.tables.Tables.{Tables}
 use Rattle.rail_model.specs.Name.{is_same, IsBefore, NamesRise}
-use Rattle.rail_model.specs.Sound.{Stands, IsSound}
+use Rattle.rail_model.specs.Rules.{Stands, IsSound}
 use Rattle.plan_model.specs.declared.cut.CutRow.{CutRow}
 use Rattle.plan_model.specs.declared.cut.Cut.{Cut}
-use Rattle.plan_model.specs.Cut.{stamped_row, stamped, IsSoundRow, IsSoundCut}
-use Rattle.plan_model.specs.SectionCut.{section_cut, cut_of}
+use Rattle.plan_model.specs.Cut.{stamped_row, stamped, IsSoundRow, IsSoundCut, section_cut, cut_of}
 use Rattle.section_cut.specs.Change.{IsCutAfter}
 use Rattle.section_cut.proofs.SoundCut.{sound_cut, sound_stamped}
 use Rattle.section_cut.proofs.Rows.{found_at}

@@ -6,7 +6,7 @@ use Rattle.rail_model.specs.declared.items.Item.TheVariants as item
 use Rattle.rail_model.specs.declared.tables.Tables.{Tables}
 use Rattle.rail_model.specs.declared.limits.TheConstants.{PATH_HOPS, GREATEST_START_S}
 use Rattle.rail_model.specs.Within.{is_section_within}
-use Rattle.rail_model.specs.Sound.{Stands, IsSound}
+use Rattle.rail_model.specs.Rules.{Stands, IsSound}
 use Rattle.rail_model.specs.Tables.{no_section, section_at}
 
 pub record IsSectionWithin (s : Section) : Type 0 where

@@ -12,11 +12,10 @@ use Rattle.rail_model.specs.declared.items.Item.TheVariants as item
 use Rattle.rail_model.specs.declared.tables.Tables.{Tables}
 use Rattle.rail_model.specs.declared.limits.TheConstants.{GREATEST_MOMENT_S, GREATEST_START_S}
 use Rattle.rail_model.specs.Name.{IsBefore}
-use Rattle.rail_model.specs.Sound.{Stands, IsSound}
+use Rattle.rail_model.specs.Rules.{Stands, IsSound}
 use Rattle.plan_model.specs.declared.cut.CutRow.{CutRow}
 use Rattle.plan_model.specs.declared.cut.Cut.{Cut}
-use Rattle.plan_model.specs.Cut.{stamped_row, stamped, IsSoundRow, IsSoundCut}
-use Rattle.plan_model.specs.SectionCut.{is_member, binds, binding_connections, row_of, section_cut}
+use Rattle.plan_model.specs.Cut.{stamped_row, stamped, IsSoundRow, IsSoundCut, is_member, binds, binding_connections, row_of, section_cut}
 use Rattle.section_cut.specs.Members.{members_of}
 use Rattle.rail_model.proofs.Lists.{AllPairs-map}
 use Rattle.section_cut.proofs.Lists.{few_pass}

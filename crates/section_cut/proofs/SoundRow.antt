@@ -11,13 +11,12 @@ use Rattle.rail_model.specs.declared.tables.Tables.{Tables}
 use Rattle.rail_model.specs.declared.stair.Use.{Use}
 use Rattle.rail_model.specs.declared.limits.TheConstants.{GREATEST_START_S, GREATEST_TIME_S}
 use Rattle.rail_model.specs.Tables.{run_at, last_arrival}
-use Rattle.rail_model.specs.Sound.{IsSound}
+use Rattle.rail_model.specs.Rules.{IsSound}
 use Rattle.rail_model.proofs.Facts.{run_facts}
 use Rattle.rail_model.proofs.Paths.{run_stands}
 use Rattle.rail_model.proofs.Places.{filter_all, filter_none}
-use Rattle.plan_model.specs.Places.{place_count}
-use Rattle.plan_model.specs.Cut.{least, block_uses, connection_uses, IsMoment, IsSoundUse, IsSoundRow}
-use Rattle.plan_model.specs.SectionCut.{section_uses, entry_of, is_member, binds, binding_connections, connection_use, uses_of_connections, row_of, section_cut}
+use Rattle.plan_model.specs.Members.{place_count}
+use Rattle.plan_model.specs.Cut.{least, block_uses, connection_uses, IsMoment, IsSoundUse, IsSoundRow, section_uses, entry_of, is_member, binds, binding_connections, connection_use, uses_of_connections, row_of, section_cut}
 use Rattle.rail_model.proofs.Lists.{AllPairs-append}
 use Rattle.section_cut.proofs.Arrivals.{last_arrival_most}
 use Rattle.section_cut.proofs.Known.{IsKnown, connection_known}

@@ -15,15 +15,14 @@ use Rattle.rail_model.specs.declared.path.Hop.{Hop}
 use Rattle.rail_model.specs.declared.path.Path.{Path}
 use Rattle.rail_model.specs.declared.stair.Use.{Use}
 use Rattle.rail_model.specs.Name.{is_same}
-use Rattle.rail_model.specs.Rules.{has_block}
-use Rattle.rail_model.specs.Sound.{IsSound}
+use Rattle.rail_model.specs.Rules.{has_block, IsSound}
 use Rattle.rail_model.specs.Blocking.{stairway}
 use Rattle.rail_model.specs.Tables.{no_block, no_run, run_at, number_of, block_name, block_number, block_named, signal_named, route_named, hop_beyond, path_in}
 use Rattle.rail_model.specs.Within.{no_leg}
 use Rattle.rail_model.proofs.Lists.{map_same}
 use Rattle.rail_model.proofs.NameOrder.{same_name}
 use Rattle.rail_model.proofs.Paths.{place_within}
-use Rattle.plan_model.specs.SectionCut.{position_in_section, section_uses, cut_of}
+use Rattle.plan_model.specs.Cut.{position_in_section, section_uses, cut_of}
 use Rattle.section_cut.proofs.Numberless.{renumbered_hop, renumbered, uses_renumbered}
 use Rattle.section_cut.proofs.SameRuns.{cuts_same}
 

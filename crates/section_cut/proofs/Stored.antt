@@ -6,8 +6,7 @@ use Rattle.rail_model.specs.declared.items.Connection.{Connection}
 use Rattle.rail_model.specs.declared.tables.Tables.{Tables}
 use Rattle.rail_model.specs.Name.{is_same, NamesRise}
 use Rattle.plan_model.specs.declared.cut.Cut.{Cut}
-use Rattle.plan_model.specs.Cut.{stamped, stamped_row, IsSoundCut}
-use Rattle.plan_model.specs.SectionCut.{is_member, row_of, binding_connections, section_cut}
+use Rattle.plan_model.specs.Cut.{stamped, stamped_row, IsSoundCut, is_member, row_of, binding_connections, section_cut}
 use Rattle.section_cut.specs.declared.cut_changes.StoredCut.{StoredCut}
 use Rattle.section_cut.specs.Stored.{IsStored}
 use Rattle.section_cut.proofs.OldRows.{cut_names, cut_names_rise, cut_rows}

@@ -13,13 +13,11 @@ use Rattle.rail_model.specs.declared.tables.Tables.{Tables}
 use Rattle.rail_model.specs.declared.stair.Use.{Use}
 use Rattle.rail_model.specs.Name.{is_same}
 use Rattle.rail_model.specs.Tables.{no_run, number_of, run_at, run_named}
-use Rattle.rail_model.specs.Rules.{has_run}
-use Rattle.rail_model.specs.Sound.{IsSound}
+use Rattle.rail_model.specs.Rules.{has_run, IsSound}
 use Rattle.rail_model.proofs.NameOrder.{is_same-from}
 use Rattle.plan_model.specs.declared.cut.CutRow.{CutRow}
-use Rattle.plan_model.specs.Places.{block_count, place_count}
-use Rattle.plan_model.specs.Members.{uses_place}
-use Rattle.plan_model.specs.SectionCut.{section_uses, is_member, binds, binding_connections, uses_of_connections, row_of, section_cut}
+use Rattle.plan_model.specs.Members.{block_count, place_count, uses_place}
+use Rattle.plan_model.specs.Cut.{section_uses, is_member, binds, binding_connections, uses_of_connections, row_of, section_cut}
 use Rattle.section_cut.specs.Members.{members_of}
 use Rattle.section_cut.proofs.Lists.{passing_at}
 use Rattle.section_cut.proofs.Counts.{count_agree, count_two}

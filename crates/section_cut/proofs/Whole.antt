@@ -13,14 +13,13 @@ use Rattle.rail_model.specs.declared.path.Hop.{Hop}
 use Rattle.rail_model.specs.declared.path.Path.{Path}
 use Rattle.rail_model.specs.declared.stair.Use.{Use}
 use Rattle.rail_model.specs.declared.tables.Tables.{Tables}
-use Rattle.rail_model.specs.Path.{hop_count, no_hop}
-use Rattle.rail_model.specs.Blocking.{use_of, stairway}
+use Rattle.rail_model.specs.Blocking.{hop_count, no_hop, use_of, stairway}
 use Rattle.rail_model.specs.Tables.{number_of, block_number, block_name, signal_named, route_named, path_in}
-use Rattle.rail_model.specs.Sound.{Stands}
+use Rattle.rail_model.specs.Rules.{Stands}
 use Rattle.rail_model.proofs.Paths.{hop_in_at, length-hops_in}
 use Rattle.rail_model.proofs.Places.{filter_all}
 use Rattle.plan_model.specs.Members.{no_use}
-use Rattle.plan_model.specs.SectionCut.{position_in_section, use_in_section, section_uses}
+use Rattle.plan_model.specs.Cut.{position_in_section, use_in_section, section_uses}
 use Rattle.section_cut.specs.Times.{with_times}
 use Rattle.section_cut.proofs.Lists.{few_pass}
 use Rattle.section_cut.proofs.RowTimes.{placed_by}

@@ -12,7 +12,7 @@ use Rattle.rail_model.proofs.Paths.{place_within, run_stands}
 use Rattle.std.proofs.lemmas.List.Sums.{passes_at_first}
 use Rattle.plan_model.specs.declared.cut.CutRow.{CutRow}
 use Rattle.plan_model.specs.declared.cut.Cut.{Cut}
-use Rattle.plan_model.specs.SectionCut.{section_uses}
+use Rattle.plan_model.specs.Cut.{section_uses}
 use Rattle.section_cut.specs.declared.cut_changes.StoredCut.{StoredCut}
 use Rattle.section_cut.specs.declared.one_run.EditedRun.{EditedRun}
 use Rattle.section_cut.specs.Stored.{IsStored}

@@ -8,7 +8,7 @@ use Rattle.rail_model.specs.declared.stair.Use.{Use}
 use Rattle.rail_model.specs.Tables.{no_run, run_named, last_arrival}
 use Rattle.plan_model.specs.declared.cut.CutRow.{CutRow}
 use Rattle.plan_model.specs.Members.{no_member}
-use Rattle.plan_model.specs.SectionCut.{entry_of, is_member, binds, connection_use}
+use Rattle.plan_model.specs.Cut.{entry_of, is_member, binds, connection_use}
 use Rattle.section_cut.specs.declared.members.Member.{Member}
 use Rattle.section_cut.specs.declared.connections.Bound.{Bound}
 use Rattle.section_cut.specs.Members.{members_of}

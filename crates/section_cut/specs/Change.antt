@@ -5,9 +5,8 @@ use Rattle.rail_model.specs.declared.items.Section.{Section}
 use Rattle.rail_model.specs.declared.tables.Tables.{Tables}
 use Rattle.plan_model.specs.declared.cut.CutRow.{CutRow}
 use Rattle.plan_model.specs.declared.cut.Cut.{Cut}
-use Rattle.plan_model.specs.Cut.{stamped_row, stamped, IsSoundCut}
-use Rattle.plan_model.specs.SectionCut.{cut_of}
-use Rattle.plan_model.specs.Touch.{row_named}
+use Rattle.plan_model.specs.Cut.{stamped_row, stamped, IsSoundCut, cut_of}
+use Rattle.plan_model.specs.Legal.{row_named}
 use Rattle.section_cut.specs.declared.cut_changes.CutChange.{CutChange}
 use Rattle.section_cut.specs.declared.cut_changes.CutChange.TheVariants as change
 

@@ -11,7 +11,7 @@ use Rattle.rail_model.specs.Rules.{is_named, has_run}
 use Rattle.rail_model.specs.Tables.{number_of, run_named}
 use Rattle.rail_model.specs.declared.stair.Use.{Use}
 use Rattle.plan_model.specs.declared.cut.CutRow.{CutRow}
-use Rattle.plan_model.specs.SectionCut.{section_uses, entry_of, is_member, connection_use, uses_of_connections}
+use Rattle.plan_model.specs.Cut.{section_uses, entry_of, is_member, connection_use, uses_of_connections}
 use Rattle.section_cut.specs.Members.{member_row}
 
 -- a connection is one of the run of a name

@@ -9,7 +9,7 @@ use Rattle.rail_model.specs.declared.edit.Edit.{Edit}
 use Rattle.rail_model.specs.declared.edit.Edit.TheVariants as edit
 use Rattle.rail_model.specs.declared.tables.Tables.{Tables}
 use Rattle.rail_model.specs.declared.stair.Use.{Use}
-use Rattle.rail_model.specs.Edits.{with_changed}
+use Rattle.rail_model.specs.Rules.{with_changed}
 use Rattle.rail_model.specs.Name.{is_same}
 use Rattle.section_cut.specs.declared.one_connection.EditedConnection.{EditedConnection}
 use Rattle.section_cut.specs.OneRun.{before, behind}

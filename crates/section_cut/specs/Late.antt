@@ -7,7 +7,7 @@ use Rattle.rail_model.specs.declared.stair.Stair.{Stair}
 use Rattle.rail_model.specs.declared.tables.Tables.{Tables}
 use Rattle.rail_model.specs.Blocking.{stair_of}
 use Rattle.rail_model.specs.Tables.{run_at, path_in}
-use Rattle.plan_model.specs.SectionCut.{is_member}
+use Rattle.plan_model.specs.Cut.{is_member}
 
 -- forming and watching take no longer than this at any hop of these paths
 abbrev pub IsLead : List Path → ℕ → Type 0

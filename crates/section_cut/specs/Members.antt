@@ -7,8 +7,7 @@ use Rattle.rail_model.specs.declared.tables.Tables.{Tables}
 use Rattle.rail_model.specs.declared.stair.Use.{Use}
 use Rattle.rail_model.specs.Tables.{run_at}
 use Rattle.plan_model.specs.declared.cut.CutRow.{CutRow}
-use Rattle.plan_model.specs.Cut.{least}
-use Rattle.plan_model.specs.SectionCut.{section_uses, entry_of, is_member}
+use Rattle.plan_model.specs.Cut.{least, section_uses, entry_of, is_member}
 use Rattle.section_cut.specs.declared.members.Member.{Member}
 
 -- a run with these uses of the section's blocks is a member

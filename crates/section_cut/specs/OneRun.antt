@@ -14,7 +14,7 @@ use Rattle.rail_model.specs.Blocking.{stair_of}
 use Rattle.rail_model.specs.Tables.{path_in}
 use Rattle.rail_model.specs.declared.items.Section.{Section}
 use Rattle.rail_model.specs.declared.stair.Use.{Use}
-use Rattle.plan_model.specs.SectionCut.{use_in_section}
+use Rattle.plan_model.specs.Cut.{use_in_section}
 use Rattle.line_tables.specs.Passing.{passes_section}
 use Rattle.section_cut.specs.Members.{member_row}
 use Rattle.plan_model.specs.declared.cut.CutRow.{CutRow}

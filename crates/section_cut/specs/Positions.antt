@@ -5,7 +5,7 @@ use Rattle.rail_model.specs.declared.tables.Tables.{Tables}
 use Rattle.rail_model.specs.declared.stair.Use.{Use}
 use Rattle.rail_model.specs.Name.{is_same}
 use Rattle.rail_model.specs.Tables.{block_name}
-use Rattle.plan_model.specs.SectionCut.{position_in_section}
+use Rattle.plan_model.specs.Cut.{position_in_section}
 
 -- the table of positions has for each block of the tables its position in the section's list, or
 -- the list's length where it isn't there

@@ -8,8 +8,8 @@ use Rattle.rail_model.specs.declared.edit.Edit.{Edit}
 use Rattle.rail_model.specs.declared.edit.Edit.TheVariants as edit
 use Rattle.rail_model.specs.declared.tables.Tables.{Tables}
 use Rattle.rail_model.specs.Rules.{has_block}
-use Rattle.rail_model.specs.Timetable.{timetable}
-use Rattle.plan_model.specs.SectionCut.{cut_of}
+use Rattle.rail_model.specs.Conflict.{timetable}
+use Rattle.plan_model.specs.Cut.{cut_of}
 use Rattle.section_cut.specs.declared.reach.Reach.{Reach}
 use Rattle.section_cut.specs.declared.reach.Reach.TheVariants as reach
 use Rattle.section_cut.specs.declared.reach.RowReach.{RowReach}

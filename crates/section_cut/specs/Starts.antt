@@ -3,7 +3,7 @@ use Rattle.std.specs.Prelude.{◌≡◌, ◌⊎◌, ◌<◌, ℕ, ℤ, pos, ◌�
 use Rattle.rail_model.specs.declared.items.Section.{Section}
 use Rattle.rail_model.specs.declared.stair.Use.{Use}
 use Rattle.rail_model.specs.declared.stair.Stair.{Stair}
-use Rattle.rail_model.specs.Timetable.{stair_at}
+use Rattle.rail_model.specs.Conflict.{stair_at}
 use Rattle.plan_model.specs.Cut.{least}
 use Rattle.plan_model.specs.Members.{no_use}
 use Rattle.section_cut.specs.declared.all_stairways.Starts.{Starts}

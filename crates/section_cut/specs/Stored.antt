@@ -1,8 +1,7 @@
 -- The cut of a section that is kept before an edit, and what the edit makes of it.
 use Rattle.std.specs.Prelude.{◌≡◌, Some}
-use Rattle.rail_model.specs.Sound.{IsSound}
-use Rattle.plan_model.specs.Cut.{stamped}
-use Rattle.plan_model.specs.SectionCut.{cut_of}
+use Rattle.rail_model.specs.Rules.{IsSound}
+use Rattle.plan_model.specs.Cut.{stamped, cut_of}
 use Rattle.section_cut.specs.declared.cut_changes.CutChange.{CutChange}
 use Rattle.section_cut.specs.declared.cut_changes.StoredCut.{StoredCut}
 use Rattle.section_cut.specs.Change.{IsChange}

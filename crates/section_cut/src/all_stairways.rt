@@ -2,7 +2,7 @@
 ghost use Rattle.std.specs.Prelude.{◌≡◌, ◌<◌, ◌≤ℤ◌, ◌||◌, pos, int_lt, int_le, true, length, map, IfOk};
 ghost use Rattle.line_tables.specs.Paths.{path_at};
 ghost use Rattle.rail_model.specs.Blocking.{stair_of};
-ghost use Rattle.rail_model.specs.Timetable.{timetable, stair_at};
+ghost use Rattle.rail_model.specs.Conflict.{timetable, stair_at};
 ghost use Rattle.section_cut.specs.Spans.{AreSpans};
 ghost use Rattle.section_cut.specs.Starts.{StartsBetween, StartsOutside};
 

@@ -8,7 +8,7 @@ ghost use Rattle.rail_model.specs.Name.{NamesRise, is_same};
 ghost use Rattle.rail_model.specs.Rules.{is_named, has_run};
 ghost use Rattle.rail_model.specs.Tables.{number_of, run_at};
 ghost use Rattle.plan_model.specs.Cut.{AreBlocksFirst};
-ghost use Rattle.plan_model.specs.SectionCut as cuts;
+ghost use Rattle.plan_model.specs.Cut as cuts;
 ghost use Rattle.section_cut.specs.ReachedRuns.{IsTold};
 ghost use Rattle.section_cut.specs.Connected.{joins, HasEntryOf, TellsEntries, IsOneOf, IsOfRuns, is_joined, with_told, row_beside, use_if_listed, with_bound, block_part};
 

@@ -6,8 +6,8 @@ ghost use Rattle.rail_model.specs.declared.limits.TheConstants.{GREATEST_START_S
 ghost use Rattle.blocking_time.specs.declared.motion.TheConstants.{GREATEST_DEPARTURE_S};
 ghost use Rattle.rail_model.specs.Rules.{has_run};
 ghost use Rattle.rail_model.specs.Tables.{number_of, run_at};
-ghost use Rattle.plan_model.specs.Precedence.{comes_before};
-ghost use Rattle.plan_model.specs.SectionCut as cuts;
+ghost use Rattle.plan_model.specs.Members.{comes_before};
+ghost use Rattle.plan_model.specs.Cut as cuts;
 ghost use Rattle.section_cut.specs.Members.{members_of, members_by_run};
 ghost use Rattle.section_cut.specs.Bound as bounds;
 

@@ -1,10 +1,9 @@
 //! What an edit makes of the cuts of a line's sections.
 ghost use Rattle.std.specs.Prelude.{◌≡◌, ◌≢◌, ◌↔◌, All, IsTrue, IfOk, IfSome, OnOk, OnErr, Some, None, option_map};
 ghost use Rattle.std.specs.Option.{option_copied};
-ghost use Rattle.rail_model.specs.Edits as edits;
-ghost use Rattle.rail_model.specs.Timetable.{timetable};
-ghost use Rattle.plan_model.specs.Cut.{stamped, IsSoundCut};
-ghost use Rattle.plan_model.specs.SectionCut.{cut_of};
+ghost use Rattle.rail_model.specs.Rules as edits;
+ghost use Rattle.rail_model.specs.Conflict.{timetable};
+ghost use Rattle.plan_model.specs.Cut.{stamped, IsSoundCut, cut_of};
 ghost use Rattle.section_cut.specs.Change.{IsChange, IsCutAfter, HasPlace, with_row};
 ghost use Rattle.section_cut.specs.Put.{HasItsPlace, touches, put};
 ghost use Rattle.section_cut.specs.Reach.{IsOneSection, IsRowReach};

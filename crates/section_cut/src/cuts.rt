@@ -1,8 +1,8 @@
 //! The cut of a section.
 ghost use Rattle.std.specs.Prelude.{◌≡◌, ℕ, ◌<◌, ◌≤◌, length, map, IfOk, IfSome, option_map};
 ghost use Rattle.plan_model.specs.Cut.{stamped, IsSoundCut};
-ghost use Rattle.plan_model.specs.SectionCut as cuts;
-ghost use Rattle.rail_model.specs.Timetable.{timetable};
+ghost use Rattle.plan_model.specs.Cut as cuts;
+ghost use Rattle.rail_model.specs.Conflict.{timetable};
 ghost use Rattle.rail_model.specs.Tables.{section_at};
 ghost use Rattle.rail_model.specs.declared.limits.TheConstants.{PATH_HOPS};
 ghost use Rattle.section_cut.specs.Late.{AreStairsFor};

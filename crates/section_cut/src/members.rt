@@ -5,7 +5,7 @@ ghost use Rattle.plan_model.specs.Cut.{least};
 ghost use Rattle.section_cut.specs.Late.{AreStairsFor};
 ghost use Rattle.section_cut.specs.Positions.{IsPositions, uses_in};
 ghost use Rattle.section_cut.specs.Spans.{AreSpans, IsSpan, blocks_of};
-ghost use Rattle.rail_model.specs.Timetable.{stair_at};
+ghost use Rattle.rail_model.specs.Conflict.{stair_at};
 ghost use Rattle.section_cut.specs.Members as rows;
 
 use crate::all_stairways::AllStairways;

@@ -2,7 +2,7 @@
 //! nor after it, nothing. Where only its minimum changes, the first run keeps it until another
 //! moment. Else the connections are bound anew: the members and their uses of blocks stay.
 ghost use Rattle.std.specs.Prelude.{◌≡◌, true, All, find, IfOk};
-ghost use Rattle.plan_model.specs.SectionCut as cuts;
+ghost use Rattle.plan_model.specs.Cut as cuts;
 ghost use Rattle.rail_model.specs.Name.{NamesRise, is_same};
 ghost use Rattle.section_cut.specs.Connected.{IsOfRuns, TellsEntries};
 ghost use Rattle.section_cut.specs.EditedConnection.{connection_edited, IsEditedConnection, IsMinimumChanged, IsOfSameRuns};

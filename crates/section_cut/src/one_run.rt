@@ -10,7 +10,7 @@ ghost use Rattle.section_cut.specs.Connected.{joins};
 ghost use Rattle.section_cut.specs.EditedRun.{KeepsRoute, IsEditedRun, KeepsPlaces, StandsAt, IsPut};
 ghost use Rattle.section_cut.specs.OneRun as one;
 ghost use Rattle.section_cut.specs.Times.{with_times};
-ghost use Rattle.plan_model.specs.SectionCut.{position_in_section};
+ghost use Rattle.plan_model.specs.Cut.{position_in_section};
 ghost use Rattle.rail_model.specs.Blocking.{stair_of};
 ghost use Rattle.rail_model.specs.Tables.{number_of, path_in, section_at};
 ghost use Rattle.rail_model.specs.Name.{is_same};

@@ -6,12 +6,12 @@
 //! where only the minimum changes. A put or drop of a block, a signal or a route reaches none, and a
 //! change of one reaches the rows of the runs that pass it.
 ghost use Rattle.std.specs.Prelude.{◌≡◌, ◌≢◌, true, false, All, IfOk, Some, None};
-ghost use Rattle.rail_model.specs.Edits as edits;
+ghost use Rattle.rail_model.specs.Rules as edits;
 ghost use Rattle.section_cut.specs.EditedConnection.{connection_edited};
 ghost use Rattle.section_cut.specs.ReachedRuns.{KeepsBlocks, AreReachedRuns};
 ghost use Rattle.section_cut.specs.Reach.{IsReach, IsRowReach, ReachesNoRun, section_edited};
-ghost use Rattle.rail_model.specs.Sound.{IsSound};
-ghost use Rattle.rail_model.specs.Timetable.{timetable};
+ghost use Rattle.rail_model.specs.Rules.{IsSound};
+ghost use Rattle.rail_model.specs.Conflict.{timetable};
 
 use crate::all_stairways::{AllStairways, stairways};
 use crate::connected::joined_runs;

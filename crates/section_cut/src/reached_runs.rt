@@ -14,10 +14,9 @@ ghost use Rattle.section_cut.specs.RowsAfter.{AreBeside, AllStay, AreRowsAfter, 
 ghost use Rattle.section_cut.specs.Stamps.{AreBefore, IsReached};
 ghost use Rattle.line_tables.specs.Passing.{passes_block, passes_signal};
 ghost use Rattle.rail_model.specs.declared.items.Run.{Run};
-ghost use Rattle.rail_model.specs.Edits as edits;
+ghost use Rattle.rail_model.specs.Rules as edits;
 ghost use Rattle.rail_model.specs.Name.{NamesRise};
-ghost use Rattle.rail_model.specs.Path.{Fits};
-ghost use Rattle.rail_model.specs.Blocking.{stair_of};
+ghost use Rattle.rail_model.specs.Blocking.{Fits, stair_of};
 ghost use Rattle.section_cut.specs.ReachedRuns as reached;
 
 use crate::cut_changes::{BothTables, CutChange, StoredCut, stored_made_anew};

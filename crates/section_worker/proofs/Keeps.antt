@@ -16,8 +16,7 @@ use Rattle.plan_model.specs.declared.cut.Cut.{Cut}
 use Rattle.plan_model.specs.declared.journal.Entry.{Entry}
 use Rattle.plan_model.specs.Call.{GoesOn}
 use Rattle.plan_model.specs.Journal.{last_number}
-use Rattle.plan_model.specs.Legal.{IsLegal}
-use Rattle.plan_model.specs.Touch.{IsReading}
+use Rattle.plan_model.specs.Legal.{IsLegal, IsReading}
 use Rattle.plan_model.proofs.Stamps.{stamp_tells_row}
 use Rattle.plan_repair.specs.Kept.{kept_of, AgreesWith}
 use Rattle.section_worker.specs.declared.worker.Held.{Held}

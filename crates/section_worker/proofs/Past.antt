@@ -3,8 +3,7 @@ use Rattle.std.proofs.Common.{◌≡◌, ℕ, ◌<◌, List, [], ◌∷◌, ◌+
 use Rattle.std.specs.List.{last_or}
 use Rattle.plan_model.specs.declared.journal.Entry.{Entry}
 use Rattle.plan_model.specs.Journal.{Publication, publications, last_publication}
-use Rattle.plan_model.specs.Touch.{IsUntouchedSince, IsCurrent}
-use Rattle.plan_model.specs.Legal.{WasPublishedAt, IsCurrentSince}
+use Rattle.plan_model.specs.Legal.{IsUntouchedSince, IsCurrent, WasPublishedAt, IsCurrentSince}
 use Rattle.plan_model.proofs.Growing.{last_number-more, cut_at-more, last_publication-more}
 
 -- what no edit of a longer journal touches is not touched by those of the shorter

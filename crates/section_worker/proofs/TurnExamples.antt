@@ -1,8 +1,7 @@
 -- How a turn ends that read its section at the edit 8.
 use Rattle.std.proofs.Common.{◌≡◌, ℕ, List, arith, lit<}
 use Rattle.plan_model.specs.declared.journal.Entry.{Entry}
-use Rattle.plan_model.specs.Touch.{IsUntouchedSince, IsLastTouching}
-use Rattle.plan_model.specs.Legal.{WasPublishedAt}
+use Rattle.plan_model.specs.Legal.{IsUntouchedSince, IsLastTouching, WasPublishedAt}
 use Rattle.plan_model.specs.Call.{GoesOn}
 use Rattle.plan_model.specs.Board.{Access}
 use Rattle.section_worker.specs.declared.worker.Turned.TheVariants as turned

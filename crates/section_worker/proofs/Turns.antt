@@ -13,8 +13,7 @@ use Rattle.plan_model.specs.declared.outcome.NotTaken.TheVariants as not_taken
 use Rattle.plan_model.specs.Reading.{Shown}
 use Rattle.plan_model.specs.Journal.{last_number, tasks_left}
 use Rattle.plan_model.specs.declared.journal.Act.TheVariants as act
-use Rattle.plan_model.specs.Legal.{IsTouchedSince, IsCurrentSince}
-use Rattle.plan_model.specs.Touch.{IsCurrent}
+use Rattle.plan_model.specs.Legal.{IsTouchedSince, IsCurrentSince, IsCurrent}
 use Rattle.plan_model.specs.Call.{IsOthers, GoesOn, AddsOwn}
 use Rattle.plan_model.specs.Board.{Access, IsAccess, IsCall, KeepsCounts, NotesTaken}
 use Rattle.plan_model.specs.Outcome.{AddsEntry, ShareIsCurrent, IsNextReading, ReadsTo, PublishesTo}

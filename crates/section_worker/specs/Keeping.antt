@@ -7,8 +7,7 @@ use Rattle.std.specs.Map.{lookup}
 use Rattle.plan_model.specs.declared.cut.Cut.{Cut}
 use Rattle.plan_model.specs.declared.journal.Entry.{Entry}
 use Rattle.plan_model.specs.Journal.{last_number}
-use Rattle.plan_model.specs.Legal.{IsLegal}
-use Rattle.plan_model.specs.Touch.{IsReading}
+use Rattle.plan_model.specs.Legal.{IsLegal, IsReading}
 use Rattle.plan_repair.specs.Kept.{kept_of, uses_not_kept}
 use Rattle.section_worker.specs.declared.worker.Held.{Held}
 

@@ -11,8 +11,7 @@ use Rattle.plan_model.specs.declared.journal.Act.TheVariants as act
 use Rattle.plan_model.specs.declared.journal.Entry.{Entry}
 use Rattle.plan_model.specs.Reading.{Shown}
 use Rattle.plan_model.specs.Journal.{edits, last_number, tables_of}
-use Rattle.plan_model.specs.Touch.{IsCurrent}
-use Rattle.plan_model.specs.Legal.{IsLegal}
+use Rattle.plan_model.specs.Legal.{IsCurrent, IsLegal}
 use Rattle.plan_model.specs.JournalLaws.{KeepsTables}
 use Rattle.plan_model.specs.Outcome.{section_name, ShareIsCurrent, IsNextReading}
 use Rattle.plan_model.specs.Session.{IsPublicationAt, AllAreCurrent}

@@ -14,10 +14,8 @@ use Rattle.plan_model.specs.declared.scripts.Task.TheVariants as task
 use Rattle.plan_model.specs.declared.journal.Act.{Act}
 use Rattle.plan_model.specs.declared.journal.Act.TheVariants as act
 use Rattle.plan_model.specs.declared.journal.Entry.{Entry}
-use Rattle.plan_model.specs.Journal.{Opening, opening, edit_of, edits, tables_of, issues, issued, task_of, done_by, script_of, tasks_left}
-use Rattle.plan_model.specs.Touch.{IsCurrent}
-use Rattle.plan_model.specs.Legal.{IsNext, IsLegal, KeepsToScript, IsJournal}
-use Rattle.plan_model.specs.Scripts.{script}
+use Rattle.plan_model.specs.Journal.{Opening, opening, edit_of, edits, tables_of, issues, issued, task_of, done_by, script_of, tasks_left, script}
+use Rattle.plan_model.specs.Legal.{IsCurrent, IsNext, IsLegal, KeepsToScript, IsJournal}
 use Rattle.plan_model.specs.Outcome.{IsPlanner, ShareIsCurrent}
 use Rattle.plan_model.specs.Session.{opened, entered, IsMade, IsSession}
 use Rattle.plan_model.proofs.Growing.{opening-more, done_by-more, issued-more}

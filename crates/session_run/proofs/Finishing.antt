@@ -2,8 +2,7 @@
 use Rattle.std.proofs.Common.{◌≡◌, ℕ, ◌+◌, ◌<◌, List, ◌++◌, length, sym, ap, ◌∙◌, subst, arith, append_assoc, length-append}
 use Rattle.std.specs.Prelude.{Contains}
 use Rattle.plan_model.specs.declared.journal.Entry.{Entry}
-use Rattle.plan_model.specs.Journal.{Opening, done_by}
-use Rattle.plan_model.specs.Scripts.{script}
+use Rattle.plan_model.specs.Journal.{Opening, done_by, script}
 use Rattle.plan_model.specs.Call as call
 use Rattle.plan_model.proofs.Growing.{opening-more, done_by-more}
 use Rattle.turn_desk.specs.Journal.{GoesOn}

@@ -13,10 +13,9 @@ use Rattle.plan_model.specs.declared.journal.Act.{Act}
 use Rattle.plan_model.specs.declared.journal.Act.TheVariants as act
 use Rattle.plan_model.specs.declared.journal.Entry.{Entry}
 use Rattle.plan_model.specs.declared.scripts.Task.TheVariants as task
-use Rattle.plan_model.specs.Journal.{Opening, opening, task_of, done_by, script_of}
+use Rattle.plan_model.specs.Journal.{Opening, opening, task_of, done_by, script_of, script}
 use Rattle.plan_model.specs.Legal.{IsLegal}
 use Rattle.plan_model.specs.Outcome.{IsPlanner}
-use Rattle.plan_model.specs.Scripts.{script}
 use Rattle.plan_model.proofs.Working.{script_is}
 use Rattle.plan_model.specs.Session.{opened, IsMade, AllAreCurrent, tasks_in_turn, GoesInTurn, IsSessionAlone}
 use Rattle.session_run.specs.Turns.{IsPublication, HasCaughtUp, DoesTasks, by_planner}

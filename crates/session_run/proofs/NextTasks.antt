@@ -8,8 +8,7 @@ use Rattle.plan_model.specs.declared.journal.Act.{Act}
 use Rattle.plan_model.specs.declared.journal.Entry.{Entry}
 use Rattle.plan_model.specs.declared.outcome.Stepped.{Stepped}
 use Rattle.plan_model.specs.declared.outcome.Stepped.TheVariants as stepped
-use Rattle.plan_model.specs.Scripts.{script}
-use Rattle.plan_model.specs.Journal.{opening, task_of, done_by, script_of}
+use Rattle.plan_model.specs.Journal.{script, opening, task_of, done_by, script_of}
 use Rattle.plan_model.specs.Outcome.{AddsEntry, IsPlanner, next_task, StepsTo}
 use Rattle.plan_book.proofs.NextTasks.{next_at}
 use Rattle.session_run.specs.Turns.{HasCaughtUp, DoesNextTask, DoesTasks, by_planner}

@@ -9,8 +9,7 @@ use Rattle.plan_model.specs.declared.outcome.NotTaken.{NotTaken}
 use Rattle.plan_model.specs.declared.outcome.NotTaken.TheVariants as not_taken
 use Rattle.plan_model.specs.Reading.{Shown}
 use Rattle.plan_model.specs.Journal.{last_number, publication_of, issued}
-use Rattle.plan_model.specs.Touch.{cut_at, IsCurrent}
-use Rattle.plan_model.specs.Legal.{IsLegal}
+use Rattle.plan_model.specs.Legal.{cut_at, IsCurrent, IsLegal}
 use Rattle.plan_model.specs.Outcome.{IsAnswerOf, IsNextReading, PublishesTo}
 use Rattle.plan_model.proofs.Growing.{others_keep_tables, last_publication-more}
 use Rattle.plan_model.proofs.Changing.{stays_at}

@@ -6,8 +6,7 @@ use Rattle.plan_model.specs.declared.scripts.Task.{Task}
 use Rattle.plan_model.specs.declared.journal.Act.TheVariants as act
 use Rattle.plan_model.specs.declared.journal.Entry.{Entry}
 use Rattle.plan_model.specs.Journal.{last_number, tables_of, task_of}
-use Rattle.plan_model.specs.Touch.{IsCurrent}
-use Rattle.plan_model.specs.Legal.{IsLegal}
+use Rattle.plan_model.specs.Legal.{IsCurrent, IsLegal}
 use Rattle.plan_model.specs.Outcome.{IsPlanner, next_task, section_name}
 use Rattle.plan_model.specs.Session.{IsPublicationAt, BringsUpToDate}
 

@@ -10,10 +10,7 @@ use Rattle.rail_model.specs.declared.stair.Use.{Use}
 use Rattle.rail_model.specs.Moment.{IsMoment}
 use Rattle.rail_model.proofs.NameOrder.{is_before-itself}
 use Rattle.plan_model.specs.declared.cut.Cut.{Cut}
-use Rattle.plan_model.specs.Places.{place_name, place_count}
-use Rattle.plan_model.specs.Members.{member, member_count, uses_place, use_at, no_use}
-use Rattle.plan_model.specs.Precedence.{precedes}
-use Rattle.plan_model.specs.Headway.{headway_at}
+use Rattle.plan_model.specs.Members.{place_name, place_count, member, member_count, uses_place, use_at, no_use, precedes, headway_at}
 use Rattle.plan_model.specs.Cut.{IsSoundCut}
 use Rattle.plan_model.proofs.Sound.{differ, use_sound}
 use Rattle.plan_model.proofs.Uses.{place_there}

@@ -5,8 +5,7 @@ use Rattle.std.proofs.lemmas.Bool.{and_from}
 use Rattle.std.proofs.lemmas.List.{get_or_default}
 use Rattle.rail_model.specs.declared.stair.Use.{Use}
 use Rattle.plan_model.specs.declared.cut.Cut.{Cut}
-use Rattle.plan_model.specs.Members.{member, member_count, uses_place, use_at, no_use}
-use Rattle.plan_model.specs.Precedence.{precedes, comes_before}
+use Rattle.plan_model.specs.Members.{member, member_count, uses_place, use_at, no_use, precedes, comes_before}
 use Rattle.plan_model.specs.Cut.{IsSoundCut}
 use Rattle.train_order.specs.Visits.{is_earlier}
 use Rattle.train_order.proofs.Before.{earlier_is}

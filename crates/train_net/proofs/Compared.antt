@@ -5,8 +5,7 @@ use Rattle.std.specs.Option.{IsSome}
 use Rattle.std.proofs.lemmas.Bool.{both_ways}
 use Rattle.plan_model.specs.declared.cut.CutRow.{CutRow}
 use Rattle.plan_model.specs.declared.cut.Cut.{Cut}
-use Rattle.plan_model.specs.Members.{member, uses_place}
-use Rattle.plan_model.specs.Precedence.{precedes}
+use Rattle.plan_model.specs.Members.{member, uses_place, precedes}
 use Rattle.plan_model.specs.Cut.{IsSoundCut}
 use Rattle.plan_model.proofs.Uses.{place_there}
 use Rattle.plan_model.proofs.Order.{one_precedes}

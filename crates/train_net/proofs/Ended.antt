@@ -11,8 +11,7 @@ use Rattle.rail_model.proofs.Lists.{map_itself}
 use Rattle.rail_model.specs.declared.stair.Use.{Use}
 use Rattle.rail_model.specs.Moment.{IsMoment}
 use Rattle.plan_model.specs.declared.cut.Cut.{Cut}
-use Rattle.plan_model.specs.Places.{place_count, block_count}
-use Rattle.plan_model.specs.Members.{member, member_count, uses_place, use_at}
+use Rattle.plan_model.specs.Members.{place_count, block_count, member, member_count, uses_place, use_at}
 use Rattle.plan_model.specs.Schedule.{entry_at, start_by, end_by, window_floor}
 use Rattle.plan_model.specs.Cut.{IsSoundCut}
 use Rattle.plan_model.proofs.Sound.{use_sound}

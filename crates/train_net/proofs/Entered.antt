@@ -9,8 +9,7 @@ use Rattle.std.proofs.lemmas.List.Elements.{All-push, All-set}
 use Rattle.std.proofs.lemmas.List.Quantifiers.{Any-push}
 use Rattle.plan_model.specs.declared.limits.TheConstants.{MEMBERS}
 use Rattle.plan_model.specs.declared.cut.Cut.{Cut}
-use Rattle.plan_model.specs.Places.{place_count}
-use Rattle.plan_model.specs.Members.{member, member_count, use_at}
+use Rattle.plan_model.specs.Members.{place_count, member, member_count, use_at}
 use Rattle.plan_model.specs.Schedule.{window_start, window_floor, entry_at}
 use Rattle.plan_model.specs.Cut.{IsSoundCut, IsMoment}
 use Rattle.plan_model.proofs.Sound.{use_sound, usable}

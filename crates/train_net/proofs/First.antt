@@ -9,7 +9,7 @@ use Rattle.std.proofs.lemmas.List.Quantifiers.{Any-push}
 use Rattle.rail_model.specs.Name.{is_before}
 use Rattle.rail_model.proofs.NameOrder.{is_before-back, IsBefore-from, is_before-itself, not_before-both}
 use Rattle.plan_model.specs.declared.cut.Cut.{Cut}
-use Rattle.plan_model.specs.Places.{place_name, comes_first}
+use Rattle.plan_model.specs.Members.{place_name, comes_first}
 use Rattle.train_net.specs.declared.edge.Edge.{Edge}
 use Rattle.train_net.specs.Read.{by_edge, IsTightAt, IsFirstTight}
 use Rattle.train_net.specs.Reading.{tight_of, first_of_two, IsFirstOf}

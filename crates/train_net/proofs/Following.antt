@@ -4,8 +4,7 @@ use Rattle.std.specs.Prelude.{ℤ, slice_index}
 use Rattle.std.specs.List.Sorted.{IsPermutation}
 use Rattle.std.proofs.lemmas.Bool.{and_parts, both_ways, cases_eq, false_from_ne_true}
 use Rattle.plan_model.specs.declared.cut.Cut.{Cut}
-use Rattle.plan_model.specs.Members.{member_count, members, uses_place, use_at}
-use Rattle.plan_model.specs.Precedence.{precedes}
+use Rattle.plan_model.specs.Members.{member_count, members, uses_place, use_at, precedes}
 use Rattle.plan_model.specs.Cut.{IsSoundCut}
 use Rattle.train_order.specs.Visits.{is_earlier}
 use Rattle.train_order.specs.EntryOrder.{AreInOrder}

@@ -11,9 +11,7 @@ use Rattle.std.proofs.lemmas.List.Quantifiers.{Any-push}
 use Rattle.rail_model.specs.Name.{is_before}
 use Rattle.rail_model.proofs.NameOrder.{IsBefore-from, is_before-back, not_before-both}
 use Rattle.plan_model.specs.declared.cut.Cut.{Cut}
-use Rattle.plan_model.specs.Places.{place_name}
-use Rattle.plan_model.specs.Members.{member}
-use Rattle.plan_model.specs.Headway.{headway_at}
+use Rattle.plan_model.specs.Members.{place_name, member, headway_at}
 use Rattle.train_net.specs.declared.edge.Edge.{Edge}
 use Rattle.train_net.specs.Net.{IsEdge, Covers}
 use Rattle.train_net.specs.Gathered.{Gathers, takes_over, IsTighter}

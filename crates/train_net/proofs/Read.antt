@@ -9,12 +9,9 @@ use Rattle.rail_model.proofs.NameOrder.{not_before-both}
 use Rattle.plan_model.specs.declared.cut.Cut.{Cut}
 use Rattle.plan_model.specs.declared.answer.Tie.{Tie}
 use Rattle.plan_model.specs.declared.answer.Tie.TheVariants.{Start, After}
-use Rattle.plan_model.specs.Places.{place_name, place_count, comes_first, is_among}
-use Rattle.plan_model.specs.Members.{member, member_count, uses_place, use_at}
+use Rattle.plan_model.specs.Members.{place_name, place_count, comes_first, is_among, member, member_count, uses_place, use_at, precedes}
 use Rattle.plan_model.specs.Cut.{IsSoundCut}
-use Rattle.plan_model.specs.Schedule.{entry_at, start_by, end_by}
-use Rattle.plan_model.specs.Tie.{touches}
-use Rattle.plan_model.specs.Precedence.{precedes}
+use Rattle.plan_model.specs.Schedule.{entry_at, start_by, end_by, touches}
 use Rattle.plan_model.proofs.Sound.{use_sound, usable}
 use Rattle.train_order.proofs.Users.{user_there, users, somewhere}
 use Rattle.train_order.proofs.Among.{stands_at, among_at}

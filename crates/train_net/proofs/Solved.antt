@@ -8,12 +8,9 @@ use Rattle.std.proofs.lemmas.Int.{ints}
 use Rattle.std.proofs.lemmas.List.FromFn.{length-range_with_len, get_or-range_with_len}
 use Rattle.std.proofs.lemmas.List.Folds.{list_any_at}
 use Rattle.plan_model.specs.declared.cut.Cut.{Cut}
-use Rattle.plan_model.specs.Places.{places, place_count}
-use Rattle.plan_model.specs.Members.{member, member_count, uses_place, use_at}
-use Rattle.plan_model.specs.Precedence.{precedes}
+use Rattle.plan_model.specs.Members.{places, place_count, member, member_count, uses_place, use_at, precedes}
 use Rattle.plan_model.specs.Cut.{IsSoundCut}
-use Rattle.plan_model.specs.Schedule.{entry_at, start_by, end_by}
-use Rattle.plan_model.specs.Tie.{touches}
+use Rattle.plan_model.specs.Schedule.{entry_at, start_by, end_by, touches}
 use Rattle.plan_model.specs.Laws.{IsTiedFrom}
 use Rattle.plan_model.proofs.Uses.{takes_time, place_there}
 use Rattle.plan_model.proofs.Tied.{tied_is_least}

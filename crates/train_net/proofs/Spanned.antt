@@ -8,7 +8,7 @@ use Rattle.plan_model.specs.declared.cut.Cut.{Cut}
 use Rattle.plan_model.specs.Members.{member, member_count, members, uses_place, use_at}
 use Rattle.plan_model.specs.Cut.{IsSoundCut}
 use Rattle.plan_model.specs.Schedule.{entry_at, start_by, end_by}
-use Rattle.plan_model.specs.Occupancy.{users, first_start, last_end}
+use Rattle.plan_model.specs.Answer.{users, first_start, last_end}
 use Rattle.plan_model.proofs.MemberTests.{has, has-range, has_any}
 use Rattle.plan_model.proofs.Users.{user_there, user, is_user}
 use Rattle.plan_model.proofs.Uses.{takes_time}

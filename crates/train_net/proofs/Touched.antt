@@ -6,12 +6,9 @@ use Rattle.std.proofs.lemmas.Bool.Decides.{Decides-int_eq}
 use Rattle.std.proofs.lemmas.Int.{ints}
 use Rattle.rail_model.specs.Name.{is_before}
 use Rattle.plan_model.specs.declared.cut.Cut.{Cut}
-use Rattle.plan_model.specs.Places.{place_name}
-use Rattle.plan_model.specs.Members.{member, member_count, uses_place, use_at}
-use Rattle.plan_model.specs.Precedence.{precedes}
+use Rattle.plan_model.specs.Members.{place_name, member, member_count, uses_place, use_at, precedes}
 use Rattle.plan_model.specs.Cut.{IsSoundCut}
-use Rattle.plan_model.specs.Schedule.{entry_at, start_by, end_by}
-use Rattle.plan_model.specs.Tie.{touches}
+use Rattle.plan_model.specs.Schedule.{entry_at, start_by, end_by, touches}
 use Rattle.plan_model.proofs.Uses.{takes_time, place_there}
 use Rattle.train_order.proofs.Users.{users, somewhere}
 use Rattle.train_net.specs.declared.edge.Edge.{Edge}

@@ -9,9 +9,7 @@ use Rattle.std.proofs.lemmas.List.{get_or-set_other, get_or-set_same, take_more}
 use Rattle.std.proofs.lemmas.List.Folds.{find-append}
 use Rattle.rail_model.specs.declared.stair.Use.{Use}
 use Rattle.plan_model.specs.declared.cut.Cut.{Cut}
-use Rattle.plan_model.specs.Places.{place_count}
-use Rattle.plan_model.specs.Members.{member, member_count, uses_place, use_of, use_at, no_use}
-use Rattle.plan_model.specs.Precedence.{precedes}
+use Rattle.plan_model.specs.Members.{place_count, member, member_count, uses_place, use_of, use_at, no_use, precedes}
 use Rattle.plan_model.specs.Cut.{IsSoundCut, AreOfOtherPlaces}
 use Rattle.plan_model.proofs.Uses.{place_there}
 use Rattle.plan_model.proofs.Order.{one_precedes}

@@ -3,8 +3,7 @@ use Rattle.std.specs.Prelude.{◌≡◌, ℕ, ◌<◌, ℤ, List, [], length, Op
 use Rattle.std.specs.List.Sorted.{IsPermutation}
 use Rattle.plan_model.specs.declared.cut.Cut.{Cut}
 use Rattle.plan_model.specs.declared.answer.Tie.{Tie}
-use Rattle.plan_model.specs.Places.{block_count}
-use Rattle.plan_model.specs.Members.{member_count, members}
+use Rattle.plan_model.specs.Members.{block_count, member_count, members}
 use Rattle.plan_model.specs.Cut.{IsSoundCut}
 use Rattle.plan_model.specs.Disorder.{remaining}
 use Rattle.plan_model.specs.Schedule.{IsLeastFrom}

@@ -4,9 +4,7 @@ use Rattle.std.specs.List.{AllZip}
 use Rattle.std.specs.List.Sorted.{IsPermutation}
 use Rattle.std.specs.Option.{IsSome}
 use Rattle.plan_model.specs.declared.cut.Cut.{Cut}
-use Rattle.plan_model.specs.Places.{place_names}
-use Rattle.plan_model.specs.Members.{member, member_count, members, uses_place}
-use Rattle.plan_model.specs.Precedence.{precedes}
+use Rattle.plan_model.specs.Members.{place_names, member, member_count, members, uses_place, precedes}
 use Rattle.train_order.specs.Ordering.{StandsBefore}
 use Rattle.train_net.specs.declared.edge.Edge.{Edge}
 use Rattle.train_net.specs.Net.{standing, IsNearest, AreEdges, edges_to, FollowInTurn}

@@ -3,9 +3,8 @@ use Rattle.std.specs.Prelude.{◌≡◌, ◌⊎◌, ℕ, ◌<◌, ◌≤◌, Boo
 use Rattle.std.specs.List.{AllZip}
 use Rattle.std.specs.List.Sorted.{IsPermutation}
 use Rattle.plan_model.specs.declared.cut.Cut.{Cut}
-use Rattle.plan_model.specs.Members.{uses_place, member_count, members}
+use Rattle.plan_model.specs.Members.{uses_place, member_count, members, precedes}
 use Rattle.plan_model.specs.Cut.{IsSoundCut}
-use Rattle.plan_model.specs.Precedence.{precedes}
 use Rattle.train_net.specs.declared.edge.Edge.{Edge}
 use Rattle.train_net.specs.declared.near.Near.{Near}
 use Rattle.train_net.specs.declared.net.Net.{Net}

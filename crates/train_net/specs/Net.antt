@@ -3,10 +3,7 @@ use Rattle.std.specs.Prelude.{◌≡◌, ℕ, ◌<◌, ◌≤ℤ◌, true, false
 use Rattle.rail_model.specs.Name.{is_before}
 use Rattle.plan_model.specs.declared.cut.CutRow.{CutRow}
 use Rattle.plan_model.specs.declared.cut.Cut.{Cut}
-use Rattle.plan_model.specs.Places.{place_name, place_count}
-use Rattle.plan_model.specs.Members.{member, member_count, uses_place}
-use Rattle.plan_model.specs.Precedence.{precedes}
-use Rattle.plan_model.specs.Headway.{headway_at}
+use Rattle.plan_model.specs.Members.{place_name, place_count, member, member_count, uses_place, precedes, headway_at}
 use Rattle.train_order.specs.Ordering.{IsOrder}
 use Rattle.train_net.specs.declared.edge.Edge.{Edge}
 

@@ -3,8 +3,7 @@ use Rattle.std.specs.Prelude.{◌≡◌, ◌≢◌, ℕ, ◌<◌, ℤ, ◌+ℤ�
 use Rattle.plan_model.specs.declared.cut.Cut.{Cut}
 use Rattle.plan_model.specs.declared.answer.Tie.{Tie}
 use Rattle.plan_model.specs.declared.answer.Tie.TheVariants.{Start, After}
-use Rattle.plan_model.specs.Places.{comes_first, place_count}
-use Rattle.plan_model.specs.Members.{member_count, uses_place}
+use Rattle.plan_model.specs.Members.{comes_first, place_count, member_count, uses_place}
 use Rattle.plan_model.specs.Schedule.{entry_at, start_by, end_by}
 use Rattle.occupancy_rate.specs.declared.spans.Span.{Span}
 use Rattle.train_placing.specs.declared.last.Last.{Last}

@@ -3,8 +3,7 @@ use Rattle.std.specs.Prelude.{◌≢◌, ◌<◌, ℤ, pos, ◌+ℤ◌, ◌-ℤ�
 use Rattle.std.specs.Ordering.{int_eq}
 use Rattle.rail_model.specs.Moment.{IsMoment}
 use Rattle.plan_model.specs.declared.cut.Cut.{Cut}
-use Rattle.plan_model.specs.Places.{comes_first}
-use Rattle.plan_model.specs.Members.{member, member_count}
+use Rattle.plan_model.specs.Members.{comes_first, member, member_count}
 use Rattle.plan_model.specs.Schedule.{entry_at}
 use Rattle.train_placing.specs.declared.last.Last.{Last}
 use Rattle.occupancy_rate.specs.declared.spans.Span.{Span}

@@ -2,8 +2,7 @@
 ghost use Rattle.std.specs.Prelude.{◌≡◌, ℕ, ◌<◌, length, All, IfOk, IfSome, ◌-ℤ◌, None, Some, map};
 ghost use Rattle.std.specs.Option.{option_map};
 ghost use Rattle.rail_model.specs.Moment.{IsMoment};
-ghost use Rattle.plan_model.specs.Members.{member, member_count};
-ghost use Rattle.plan_model.specs.Places.{place_count};
+ghost use Rattle.plan_model.specs.Members.{member, member_count, place_count};
 ghost use Rattle.train_net.specs.Net.{IsEdge};
 ghost use Rattle.train_net.specs.Gathered.{edge_of, AreAhead, AreCovered, with_last, Gathers, IsTighter, takes_over};
 ghost use Rattle.plan_model.specs.Cut.{IsBounded};

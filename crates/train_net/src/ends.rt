@@ -3,8 +3,7 @@ ghost use Rattle.std.specs.Prelude.{◌≡◌, ℕ, ◌<◌, ◌≤◌, length, 
 ghost use Rattle.std.specs.Option.{option_map};
 ghost use Rattle.std.specs.List.{range_with_len};
 ghost use Rattle.rail_model.specs.Moment.{IsMoment};
-ghost use Rattle.plan_model.specs.Members.{member, member_count};
-ghost use Rattle.plan_model.specs.Places.{block_count, place_count};
+ghost use Rattle.plan_model.specs.Members.{member, member_count, block_count, place_count};
 ghost use Rattle.plan_model.specs.Schedule.{entry_at};
 ghost use Rattle.train_placing.specs.Last.{IsNear};
 ghost use Rattle.train_net.specs.Near.{AreNear};

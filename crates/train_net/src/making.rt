@@ -1,8 +1,7 @@
 //! Making a net: one walk over all uses, along the order.
 ghost use Rattle.std.specs.Prelude.{◌≡◌, ℕ, ◌<◌, length, IfOk, OnOk, slice_index, replicate, None};
 ghost use Rattle.plan_model.specs.Cut.{IsSoundCut};
-ghost use Rattle.plan_model.specs.Places.{place_count};
-ghost use Rattle.plan_model.specs.Members.{member_count};
+ghost use Rattle.plan_model.specs.Members.{place_count, member_count};
 ghost use Rattle.train_order.specs.Ordering.{IsOrder};
 ghost use Rattle.train_net.specs.Net.{AreEdges, edges_to};
 ghost use Rattle.train_net.specs.Held.{IsNetOf};

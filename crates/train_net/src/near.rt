@@ -1,7 +1,6 @@
 //! Who stands nearest before a position of an order at each place.
 ghost use Rattle.std.specs.Prelude.{◌≡◌, ℕ, ◌<◌, ◌≤◌, length, All, IsSome, slice_index, slice_index_or, find, ◌==◌, None, replicate, IfOk, map};
-ghost use Rattle.plan_model.specs.Members.{member, member_count};
-ghost use Rattle.plan_model.specs.Places.{place_count};
+ghost use Rattle.plan_model.specs.Members.{member, member_count, place_count};
 ghost use Rattle.plan_model.specs.Cut.{AreOfOtherPlaces};
 ghost use Rattle.train_net.specs.Near.{filled, near_by, AreNear, AreNearAt};
 

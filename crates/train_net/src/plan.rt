@@ -1,11 +1,10 @@
 //! The plan of a cut by its net.
 ghost use Rattle.std.specs.Prelude.{◌≡◌, ◌<◌, [], length, All, IfOk};
 ghost use Rattle.std.specs.List.{range_with_len};
-ghost use Rattle.plan_model.specs.Members.{member_count};
-ghost use Rattle.plan_model.specs.Places.{place_count};
+ghost use Rattle.plan_model.specs.Members.{member_count, place_count};
 ghost use Rattle.plan_model.specs.Disorder.{remaining};
 ghost use Rattle.plan_model.specs.Answer.{IsCompressed};
-ghost use Rattle.plan_model.specs.Occupancy as occupied;
+ghost use Rattle.plan_model.specs.Answer as occupied;
 ghost use Rattle.plan_model.specs.Schedule.{window_floor};
 ghost use Rattle.train_placing.specs.Last.{IsNear};
 ghost use Rattle.train_placing.specs.Laid.{HasBoundedTimes};

@@ -1,8 +1,7 @@
 //! Why trains enter no earlier, by the edges to them.
 ghost use Rattle.std.specs.Prelude.{◌≡◌, ℕ, ◌<◌, length, All, IfOk, IfSome, slice_index_or};
 ghost use Rattle.plan_model.specs.declared.answer.Tie.TheVariants as tie;
-ghost use Rattle.plan_model.specs.Members.{member_count};
-ghost use Rattle.plan_model.specs.Places.{place_count};
+ghost use Rattle.plan_model.specs.Members.{member_count, place_count};
 ghost use Rattle.plan_model.specs.Schedule.{window_floor, window_start, entry_at};
 ghost use Rattle.train_placing.specs.Last.{IsNear};
 ghost use Rattle.train_net.specs.Net.{IsNet, edges_to};

@@ -10,8 +10,7 @@ use Rattle.rail_model.specs.Name.{is_before}
 use Rattle.rail_model.proofs.NameOrder.{is_before-from, is_before-back, is_before-itself}
 use Rattle.rail_model.proofs.Numbers.{same_if_neither_less}
 use Rattle.plan_model.specs.declared.cut.Cut.{Cut}
-use Rattle.plan_model.specs.Members.{member, member_count, no_member}
-use Rattle.plan_model.specs.Precedence.{comes_before}
+use Rattle.plan_model.specs.Members.{member, member_count, no_member, comes_before}
 use Rattle.plan_model.specs.Cut.{IsSoundCut}
 use Rattle.train_order.specs.Visits.{key_cmp, is_earlier}
 

@@ -12,9 +12,7 @@ use Rattle.std.proofs.lemmas.List.Elements.{All-weaker}
 use Rattle.std.proofs.lemmas.List.Folds.{Any-from_list_any, list_any_at, list_any_none, find-append}
 use Rattle.rail_model.specs.declared.stair.Use.{Use}
 use Rattle.plan_model.specs.declared.cut.Cut.{Cut}
-use Rattle.plan_model.specs.Places.{place_count, places}
-use Rattle.plan_model.specs.Members.{member, member_count, no_member, no_use, uses_place}
-use Rattle.plan_model.specs.Precedence.{precedes, precedes_somewhere}
+use Rattle.plan_model.specs.Members.{place_count, places, member, member_count, no_member, no_use, uses_place, precedes, precedes_somewhere}
 use Rattle.plan_model.specs.Disorder.{are_opposite}
 use Rattle.plan_model.specs.Cut.{IsSoundCut, AreOfOtherPlaces}
 use Rattle.plan_model.proofs.MemberTests.{has_any, has-range}

@@ -6,8 +6,7 @@ use Rattle.std.proofs.lemmas.Bool.{cases_lt, lt-ltb, le-ltb}
 use Rattle.std.proofs.lemmas.Slice.Zip.{length-zip, get_or-zip}
 use Rattle.std.proofs.lemmas.List.{take_more, take_all, map-append, length-take-le, length-reverse, get_or-take, get_or-drop, get_or-reverse, get_or_append_left, get_or-append_right}
 use Rattle.plan_model.specs.declared.cut.Cut.{Cut}
-use Rattle.plan_model.specs.Members.{member_count}
-use Rattle.plan_model.specs.Precedence.{precedes_somewhere}
+use Rattle.plan_model.specs.Members.{member_count, precedes_somewhere}
 use Rattle.train_order.specs.declared.member_set.MemberSet.{MemberSet}
 use Rattle.train_order.specs.Sets.{ArePreceded}
 use Rattle.train_order.specs.Walk.{step, steps, ArePrecededWithin, IsRound, IsNext, IsRing}

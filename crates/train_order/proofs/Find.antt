@@ -8,7 +8,7 @@ use Rattle.std.proofs.lemmas.List.Elements.{All-head, All-tail}
 use Rattle.std.proofs.lemmas.List.{take_more, take-append-drop}
 use Rattle.std.proofs.lemmas.List.Folds.{find-append, list_any_at}
 use Rattle.rail_model.proofs.Lists.{flat_map-range_more}
-use Rattle.plan_model.specs.Places.{is_among}
+use Rattle.plan_model.specs.Members.{is_among}
 
 -- ---- in any list
 

@@ -8,9 +8,8 @@ use Rattle.std.proofs.lemmas.List.Elements.{filter-append, All-take}
 use Rattle.std.proofs.lemmas.List.Folds.{Any-from_list_any}
 use Rattle.rail_model.specs.declared.stair.Use.{Use}
 use Rattle.plan_model.specs.declared.cut.Cut.{Cut}
-use Rattle.plan_model.specs.Places.{IsFirstPlace, AnswersFirst, leads}
+use Rattle.plan_model.specs.Members.{IsFirstPlace, AnswersFirst, leads, no_use}
 use Rattle.plan_model.proofs.FirstWith.{moves, stays}
-use Rattle.plan_model.specs.Members.{no_use}
 use Rattle.train_order.specs.Taking.{is_among}
 use Rattle.train_order.specs.Starts.{is_first_of, places_first}
 

@@ -12,8 +12,7 @@ use Rattle.std.proofs.lemmas.List.Folds.{list_any_at}
 use Rattle.std.proofs.lemmas.List.Sorted.{All-permutation, Contains-permutation, IsPermutation-map, sorted_far, ranks_by}
 use Rattle.rail_model.proofs.Lists.{map_itself}
 use Rattle.plan_model.specs.declared.cut.Cut.{Cut}
-use Rattle.plan_model.specs.Members.{member, member_count, members, uses_place, use_at}
-use Rattle.plan_model.specs.Precedence.{precedes}
+use Rattle.plan_model.specs.Members.{member, member_count, members, uses_place, use_at, precedes}
 use Rattle.plan_model.specs.Cut.{IsSoundCut}
 use Rattle.plan_model.proofs.MemberTests.{has-range, in_range, has-filter, filter-has}
 use Rattle.train_order.specs.declared.visits.Visit.{Visit}

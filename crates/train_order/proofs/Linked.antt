@@ -7,9 +7,7 @@ use Rattle.std.specs.List.{All}
 use Rattle.std.proofs.lemmas.Bool.{cases_Bool, both_ways, eqb-true}
 use Rattle.rail_model.specs.declared.stair.Use.{Use}
 use Rattle.plan_model.specs.declared.cut.Cut.{Cut}
-use Rattle.plan_model.specs.Places.{place_count, places, place_name, first_by_name, AnswersFirst}
-use Rattle.plan_model.specs.Members.{member, member_count, no_member, uses_place, use_at, no_use}
-use Rattle.plan_model.specs.Precedence.{precedes, precedes_somewhere, places_of_precedence}
+use Rattle.plan_model.specs.Members.{place_count, places, place_name, first_by_name, AnswersFirst, member, member_count, no_member, uses_place, use_at, no_use, precedes, precedes_somewhere, places_of_precedence}
 use Rattle.plan_model.specs.Cut.{IsSoundCut, AreOfOtherPlaces}
 use Rattle.plan_model.specs.Disorder.{link_place}
 use Rattle.plan_model.proofs.FirstByName.{first_is}

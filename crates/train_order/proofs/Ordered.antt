@@ -4,8 +4,7 @@ use Rattle.std.specs.Prelude.{Ok}
 use Rattle.std.specs.Option.{option_map}
 use Rattle.std.proofs.lemmas.Bool.{or_left, eq-eqb}
 use Rattle.plan_model.specs.declared.cut.Cut.{Cut}
-use Rattle.plan_model.specs.Members.{member_count, members}
-use Rattle.plan_model.specs.Precedence.{precedes_somewhere}
+use Rattle.plan_model.specs.Members.{member_count, members, precedes_somewhere}
 use Rattle.plan_model.specs.Disorder.{opposite_of, remaining, ArePrecededAmong, HaveOrder}
 use Rattle.plan_model.proofs.Ordered.{order_is_none_remains}
 use Rattle.train_order.specs.declared.found.Order.{Order}

@@ -6,8 +6,7 @@ use Rattle.std.specs.List.Sorted.{IsPermutation}
 use Rattle.std.proofs.lemmas.Bool.{cases_Bool, both_ways, false_from_ne_true, not_from_true, not_from_false}
 use Rattle.std.proofs.lemmas.List.{append-nil}
 use Rattle.plan_model.specs.declared.cut.Cut.{Cut}
-use Rattle.plan_model.specs.Members.{member_count, members}
-use Rattle.plan_model.specs.Precedence.{precedes_somewhere}
+use Rattle.plan_model.specs.Members.{member_count, members, precedes_somewhere}
 use Rattle.plan_model.specs.Disorder.{preceded, after_rounds, remaining}
 use Rattle.plan_model.proofs.MemberTests.{has-range, in_range, has_any, has-filter, filter-has}
 use Rattle.train_order.specs.declared.member_set.MemberSet.{MemberSet}

@@ -5,9 +5,7 @@ use Rattle.std.specs.List.Sorted.{IsPermutation}
 use Rattle.std.proofs.lemmas.Bool.{cases_eq, cases_lt, and_parts, or_parts, eq-eqb, both_ways, false_from_ne_true}
 use Rattle.rail_model.specs.declared.stair.Use.{Use}
 use Rattle.plan_model.specs.declared.cut.Cut.{Cut}
-use Rattle.plan_model.specs.Members.{member, member_count, members, uses_place, use_at}
-use Rattle.plan_model.specs.Places.{place_count, places}
-use Rattle.plan_model.specs.Precedence.{precedes, precedes_somewhere}
+use Rattle.plan_model.specs.Members.{member, member_count, members, uses_place, use_at, place_count, places, precedes, precedes_somewhere}
 use Rattle.plan_model.specs.Cut.{IsSoundCut}
 use Rattle.train_order.specs.declared.entry_order.Moment.{Moment}
 use Rattle.train_order.specs.Sets.{holds}

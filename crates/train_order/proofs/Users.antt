@@ -5,9 +5,7 @@ use Rattle.std.specs.List.{range_with_len}
 use Rattle.std.proofs.lemmas.Bool.{cases_lt, and_parts}
 use Rattle.std.proofs.lemmas.List.{get_or_past}
 use Rattle.plan_model.specs.declared.cut.Cut.{Cut}
-use Rattle.plan_model.specs.Places.{place_count}
-use Rattle.plan_model.specs.Members.{member, member_count, no_member, uses_place, use_at}
-use Rattle.plan_model.specs.Precedence.{precedes, precedes_somewhere, comes_before}
+use Rattle.plan_model.specs.Members.{place_count, member, member_count, no_member, uses_place, use_at, precedes, precedes_somewhere, comes_before}
 use Rattle.plan_model.proofs.MemberTests.{has-range, has_any}
 
 pub user_there : (cut : Cut) (i place : ℕ) → uses_place (member cut i) place ≡ true → i < member_count cut

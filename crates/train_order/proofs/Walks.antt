@@ -8,8 +8,7 @@ use Rattle.std.proofs.lemmas.List.{take_more, take_all, get_or-take, length-take
 use Rattle.std.proofs.lemmas.List.Folds.{list_any_at}
 use Rattle.std.proofs.lemmas.List.Sums.{position_or_len_is, passes_at_first, fails_before_first, prefix_len-le-length}
 use Rattle.plan_model.specs.declared.cut.Cut.{Cut}
-use Rattle.plan_model.specs.Members.{member_count}
-use Rattle.plan_model.specs.Precedence.{precedes_somewhere}
+use Rattle.plan_model.specs.Members.{member_count, precedes_somewhere}
 use Rattle.plan_model.specs.Disorder.{remaining, predecessor, circuit}
 use Rattle.train_order.specs.declared.member_set.MemberSet.{MemberSet}
 use Rattle.train_order.specs.Sets.{relates, ArePreceded}

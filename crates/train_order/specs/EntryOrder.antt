@@ -2,9 +2,8 @@
 use Rattle.std.specs.Prelude.{◌≡◌, ℕ, ◌<◌, ℤ, pos, false, List, length, slice_index, slice_index_or}
 use Rattle.rail_model.specs.declared.stair.Use.{Use}
 use Rattle.plan_model.specs.declared.cut.Cut.{Cut}
-use Rattle.plan_model.specs.Members.{member}
-use Rattle.plan_model.specs.Precedence.{precedes}
-use Rattle.train_order.specs.declared.entry_order.Moment.{Moment}
+use Rattle.plan_model.specs.Members.{member, precedes}
+use Rattle.train_order.specs.Types.{Moment}
 
 -- of some members in an order none precedes one that stands before it
 abbrev pub AreInOrder : Cut → List ℕ → Type 0

@@ -1,11 +1,10 @@
 -- Laws of orders.
 use Rattle.std.specs.Prelude.{◌≡◌, ℕ, ◌<◌, true, false, List, length, take, slice_index, Ok, Err, IsTrue}
 use Rattle.plan_model.specs.declared.cut.Cut.{Cut}
-use Rattle.plan_model.specs.Members.{member, member_count}
-use Rattle.plan_model.specs.Precedence.{precedes}
+use Rattle.plan_model.specs.Members.{member, member_count, precedes}
 use Rattle.plan_model.specs.Cut.{IsSoundCut}
 use Rattle.plan_model.specs.declared.answer.Disorder.{Disorder}
-use Rattle.train_order.specs.declared.found.Order.{Order}
+use Rattle.train_order.specs.Types.{Order}
 use Rattle.train_order.specs.Taking.{is_among}
 use Rattle.train_order.specs.Ordering.{IsOrder, IsOrdering}
 

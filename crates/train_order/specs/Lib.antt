@@ -1,3 +1,4 @@
+pub mod Types
 pub mod Ordering
 pub mod Sets
 pub mod Visits

@@ -2,7 +2,7 @@
 use Rattle.std.specs.Prelude.{ℕ, ◌-◌, Bool, ◌&&◌, List, length, find, Option}
 use Rattle.std.specs.List.{range_with_len}
 use Rattle.plan_model.specs.Disorder.{pairs}
-use Rattle.train_order.specs.declared.member_set.MemberSet.{MemberSet}
+use Rattle.train_order.specs.Types.{MemberSet}
 use Rattle.plan_model.specs.declared.cut.Cut.{Cut}
 use Rattle.plan_model.specs.Disorder.{opposite_of}
 use Rattle.plan_model.specs.declared.answer.Disorder.{Disorder}

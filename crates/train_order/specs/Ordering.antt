@@ -3,15 +3,12 @@ use Rattle.std.specs.Prelude.{◌≡◌, ◌≢◌, ℕ, ◌<◌, List, [], ◌+
 use Rattle.std.specs.List.{zip}
 use Rattle.std.specs.List.Sorted.{IsPermutation}
 use Rattle.plan_model.specs.declared.cut.Cut.{Cut}
-use Rattle.plan_model.specs.Members.{member_count, members}
-use Rattle.plan_model.specs.Precedence.{precedes_somewhere}
+use Rattle.plan_model.specs.Members.{member_count, members, precedes_somewhere}
 use Rattle.plan_model.specs.Disorder.{opposite, opposite_pair, remaining, link_of, ring, ring_members}
-use Rattle.train_order.specs.declared.found.Order.{Order}
+use Rattle.train_order.specs.Types.{Order, Disordered, MemberSet}
 use Rattle.plan_model.specs.declared.answer.Disorder.{Disorder}
 use Rattle.plan_model.specs.declared.answer.Disorder.TheVariants as disorder
-use Rattle.train_order.specs.declared.found.Disordered.{Disordered}
 use Rattle.train_order.specs.declared.found.Disordered.TheVariants as disordered
-use Rattle.train_order.specs.declared.member_set.MemberSet.{MemberSet}
 use Rattle.train_order.specs.Taking.{left_of}
 use Rattle.train_order.specs.Opposite.{first_opposed, told_opposite}
 use Rattle.train_order.specs.Walk.{IsRing, IsRingBy}

@@ -2,11 +2,9 @@
 use Rattle.std.specs.Prelude.{◌≡◌, ℕ, ◌<◌, ◌||◌, ◌==◌, ℤ, ◌≤ℤ◌, Bool, true, false, List, length, All, IfSome, Option, Some, None, slice_index, slice_index_or}
 use Rattle.rail_model.specs.declared.stair.Use.{Use}
 use Rattle.plan_model.specs.declared.cut.Cut.{Cut}
-use Rattle.plan_model.specs.Members.{member, member_count}
-use Rattle.plan_model.specs.Places.{place_count}
-use Rattle.plan_model.specs.Precedence.{precedes}
+use Rattle.plan_model.specs.Members.{member, member_count, place_count, precedes}
 use Rattle.plan_model.specs.Disorder.{are_opposite}
-use Rattle.train_order.specs.declared.entry_order.Moment.{Moment}
+use Rattle.train_order.specs.Types.{Moment}
 use Rattle.train_order.specs.EntryOrder.{pair_of, last_at}
 use Rattle.train_order.specs.Sets.{holds}
 use Rattle.train_order.specs.Starts.{start_of, starts_first}

@@ -3,9 +3,8 @@ use Rattle.std.specs.Prelude.{◌≡◌, ℕ, ◌<◌, ◌≤◌, ◌/◌, ◌%�
 use Rattle.std.specs.Int.{bit_at}
 use Rattle.plan_model.specs.declared.limits.TheConstants.{MEMBERS}
 use Rattle.plan_model.specs.declared.cut.Cut.{Cut}
-use Rattle.plan_model.specs.Members.{member_count}
-use Rattle.plan_model.specs.Precedence.{precedes_somewhere}
-use Rattle.train_order.specs.declared.member_set.MemberSet.{MemberSet}
+use Rattle.plan_model.specs.Members.{member_count, precedes_somewhere}
+use Rattle.train_order.specs.Types.{MemberSet}
 
 -- a member is in the set: its bit of the word that has it is 1
 abbrev pub holds : List ℕ → ℕ → Bool

@@ -1,8 +1,8 @@
 -- Members that are taken up one after the other, each as soon as those that precede it are.
 use Rattle.std.specs.Prelude.{◌≡◌, ℕ, ◌+◌, ◌-◌, ◌<◌, ◌≤◌, Bool, true, false, not, cond, ◌==◌, ◌&&◌, List, [], ◌∷◌, length, take, filter, slice_index, All, ⊤}
 use Rattle.std.specs.List.{range_with_len}
-pub use Rattle.plan_model.specs.Places.{is_among}
-use Rattle.train_order.specs.declared.member_set.MemberSet.{MemberSet}
+pub use Rattle.plan_model.specs.Members.{is_among}
+use Rattle.train_order.specs.Types.{MemberSet}
 use Rattle.train_order.specs.Sets.{holds, relates}
 
 -- no number stands twice

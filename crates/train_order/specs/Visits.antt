@@ -8,7 +8,7 @@ use Rattle.rail_model.specs.declared.stair.Use.{Use}
 use Rattle.plan_model.specs.declared.cut.Cut.{Cut}
 use Rattle.plan_model.specs.Members.{member, member_count, uses_place, use_at}
 use Rattle.plan_model.specs.Cut.{IsMoment}
-use Rattle.train_order.specs.declared.visits.Visit.{Visit}
+use Rattle.train_order.specs.Types.{Visit}
 
 -- stands where there is no visit
 abbrev pub no_visit : Visit

@@ -2,10 +2,9 @@
 use Rattle.std.specs.Prelude.{◌≡◌, ◌⊎◌, ℕ, zero, suc, ◌+◌, ◌<◌, true, List, length, find, drop, reverse, unwrap_or, slice_index}
 use Rattle.std.specs.List.{list_any}
 use Rattle.plan_model.specs.declared.cut.Cut.{Cut}
-use Rattle.plan_model.specs.Members.{member_count}
-use Rattle.plan_model.specs.Precedence.{precedes_somewhere}
+use Rattle.plan_model.specs.Members.{member_count, precedes_somewhere}
 use Rattle.plan_model.specs.Disorder.{ring_members, from_least}
-use Rattle.train_order.specs.declared.member_set.MemberSet.{MemberSet}
+use Rattle.train_order.specs.Types.{MemberSet}
 use Rattle.train_order.specs.Sets.{relates}
 use Rattle.train_order.specs.Taking.{is_among, IsDistinct}
 

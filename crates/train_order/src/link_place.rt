@@ -1,8 +1,6 @@
 //! The first place by name at which one member precedes another.
 ghost use Rattle.std.specs.Prelude.{◌≡◌, ◌<◌, All, IsTrue};
-ghost use Rattle.plan_model.specs.Places.{place_count, AnswersFirst};
-ghost use Rattle.plan_model.specs.Members.{member, member_count};
-ghost use Rattle.plan_model.specs.Precedence.{precedes_somewhere};
+ghost use Rattle.plan_model.specs.Members.{place_count, AnswersFirst, member, member_count, precedes_somewhere};
 ghost use Rattle.plan_model.specs.Cut.{IsSoundCut};
 ghost use Rattle.plan_model.specs.Disorder as disorder;
 ghost use Rattle.train_order.specs.Starts.{is_first_of, places_first};

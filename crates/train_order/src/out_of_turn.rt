@@ -3,8 +3,7 @@
 ghost use Rattle.std.specs.Prelude.{◌≡◌, ◌⊎◌, ◌<◌, ◌≤◌, All, length, IfOk, IfSome};
 ghost use Rattle.std.specs.List.Sorted.{IsPermutation};
 ghost use Rattle.plan_model.specs.declared.limits.TheConstants.{MEMBERS};
-ghost use Rattle.plan_model.specs.Members.{member_count, members};
-ghost use Rattle.plan_model.specs.Places.{place_count};
+ghost use Rattle.plan_model.specs.Members.{member_count, members, place_count};
 ghost use Rattle.train_order.specs.OutOfTurn.{IsInTurn, IsOutOfTurn, KeepTurn, Rise};
 
 use crate::entry_order::{Moment, come_last};

@@ -1,9 +1,7 @@
 //! Which members precede which.
 ghost use Rattle.std.specs.Prelude.{◌≡◌, ℕ, ◌<◌, ◌≤◌, ◌||◌, false, All, length, IfOk, OnOk};
 ghost use Rattle.std.specs.List.Sorted.{IsPermutation, IsSortedByKey};
-ghost use Rattle.plan_model.specs.Places.{place_count};
-ghost use Rattle.plan_model.specs.Members.{member, member_count};
-ghost use Rattle.plan_model.specs.Precedence.{precedes};
+ghost use Rattle.plan_model.specs.Members.{place_count, member, member_count, precedes};
 ghost use Rattle.plan_model.specs.Cut.{IsSoundCut};
 ghost use Rattle.train_order.specs.Sets.{ArePreceded, relates};
 ghost use Rattle.train_order.specs.Visits.{AreVisits, key_of, key_cmp, comes_first};

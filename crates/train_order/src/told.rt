@@ -1,8 +1,7 @@
 //! What is told of disorder: the trains by their names, and the places at which they precede.
 ghost use Rattle.std.specs.Prelude.{◌≡◌, ◌<◌, ◌++◌, map, drop, take, true, IsTrue, length, IfOk};
 ghost use Rattle.std.specs.List.{zip};
-ghost use Rattle.plan_model.specs.Members.{member_count};
-ghost use Rattle.plan_model.specs.Precedence.{precedes_somewhere};
+ghost use Rattle.plan_model.specs.Members.{member_count, precedes_somewhere};
 ghost use Rattle.plan_model.specs.Cut.{IsSoundCut};
 ghost use Rattle.plan_model.specs.Disorder as disorder;
 ghost use Rattle.train_order.specs.Opposite.{told_opposite};

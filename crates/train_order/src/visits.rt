@@ -2,8 +2,7 @@
 ghost use Rattle.std.specs.Prelude.{◌≡◌, ◌<◌, ◌≤◌, All, [], take, length, replicate, IfOk, OnOk};
 ghost use Rattle.std.specs.List.Sorted.{IsPermutation, IsSortedByKey};
 ghost use Rattle.plan_model.specs.Cut.{IsSoundCut};
-ghost use Rattle.plan_model.specs.Places.{place_count};
-ghost use Rattle.plan_model.specs.Members.{member_count};
+ghost use Rattle.plan_model.specs.Members.{place_count, member_count};
 ghost use Rattle.train_order.specs.Visits.{IsLasting, HasMore, AreVisits, AreInTurn, key_of, key_cmp, visits, visit_of as visit_by_use};
 
 use plan_model::SoundCut;

@@ -7,7 +7,7 @@ use Rattle.rail_model.specs.declared.stair.Use.{Use}
 use Rattle.rail_model.specs.Name.{is_before}
 use Rattle.rail_model.proofs.NameOrder.{is_before-back, IsBefore-from, is_before-itself, not_before-both}
 use Rattle.plan_model.specs.declared.cut.Cut.{Cut}
-use Rattle.plan_model.specs.Places.{place_name}
+use Rattle.plan_model.specs.Members.{place_name}
 use Rattle.plan_model.specs.Cut.{AreOfOtherPlaces}
 use Rattle.plan_model.proofs.UseFound.{differ_tail}
 use Rattle.train_placing.specs.declared.last.Last.{Last}

@@ -10,13 +10,11 @@ use Rattle.plan_model.specs.declared.cut.Cut.{Cut}
 use Rattle.plan_model.specs.declared.answer.Tie.{Tie}
 use Rattle.plan_model.specs.declared.answer.Placed.{Placed}
 use Rattle.plan_model.specs.declared.answer.Plan.{Plan}
-use Rattle.plan_model.specs.Places.{place_names}
-use Rattle.plan_model.specs.Members.{member, member_count, members}
+use Rattle.plan_model.specs.Members.{place_names, member, member_count, members}
 use Rattle.plan_model.specs.Cut.{IsBounded, IsSoundCut}
 use Rattle.plan_model.specs.Disorder.{remaining}
 use Rattle.plan_model.specs.Schedule.{window_floor, entry_at}
-use Rattle.plan_model.specs.Occupancy.{occupancy, busiest}
-use Rattle.plan_model.specs.Answer.{placed_at, plan_of, IsCompressed}
+use Rattle.plan_model.specs.Answer.{occupancy, busiest, placed_at, plan_of, IsCompressed}
 use Rattle.plan_model.proofs.Unique.{entries_are}
 use Rattle.train_order.specs.Ordering.{IsOrder}
 use Rattle.train_placing.specs.declared.last.Last.{Last}

@@ -6,13 +6,11 @@ use Rattle.std.proofs.lemmas.List.{get_or_default}
 use Rattle.plan_model.specs.declared.limits.TheConstants.{MEMBERS}
 use Rattle.plan_model.specs.declared.cut.Cut.{Cut}
 use Rattle.plan_model.specs.declared.answer.Tie.{Tie}
-use Rattle.plan_model.specs.Places.{place_count}
-use Rattle.plan_model.specs.Members.{member, member_count, no_member, uses_place, use_at}
+use Rattle.plan_model.specs.Members.{place_count, member, member_count, no_member, uses_place, use_at, is_among}
 use Rattle.plan_model.specs.Cut.{IsMoment, IsBounded, IsSoundCut}
 use Rattle.plan_model.specs.Schedule.{entry_at, start_by, end_by}
 use Rattle.plan_model.proofs.Uses.{place_there}
 use Rattle.plan_model.proofs.Sound.{usable, use_sound}
-use Rattle.plan_model.specs.Places.{is_among}
 use Rattle.train_placing.specs.declared.last.Last.{Last}
 use Rattle.train_placing.specs.Last.{IsNear, IsNearLast}
 use Rattle.train_placing.specs.Placing.{IsFloor, next_entry, IsLast, IsLeft, latest, ArePlaced}

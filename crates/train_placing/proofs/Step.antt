@@ -11,18 +11,14 @@ use Rattle.plan_model.specs.declared.cut.CutRow.{CutRow}
 use Rattle.plan_model.specs.declared.cut.Cut.{Cut}
 use Rattle.plan_model.specs.declared.answer.Tie.{Tie}
 use Rattle.plan_model.specs.declared.answer.Tie.TheVariants.{Start, After}
-use Rattle.plan_model.specs.Places.{place_count}
-use Rattle.plan_model.specs.Members.{member, member_count, no_member, uses_place, use_at}
-use Rattle.plan_model.specs.Precedence.{precedes}
+use Rattle.plan_model.specs.Members.{place_count, member, member_count, no_member, uses_place, use_at, precedes, is_among}
 use Rattle.plan_model.specs.Cut.{IsSoundCut, IsSoundRow}
-use Rattle.plan_model.specs.Schedule.{entry_at, start_at, end_at, start_by, end_by}
-use Rattle.plan_model.specs.Tie.{touches}
+use Rattle.plan_model.specs.Schedule.{entry_at, start_at, end_at, start_by, end_by, touches}
 use Rattle.plan_model.proofs.Uses.{place_there, takes_time}
 use Rattle.plan_model.proofs.Planned.{not_itself}
 use Rattle.plan_model.proofs.Order.{one_precedes}
 use Rattle.train_order.specs.Laws.{ComesNext}
 use Rattle.train_order.proofs.Users.{user_there, users}
-use Rattle.plan_model.specs.Places.{is_among}
 use Rattle.plan_model.proofs.FirstWith.{among_both, among_new, among_old}
 use Rattle.train_placing.specs.declared.last.Last.{Last}
 use Rattle.train_placing.specs.declared.tie.Touch.{Touch}

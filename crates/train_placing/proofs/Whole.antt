@@ -13,13 +13,11 @@ use Rattle.rail_model.proofs.Numbers.{le_both_ways, le_from_lt, le_from_same, lt
 use Rattle.plan_model.specs.declared.cut.Cut.{Cut}
 use Rattle.plan_model.specs.declared.answer.Tie.{Tie}
 use Rattle.plan_model.specs.declared.answer.Tie.TheVariants.{Start, After}
-use Rattle.plan_model.specs.Places.{place_count, places, block_count, blocks}
-use Rattle.plan_model.specs.Members.{member, member_count, members, uses_place, use_at}
+use Rattle.plan_model.specs.Members.{place_count, places, block_count, blocks, member, member_count, members, uses_place, use_at}
 use Rattle.plan_model.specs.Cut.{IsSoundCut}
 use Rattle.plan_model.specs.Disorder.{remaining}
-use Rattle.plan_model.specs.Schedule.{entry_at, end_by, IsScheduleFrom, IsLeastFrom}
-use Rattle.plan_model.specs.Tie.{touches, touching_member, touching_place, touch, tie_from}
-use Rattle.plan_model.specs.Occupancy.{users, used_blocks, last_end, time_kept, occupancy, busiest, last_member, critical}
+use Rattle.plan_model.specs.Schedule.{entry_at, end_by, IsScheduleFrom, IsLeastFrom, touches, touching_member, touching_place, touch, tie_from}
+use Rattle.plan_model.specs.Answer.{users, used_blocks, last_end, time_kept, occupancy, busiest, last_member, critical}
 use Rattle.plan_model.specs.Laws.{IsTiedFrom}
 use Rattle.plan_model.proofs.MemberTests.{has, has-range, in_range, has_any, has-filter, filter-has, some_member}
 use Rattle.plan_model.proofs.FirstByName.{first_is, find_only}

@@ -4,12 +4,8 @@ use Rattle.rail_model.specs.Name.{is_before}
 use Rattle.plan_model.specs.declared.cut.Cut.{Cut}
 use Rattle.plan_model.specs.declared.answer.Tie.{Tie}
 use Rattle.plan_model.specs.declared.answer.Tie.TheVariants.{Start, After}
-use Rattle.plan_model.specs.Places.{place_name, place_count}
-use Rattle.plan_model.specs.Members.{member, member_count, uses_place}
-use Rattle.plan_model.specs.Precedence.{precedes}
-use Rattle.plan_model.specs.Schedule.{entry_at, start_by, end_by}
-use Rattle.plan_model.specs.Tie.{touches}
-use Rattle.plan_model.specs.Places.{is_among}
+use Rattle.plan_model.specs.Members.{place_name, place_count, member, member_count, uses_place, precedes, is_among}
+use Rattle.plan_model.specs.Schedule.{entry_at, start_by, end_by, touches}
 use Rattle.train_placing.specs.declared.last.Last.{Last}
 use Rattle.train_placing.specs.Last.{earliest, with_row}
 use Rattle.train_placing.specs.Touch.{tie}

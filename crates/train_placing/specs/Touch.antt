@@ -6,7 +6,7 @@ use Rattle.plan_model.specs.declared.cut.CutRow.{CutRow}
 use Rattle.plan_model.specs.declared.cut.Cut.{Cut}
 use Rattle.plan_model.specs.declared.answer.Tie.{Tie}
 use Rattle.plan_model.specs.declared.answer.Tie.TheVariants.{Start, After}
-use Rattle.plan_model.specs.Places as places
+use Rattle.plan_model.specs.Members as places
 use Rattle.train_placing.specs.declared.last.Last.{Last}
 use Rattle.train_placing.specs.declared.tie.Touch.{Touch}
 

@@ -2,11 +2,9 @@
 //! places that it uses allow.
 ghost use Rattle.std.specs.Prelude.{◌≡◌, ◌<◌, IfOk, length, map, slice_index_or, replicate, None, []};
 ghost use Rattle.std.specs.List.{All};
-ghost use Rattle.plan_model.specs.Members.{members, member_count};
-ghost use Rattle.plan_model.specs.Places.{place_count};
+ghost use Rattle.plan_model.specs.Members.{members, member_count, place_count};
 ghost use Rattle.plan_model.specs.Disorder.{remaining};
-ghost use Rattle.plan_model.specs.Schedule.{window_start, window_floor, entry_at, IsLeastFrom};
-ghost use Rattle.plan_model.specs.Tie.{tie_from};
+ghost use Rattle.plan_model.specs.Schedule.{window_start, window_floor, entry_at, IsLeastFrom, tie_from};
 ghost use Rattle.train_order.specs.Ordering.{IsOrder};
 ghost use Rattle.train_placing.specs.Last.{IsNear, IsNearLast};
 ghost use Rattle.train_placing.specs.Placing.{IsFloor, IsNextPlaced, ArePlaced};

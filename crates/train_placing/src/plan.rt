@@ -3,7 +3,7 @@ ghost use Rattle.std.specs.Prelude.{◌≡◌, ◌<◌, IfOk, IfSome, length, ma
 ghost use Rattle.std.specs.List.{range_with_len};
 ghost use Rattle.plan_model.specs.Disorder.{remaining};
 ghost use Rattle.plan_model.specs.Answer.{IsCompressed};
-ghost use Rattle.plan_model.specs.Occupancy as occupied;
+ghost use Rattle.plan_model.specs.Answer as occupied;
 ghost use Rattle.train_placing.specs.Laid.{AreAllPlaced, HasBoundedTimes, placed_with, train_of, critical_of};
 
 use crate::last::Last;

@@ -1,7 +1,7 @@
 //! Why a train enters no earlier: the first of the trains and places that it touches.
 ghost use Rattle.std.specs.Prelude.{◌≡◌, ◌<◌, length, IfSome};
 ghost use Rattle.plan_model.specs.Cut.{IsMoment, IsBounded, IsUsable};
-ghost use Rattle.plan_model.specs.Places.{place_count};
+ghost use Rattle.plan_model.specs.Members.{place_count};
 ghost use Rattle.train_placing.specs.Touch as touches;
 
 use crate::last::Last;

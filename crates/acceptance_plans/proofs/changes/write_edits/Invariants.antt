@@ -1,7 +1,6 @@
 use Rattle.std.proofs.Common.{◌≡◌}
 use Rattle.std.specs.Prelude.{option_map}
-use Rattle.plan_model.specs.Cut.{stamped}
-use Rattle.plan_model.specs.SectionCut.{cut_of}
+use Rattle.plan_model.specs.Cut.{stamped, cut_of}
 use Rattle.acceptance_plans.proofs.changes.write_edits.Given as goal
 
 -- the cut is that of the tables

@@ -1,5 +1,5 @@
 use Rattle.std.proofs.Common.{◌≡◌, arith}
-use Rattle.rail_model.specs.Path.{hop}
+use Rattle.rail_model.specs.Blocking.{hop}
 use Rattle.blocking_time.proofs.Stops.{approach_by}
 use Rattle.blocking_time.proofs.approach.approach_seconds.Goals as goal
 

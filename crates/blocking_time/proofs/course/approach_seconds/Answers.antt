@@ -1,5 +1,5 @@
 use Rattle.std.proofs.Common.{◌≡◌, ◌-◌, sym, subst, arith}
-use Rattle.rail_model.specs.Path.{hop}
+use Rattle.rail_model.specs.Blocking.{hop}
 use Rattle.blocking_time.specs.Mark.{IsMarkWithin}
 use Rattle.blocking_time.proofs.Stops.{approach_by, stop_mark_within}
 use Rattle.blocking_time.proofs.course.approach_seconds.Goals as goal

@@ -1,5 +1,5 @@
 use Rattle.std.proofs.Common.{◌≡◌, ◌+◌, ◌≤◌, ap, refl, inl, inr, sym, subst, arith}
-use Rattle.rail_model.specs.Motion.{place}
+use Rattle.rail_model.specs.Blocking.{place}
 use Rattle.blocking_time.specs.declared.motion.Mark.{Mark}
 use Rattle.blocking_time.proofs.Places.{blocks_before_is}
 use Rattle.blocking_time.proofs.course.blocks_back.Goals as goal

@@ -1,6 +1,5 @@
 use Rattle.std.proofs.Common.{◌+◌, ◌<◌}
-use Rattle.rail_model.specs.Path.{hop_count}
-use Rattle.rail_model.specs.Motion.{place}
+use Rattle.rail_model.specs.Blocking.{hop_count, place}
 use Rattle.blocking_time.proofs.course.blocks_to.Given as goal
 
 -- the place lies beyond the blocks so far

@@ -1,6 +1,6 @@
 use Rattle.std.proofs.Common.{◌+◌, ◌∙◌, ap, sym, subst, get_or, length, arith}
 use Rattle.std.proofs.lemmas.List.FromFn.{length-map-range_with_len}
-use Rattle.rail_model.specs.Path.{hop_count}
+use Rattle.rail_model.specs.Blocking.{hop_count}
 use Rattle.blocking_time.specs.Mark.{mark_of, IsMarkWithin}
 use Rattle.blocking_time.proofs.Places.{marks_at, mark_within}
 use Rattle.blocking_time.proofs.course.mark_in.Goals as goal

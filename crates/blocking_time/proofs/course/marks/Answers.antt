@@ -2,7 +2,7 @@ use Rattle.std.proofs.Common.{◌≡◌, ◌+◌, ◌≤◌, ◌∙◌, ◌++◌
 use Rattle.std.specs.List.{range_with_len}
 use Rattle.std.proofs.lemmas.Grind.{common_steps}
 use Rattle.std.proofs.lemmas.List.FromFn.{map-range_with_len_more}
-use Rattle.rail_model.specs.Path.{hop_count}
+use Rattle.rail_model.specs.Blocking.{hop_count}
 use Rattle.blocking_time.specs.Mark.{mark_of}
 use Rattle.blocking_time.proofs.Places.{mark_within}
 use Rattle.blocking_time.proofs.course.marks.Goals as goal

@@ -1,6 +1,5 @@
 use Rattle.std.proofs.Common.{◌<◌, ◌≤◌, ◌+◌, inl, refl, arith, sym}
-use Rattle.rail_model.specs.Path.{hop_count}
-use Rattle.rail_model.specs.Motion.{place}
+use Rattle.rail_model.specs.Blocking.{hop_count, place}
 use Rattle.blocking_time.proofs.Places.{blocks_before_is, mark_within, place_more}
 use Rattle.blocking_time.proofs.motion.blocks_before.Goals as goal
 

@@ -1,5 +1,5 @@
 use Rattle.std.proofs.Common.{◌≡◌, ◌<◌, ◌⊎◌}
-use Rattle.rail_model.specs.Motion.{place}
+use Rattle.rail_model.specs.Blocking.{place}
 use Rattle.blocking_time.specs.Mark.{mark_of}
 use Rattle.blocking_time.proofs.motion.blocks_before.Given as goal
 

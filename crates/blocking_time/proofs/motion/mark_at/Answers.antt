@@ -1,6 +1,6 @@
 use Rattle.std.proofs.Common.{◌≤◌, ◌≡◌, arith}
 use Rattle.std.proofs.lemmas.Grind.{common_steps}
-use Rattle.rail_model.specs.Path.{hop_count}
+use Rattle.rail_model.specs.Blocking.{hop_count}
 use Rattle.blocking_time.proofs.Places.{mark_within}
 use Rattle.blocking_time.proofs.motion.mark_at.Goals as goal
 

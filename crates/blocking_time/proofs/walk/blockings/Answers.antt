@@ -1,7 +1,7 @@
 use Rattle.std.proofs.Common.{◌≡◌, ◌+◌, ◌≤◌, ◌<ℤ◌, ◌∙◌, [], ◌∷◌, ◌++◌, length, map, ap, sym, arith}
 use Rattle.std.specs.List.{range_with_len}
 use Rattle.std.proofs.lemmas.List.FromFn.{map-range_with_len_more, length-map-range_with_len}
-use Rattle.rail_model.specs.Path.{hop_count}
+use Rattle.rail_model.specs.Blocking.{hop_count}
 use Rattle.blocking_time.specs.declared.walk.Blocking.{Blocking}
 use Rattle.blocking_time.specs.Blocking.{IsUseBounded, blocking_of}
 use Rattle.blocking_time.proofs.Uses.{All-blockings, not_empty, bounded}

@@ -1,8 +1,7 @@
 use Rattle.std.proofs.Common.{◌≢◌, ◌<ℤ◌, AllPairs, map, sym, subst}
 use Rattle.std.proofs.lemmas.List.Elements.{All-same}
 use Rattle.rail_model.specs.declared.stair.Use.{Use}
-use Rattle.rail_model.specs.Path.{hop_count}
-use Rattle.rail_model.specs.Blocking.{use_of, stairway}
+use Rattle.rail_model.specs.Blocking.{hop_count, use_of, stairway}
 use Rattle.rail_model.proofs.Lists.{All-from_one}
 use Rattle.blocking_time.specs.Blocking.{IsUseBounded}
 use Rattle.blocking_time.proofs.Uses.{not_empty, bounded, blocks_differ}

@@ -1,8 +1,7 @@
 use Rattle.std.proofs.Common.{◌≡◌, ◌+◌, ◌≤◌, ◌∙◌, [], ◌∷◌, ◌++◌, length, map, ap, sym, arith}
 use Rattle.std.specs.List.{range_with_len}
 use Rattle.std.proofs.lemmas.List.FromFn.{map-range_with_len_more, length-map-range_with_len}
-use Rattle.rail_model.specs.Path.{hop_count}
-use Rattle.rail_model.specs.Blocking.{use_of}
+use Rattle.rail_model.specs.Blocking.{hop_count, use_of}
 use Rattle.blocking_time.proofs.walk.stairway.Goals as goal
 
 pub loop-done-preserved : goal.loop-done-preserved

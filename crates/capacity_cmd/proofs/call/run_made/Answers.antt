@@ -1,4 +1,4 @@
-use Rattle.capacity_cmd.specs.Made.{IsMadeText}
+use Rattle.capacity_cmd.specs.Ends.{IsMadeText}
 use Rattle.capacity_cmd.proofs.Counted.{ends_unread, writes_sent, complete_sent}
 use Rattle.capacity_cmd.proofs.call.run_made.Goals as goal
 

@@ -1,6 +1,5 @@
 use Rattle.std.proofs.Common.{List, ◌++◌, ap, ◌∙◌}
-use Rattle.row_text.specs.Row.{Row}
-use Rattle.row_text.specs.SheetRows.{text_of_rows}
+use Rattle.row_text.specs.SheetRows.{Row, text_of_rows}
 use Rattle.capacity_report.specs.Rows.{check_rows}
 use Rattle.capacity_cmd.proofs.check.check_text.Goals as goal
 

@@ -1,6 +1,6 @@
 use Rattle.std.proofs.Common.{◌≡◌, ℕ, ◌<◌, ◌≤◌, ◌-◌, ◌∙◌, length, ap, arith}
 use Rattle.std.specs.List.{range_with_len}
-use Rattle.rail_model.specs.Timetable.{timetable}
+use Rattle.rail_model.specs.Conflict.{timetable}
 use Rattle.rayon.specs.Numbers.{nat_range}
 use Rattle.rayon.proofs.ToStd.{nat_range-All}
 use Rattle.capacity_cmd.proofs.SideBySide.{heads_collected}

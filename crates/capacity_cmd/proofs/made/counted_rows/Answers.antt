@@ -2,7 +2,7 @@ use Rattle.std.proofs.Common.{◌≡◌, ◌++◌, [], ◌∷◌, ap, ◌∙◌,
 use Rattle.std.proofs.lemmas.Result.{IfOk-weaker}
 use Rattle.row_text.specs.SheetRows.{SheetRows, with_row}
 use Rattle.capacity_report.specs.Answers.{total_row}
-use Rattle.capacity_cmd.specs.Made.{occupancy_row}
+use Rattle.capacity_cmd.specs.Ends.{occupancy_row}
 use Rattle.capacity_cmd.specs.Counted.{counted_rows, counted_by}
 use Rattle.capacity_cmd.proofs.made.counted_rows.Goals as goal
 

@@ -1,10 +1,9 @@
 use Rattle.std.proofs.Common.{◌≡◌, ℕ, List, ◌∙◌, subst}
 use Rattle.std.proofs.lemmas.Result.{IfOk-weaker}
 use Rattle.rail_model.specs.declared.tables.Tables.{Tables}
-use Rattle.row_text.specs.Row.{Row}
-use Rattle.row_text.specs.SheetRows.{text_of_rows}
+use Rattle.row_text.specs.SheetRows.{Row, text_of_rows}
 use Rattle.capacity_report.specs.Answers.{AreAnswers}
-use Rattle.capacity_cmd.specs.Made.{made_rows, IsMadeText}
+use Rattle.capacity_cmd.specs.Ends.{made_rows, IsMadeText}
 use Rattle.capacity_cmd.specs.Counted.{counted_rows}
 use Rattle.capacity_cmd.proofs.Counted.{all_counted}
 use Rattle.capacity_cmd.proofs.made.made_text.Goals as goal

@@ -1,8 +1,7 @@
 use Rattle.std.proofs.Common.{◌≡◌, sym, ap, ◌∙◌}
 use Rattle.std.specs.Prelude.{option_map, option_and_then}
 use Rattle.std.proofs.lemmas.Result.{IfOk-weaker}
-use Rattle.plan_model.specs.Cut.{stamped}
-use Rattle.plan_model.specs.SectionCut.{cut_of}
+use Rattle.plan_model.specs.Cut.{stamped, cut_of}
 use Rattle.capacity_cmd.proofs.Cuts.{stamped_named}
 use Rattle.capacity_cmd.proofs.named.cut_of_word.Goals as goal
 

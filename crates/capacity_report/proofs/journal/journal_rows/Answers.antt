@@ -1,5 +1,5 @@
 use Rattle.answer_parts.proofs.Added.{adds_rows, adds_closed, adds_first}
-use Rattle.capacity_report.specs.Journal.{rows_of_journal}
+use Rattle.capacity_report.specs.Rows.{rows_of_journal}
 use Rattle.capacity_report.proofs.Published.{publish_answers}
 use Rattle.capacity_report.proofs.journal.journal_rows.Goals as goal
 

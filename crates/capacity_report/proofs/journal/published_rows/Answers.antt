@@ -3,7 +3,7 @@ use Rattle.row_text.specs.SheetRows.{SheetRows}
 use Rattle.row_text.proofs.Adds.{adds_then}
 use Rattle.capacity_report.specs.declared.answers.Detail.TheVariants as detail
 use Rattle.capacity_report.specs.Answers.{answer_rows}
-use Rattle.capacity_report.specs.Journal.{published_row}
+use Rattle.capacity_report.specs.Rows.{published_row}
 use Rattle.capacity_report.proofs.Rows.{adds_from}
 use Rattle.capacity_report.proofs.journal.published_rows.Goals as goal
 

@@ -1,10 +1,10 @@
 use Rattle.std.proofs.Common.{List, ap, ◌∙◌, sym, append-nil}
 use Rattle.std.proofs.lemmas.List.Concat.{flat_map-append}
 use Rattle.plan_model.specs.declared.journal.Entry.{Entry}
-use Rattle.row_text.specs.Row.{Row}
+use Rattle.row_text.specs.SheetRows.{Row}
 use Rattle.row_text.proofs.Adds.{adds_stopped}
 use Rattle.answer_parts.proofs.Added.{all_none, items_more, items_within, items_all}
-use Rattle.capacity_report.specs.Journal.{act_rows, rows_of_journal}
+use Rattle.capacity_report.specs.Rows.{act_rows, rows_of_journal}
 use Rattle.capacity_report.proofs.journal.rows_of_entries.Goals as goal
 
 abbrev rows_of : Entry → List Row

@@ -2,9 +2,8 @@ use Rattle.std.proofs.Common.{◌≡◌, List, length, slice_range, ap, ◌∙�
 use Rattle.std.specs.List.{flat_map, range_with_len}
 use Rattle.std.proofs.lemmas.Result.{IfOk-weaker}
 use Rattle.plan_model.specs.declared.journal.Entry.{Entry}
-use Rattle.row_text.specs.Row.{Row}
-use Rattle.row_text.specs.SheetRows.{text_of_rows}
-use Rattle.capacity_report.specs.Journal.{act_rows, rows_of_journal}
+use Rattle.row_text.specs.SheetRows.{Row, text_of_rows}
+use Rattle.capacity_report.specs.Rows.{act_rows, rows_of_journal}
 use Rattle.capacity_report.specs.Parts.{text_between}
 use Rattle.capacity_report.proofs.Slices.{rows_at, rows_between, rows_of_all}
 use Rattle.capacity_report.proofs.journal_parts.text_of_entries.Goals as goal

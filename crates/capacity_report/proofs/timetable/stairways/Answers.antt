@@ -1,5 +1,5 @@
 use Rattle.std.proofs.Common.{sym, subst}
-use Rattle.rail_model.specs.Timetable.{IsTimetable}
+use Rattle.rail_model.specs.Conflict.{IsTimetable}
 use Rattle.capacity_report.proofs.Timetables.{timetable_fits}
 use Rattle.capacity_report.proofs.timetable.stairways.Goals as goal
 

@@ -11,10 +11,9 @@ use Rattle.rail_model.specs.declared.memory.OutOfMemory.{OutOfMemory}
 use Rattle.conflict_finder.specs.declared.found.Conflicts.{Conflicts}
 use Rattle.conflict_finder.specs.declared.found.TheConstants.{LISTED}
 use Rattle.conflict_finder.specs.Found.{IsFound, as_listed}
-use Rattle.rail_model.specs.Conflict.{AreConflicts}
+use Rattle.rail_model.specs.Conflict.{AreConflicts, IsTimetable}
 use Rattle.conflict_finder.specs.declared.ranked.Ranked.{Ranked}
 use Rattle.conflict_finder.specs.declared.visits.Visit.{Visit}
-use Rattle.rail_model.specs.Timetable.{IsTimetable}
 use Rattle.conflict_finder.specs.Runs.{runs_of, all_visits}
 use Rattle.conflict_finder.specs.ByBlock.{one_after_another, AreByBlock, AreSorted}
 use Rattle.conflict_finder.specs.Sweep.{IsSwept, all_conflicts}

@@ -1,5 +1,5 @@
 use Rattle.std.proofs.Common.{refl, ap, ◌∙◌, arith, below_more}
-use Rattle.plan_model.specs.Places.{place_count}
+use Rattle.plan_model.specs.Members.{place_count}
 use Rattle.critical_chain.proofs.checking.keeps_places.Goals as goal
 
 pub loop-place-init : goal.loop-place-init

@@ -3,8 +3,7 @@ use Rattle.std.specs.Prelude.{ℤ, ◌+ℤ◌, ◌-ℤ◌, Some, None}
 use Rattle.std.specs.Ordering.{int_eq}
 use Rattle.std.proofs.lemmas.Bool.{and_right}
 use Rattle.plan_model.specs.declared.cut.CutRow.{CutRow}
-use Rattle.plan_model.specs.Members.{member, use_of, uses_place}
-use Rattle.plan_model.specs.Precedence.{comes_before}
+use Rattle.plan_model.specs.Members.{member, use_of, uses_place, comes_before}
 use Rattle.plan_model.specs.Schedule.{entry_at}
 use Rattle.train_order.proofs.Gathered.{is_used}
 use Rattle.critical_chain.proofs.Visited.{touches_by, not_touching}

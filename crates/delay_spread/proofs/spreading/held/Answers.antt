@@ -5,8 +5,7 @@ use Rattle.std.proofs.lemmas.List.FromFn.{length-map-range_with_len, get_or-map-
 use Rattle.plan_model.specs.declared.answer.Tie.{Tie}
 use Rattle.plan_model.specs.declared.answer.Tie.TheVariants.{Start}
 use Rattle.plan_model.specs.Members.{member, member_count}
-use Rattle.plan_model.specs.Schedule.{entry_at}
-use Rattle.plan_model.specs.Tie.{tie_from}
+use Rattle.plan_model.specs.Schedule.{entry_at, tie_from}
 use Rattle.delay_spread.specs.declared.found.Held.{Held}
 use Rattle.delay_spread.specs.Spreading.{delay_at, delayed_floor, held_at}
 use Rattle.delay_spread.proofs.spreading.held.Goals as goal

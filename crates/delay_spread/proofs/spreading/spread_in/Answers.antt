@@ -3,8 +3,7 @@ use Rattle.std.specs.Prelude.{ℤ, ◌^◌, All, Result, Ok, Err}
 use Rattle.plan_model.specs.declared.limits.TheConstants.{MEMBERS}
 use Rattle.plan_model.specs.declared.cut.Cut.{Cut}
 use Rattle.plan_model.specs.Members.{member, member_count, members}
-use Rattle.plan_model.specs.Schedule.{entry_at, IsLeastFrom}
-use Rattle.plan_model.specs.Tie.{tie_from}
+use Rattle.plan_model.specs.Schedule.{entry_at, IsLeastFrom, tie_from}
 use Rattle.plan_model.proofs.Sound.{usable}
 use Rattle.train_order.proofs.Next.{is_there, count}
 use Rattle.train_placing.specs.Placing.{IsFloor, ArePlaced}

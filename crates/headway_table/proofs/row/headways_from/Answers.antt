@@ -3,8 +3,7 @@ use Rattle.std.specs.Prelude.{pos, IfOk, fold, replicate, slice_index_or}
 use Rattle.headway_table.specs.declared.row.TheConstants.{NEVER}
 use Rattle.std.proofs.lemmas.List.{get_or-replicate}
 use Rattle.plan_model.specs.declared.cut.CutRow.{CutRow}
-use Rattle.plan_model.specs.Places.{place_count}
-use Rattle.plan_model.specs.Members.{member, member_count}
+use Rattle.plan_model.specs.Members.{place_count, member, member_count}
 use Rattle.headway_table.specs.Numbers.{raised_from}
 use Rattle.plan_model.proofs.Sound.{all_usable}
 use Rattle.headway_table.proofs.Filled.{all_bounded, written}

@@ -1,6 +1,5 @@
 use Rattle.std.proofs.Common.{◌≡◌, ℕ, ◌<◌, ◌≤◌, ◌-◌, ◌∙◌, map, subst, ap, arith}
-use Rattle.plan_model.specs.Members.{member_count}
-use Rattle.plan_model.specs.Places.{place_count}
+use Rattle.plan_model.specs.Members.{member_count, place_count}
 use Rattle.headway_table.specs.Starts.{AreStarts}
 use Rattle.std.specs.Prelude.{IfOk}
 use Rattle.std.specs.List.{range_with_len}

@@ -4,7 +4,7 @@ use Rattle.std.proofs.lemmas.Bool.{and_left, and_right}
 use Rattle.rail_model.specs.declared.stair.Use.{Use}
 use Rattle.plan_model.specs.declared.cut.CutRow.{CutRow}
 use Rattle.plan_model.specs.Members.{member, use_of, use_at, uses_place}
-use Rattle.plan_model.specs.Precedence as given
+use Rattle.plan_model.specs.Members as given
 use Rattle.train_order.proofs.Gathered.{is_used, its_use}
 use Rattle.line_cutter.proofs.opposed.precedes.Goals as goal
 

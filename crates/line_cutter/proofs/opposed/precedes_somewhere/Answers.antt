@@ -1,8 +1,7 @@
 use Rattle.std.proofs.Common.{◌≡◌, false, sym, ◌∙◌, arith}
 use Rattle.std.proofs.lemmas.Bool.{both_ways, false_from_ne_true}
-use Rattle.plan_model.specs.Places.{place_count, places}
-use Rattle.plan_model.specs.Members.{member}
-use Rattle.plan_model.specs.Precedence as given
+use Rattle.plan_model.specs.Members.{place_count, places, member}
+use Rattle.plan_model.specs.Members as given
 use Rattle.plan_model.proofs.MemberTests.{has_any, has-range}
 use Rattle.line_cutter.proofs.Whole.{some_below}
 use Rattle.line_cutter.proofs.opposed.precedes_somewhere.Goals as goal

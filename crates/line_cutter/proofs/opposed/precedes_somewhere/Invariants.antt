@@ -1,6 +1,6 @@
 use Rattle.std.proofs.Common.{◌≡◌, ℕ, ◌<◌, false}
 use Rattle.plan_model.specs.Members.{member}
-use Rattle.plan_model.specs.Precedence as given
+use Rattle.plan_model.specs.Members as given
 use Rattle.line_cutter.proofs.opposed.precedes_somewhere.Given as goal
 
 abbrev pub invariant-loop-place : goal.invariant-loop-place

@@ -3,8 +3,7 @@ use Rattle.std.specs.Prelude.{option_map}
 use Rattle.std.specs.List.{range_with_len}
 use Rattle.std.proofs.lemmas.Bool.{and_from}
 use Rattle.rail_model.proofs.Lists.{find-map}
-use Rattle.plan_model.specs.Members.{member_count}
-use Rattle.plan_model.specs.Precedence.{precedes_somewhere}
+use Rattle.plan_model.specs.Members.{member_count, precedes_somewhere}
 use Rattle.plan_model.specs.Disorder.{are_opposite}
 use Rattle.train_order.proofs.Find.{none_yet, found_in, none_found, first_found}
 use Rattle.line_cutter.proofs.opposed.soon_opposed.Goals as goal

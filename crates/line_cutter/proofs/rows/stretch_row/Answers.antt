@@ -1,6 +1,6 @@
 use Rattle.std.proofs.Common.{◌≡◌, [], ◌∷◌, subst}
 use Rattle.std.specs.Prelude.{codes}
-use Rattle.row_text.specs.Row.{Row}
+use Rattle.row_text.specs.SheetRows.{Row}
 use Rattle.row_text.specs.Adds.{Adds}
 use Rattle.row_text.proofs.Adds.{adds_one}
 use Rattle.line_cutter.specs.Rows.{stretch_row}

@@ -1,8 +1,7 @@
 use Rattle.std.proofs.Common.{◌≡◌, ℕ, ◌≤◌, ◌∙◌, false, List, Some, ap, sym, arith}
 use Rattle.std.specs.Prelude.{is_some}
 use Rattle.rail_model.specs.declared.items.Route.{Route}
-use Rattle.rail_model.specs.Rules.{is_named}
-use Rattle.rail_model.specs.Edits.{with_item, without}
+use Rattle.rail_model.specs.Rules.{is_named, with_item, without}
 use Rattle.line_tables.specs.declared.linked.Linked.{Linked}
 use Rattle.line_tables.specs.Table.{named, key_of, item_of, under, IsTable}
 use Rattle.line_tables.specs.KeyCounts.{count_of, times}

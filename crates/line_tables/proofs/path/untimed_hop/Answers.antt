@@ -4,7 +4,7 @@ use Rattle.rail_model.specs.declared.items.Block.{Block}
 use Rattle.rail_model.specs.declared.items.Signal.{Signal}
 use Rattle.rail_model.specs.Tables.{no_block, number_of, hop_beyond}
 use Rattle.rail_model.specs.Within.{no_leg}
-use Rattle.rail_model.specs.Edits.{no_tables}
+use Rattle.rail_model.specs.Rules.{no_tables}
 use Rattle.line_tables.specs.declared.linked.Linked.{Linked}
 use Rattle.line_tables.specs.Table.{key_of, named, under, IsTable, AreNumbered}
 use Rattle.line_tables.specs.Links.{IsLinked}

@@ -1,6 +1,6 @@
 use Rattle.std.proofs.Common.{◌≡◌, ℕ, ◌+◌, ◌-◌, ◌≤◌, length, vec_len}
 use Rattle.std.specs.Prelude.{slice_index_or}
-use Rattle.rail_model.specs.Path.{no_hop}
+use Rattle.rail_model.specs.Blocking.{no_hop}
 use Rattle.line_tables.proofs.run_paths.grow.Given as goal
 
 abbrev pub invariant-loop-hops : goal.invariant-loop-hops

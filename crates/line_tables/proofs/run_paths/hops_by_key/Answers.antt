@@ -3,7 +3,7 @@ use Rattle.std.specs.Prelude.{option_map, slice_get}
 use Rattle.std.proofs.Math.ListN.{set}
 use Rattle.std.proofs.lemmas.Option.{slice_get_within, get_or_from_slice_get}
 use Rattle.rail_model.specs.declared.items.Signal.{Signal}
-use Rattle.rail_model.specs.Path.{no_hop}
+use Rattle.rail_model.specs.Blocking.{no_hop}
 use Rattle.line_tables.specs.declared.linked.Linked.{Linked}
 use Rattle.line_tables.specs.Table.{under, IsTable, AreAtKeys}
 use Rattle.line_tables.specs.Links.{IsKey}

@@ -1,7 +1,7 @@
 use Rattle.std.proofs.Common.{◌+◌, ◌≤◌, All, subst, arith}
 use Rattle.std.proofs.lemmas.List.{take_all}
 use Rattle.rail_model.specs.declared.path.Hop.{Hop}
-use Rattle.rail_model.specs.Path.{no_hop}
+use Rattle.rail_model.specs.Blocking.{no_hop}
 use Rattle.line_tables.proofs.Leads.{greater_of_two, all_more}
 use Rattle.line_tables.proofs.run_paths.lead_of.Goals as goal
 

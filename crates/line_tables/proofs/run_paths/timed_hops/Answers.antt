@@ -1,7 +1,7 @@
 use Rattle.std.proofs.Common.{◌∙◌, ◌++◌, ◌∷◌, [], length, take, get_or, ap, sym, rules, arith}
 use Rattle.std.proofs.lemmas.List.{length_push, take_all, length-map, get_or-map}
 use Rattle.std.proofs.lemmas.Slice.Zip.{zip_turn, zip_end}
-use Rattle.rail_model.specs.Path.{no_hop}
+use Rattle.rail_model.specs.Blocking.{no_hop}
 use Rattle.rail_model.specs.Within.{no_leg}
 use Rattle.line_tables.specs.Hops.{with_leg, with_legs, hops_at}
 use Rattle.line_tables.proofs.TimedHops.{with_legs_more, length-with_legs}

@@ -1,6 +1,6 @@
 use Rattle.std.proofs.Common.{◌++◌, ◌∷◌, [], ap, ◌∙◌}
 use Rattle.row_text.specs.declared.line.Line.TheVariants as line
-use Rattle.row_text.specs.Spelling.{row_in}
+use Rattle.row_text.specs.Lines.{row_in}
 use Rattle.made_line.proofs.Written.{line_more}
 use Rattle.made_line.proofs.input.write_edits.Goals as goal
 

@@ -1,5 +1,5 @@
 use Rattle.std.proofs.Common.{◌++◌, ◌∷◌, [], ap, ◌∙◌}
-use Rattle.row_text.specs.Spelling.{row_in}
+use Rattle.row_text.specs.Lines.{row_in}
 use Rattle.made_line.specs.Text.{line_of}
 use Rattle.made_line.proofs.Written.{line_more}
 use Rattle.made_line.proofs.input.write_tasks.Goals as goal

@@ -1,6 +1,5 @@
 use Rattle.std.proofs.Common.{◌≡◌, IfOk, subst, ◌∙◌}
-use Rattle.rail_model.specs.Edits.{no_tables}
-use Rattle.rail_model.specs.Edited.{after_edits}
+use Rattle.rail_model.specs.Rules.{no_tables, after_edits}
 use Rattle.made_line.specs.Base.{base_edits}
 use Rattle.made_line.proofs.Accepted.{base_made}
 use Rattle.made_line.proofs.tables.made_tables.Goals as goal

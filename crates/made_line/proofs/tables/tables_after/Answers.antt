@@ -1,5 +1,5 @@
 use Rattle.std.proofs.Common.{sym}
-use Rattle.rail_model.specs.Edits.{no_tables}
+use Rattle.rail_model.specs.Rules.{no_tables}
 use Rattle.made_line.proofs.Puts.{accepted_at, one_edit_more}
 use Rattle.made_line.proofs.tables.tables_after.Goals as goal
 

@@ -1,6 +1,5 @@
 use Rattle.std.proofs.Common.{◌≡◌, take}
-use Rattle.rail_model.specs.Edits.{no_tables}
-use Rattle.rail_model.specs.Edited.{after_edits}
+use Rattle.rail_model.specs.Rules.{no_tables, after_edits}
 use Rattle.made_line.proofs.tables.tables_after.Given as goal
 
 abbrev pub invariant-loop-edit : goal.invariant-loop-edit

@@ -1,7 +1,7 @@
 use Rattle.std.proofs.Common.{◌≡◌, ℕ, Bool, rules, sym, subst, ◌+◌}
 use Rattle.std.specs.Prelude.{None, slice_index_or, filter, if◌then◌else◌}
 use Rattle.std.specs.List.{range_with_len}
-use Rattle.plan_model.specs.Places.{first_with, AnswersFirst}
+use Rattle.plan_model.specs.Members.{first_with, AnswersFirst}
 use Rattle.occupancy_rate.specs.Spans.{lasts}
 use Rattle.occupancy_rate.proofs.Longest.{block_more}
 use Rattle.occupancy_rate.proofs.occupied.busiest.Goals as goal

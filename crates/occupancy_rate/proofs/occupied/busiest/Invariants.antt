@@ -1,7 +1,7 @@
 use Rattle.std.proofs.Common.{◌<◌}
 use Rattle.std.specs.Prelude.{None, slice_index_or, filter, IfSome}
 use Rattle.std.specs.List.{range_with_len}
-use Rattle.plan_model.specs.Places.{place_count, AnswersFirst}
+use Rattle.plan_model.specs.Members.{place_count, AnswersFirst}
 use Rattle.occupancy_rate.specs.Spans.{lasts}
 use Rattle.occupancy_rate.proofs.occupied.busiest.Given as goal
 

@@ -1,5 +1,5 @@
 use Rattle.std.proofs.Common.{◌∙◌, subst}
-use Rattle.plan_model.specs.Places.{AnswersFirst}
+use Rattle.plan_model.specs.Members.{AnswersFirst}
 use Rattle.occupancy_rate.specs.Spans.{lasting}
 use Rattle.occupancy_rate.proofs.Longest.{times_are, busiest_is}
 use Rattle.occupancy_rate.proofs.occupied.occupancy_of.Goals as goal

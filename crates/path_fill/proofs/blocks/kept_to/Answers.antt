@@ -1,8 +1,7 @@
 use Rattle.std.proofs.Common.{◌≡◌, ◌+◌, rules, sym, subst, ◌∙◌, arith, to_z, of_z, w64}
 use Rattle.std.specs.Prelude.{◌^◌, pos, ◌≤ℤ◌}
 use Rattle.std.proofs.lemmas.Int.{ints}
-use Rattle.plan_model.specs.Places.{block_count}
-use Rattle.plan_model.specs.Members.{member, uses_place}
+use Rattle.plan_model.specs.Members.{block_count, member, uses_place}
 use Rattle.path_fill.specs.Search.{kept_by, greater, IsGreatest}
 use Rattle.path_fill.proofs.Best.{none_yet, one_more, no_more}
 use Rattle.path_fill.proofs.blocks.kept_to.Goals as goal

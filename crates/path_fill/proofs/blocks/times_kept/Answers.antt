@@ -1,6 +1,5 @@
 use Rattle.std.proofs.Common.{◌≡◌, rules, sym, subst, pos, to_z, of_z, w64}
-use Rattle.plan_model.specs.Places.{block_count}
-use Rattle.plan_model.specs.Members.{member, uses_place}
+use Rattle.plan_model.specs.Members.{block_count, member, uses_place}
 use Rattle.path_fill.specs.Search.{kept_to, IsGreatest}
 use Rattle.path_fill.proofs.SpanStarts.{near, from_first}
 use Rattle.path_fill.proofs.blocks.times_kept.Goals as goal

@@ -1,11 +1,10 @@
 use Rattle.std.proofs.Common.{◌≡◌, ◌<◌, rules, sym, ap, subst, ◌∙◌, to_z, of_z, w64}
 use Rattle.std.specs.Prelude.{pos, nat_abs, All}
 use Rattle.plan_model.specs.declared.cut.Cut.{Cut}
-use Rattle.plan_model.specs.Places.{block_count}
-use Rattle.plan_model.specs.Members.{member, uses_place}
+use Rattle.plan_model.specs.Members.{block_count, member, uses_place}
 use Rattle.plan_model.specs.Cut.{IsBounded}
 use Rattle.plan_model.specs.Schedule.{window_start}
-use Rattle.plan_model.specs.Occupancy.{occupancy}
+use Rattle.plan_model.specs.Answer.{occupancy}
 use Rattle.train_placing.specs.Last.{IsNearLast}
 use Rattle.path_fill.specs.Search.{asked, kept_to, time_at, IsGreatest, IsFillBy}
 use Rattle.path_fill.proofs.FoundFill.{bounded, near, own_some, found_is}

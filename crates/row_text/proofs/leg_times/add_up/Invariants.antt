@@ -1,7 +1,7 @@
 use Rattle.std.proofs.Common.{◌≡◌, ◌++◌, take, drop, nat_le, IsTrue}
 use Rattle.std.specs.List.{list_all}
 use Rattle.row_text.specs.declared.time_text.TheConstants.{GREATEST_CLOCK_S}
-use Rattle.row_text.specs.Spelling.{sums}
+use Rattle.row_text.specs.Lines.{sums}
 use Rattle.row_text.proofs.leg_times.add_up.Given as goal
 
 abbrev pub invariant-loop-i : goal.invariant-loop-i

@@ -1,5 +1,5 @@
 use Rattle.std.proofs.Common.{◌≡◌, ◌++◌, map, take}
-use Rattle.row_text.specs.Spelling.{part_text}
+use Rattle.row_text.specs.Lines.{part_text}
 use Rattle.row_text.proofs.line_row.push_parts.Given as goal
 
 abbrev pub invariant-loop-part : goal.invariant-loop-part

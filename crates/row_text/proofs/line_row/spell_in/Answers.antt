@@ -1,5 +1,5 @@
 use Rattle.std.proofs.Common.{◌≡◌, true, rules}
-use Rattle.row_text.specs.Spelling.{row_in, has_times_in}
+use Rattle.row_text.specs.Lines.{row_in, has_times_in}
 use Rattle.row_text.proofs.Again.{read_in-row_in}
 use Rattle.row_text.proofs.line_row.spell_in.Goals as goal
 

@@ -1,5 +1,5 @@
 use Rattle.std.proofs.Common.{arith, rules, ◌∙◌}
-use Rattle.row_text.specs.Sorts.{name_in}
+use Rattle.row_text.specs.Words.{name_in}
 use Rattle.row_text.proofs.Reading.{after-read}
 use Rattle.row_text.proofs.lists.names_from.Goals as goal
 

@@ -1,5 +1,5 @@
 use Rattle.std.proofs.Common.{◌≡◌, ◌+◌, ◌≤◌, drop, length, vec_len, vec_capacity}
-use Rattle.row_text.specs.Sorts.{name_in}
+use Rattle.row_text.specs.Words.{name_in}
 use Rattle.row_text.specs.Lines.{read_each}
 use Rattle.row_text.proofs.Reading.{after}
 use Rattle.row_text.proofs.lists.names_from.Given as goal

@@ -1,5 +1,5 @@
 use Rattle.std.proofs.Common.{arith, rules, ◌∙◌}
-use Rattle.row_text.specs.Sorts.{time_in}
+use Rattle.row_text.specs.Words.{time_in}
 use Rattle.row_text.proofs.Reading.{after-read}
 use Rattle.row_text.proofs.lists.times_from.Goals as goal
 

@@ -1,5 +1,5 @@
 use Rattle.std.proofs.Common.{◌≡◌, ◌+◌, ◌≤◌, drop, length}
-use Rattle.row_text.specs.Sorts.{time_in}
+use Rattle.row_text.specs.Words.{time_in}
 use Rattle.row_text.specs.Lines.{read_each}
 use Rattle.row_text.proofs.Reading.{after}
 use Rattle.row_text.proofs.lists.times_from.Given as goal

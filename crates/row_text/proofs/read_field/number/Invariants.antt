@@ -1,7 +1,7 @@
 use Rattle.std.proofs.Common.{◌≡◌, ◌<◌, ◌^◌, true, take}
 use Rattle.std.specs.List.{list_all}
 use Rattle.std.specs.Char.{is_ascii_digit}
-use Rattle.row_text.specs.Sorts.{value_of}
+use Rattle.row_text.specs.Words.{value_of}
 use Rattle.row_text.proofs.read_field.number.Given as goal
 
 abbrev pub invariant-loop-digit : goal.invariant-loop-digit

@@ -1,7 +1,7 @@
 use Rattle.std.proofs.Common.{◌<◌, ◌++◌, ◌∷◌, [], length, take, sym, ap, ◌∙◌, arith}
 use Rattle.std.proofs.lemmas.List.{take_all}
 use Rattle.rail_model.specs.Blocking.{stair_of}
-use Rattle.rail_model.specs.Timetable.{timetable}
+use Rattle.rail_model.specs.Conflict.{timetable}
 use Rattle.rail_model.proofs.Timetables.{timetable_more, stairs_count}
 use Rattle.line_tables.proofs.PathsOf.{paths_count, path_of_run}
 use Rattle.section_cut.proofs.all_stairways.stairways.Goals as goal

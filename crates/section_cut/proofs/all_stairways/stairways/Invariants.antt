@@ -1,5 +1,5 @@
 use Rattle.std.proofs.Common.{◌≡◌, take}
-use Rattle.rail_model.specs.Timetable.{timetable}
+use Rattle.rail_model.specs.Conflict.{timetable}
 use Rattle.section_cut.proofs.all_stairways.stairways.Given as goal
 
 -- the stairways so far

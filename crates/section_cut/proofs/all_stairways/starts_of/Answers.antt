@@ -1,6 +1,6 @@
 use Rattle.std.proofs.Common.{◌<◌, length, subst, arith}
 use Rattle.std.proofs.lemmas.List.{take_all}
-use Rattle.rail_model.specs.Timetable.{no_use}
+use Rattle.rail_model.specs.Conflict.{no_use}
 use Rattle.section_cut.specs.Starts.{StartsBetween}
 use Rattle.section_cut.proofs.Starts.{between_more}
 use Rattle.section_cut.proofs.all_stairways.starts_of.Goals as goal

@@ -1,7 +1,6 @@
 use Rattle.std.proofs.Common.{◌≡◌, Some, sym, ap, ◌∙◌}
 use Rattle.std.specs.Prelude.{option_map}
-use Rattle.plan_model.specs.Cut.{stamped}
-use Rattle.plan_model.specs.SectionCut.{section_cut, cut_of}
+use Rattle.plan_model.specs.Cut.{stamped, section_cut, cut_of}
 use Rattle.section_cut.proofs.Anew.{value_of, change_is}
 use Rattle.section_cut.proofs.SameValue.{sound_cut_of}
 use Rattle.section_cut.proofs.Stored.{sound_stored, stored_section}

@@ -1,7 +1,6 @@
 use Rattle.std.proofs.Common.{◌≡◌}
 use Rattle.std.proofs.lemmas.Result.{IfOk-weaker}
-use Rattle.plan_model.specs.Cut.{stamped}
-use Rattle.plan_model.specs.SectionCut.{section_cut}
+use Rattle.plan_model.specs.Cut.{stamped, section_cut}
 use Rattle.section_cut.proofs.Joined.{names_on_blocks}
 use Rattle.section_cut.proofs.bound_anew.cut_by_rows.Goals as goal
 

@@ -7,7 +7,7 @@ use Rattle.rail_model.specs.declared.items.Run.{Run}
 use Rattle.rail_model.specs.Name.{is_same}
 use Rattle.rail_model.specs.Tables.{no_run, run_at}
 use Rattle.plan_model.specs.declared.cut.CutRow.{CutRow}
-use Rattle.plan_model.specs.SectionCut.{section_uses, is_member}
+use Rattle.plan_model.specs.Cut.{section_uses, is_member}
 use Rattle.section_cut.specs.Members.{member_row, member_of, row_on_blocks, member_at}
 use Rattle.section_cut.specs.RowsAfter.{on_blocks}
 use Rattle.section_cut.proofs.MemberRows.{rows_more, members_more}

@@ -2,7 +2,7 @@ use Rattle.std.proofs.Common.{◌≡◌, ◌<◌, length, map, take}
 use Rattle.std.specs.Prelude.{filter}
 use Rattle.std.specs.List.{range_with_len}
 use Rattle.rail_model.specs.Tables.{run_at}
-use Rattle.plan_model.specs.SectionCut.{is_member}
+use Rattle.plan_model.specs.Cut.{is_member}
 use Rattle.section_cut.specs.Members.{row_on_blocks, member_at}
 use Rattle.section_cut.specs.Stamps.{AreBefore}
 use Rattle.section_cut.proofs.bound_anew.members_by_rows.Given as goal

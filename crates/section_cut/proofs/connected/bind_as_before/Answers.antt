@@ -4,7 +4,7 @@ use Rattle.std.proofs.lemmas.Bool.{cases_lt}
 use Rattle.std.proofs.lemmas.List.{get_or_default}
 use Rattle.rail_model.specs.declared.items.Connection.{Connection}
 use Rattle.rail_model.specs.Rules.{is_named}
-use Rattle.plan_model.specs.SectionCut.{binds}
+use Rattle.plan_model.specs.Cut.{binds}
 use Rattle.section_cut.specs.Connected.{IsOfRuns}
 use Rattle.section_cut.proofs.connected.bind_as_before.Goals as goal
 

@@ -1,7 +1,7 @@
 use Rattle.std.proofs.Common.{◌≡◌, ℕ, ◌<◌, get_or}
 use Rattle.rail_model.specs.declared.items.Connection.{Connection}
 use Rattle.rail_model.specs.Rules.{is_named}
-use Rattle.plan_model.specs.SectionCut.{binds}
+use Rattle.plan_model.specs.Cut.{binds}
 use Rattle.section_cut.proofs.connected.bind_as_before.Given as goal
 
 -- each so far

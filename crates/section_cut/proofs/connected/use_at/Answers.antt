@@ -9,7 +9,7 @@ use Rattle.rail_model.specs.declared.stair.Use.{Use}
 use Rattle.rail_model.specs.Tables.{no_run, run_at}
 use Rattle.rail_model.proofs.Facts.{run_facts}
 use Rattle.rail_model.proofs.Paths.{run_stands}
-use Rattle.plan_model.specs.SectionCut.{entry_of}
+use Rattle.plan_model.specs.Cut.{entry_of}
 use Rattle.rail_model.proofs.NameOrder.{same_name, is_same-from}
 use Rattle.section_cut.proofs.BindsBy.{first_use_is, second_use_is}
 use Rattle.section_cut.proofs.connected.use_at.Goals as goal

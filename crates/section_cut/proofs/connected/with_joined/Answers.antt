@@ -11,7 +11,7 @@ use Rattle.rail_model.specs.declared.stair.Use.{Use}
 use Rattle.rail_model.specs.Name.{NamesRise}
 use Rattle.rail_model.specs.Tables.{number_of, run_at, run_named}
 use Rattle.plan_model.specs.declared.cut.CutRow.{CutRow}
-use Rattle.plan_model.specs.SectionCut.{binds, entry_of}
+use Rattle.plan_model.specs.Cut.{binds, entry_of}
 use Rattle.section_cut.specs.Connected.{joins, IsOneOf, use_if_listed, with_bound}
 use Rattle.section_cut.proofs.Known.{IsKnown, connection_known, run_named_name}
 use Rattle.section_cut.proofs.Lists.{few_pass}

@@ -2,7 +2,7 @@ use Rattle.std.proofs.Common.{◌≡◌, ◌+◌, ◌<◌, w64, to_z, of_z, ap, 
 use Rattle.std.specs.Prelude.{pos}
 use Rattle.std.proofs.lemmas.Int.{to_z-of_z, to_z_pos}
 use Rattle.rail_model.specs.Tables.{run_at, last_arrival}
-use Rattle.plan_model.specs.Precedence.{comes_before}
+use Rattle.plan_model.specs.Members.{comes_before}
 use Rattle.section_cut.proofs.BoundBy.{run_read, out_of_order, in_order}
 use Rattle.section_cut.proofs.connections.bound_by.Goals as goal
 

@@ -4,7 +4,7 @@ use Rattle.std.proofs.lemmas.List.{append-nil, map-append, length-map}
 use Rattle.rail_model.specs.declared.items.Connection.{Connection}
 use Rattle.rail_model.specs.declared.items.Run.{Run}
 use Rattle.plan_model.specs.declared.cut.CutRow.{CutRow}
-use Rattle.plan_model.specs.SectionCut.{binds}
+use Rattle.plan_model.specs.Cut.{binds}
 use Rattle.section_cut.specs.Members.{members_of}
 use Rattle.section_cut.specs.Bound.{with_connections, both_added}
 use Rattle.section_cut.proofs.Lists.{filter_next}

@@ -1,7 +1,7 @@
 use Rattle.std.proofs.Common.{◌≡◌, map, take}
 use Rattle.std.specs.Prelude.{filter}
 use Rattle.rail_model.specs.declared.items.Connection.{Connection}
-use Rattle.plan_model.specs.SectionCut.{binds}
+use Rattle.plan_model.specs.Cut.{binds}
 use Rattle.section_cut.specs.Bound.{with_connections}
 use Rattle.section_cut.proofs.connections.connections.Given as goal
 

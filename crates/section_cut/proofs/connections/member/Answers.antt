@@ -2,7 +2,7 @@ use Rattle.std.proofs.Common.{subst, sym, ap, length, arith}
 use Rattle.std.specs.Prelude.{IfSome, IfNone, ◌≡◌, false}
 use Rattle.std.proofs.lemmas.List.FromFn.{length-map-range_with_len}
 use Rattle.rail_model.specs.Tables.{run_named}
-use Rattle.plan_model.specs.SectionCut.{is_member}
+use Rattle.plan_model.specs.Cut.{is_member}
 use Rattle.section_cut.specs.Members.{member_at}
 use Rattle.section_cut.specs.Bound.{IsMember}
 use Rattle.section_cut.proofs.Binding.{member_read, member_named, no_member_named}

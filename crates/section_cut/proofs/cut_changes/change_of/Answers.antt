@@ -1,7 +1,7 @@
 use Rattle.std.proofs.Common.{subst}
 use Rattle.std.specs.Prelude.{IfOk}
 use Rattle.std.specs.Option.{option_copied}
-use Rattle.plan_model.specs.SectionCut.{cut_of}
+use Rattle.plan_model.specs.Cut.{cut_of}
 use Rattle.section_cut.specs.Change.{TwoTables, IsChange}
 use Rattle.section_cut.proofs.cut_changes.change_of.Goals as goal
 

@@ -1,5 +1,5 @@
 use Rattle.std.specs.Option.{option_copied}
-use Rattle.plan_model.specs.SectionCut.{cut_of}
+use Rattle.plan_model.specs.Cut.{cut_of}
 use Rattle.section_cut.proofs.Anew.{stamps_are, change_is}
 use Rattle.section_cut.proofs.SameValue.{sound_if_there}
 use Rattle.section_cut.proofs.cut_changes.cut_after_all.Goals as goal

@@ -1,6 +1,6 @@
 use Rattle.std.proofs.Common.{sym, subst}
 use Rattle.std.specs.Prelude.{◌≢◌, ◌↔◌, IsTrue}
-use Rattle.plan_model.specs.SectionCut.{cut_of}
+use Rattle.plan_model.specs.Cut.{cut_of}
 use Rattle.section_cut.specs.Change.{IsChange, IsCutAfter}
 use Rattle.section_cut.proofs.Putting.{its_place, touched_told, put_is}
 use Rattle.section_cut.proofs.cut_changes.cut_change.Goals as goal

@@ -3,8 +3,7 @@ use Rattle.std.proofs.lemmas.Option.{get_or_from_slice_get}
 use Rattle.rail_model.specs.declared.tables.Tables.{Tables}
 use Rattle.rail_model.specs.Tables.{no_section, section_at}
 use Rattle.plan_model.specs.declared.cut.Cut.{Cut}
-use Rattle.plan_model.specs.Cut.{stamped}
-use Rattle.plan_model.specs.SectionCut.{section_cut, cut_of}
+use Rattle.plan_model.specs.Cut.{stamped, section_cut, cut_of}
 use Rattle.section_cut.specs.Change.{IsChange}
 use Rattle.section_cut.proofs.Joined.{cut_found}
 use Rattle.section_cut.proofs.SameRows.{same_rows}

@@ -4,8 +4,7 @@ use Rattle.std.proofs.lemmas.Option.{get_or_from_slice_get}
 use Rattle.rail_model.specs.declared.items.Section.{Section}
 use Rattle.rail_model.specs.declared.stair.Stair.{Stair}
 use Rattle.rail_model.specs.declared.limits.TheConstants.{PATH_HOPS}
-use Rattle.plan_model.specs.Cut.{stamped, IsSoundCut}
-use Rattle.plan_model.specs.SectionCut.{section_cut}
+use Rattle.plan_model.specs.Cut.{stamped, IsSoundCut, section_cut}
 use Rattle.rail_model.specs.Tables.{no_section, section_at}
 use Rattle.section_cut.specs.Late.{AreStairsFor}
 use Rattle.section_cut.specs.Positions.{IsPositions}

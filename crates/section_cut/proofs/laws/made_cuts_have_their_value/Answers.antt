@@ -1,7 +1,6 @@
 use Rattle.std.proofs.Common.{refl}
 use Rattle.std.specs.Prelude.{option_map}
-use Rattle.plan_model.specs.Cut.{stamped}
-use Rattle.plan_model.specs.SectionCut.{cut_of}
+use Rattle.plan_model.specs.Cut.{stamped, cut_of}
 use Rattle.section_cut.proofs.Anew.{value_of}
 use Rattle.section_cut.proofs.laws.made_cuts_have_their_value.Goals as goal
 

@@ -1,7 +1,7 @@
 use Rattle.std.proofs.Common.{◌≡◌, map, take}
 use Rattle.std.specs.Prelude.{filter}
 use Rattle.std.specs.List.{range_with_len}
-use Rattle.plan_model.specs.SectionCut.{is_member}
+use Rattle.plan_model.specs.Cut.{is_member}
 use Rattle.section_cut.specs.Members.{row_on_blocks, member_at}
 use Rattle.section_cut.proofs.members.members.Given as goal
 

@@ -2,7 +2,7 @@ use Rattle.std.proofs.Common.{◌≡◌, ◌<◌, None, length, get_or, refl, sy
 use Rattle.std.specs.Prelude.{slice_index, All, IfOk}
 use Rattle.rail_model.specs.declared.stair.Stair.{Stair}
 use Rattle.rail_model.specs.declared.stair.Use.{Use}
-use Rattle.rail_model.specs.Timetable.{stair_at}
+use Rattle.rail_model.specs.Conflict.{stair_at}
 use Rattle.section_cut.specs.Members.{member_row}
 use Rattle.section_cut.specs.Positions.{uses_in}
 use Rattle.section_cut.specs.Spans.{part_of}

@@ -2,7 +2,7 @@ use Rattle.std.proofs.Common.{◌≡◌, false, sym, ap, ◌∙◌, subst}
 use Rattle.std.specs.Prelude.{IfSome}
 use Rattle.rail_model.specs.Name.{NamesRise}
 use Rattle.rail_model.specs.Rules.{is_named}
-use Rattle.plan_model.specs.SectionCut.{binds}
+use Rattle.plan_model.specs.Cut.{binds}
 use Rattle.section_cut.specs.RowsAfter.{AreOfMembers}
 use Rattle.section_cut.proofs.OneConnection.{entries_stay, found_there, untouched}
 use Rattle.section_cut.proofs.RowsKept.{members_stay}

@@ -9,7 +9,7 @@ use Rattle.rail_model.specs.declared.tables.Tables.{Tables}
 use Rattle.rail_model.specs.Name.{NamesRise}
 use Rattle.rail_model.specs.Tables.{number_of, run_at, last_arrival}
 use Rattle.plan_model.specs.declared.cut.CutRow.{CutRow}
-use Rattle.plan_model.specs.SectionCut.{binding_connections}
+use Rattle.plan_model.specs.Cut.{binding_connections}
 use Rattle.section_cut.specs.EditedConnection.{uses_ending}
 use Rattle.section_cut.specs.EditedRun.{IsPut}
 use Rattle.section_cut.specs.Stamps.{IsReached, IsOwn}

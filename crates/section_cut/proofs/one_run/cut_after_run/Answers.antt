@@ -10,7 +10,7 @@ use Rattle.rail_model.specs.Name.{NamesRise, is_same}
 use Rattle.rail_model.specs.Rules.{is_named}
 use Rattle.rail_model.proofs.NameOrder.{same_name}
 use Rattle.plan_model.specs.declared.cut.CutRow.{CutRow}
-use Rattle.plan_model.specs.SectionCut.{binds, binding_connections}
+use Rattle.plan_model.specs.Cut.{binds, binding_connections}
 use Rattle.section_cut.specs.Connected.{IsOfRuns, TellsEntries, row_beside}
 use Rattle.section_cut.specs.EditedRun.{IsPut, KeepsPlaces}
 use Rattle.section_cut.specs.Stamps.{IsReached, IsOwn}

@@ -2,7 +2,7 @@ use Rattle.std.proofs.Common.{◌≡◌, ◌<◌, length, sym, ap, subst}
 use Rattle.std.proofs.lemmas.Option.{get_or_from_slice_get}
 use Rattle.rail_model.specs.declared.items.Block.{Block}
 use Rattle.rail_model.specs.Tables.{no_block, number_of, block_name}
-use Rattle.plan_model.specs.SectionCut.{position_in_section}
+use Rattle.plan_model.specs.Cut.{position_in_section}
 use Rattle.section_cut.proofs.one_run.enters_early.Goals as goal
 
 pub returns : goal.returns

@@ -2,7 +2,7 @@ use Rattle.std.proofs.Common.{◌<◌, length, Some, refl, sym, subst}
 use Rattle.std.specs.Prelude.{All, IfSome}
 use Rattle.rail_model.specs.declared.stair.Stair.{Stair}
 use Rattle.rail_model.specs.declared.stair.Use.{Use}
-use Rattle.plan_model.specs.SectionCut.{position_in_section}
+use Rattle.plan_model.specs.Cut.{position_in_section}
 use Rattle.section_cut.specs.OneRun.{PassesBy}
 use Rattle.section_cut.proofs.OneRun.{uses_found}
 use Rattle.section_cut.proofs.Outside.{outside_not_entered, early_not_entered}

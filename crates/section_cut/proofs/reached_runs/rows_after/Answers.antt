@@ -3,8 +3,7 @@ use Rattle.std.proofs.lemmas.Bool.{cases_lt}
 use Rattle.std.proofs.lemmas.List.{take_all}
 use Rattle.std.specs.Prelude.{All, filter}
 use Rattle.std.specs.Option.{option_copied}
-use Rattle.plan_model.specs.Cut.{stamped_row}
-use Rattle.plan_model.specs.SectionCut.{is_member, row_of}
+use Rattle.plan_model.specs.Cut.{stamped_row, is_member, row_of}
 use Rattle.section_cut.specs.RowsAfter.{IsKept}
 use Rattle.section_cut.specs.Stamps.{IsStampedBy}
 use Rattle.section_cut.proofs.ReachedRuns.{kept_binding, before_next, uses_looked_at, own_bare, kept_with, rows_with, stamps_with}

@@ -1,8 +1,7 @@
 use Rattle.std.proofs.Common.{◌≡◌, ℕ, ◌<◌, length, map, take}
 use Rattle.std.specs.Prelude.{All, filter}
 use Rattle.rail_model.specs.Tables.{run_at}
-use Rattle.plan_model.specs.Cut.{stamped_row}
-use Rattle.plan_model.specs.SectionCut.{is_member, binding_connections, row_of}
+use Rattle.plan_model.specs.Cut.{stamped_row, is_member, binding_connections, row_of}
 use Rattle.section_cut.specs.RowsAfter.{IsKept}
 use Rattle.section_cut.specs.Stamps.{AreBefore, IsStampedBy}
 use Rattle.section_cut.proofs.reached_runs.rows_after.Given as goal

@@ -1,7 +1,6 @@
 use Rattle.std.proofs.Common.{◌≡◌, ◌<◌, ℕ}
 use Rattle.std.specs.Prelude.{None, Some, slice_index_or, All, Any, IfSome}
-use Rattle.plan_model.specs.Places.{place_count}
-use Rattle.plan_model.specs.Members.{no_use}
+use Rattle.plan_model.specs.Members.{place_count, no_use}
 use Rattle.train_net.specs.declared.near.Near.{Near}
 use Rattle.train_net.specs.Net.{IsEdge, Covers}
 use Rattle.train_net.specs.Gathered.{with_last}

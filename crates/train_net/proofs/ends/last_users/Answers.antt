@@ -1,6 +1,6 @@
 use Rattle.std.proofs.Common.{◌<◌, List, ℕ, sym, subst, ◌∙◌}
 use Rattle.std.specs.Prelude.{All}
-use Rattle.plan_model.specs.Places.{place_count}
+use Rattle.plan_model.specs.Members.{place_count}
 use Rattle.std.specs.List.{range_with_len}
 use Rattle.train_net.proofs.Ended.{all_below}
 use Rattle.train_net.proofs.ends.last_users.Goals as goal

@@ -3,8 +3,7 @@ use Rattle.std.specs.Prelude.{None, slice_index_or, All, find, ◌==◌}
 use Rattle.std.proofs.lemmas.List.{get_or-replicate, length-replicate}
 use Rattle.rail_model.specs.declared.stair.Use.{Use}
 use Rattle.plan_model.specs.declared.cut.CutRow.{CutRow}
-use Rattle.plan_model.specs.Members.{member}
-use Rattle.plan_model.specs.Places.{place_count}
+use Rattle.plan_model.specs.Members.{member, place_count}
 use Rattle.plan_model.specs.Cut.{AreOfOtherPlaces}
 use Rattle.plan_model.proofs.Sound.{differ, usable}
 use Rattle.train_order.proofs.Apart.{below}

@@ -2,11 +2,10 @@ use Rattle.std.proofs.Common.{◌≡◌, List, ◌+◌, ◌-◌, ◌<◌, inl, i
 use Rattle.std.specs.Prelude.{None, slice_index_or, find, ◌==◌}
 use Rattle.rail_model.specs.declared.stair.Use.{Use}
 use Rattle.plan_model.specs.declared.cut.CutRow.{CutRow}
-use Rattle.plan_model.specs.Members.{member}
+use Rattle.plan_model.specs.Members.{member, place_count}
 use Rattle.train_net.specs.Near.{filled, near_by, IsNearFrom}
 use Rattle.std.specs.Option.{IsSome}
 use Rattle.std.proofs.lemmas.Bool.{cases_lt}
-use Rattle.plan_model.specs.Places.{place_count}
 use Rattle.train_net.proofs.Filling.{with_row, stays_found}
 use Rattle.train_net.proofs.near.look_back.Goals as goal
 

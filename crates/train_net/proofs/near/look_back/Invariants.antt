@@ -1,7 +1,7 @@
 use Rattle.std.proofs.Common.{◌≡◌, ◌<◌, ◌≤◌, ℕ, length}
 use Rattle.std.specs.Prelude.{None, slice_index, slice_index_or}
 use Rattle.std.specs.Option.{IsSome}
-use Rattle.plan_model.specs.Places.{place_count}
+use Rattle.plan_model.specs.Members.{place_count}
 use Rattle.train_net.specs.Near.{IsNearFrom}
 use Rattle.train_net.proofs.near.look_back.Given as goal
 

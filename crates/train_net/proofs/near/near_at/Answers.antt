@@ -3,7 +3,7 @@ use Rattle.std.specs.Prelude.{All}
 use Rattle.std.proofs.lemmas.Result.{IfOk-weaker}
 use Rattle.rail_model.specs.declared.stair.Use.{Use}
 use Rattle.plan_model.specs.declared.cut.CutRow.{CutRow}
-use Rattle.plan_model.specs.Places.{place_count}
+use Rattle.plan_model.specs.Members.{place_count}
 use Rattle.train_net.specs.Near.{AreNear, AreNearAt}
 use Rattle.train_net.proofs.Used.{places_below, near_at}
 use Rattle.train_net.proofs.near.near_at.Goals as goal

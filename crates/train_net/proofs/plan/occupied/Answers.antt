@@ -2,9 +2,8 @@ use Rattle.std.proofs.Common.{◌≡◌, ◌<◌, ℕ, List, length, reverse, sy
 use Rattle.std.specs.Prelude.{All, IfSome, Option, None, slice_index_or}
 use Rattle.std.specs.List.{range_with_len}
 use Rattle.plan_model.specs.declared.cut.Cut.{Cut}
-use Rattle.plan_model.specs.Places.{place_count, block_count}
-use Rattle.plan_model.specs.Members.{member_count}
-use Rattle.plan_model.specs.Occupancy as occupied
+use Rattle.plan_model.specs.Members.{place_count, block_count, member_count}
+use Rattle.plan_model.specs.Answer as occupied
 use Rattle.occupancy_rate.specs.declared.spans.Span.{Span}
 use Rattle.occupancy_rate.specs.Spans.{AreSpans}
 use Rattle.train_order.proofs.Apart.{below}

@@ -1,6 +1,6 @@
 use Rattle.std.proofs.Common.{◌<◌, take}
 use Rattle.std.specs.Prelude.{IfSome}
-use Rattle.plan_model.specs.Places.{place_count}
+use Rattle.plan_model.specs.Members.{place_count}
 use Rattle.train_net.specs.Reading.{IsFirstOf}
 use Rattle.train_net.proofs.tying.first_tight.Given as goal
 

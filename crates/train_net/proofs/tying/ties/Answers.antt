@@ -5,8 +5,7 @@ use Rattle.std.proofs.lemmas.List.{get_or_append_left, get_or_push}
 use Rattle.plan_model.specs.declared.cut.Cut.{Cut}
 use Rattle.plan_model.specs.declared.answer.Tie.{Tie}
 use Rattle.plan_model.specs.declared.answer.Tie.TheVariants.{Start}
-use Rattle.plan_model.specs.Places.{place_count}
-use Rattle.plan_model.specs.Members.{member_count}
+use Rattle.plan_model.specs.Members.{place_count, member_count}
 use Rattle.plan_model.specs.Schedule.{window_start, entry_at}
 use Rattle.train_net.specs.declared.edge.Edge.{Edge}
 use Rattle.train_net.specs.Net.{edges_to}

@@ -1,8 +1,6 @@
 use Rattle.std.proofs.Common.{◌+◌, take, sym, subst, ◌∙◌}
 use Rattle.std.proofs.lemmas.List.{take_all}
-use Rattle.plan_model.specs.Places.{place_count}
-use Rattle.plan_model.specs.Members.{member}
-use Rattle.plan_model.specs.Places.{AnswersFirst}
+use Rattle.plan_model.specs.Members.{place_count, member, AnswersFirst}
 use Rattle.train_order.specs.Starts.{places_first}
 use Rattle.train_order.proofs.FirstPlace.{found, not_leading, not_first, best_within}
 use Rattle.train_order.proofs.link_place.first_place.Goals as goal

@@ -1,6 +1,5 @@
 use Rattle.std.proofs.Common.{take}
-use Rattle.plan_model.specs.Members.{member}
-use Rattle.plan_model.specs.Places.{AnswersFirst}
+use Rattle.plan_model.specs.Members.{member, AnswersFirst}
 use Rattle.train_order.specs.Starts.{places_first}
 use Rattle.train_order.proofs.link_place.first_place.Given as goal
 

@@ -1,6 +1,6 @@
 use Rattle.std.proofs.Common.{◌<◌, ap, sym, subst, ◌∙◌}
 use Rattle.plan_model.specs.declared.cut.CutRow.{CutRow}
-use Rattle.plan_model.specs.Places.{place_count, place_name}
+use Rattle.plan_model.specs.Members.{place_count, place_name}
 use Rattle.train_order.proofs.Linked.{linked_by}
 use Rattle.train_order.proofs.link_place.place_between.Goals as goal
 

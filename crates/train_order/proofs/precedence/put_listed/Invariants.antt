@@ -1,7 +1,6 @@
 use Rattle.std.proofs.Common.{◌≡◌, ℕ, ◌<◌, length}
 use Rattle.std.specs.List.{list_any, range_with_len}
-use Rattle.plan_model.specs.Members.{member, member_count}
-use Rattle.plan_model.specs.Precedence.{precedes}
+use Rattle.plan_model.specs.Members.{member, member_count, precedes}
 use Rattle.train_order.specs.Sets.{relates}
 use Rattle.train_order.proofs.precedence.put_listed.Given as goal
 

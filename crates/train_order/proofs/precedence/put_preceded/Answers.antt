@@ -1,6 +1,5 @@
 use Rattle.std.proofs.Common.{◌||◌, ◌∙◌, sym, ap, arith}
-use Rattle.plan_model.specs.Members.{member}
-use Rattle.plan_model.specs.Precedence.{precedes}
+use Rattle.plan_model.specs.Members.{member, precedes}
 use Rattle.train_order.proofs.Ranges.{any_more}
 use Rattle.train_order.proofs.precedence.put_preceded.Goals as goal
 

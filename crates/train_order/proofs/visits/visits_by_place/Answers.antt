@@ -1,8 +1,7 @@
 use Rattle.std.proofs.Common.{◌≡◌, sym, ap, subst, ◌∙◌, arith}
 use Rattle.std.specs.List.{All}
 use Rattle.plan_model.specs.declared.cut.CutRow.{CutRow}
-use Rattle.plan_model.specs.Places.{place_count}
-use Rattle.plan_model.specs.Members.{member, no_member}
+use Rattle.plan_model.specs.Members.{place_count, member, no_member}
 use Rattle.train_order.specs.Visits.{IsLasting, HasMore}
 use Rattle.train_order.proofs.Gathered.{member_more}
 use Rattle.train_order.proofs.visits.visits_by_place.Goals as goal

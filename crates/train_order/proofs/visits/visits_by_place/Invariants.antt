@@ -1,4 +1,4 @@
-use Rattle.plan_model.specs.Places.{place_count}
+use Rattle.plan_model.specs.Members.{place_count}
 use Rattle.train_order.specs.Visits.{AreVisits}
 use Rattle.train_order.proofs.visits.visits_by_place.Given as goal
 

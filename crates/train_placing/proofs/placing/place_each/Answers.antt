@@ -1,8 +1,7 @@
 use Rattle.std.proofs.Common.{◌≡◌, ◌<◌, false, length, get_or, take, refl, sym, subst, ◌∙◌, arith}
 use Rattle.std.specs.Prelude.{pos}
 use Rattle.std.proofs.lemmas.List.{take_more, take_all, length-take-le}
-use Rattle.plan_model.specs.Members.{member_count}
-use Rattle.plan_model.specs.Places.{is_among}
+use Rattle.plan_model.specs.Members.{member_count, is_among}
 use Rattle.plan_model.specs.Schedule.{entry_at}
 use Rattle.train_order.proofs.Next.{count, comes_next}
 use Rattle.train_placing.specs.Last.{IsNear}

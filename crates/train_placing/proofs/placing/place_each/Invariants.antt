@@ -1,5 +1,5 @@
 use Rattle.std.proofs.Common.{◌≡◌, ℕ, false, take}
-use Rattle.plan_model.specs.Places.{is_among}
+use Rattle.plan_model.specs.Members.{is_among}
 use Rattle.plan_model.specs.Schedule.{entry_at}
 use Rattle.train_placing.specs.Placing.{ArePlaced}
 use Rattle.train_placing.proofs.placing.place_each.Given as goal

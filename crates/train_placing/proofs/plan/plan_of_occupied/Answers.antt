@@ -2,7 +2,7 @@ use Rattle.std.proofs.Common.{List, length, map, ap, ◌∙◌}
 use Rattle.std.specs.List.{range_with_len}
 use Rattle.plan_model.specs.declared.cut.CutRow.{CutRow}
 use Rattle.plan_model.specs.declared.cut.Cut.{Cut}
-use Rattle.plan_model.specs.Places.{place_names}
+use Rattle.plan_model.specs.Members.{place_names}
 use Rattle.train_placing.specs.Laid.{placed_with}
 use Rattle.train_placing.proofs.Laid.{busiest_below, plan_is, compressed, bounded_times}
 use Rattle.train_placing.proofs.plan.plan_of_occupied.Goals as goal

@@ -1,6 +1,6 @@
 use Rattle.std.proofs.Common.{◌≡◌, ◌<◌, take}
 use Rattle.std.specs.Prelude.{None, fold, IfSome}
-use Rattle.plan_model.specs.Places.{place_count}
+use Rattle.plan_model.specs.Members.{place_count}
 use Rattle.train_placing.specs.Touch.{touch_with}
 use Rattle.train_placing.proofs.tie.first_touch.Given as goal
 

@@ -4,7 +4,7 @@ use Rattle.std.proofs.lemmas.Result.{IfOk-weaker}
 use Rattle.row_text.specs.declared.line.Line.{Line}
 use Rattle.row_text.specs.declared.line.Line.TheVariants as line
 use Rattle.plan_model.specs.declared.scripts.Task.TheVariants as task
-use Rattle.plan_model.specs.Scripts.{with_task}
+use Rattle.plan_model.specs.Journal.{with_task}
 use Rattle.capacity_cmd.specs.Input.{takes_planner, takes_task}
 use Rattle.capacity_cmd.specs.InputSoFar.{TakesIf, TakesLine}
 use Rattle.capacity_cmd.proofs.Making.{planner_taken, ask_taken, edit_taken, base_taken, some_scripts}

@@ -1,7 +1,6 @@
 use Rattle.std.proofs.Common.{◌≡◌, ℕ, false, List, [], refl, arith}
 use Rattle.rail_model.specs.declared.items.Item.{Item}
-use Rattle.rail_model.specs.Sound.{AreSound}
-use Rattle.rail_model.specs.Edits.{no_tables}
+use Rattle.rail_model.specs.Rules.{AreSound, no_tables}
 use Rattle.line_tables.specs.KeySet.{holds}
 use Rattle.line_tables.proofs.Bits.{holds_past}
 use Rattle.line_tables.proofs.line_tables.LineTables.new.Goals as goal

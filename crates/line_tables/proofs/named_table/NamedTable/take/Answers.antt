@@ -2,7 +2,7 @@ use Rattle.std.proofs.Common.{◌≡◌, get_or, None, subst, sym, ◌∙◌, ap
 use Rattle.std.proofs.lemmas.List.{get_or_read}
 use Rattle.slab.specs.Slab.{get as slot}
 use Rattle.line_tables.specs.Table.{filed, named, IsPlaceOf}
-use Rattle.rail_model.specs.Edits.{without}
+use Rattle.rail_model.specs.Rules.{without}
 use Rattle.line_tables.proofs.Kept.{Sets, StandsAt, stands_at, kept_by_drop, drop_is, item_is, table_is}
 use Rattle.line_tables.proofs.named_table.NamedTable.take.Given.{Over}
 use Rattle.line_tables.proofs.named_table.NamedTable.take.Goals as goal

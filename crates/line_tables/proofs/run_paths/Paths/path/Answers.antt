@@ -1,6 +1,6 @@
 use Rattle.std.proofs.Common.{◌≡◌, ◌<◌, length, get_or, List, sym, ap, ◌∙◌, subst}
 use Rattle.rail_model.specs.declared.path.Path.{Path}
-use Rattle.rail_model.specs.Path.{Fits}
+use Rattle.rail_model.specs.Blocking.{Fits}
 use Rattle.line_tables.specs.Hops.{path_with, with_legs, hops_at, paths_by_keys}
 use Rattle.line_tables.specs.Paths.{no_path, path_at}
 use Rattle.line_tables.proofs.KeyedPaths.{keys_there, path_read}

@@ -1,5 +1,5 @@
 use Rattle.std.proofs.Common.{ℕ, ◌<◌}
-use Rattle.plan_model.specs.Touch.{IsCurrent}
+use Rattle.plan_model.specs.Legal.{IsCurrent}
 use Rattle.plan_model.specs.Outcome.{IsOfShare, section_name}
 use Rattle.plan_book.proofs.book.Book.next_open.Given as goal
 

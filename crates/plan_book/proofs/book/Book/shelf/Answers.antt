@@ -5,7 +5,7 @@ use Rattle.std.proofs.lemmas.Option.{get_or_from_slice_get}
 use Rattle.rail_model.specs.declared.items.Section.{Section}
 use Rattle.rail_model.specs.Tables.{no_section, section_at}
 use Rattle.plan_model.specs.Journal.{tables_of}
-use Rattle.plan_model.specs.Touch.{cut_now}
+use Rattle.plan_model.specs.Legal.{cut_now}
 use Rattle.plan_model.specs.Outcome.{section_name}
 use Rattle.plan_book.specs.Shelves.{AreShelves, IsShelf}
 use Rattle.rail_model.specs.declared.tables.Tables.{Tables}

@@ -1,6 +1,6 @@
 use Rattle.std.proofs.Common.{◌≡◌, sym, ap, ◌∙◌, subst}
 use Rattle.std.specs.Prelude.{IfSome}
-use Rattle.rail_model.specs.Edits as edits
+use Rattle.rail_model.specs.Rules as edits
 use Rattle.plan_book.proofs.twin.TwinTables.replace.Goals as goal
 
 pub invariant_of-self : goal.invariant_of-self

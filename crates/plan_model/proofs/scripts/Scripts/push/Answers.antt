@@ -2,7 +2,7 @@ use Rattle.std.proofs.Common.{◌≡◌, ℕ, zero, suc, ◌-◌, List, [], ◌�
 use Rattle.std.specs.Prelude.{slice_get, slice_set}
 use Rattle.std.proofs.lemmas.Option.{get_or_from_slice_get}
 use Rattle.plan_model.specs.declared.scripts.Task.{Task}
-use Rattle.plan_model.specs.Scripts.{with_task}
+use Rattle.plan_model.specs.Journal.{with_task}
 use Rattle.plan_model.proofs.scripts.Scripts.push.Goals as goal
 
 -- the last script is written back with a task more

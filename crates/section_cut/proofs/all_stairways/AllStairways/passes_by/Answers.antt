@@ -1,5 +1,5 @@
 use Rattle.std.proofs.Common.{length, sym, subst, ap, ◌∙◌, arith}
-use Rattle.rail_model.specs.Timetable.{stair_at}
+use Rattle.rail_model.specs.Conflict.{stair_at}
 use Rattle.section_cut.specs.Starts.{StartsBetween, StartsOutside}
 use Rattle.section_cut.proofs.Starts.{starts_outside}
 use Rattle.section_cut.proofs.all_stairways.AllStairways.passes_by.Goals as goal

@@ -1,0 +1,6 @@
+-- The types of the code that definitions speak of.
+pub use Rattle.train_order.specs.declared.entry_order.Moment.{Moment}
+pub use Rattle.train_order.specs.declared.found.Disordered.{Disordered}
+pub use Rattle.train_order.specs.declared.found.Order.{Order}
+pub use Rattle.train_order.specs.declared.member_set.MemberSet.{MemberSet}
+pub use Rattle.train_order.specs.declared.visits.Visit.{Visit}
