@@ -1,3 +1,4 @@
+pub mod NoStair
 pub mod Lists
 pub mod ByPlaces
 pub mod Counts
