@@ -58,11 +58,7 @@ pub record Content : Type 0 where
 
 -- what a command is run on: the tables, the number of the last edit that made them, and the scripts
 abbrev pub accepted_of : Content → Accepted
-accepted_of content = record {
-  tables = content.tables;
-  at = length content.spelling.base;
-  scripts = content.spelling.scripts;
-}
+accepted_of c = record { tables = c.tables; at = length c.spelling.base; scripts = c.spelling.scripts }
 
 -- a row is refused, counted from 1, or with row 0 the input as a whole
 abbrev pub refused : {X : Type 0} → ℕ → Cause → Result X Refusal

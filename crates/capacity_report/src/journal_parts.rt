@@ -70,7 +70,8 @@ fn least_entries(entries: &[Entry]) -> usize
     (entries.len().saturating_mul(LEAST_ROWS) / row_count(entries).max(1)).max(1)
 }
 
-// About how many rows the entries have.
+// About how many rows the entries have. No clause says so: by it the journal is cut in parts, and
+// room is asked for.
 fn row_count(entries: &[Entry]) -> usize {
     let mut rows = 0usize;
     for entry in entries {

@@ -76,7 +76,8 @@ impl<'a> Paths<'a> {
         Ok(path_with(&entry.item, hops))
     }
 
-    /// At least the time that forming and watching take at any hop of these paths: seconds.
+    /// At least the time that forming and watching take at any hop of these paths: seconds. A
+    /// greater number costs time alone.
     pub fn most_lead(&self) -> u64
         ensures { All (λ path. All (λ h. h.watch_s + h.form_s ≤ result) path.hops) self.now }
     {

@@ -8,7 +8,7 @@ ghost use Rattle.plan_model.specs.Session.{opened};
 ghost use Rattle.plan_model.specs.Board.{Gives};
 ghost use Rattle.plan_model.specs.Outcome.{AddsEntry, EditsTo, AsksTo, PublishesTo, IsDone, IsNotTaken};
 ghost use Rattle.plan_model.specs.Outcome.{reply_of};
-ghost use Rattle.rail_model.specs.Rules as edits;
+ghost use Rattle.rail_model.specs.Rules as rules;
 ghost use Rattle.plan_model.specs.declared.journal.Act.TheVariants as acts;
 ghost use Rattle.plan_model.specs.declared.scripts.Task.TheVariants as tasks;
 ghost use Rattle.plan_book.specs.Kept.{IsQuiet, IsBy, MayDo, IsAnswered};
@@ -287,7 +287,7 @@ impl Book {
         requires issued { who < issued self.old }
         requires may { MayDo self.old planner (tasks.Edit edit) }
         requires rule { rule_of (tables_of self.old) edit ≡ None }
-        requires next { next ≡ edits.after (tables_of self.old) edit }
+        requires next { next ≡ rules.after (tables_of self.old) edit }
         ensures { Gives
             (λ found number after. AddsEntry who (acts.Edited planner number edit) found after)
             result self.old self.new }

@@ -1,7 +1,7 @@
 //! What an edit makes of what a book knows of sections.
 ghost use Rattle.std.specs.Prelude.{◌≡◌, ◌<◌, ◌≤◌, true, All, IfOk, IfSome, OnOk, length};
 ghost use Rattle.std.specs.Option.{option_copied};
-ghost use Rattle.rail_model.specs.Rules as edits;
+ghost use Rattle.rail_model.specs.Rules as rules;
 ghost use Rattle.rail_model.specs.Name.{NamesRise};
 ghost use Rattle.rail_model.specs.Rules.{is_named};
 ghost use Rattle.plan_model.specs.Cut.{IsSoundCut};
@@ -52,7 +52,7 @@ pub(crate) fn changes_for(
 ) -> Result<List<ShelfChange>, OutOfMemory>
     requires rise { NamesRise (λ s. s.name) shelves.old }
     requires cuts { HaveCuts accepted.before.now first shelves.old }
-    requires after { accepted.after.now ≡ edits.after accepted.before.now accepted.edit.now }
+    requires after { accepted.after.now ≡ rules.after accepted.before.now accepted.edit.now }
     ensures same { Widens first shelves.old shelves.new }
     ensures made { IfOk result (WillChange accepted.entry.before.now accepted.entry.after.now
         accepted.entry.number shelves.new) }
@@ -111,7 +111,7 @@ fn changes_of(
     shelves: &[Shelf],
     accepted: Accepted<'_>,
 ) -> Result<List<ShelfChange>, OutOfMemory>
-    requires after { accepted.after.now ≡ edits.after accepted.before.now accepted.edit.now }
+    requires after { accepted.after.now ≡ rules.after accepted.before.now accepted.edit.now }
     requires cuts { All (HasCutOf accepted.before.now) shelves.now }
     ensures { IfOk result (AreChanges accepted.entry.before.now accepted.entry.after.now
         accepted.entry.number shelves.now) }

@@ -1,6 +1,6 @@
 //! A line's tables, kept twice.
 ghost use Rattle.std.specs.Prelude.{◌≡◌, IfOk, IfSome};
-ghost use Rattle.rail_model.specs.Rules as edits;
+ghost use Rattle.rail_model.specs.Rules as rules;
 
 use line_tables::LineTables;
 use rail_model::{Edit, OutOfMemory};
@@ -67,7 +67,7 @@ impl TwinTables {
     // Puts the tables after an edit in the place of these, which get the same edit and become the
     // spare ones.
     pub(crate) fn replace(&mut self, next: LineTables, edit: Edit)
-        requires { next ≡ edits.after self.old edit }
+        requires { next ≡ rules.after self.old edit }
         ensures { self.new ≡ next }
     {
         let old = mem::replace(&mut self.tables, next);
@@ -78,7 +78,7 @@ impl TwinTables {
 // The tables after an edit, if there is memory for it and no rule refuses it. `None` says nothing:
 // then there are no spare tables.
 fn after_edit(tables: LineTables, edit: Edit) -> Option<LineTables>
-    ensures { IfSome result (λ after. after ≡ edits.after tables edit) }
+    ensures { IfSome result (λ after. after ≡ rules.after tables edit) }
 {
     let mut after = tables;
     match after.take(edit) {

@@ -152,12 +152,7 @@ module _ (tables : Tables) (section : Section) where
 
   -- a member's row
   abbrev pub row_of : Run → CutRow
-  row_of run = record {
-    name = run.name;
-    stamp = 0;
-    entry = entry_of run;
-    uses = section_uses run ++ uses_of_connections run;
-  }
+  row_of r = record { name = r.name; stamp = 0; entry = entry_of r; uses = section_uses r ++ uses_of_connections r }
 
   -- the section's cut
   abbrev pub section_cut : Cut

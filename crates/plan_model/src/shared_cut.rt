@@ -38,7 +38,8 @@ impl SharedCut {
         })
     }
 
-    /// A cut that can be shared; without memory, the cut itself.
+    /// A cut that can be shared; without memory, the cut itself. Which of the two comes, no clause
+    /// says: a caller does right with either.
     pub fn or_own(alloc: Global, cut: Cut) -> Result<SharedCut, Cut>
         requires { IsSoundCut cut }
         ensures { MatchResult result (λ shared. shared ≡ cut) (λ own. own ≡ cut) }

@@ -25,7 +25,8 @@ pub(crate) struct Held {
 // where it stood in the cut of the net that was held before, if it is kept.
 //
 // Where at most a quarter of the rows is fresh, the net that was held is mended, if it can be;
-// else one is made anew, if the trains have an order.
+// else one is made anew, if the trains have an order. No clause says when one is held: without one
+// the next answer is made anew.
 pub(crate) fn answer_held(
     alloc: Global,
     cut: &Cut,

@@ -112,7 +112,8 @@ fn renewed_in_place<R: Rows>(
     Ok(origin)
 }
 
-// Whether a row stands at a position and has this name.
+// Whether a row stands at a position and has this name. `false` says nothing: the rows from there
+// on are then looked for by name.
 fn has_name(rows: &List<CutRow>, at: usize, name: &Name) -> bool
     ensures { result ≡ true → HasName rows.now at name.now }
 {
@@ -123,7 +124,8 @@ fn has_name(rows: &List<CutRow>, at: usize, name: &Name) -> bool
 }
 
 // Puts the reading's row at a position, where a kept row of its name stands: that one stays if it
-// has the stamp, and answers its place, or else the row is taken.
+// has the stamp, and answers its place, or else the row is taken. No clause says when the place is
+// told: a row without one is taken for fresh.
 fn renew_row<R: Rows>(
     alloc: Global,
     rows: &mut List<CutRow>,

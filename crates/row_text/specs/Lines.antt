@@ -92,17 +92,10 @@ item_in version kind.Run row = do
   name ← name_in (field row 1)
   route ← name_in (field row 2)
   length_m ← number_in (field row 3)
-  tail_s ← number_in (field row 4)
-  start_s ← time_in version (field row 5)
-  legs ← legs_in version start_s (drop 6 row)
-  Ok (item.Run (record {
-    name = name;
-    route = route;
-    length_m = length_m;
-    tail_s = tail_s;
-    start_s = start_s;
-    legs = legs;
-  }))
+  tail ← number_in (field row 4)
+  start ← time_in version (field row 5)
+  legs ← legs_in version start (drop 6 row)
+  Ok (item.Run (record { name = name; route = route; length_m = length_m; tail_s = tail; start_s = start; legs = legs }))
 item_in version kind.Section row = do
   name ← name_in (field row 1)
   from_s ← time_in version (field row 2)

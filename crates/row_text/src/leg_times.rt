@@ -1,7 +1,7 @@
 //! The times of a run's legs as the row has them.
 ghost use Rattle.std.specs.Prelude.{◌≡◌, ◌≤◌, nat_le, IfOk, IsTrue};
 ghost use Rattle.std.specs.List.{list_all};
-ghost use Rattle.row_text.specs.Lines as spelling;
+ghost use Rattle.row_text.specs.Lines as lines;
 
 use crate::time_text::GREATEST_CLOCK_S;
 use rail_model::{Leg, List, OutOfMemory};
@@ -9,7 +9,7 @@ use std::alloc::Global;
 
 // A running and a dwell time for each leg, but no dwell time for the last.
 pub(crate) fn leg_times(alloc: Global, legs: &[Leg]) -> Result<List<u32>, OutOfMemory>
-    ensures { IfOk result (λ times. times ≡ spelling.leg_times legs.now) }
+    ensures { IfOk result (λ times. times ≡ lines.leg_times legs.now) }
 {
     let mut times = List::new(alloc);
     for i in 0..legs.len() {
@@ -23,8 +23,8 @@ pub(crate) fn leg_times(alloc: Global, legs: &[Leg]) -> Result<List<u32>, OutOfM
 
 // Makes of steps, of which the first begins at a time, the times at which they end.
 pub(crate) fn add_up(start_s: u32, steps: &mut [u32])
-    requires { IsTrue (spelling.are_clock_times (spelling.sums start_s steps.old)) }
-    ensures { steps.new ≡ spelling.sums start_s steps.old }
+    requires { IsTrue (lines.are_clock_times (lines.sums start_s steps.old)) }
+    ensures { steps.new ≡ lines.sums start_s steps.old }
 {
     let mut before = start_s;
     for i in 0..steps.len() {
@@ -35,7 +35,7 @@ pub(crate) fn add_up(start_s: u32, steps: &mut [u32])
 
 // Whether all times at which steps end that begin at a time can be written as times of day.
 pub(crate) fn are_clock_times(start_s: u32, steps: &[u32]) -> bool
-    ensures { result ≡ spelling.are_clock_times (spelling.sums start_s steps.now) }
+    ensures { result ≡ lines.are_clock_times (lines.sums start_s steps.now) }
 {
     let mut before = start_s;
     for step in steps {

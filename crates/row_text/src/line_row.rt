@@ -1,7 +1,7 @@
 //! Lines to rows.
 ghost use Rattle.std.specs.Prelude.{◌≡◌, ◌++◌, ◌∷◌, [], map, decimal, IfOk, OnOk, IsTrue, Ok, true, ◌==◌, if◌then◌else◌};
 ghost use Rattle.rail_model.specs.declared.items.Item.TheVariants as item;
-ghost use Rattle.row_text.specs.Lines as spelling;
+ghost use Rattle.row_text.specs.Lines as lines;
 ghost use Rattle.row_text.specs.Lines.{read_in};
 ghost use Rattle.row_text.specs.SheetRows.{field};
 ghost use Rattle.row_text.specs.Words.{word_text};
@@ -18,8 +18,8 @@ use std::alloc::Global;
 /// The row that spells a line in version 1 of the rows: where any row spells the line, reading this
 /// one gives it again.
 pub fn spell(alloc: Global, line: &Line) -> Result<Fields, OutOfMemory>
-    ensures row { IfOk result (λ row. row ≡ spelling.row_in 1 line.now) }
-    ensures again { spelling.IsSpelled line.now
+    ensures row { IfOk result (λ row. row ≡ lines.row_in 1 line.now) }
+    ensures again { lines.IsSpelled line.now
         → IfOk result (λ row. read_in 1 row ≡ Ok line.now) }
 {
     spell_in(alloc, 1, line)
@@ -29,9 +29,9 @@ pub fn spell(alloc: Global, line: &Line) -> Result<Fields, OutOfMemory>
 /// sections are times of day, none above 359,999,999 s: `has_times_in` is the test. Where any row
 /// spells the line, reading this one gives it again.
 pub fn spell_in(alloc: Global, version: u32, line: &Line) -> Result<Fields, OutOfMemory>
-    requires { IsTrue (spelling.has_times_in version line.now) }
-    ensures row { IfOk result (λ row. row ≡ spelling.row_in version line.now) }
-    ensures again { spelling.IsSpelled line.now
+    requires { IsTrue (lines.has_times_in version line.now) }
+    ensures row { IfOk result (λ row. row ≡ lines.row_in version line.now) }
+    ensures again { lines.IsSpelled line.now
         → IfOk result (λ row. read_in version row ≡ Ok line.now) }
 {
     let mut row = Fields::new(alloc);
@@ -41,7 +41,7 @@ pub fn spell_in(alloc: Global, version: u32, line: &Line) -> Result<Fields, OutO
 
 /// Whether every time of a line can be written in a version of the rows, as `spell_in` requires.
 pub fn has_times_in(alloc: Global, version: u32, line: &Line) -> Result<bool, OutOfMemory>
-    ensures { IfOk result (λ has. has ≡ spelling.has_times_in version line.now) }
+    ensures { IfOk result (λ has. has ≡ lines.has_times_in version line.now) }
 {
     match line {
         Line::Edit(Edit::Put(item)) => has_item_times_in(alloc, version, item),
@@ -51,7 +51,7 @@ pub fn has_times_in(alloc: Global, version: u32, line: &Line) -> Result<bool, Ou
 }
 
 fn has_item_times_in(alloc: Global, version: u32, item: &Item) -> Result<bool, OutOfMemory>
-    ensures { IfOk result (λ has. has ≡ spelling.has_item_times_in version item.now) }
+    ensures { IfOk result (λ has. has ≡ lines.has_item_times_in version item.now) }
 {
     match item {
         Item::Run(run) if version == 2 => has_clock_times(alloc, run),
@@ -63,7 +63,7 @@ fn has_item_times_in(alloc: Global, version: u32, item: &Item) -> Result<bool, O
 }
 
 fn has_clock_times(alloc: Global, run: &Run) -> Result<bool, OutOfMemory>
-    ensures { IfOk result (λ has. has ≡ spelling.has_clock_times (item.Run run.now)) }
+    ensures { IfOk result (λ has. has ≡ lines.has_clock_times (item.Run run.now)) }
 {
     if run.start_s > GREATEST_CLOCK_S {
         return Ok(false);
@@ -73,8 +73,8 @@ fn has_clock_times(alloc: Global, run: &Run) -> Result<bool, OutOfMemory>
 }
 
 fn push_line(row: &mut Fields, alloc: Global, version: u32, line: &Line) -> Result<(), OutOfMemory>
-    requires { IsTrue (spelling.has_times_in version line.now) }
-    ensures { OnOk result (row.new ≡ row.old ++ spelling.row_in version line.now) }
+    requires { IsTrue (lines.has_times_in version line.now) }
+    ensures { OnOk result (row.new ≡ row.old ++ lines.row_in version line.now) }
 {
     row.push(word_of_line(line).text())?;
     match line {
@@ -88,7 +88,7 @@ fn push_line(row: &mut Fields, alloc: Global, version: u32, line: &Line) -> Resu
 
 // The word that the row of a line begins with.
 fn word_of_line(line: &Line) -> Word
-    ensures { word_text result ≡ field (spelling.row_in 1 line.now) 0 }
+    ensures { word_text result ≡ field (lines.row_in 1 line.now) 0 }
 {
     match line {
         Line::Edit(Edit::Put(item)) => Word::Put(kind_of_item(item)),
@@ -100,7 +100,7 @@ fn word_of_line(line: &Line) -> Word
 }
 
 fn kind_of_item(item: &Item) -> Kind
-    ensures { result ≡ spelling.kind_of_item item.now }
+    ensures { result ≡ lines.kind_of_item item.now }
 {
     match item {
         Item::Block(_) => Kind::Block,
@@ -113,8 +113,8 @@ fn kind_of_item(item: &Item) -> Kind
 }
 
 fn push_item(row: &mut Fields, alloc: Global, version: u32, item: &Item) -> Result<(), OutOfMemory>
-    requires { version ≡ 2 → IsTrue (spelling.has_clock_times item.now) }
-    ensures { OnOk result (row.new ≡ row.old ++ spelling.item_fields version item.now) }
+    requires { version ≡ 2 → IsTrue (lines.has_clock_times item.now) }
+    ensures { OnOk result (row.new ≡ row.old ++ lines.item_fields version item.now) }
 {
     match item {
         Item::Block(block) => {
@@ -144,7 +144,7 @@ fn push_signal(
     signal: &Signal,
 ) -> Result<(), OutOfMemory>
     ensures { OnOk result (row.new
-        ≡ row.old ++ spelling.item_fields version (item.Signal signal.now)) }
+        ≡ row.old ++ lines.item_fields version (item.Signal signal.now)) }
 {
     let parts = [
         Part::Name(&signal.name),
@@ -159,15 +159,15 @@ fn push_signal(
 }
 
 fn push_route(row: &mut Fields, route: &Route) -> Result<(), OutOfMemory>
-    ensures { OnOk result (row.new ≡ row.old ++ spelling.item_fields 1 (item.Route route.now)) }
+    ensures { OnOk result (row.new ≡ row.old ++ lines.item_fields 1 (item.Route route.now)) }
 {
     row.push(route.name.bytes())?;
     push_names(row, route.signals.slice())
 }
 
 fn push_run(row: &mut Fields, alloc: Global, version: u32, run: &Run) -> Result<(), OutOfMemory>
-    requires { version ≡ 2 → IsTrue (spelling.has_clock_times (item.Run run.now)) }
-    ensures { OnOk result (row.new ≡ row.old ++ spelling.item_fields version (item.Run run.now)) }
+    requires { version ≡ 2 → IsTrue (lines.has_clock_times (item.Run run.now)) }
+    ensures { OnOk result (row.new ≡ row.old ++ lines.item_fields version (item.Run run.now)) }
 {
     let parts = [
         Part::Name(&run.name),
@@ -183,9 +183,9 @@ fn push_run(row: &mut Fields, alloc: Global, version: u32, run: &Run) -> Result<
 
 // The times after a run's start, as a row in a version has them.
 fn run_times(alloc: Global, version: u32, run: &Run) -> Result<Vec<u32>, OutOfMemory>
-    requires { version ≡ 2 → IsTrue (spelling.has_clock_times (item.Run run.now)) }
+    requires { version ≡ 2 → IsTrue (lines.has_clock_times (item.Run run.now)) }
     ensures { IfOk result (λ times. times.items
-        ≡ spelling.run_times version run.now.start_s run.now.legs) }
+        ≡ lines.run_times version run.now.start_s run.now.legs) }
 {
     let mut times = leg_times(alloc, run.legs.slice())?.into_vec();
     if version == 2 {
@@ -201,7 +201,7 @@ fn push_section(
     section: &Section,
 ) -> Result<(), OutOfMemory>
     ensures { OnOk result (row.new
-        ≡ row.old ++ spelling.item_fields version (item.Section section.now)) }
+        ≡ row.old ++ lines.item_fields version (item.Section section.now)) }
 {
     let parts = [
         Part::Name(&section.name),
@@ -227,7 +227,7 @@ fn push_parts(
     version: u32,
     parts: &[Part<'_>],
 ) -> Result<(), OutOfMemory>
-    ensures { OnOk result (row.new ≡ row.old ++ map (spelling.part_text version) parts.now) }
+    ensures { OnOk result (row.new ≡ row.old ++ map (lines.part_text version) parts.now) }
 {
     for part in parts {
         push_part(row, alloc, version, part)?;
@@ -241,7 +241,7 @@ fn push_part(
     version: u32,
     part: &Part<'_>,
 ) -> Result<(), OutOfMemory>
-    ensures { OnOk result (row.new ≡ row.old ++ spelling.part_text version part.now ∷ []) }
+    ensures { OnOk result (row.new ≡ row.old ++ lines.part_text version part.now ∷ []) }
 {
     match part {
         Part::Name(name) => row.push(name.bytes()),
@@ -265,7 +265,7 @@ fn push_times(
     version: u32,
     times: &[u32],
 ) -> Result<(), OutOfMemory>
-    ensures { OnOk result (row.new ≡ row.old ++ map (spelling.time_text version) times.now) }
+    ensures { OnOk result (row.new ≡ row.old ++ map (lines.time_text version) times.now) }
 {
     for time in times {
         push_time(row, alloc, version, *time)?;
@@ -274,7 +274,7 @@ fn push_times(
 }
 
 fn push_time(row: &mut Fields, alloc: Global, version: u32, time: u32) -> Result<(), OutOfMemory>
-    ensures { OnOk result (row.new ≡ row.old ++ spelling.time_text version time ∷ []) }
+    ensures { OnOk result (row.new ≡ row.old ++ lines.time_text version time ∷ []) }
 {
     if version != 2 {
         return push_number(row, time);

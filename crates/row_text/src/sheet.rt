@@ -54,7 +54,7 @@ impl Sheet {
     }
 
     /// Asks for room for so many bytes more, so that the text needn't be moved while it grows. The
-    /// sheet stays as it is, also where memory runs out.
+    /// sheet stays as it is, also where memory runs out. No clause says that the room is there.
     pub fn reserve(&mut self, more: usize) -> Result<(), OutOfMemory>
         ensures { self.new ≡ self.old }
     {

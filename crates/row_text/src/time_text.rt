@@ -1,6 +1,6 @@
 //! Times in the fields that are written.
 ghost use Rattle.std.specs.Prelude.{◌≡◌, ◌<◌, ◌≤◌, ◌++◌, ◌∷◌, IfOk, OnOk, if◌then◌else◌};
-ghost use Rattle.row_text.specs.Lines as spelling;
+ghost use Rattle.row_text.specs.Lines as lines;
 
 use itoa::Buffer;
 use rail_model::OutOfMemory;
@@ -11,7 +11,7 @@ pub const GREATEST_CLOCK_S: u32 = 359_999_999;
 
 // HOURS:MM:SS
 pub(crate) fn clock_text(alloc: Global, seconds: u32) -> Result<Vec<u8>, OutOfMemory>
-    ensures { IfOk result (λ text. text.items ≡ spelling.clock_text seconds) }
+    ensures { IfOk result (λ text. text.items ≡ lines.clock_text seconds) }
 {
     let mut text = Vec::new(alloc);
     let hours = seconds / 3600;
@@ -26,7 +26,7 @@ pub(crate) fn clock_text(alloc: Global, seconds: u32) -> Result<Vec<u8>, OutOfMe
 
 fn push_after_colon(text: &mut Vec<u8>, n: u32) -> Result<(), OutOfMemory>
     requires { n < 100 }
-    ensures { OnOk result (text.new.items ≡ text.old.items ++ (58 ∷ spelling.two_digits n)) }
+    ensures { OnOk result (text.new.items ≡ text.old.items ++ (58 ∷ lines.two_digits n)) }
 {
     let more = [b':', b'0' + (n / 10) as u8, b'0' + (n % 10) as u8];
     text.extend_from_slice(&more)?;

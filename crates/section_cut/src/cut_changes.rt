@@ -1,7 +1,7 @@
 //! What an edit makes of the cuts of a line's sections.
 ghost use Rattle.std.specs.Prelude.{◌≡◌, ◌≢◌, ◌↔◌, All, IsTrue, IfOk, IfSome, OnOk, OnErr, Some, None, option_map};
 ghost use Rattle.std.specs.Option.{option_copied};
-ghost use Rattle.rail_model.specs.Rules as edits;
+ghost use Rattle.rail_model.specs.Rules as rules;
 ghost use Rattle.rail_model.specs.Conflict.{timetable};
 ghost use Rattle.plan_model.specs.Cut.{stamped, IsSoundCut, cut_of};
 ghost use Rattle.section_cut.specs.Change.{IsChange, IsCutAfter, HasPlace, with_row};
@@ -79,7 +79,7 @@ impl<'a> CutChanges<'a> {
         after: &'a LineTables,
         edit: &Edit,
     ) -> Result<CutChanges<'a>, OutOfMemory>
-        requires { after.now ≡ edits.after before.now edit.now }
+        requires { after.now ≡ rules.after before.now edit.now }
         ensures { IfOk result
             (λ changes. changes ≡ record { before = before.now; after = after.now }) }
     {
@@ -337,7 +337,7 @@ pub fn cut_change(
     edit: &Edit,
     number: u64,
 ) -> Result<bool, OutOfMemory>
-    requires after { after.now ≡ edits.after before.now edit.now }
+    requires after { after.now ≡ rules.after before.now edit.now }
     requires cut { cut_of before.now section.now ≡ option_map (stamped 0) cut.old }
     ensures touched { IfOk result (λ touched. IsTrue touched
         ↔ (cut_of after.now section.now ≢ cut_of before.now section.now)) }
@@ -360,7 +360,7 @@ fn change_of(
     section: &Name,
     number: u64,
 ) -> Result<CutChange, OutOfMemory>
-    requires after { both.after.now ≡ edits.after both.before.now edit.now }
+    requires after { both.after.now ≡ rules.after both.before.now edit.now }
     requires cut { cut_of both.before.now section.now ≡ option_map (stamped 0) (option_copied cut) }
     ensures { IfOk result (IsChange (cut_of both.entry.before.now section.now)
         (cut_of both.entry.after.now section.now) number (option_copied cut.entry)) }

@@ -6,7 +6,7 @@
 //! where only the minimum changes. A put or drop of a block, a signal or a route reaches none, and a
 //! change of one reaches the rows of the runs that pass it.
 ghost use Rattle.std.specs.Prelude.{◌≡◌, ◌≢◌, true, false, All, IfOk, Some, None};
-ghost use Rattle.rail_model.specs.Rules as edits;
+ghost use Rattle.rail_model.specs.Rules as rules;
 ghost use Rattle.section_cut.specs.EditedConnection.{connection_edited};
 ghost use Rattle.section_cut.specs.ReachedRuns.{KeepsBlocks, AreReachedRuns};
 ghost use Rattle.section_cut.specs.Reach.{IsReach, IsRowReach, ReachesNoRun, section_edited};
@@ -57,7 +57,7 @@ pub(crate) fn reach_of(
     after: &LineTables,
     edit: &Edit,
 ) -> Result<Reach, OutOfMemory>
-    requires { after.now ≡ edits.after before.now edit.now }
+    requires { after.now ≡ rules.after before.now edit.now }
     ensures { IfOk result (IsReach before.now after.now) }
 {
     if let Some(name) = section_edited(edit) {
@@ -84,7 +84,7 @@ pub(crate) fn reach_of(
 
 // What rows the edit of the connection of a name can reach.
 fn reach_of_connection(before: &LineTables, after: &LineTables, edit: &Edit, name: Name) -> RowReach
-    requires after { after.now ≡ edits.after before.now edit.now }
+    requires after { after.now ≡ rules.after before.now edit.now }
     requires name { connection_edited edit.now ≡ Some name }
     ensures { IsRowReach before.now after.now result }
 {

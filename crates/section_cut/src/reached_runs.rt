@@ -14,7 +14,7 @@ ghost use Rattle.section_cut.specs.RowsAfter.{AreBeside, AllStay, AreRowsAfter, 
 ghost use Rattle.section_cut.specs.Stamps.{AreBefore, IsReached};
 ghost use Rattle.line_tables.specs.Passing.{passes_block, passes_signal};
 ghost use Rattle.rail_model.specs.declared.items.Run.{Run};
-ghost use Rattle.rail_model.specs.Rules as edits;
+ghost use Rattle.rail_model.specs.Rules as rules;
 ghost use Rattle.rail_model.specs.Name.{NamesRise};
 ghost use Rattle.rail_model.specs.Blocking.{Fits, stair_of};
 ghost use Rattle.section_cut.specs.ReachedRuns as reached;
@@ -52,7 +52,7 @@ pub(crate) fn reached_runs(
     after: &LineTables,
     edit: &Edit,
 ) -> Result<Vec<Option<TimedStair>>, OutOfMemory>
-    requires after { after.now ≡ edits.after before.now edit.now }
+    requires after { after.now ≡ rules.after before.now edit.now }
     requires keeps { KeepsBlocks edit.now }
     requires same { IsSameTraffic before.now after.now }
     ensures { IfOk result (λ stairs. AreReachedRuns before.now after.now stairs.items) }

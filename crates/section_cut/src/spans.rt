@@ -65,7 +65,7 @@ impl BlockLists {
 }
 
 // The number of the list of the blocks of these uses, which is put behind the others where it isn't
-// there and they are few.
+// there and they are few. `None` says nothing: then the stairway has no span.
 fn number_in(
     lists: &mut Vec<List<u32>>,
     alloc: Global,
@@ -85,7 +85,7 @@ fn number_in(
     Ok(Some(count))
 }
 
-// The number of the list of the blocks of these uses, if it is there.
+// The number of the list of the blocks of these uses, if it is there. `None` says nothing.
 fn list_of(lists: &[List<u32>], uses: &[Use]) -> Option<usize>
     ensures { IfSome result (IsOver lists.now uses.now) }
 {
@@ -97,7 +97,7 @@ fn list_of(lists: &[List<u32>], uses: &[Use]) -> Option<usize>
     None
 }
 
-// Whether uses are over these blocks, in their order.
+// Whether uses are over these blocks, in their order. `false` says nothing.
 fn is_over(uses: &[Use], list: &[u32]) -> bool
     ensures { result ≡ true → list.now ≡ blocks_of uses.now }
 {

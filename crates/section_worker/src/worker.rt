@@ -84,7 +84,7 @@ impl Worker {
     /// One turn: reads the next section of the share, works out its answer between two calls of the
     /// board, and publishes it, unless a later edit touches the section or it is current already.
     /// Where the share is current nothing is read. The gate is passed after a reading and before
-    /// its publication.
+    /// its publication, of which no clause speaks.
     ///
     /// Of a section that was answered before at most the uses of those rows are taken that aren't
     /// kept with their name and stamp. Without memory nothing is added, and of the section that was

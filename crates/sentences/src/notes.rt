@@ -12,7 +12,8 @@ use plan_model::Cut;
 use rail_model::{Hop, Name, OutOfMemory, Section, Use};
 use std::alloc::Global;
 
-/// What is told of a section's cut beside its answer.
+/// What is told of a section's cut beside its answer. Its clause holds of every `Told`: no clause
+/// says what the lines say.
 pub fn told_of_cut(alloc: Global, tables: &LineTables, cut: &Cut) -> Told
     ensures { is_plain result ≡ true }
 {

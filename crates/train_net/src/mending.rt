@@ -61,7 +61,7 @@ pub fn mend(
 }
 
 // Whether the later cut has as many members as the earlier one, and each that is kept has the
-// position that it had.
+// position that it had. `false` says nothing: an order is then looked for.
 fn stand_as_before(cut: &SoundCut, net: &Net, origin: &[Option<u32>]) -> bool
     ensures { IsTrue result → StandAsBefore cut.now origin.now net.now }
 {
@@ -71,7 +71,7 @@ fn stand_as_before(cut: &SoundCut, net: &Net, origin: &[Option<u32>]) -> bool
         && keep_positions(origin)
 }
 
-// Whether each member that is kept has the position that it had.
+// Whether each member that is kept has the position that it had. `false` says nothing.
 fn keep_positions(origin: &[Option<u32>]) -> bool
     ensures { IsTrue result → KeepPositions origin.now }
 {
@@ -92,7 +92,7 @@ fn keeps_position(old: Option<u32>, i: usize) -> bool
     }
 }
 
-// The net with this order, if there is one.
+// The net with this order, if there is one. `None` says nothing.
 fn mended_in(
     alloc: Global,
     cut: &SoundCut,
@@ -279,7 +279,7 @@ fn edges_anew(
     }
 }
 
-// The edges to who stands at a position, made anew, if it follows its nearest.
+// The edges to who stands at a position, made anew, if it follows its nearest. `None` says nothing.
 fn edges_at(
     alloc: Global,
     cut: &SoundCut,

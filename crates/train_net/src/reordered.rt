@@ -75,7 +75,8 @@ fn stands(
 }
 
 // By the members' positions, the place at which each stands in the order, and 0 for one that
-// doesn't.
+// doesn't. No clause says so, nor which slot a member gets below: the order that comes of it is
+// looked at by `agrees`.
 fn places_in(alloc: Global, before: &[u32], count: usize) -> Result<Vec<u64>, OutOfMemory> {
     let mut places = vec![in alloc; 0u64; count]?;
     for (place, member) in before.iter().enumerate() {

@@ -53,7 +53,8 @@ fn members_of(alloc: Global, moments: &[Moment]) -> Result<Vec<u32>, OutOfMemory
 }
 
 // Whether a member's starts by some uses come after the last ones of their places. They are the
-// last ones from then on, up to the first that doesn't.
+// last ones from then on, up to the first that doesn't. `false` says nothing: the member is then
+// taken for one out of turn.
 pub(crate) fn come_last(last: &mut [Moment], member: u32, uses: &[Use]) -> bool
     requires { All (λ u. u.block < length last.old) uses.now }
     ensures count { length last.new ≡ length last.old }

@@ -70,7 +70,7 @@ impl MemberSet {
         self.first_after(place)
     }
 
-    // Whether it has no member below a number.
+    // Whether it has no member below a number. `false` says nothing: the caller looks further.
     pub(crate) fn is_above(&self, count: u32) -> bool
         ensures { IsTrue result → (k : ℕ) → k < count → holds self.now.words k ≡ false }
     {

@@ -64,7 +64,7 @@ fn answer_by_turn(
 }
 
 // The order, where no member is out of turn along it; else that two trains are opposite, if it is
-// so.
+// so. `None` says nothing: the slow way follows.
 fn by_turn(
     alloc: Global,
     cut: &SoundCut,

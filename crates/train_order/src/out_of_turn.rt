@@ -36,7 +36,7 @@ pub(crate) fn out_of_turn(
 }
 
 // The members that are out of turn along an order, if they are few: each starts somewhere before
-// one that stands before it. The table has a moment for each place.
+// one that stands before it. The table has a moment for each place. `None` says nothing.
 fn few_out_of_turn(cut: &SoundCut, positions: &[u32], last: &mut [Moment]) -> Option<MemberSet>
     requires few { member_count cut.now ≤ MEMBERS }
     requires once { IsPermutation (members cut.now) positions.now }
