@@ -83,8 +83,10 @@ impl LineTables {
             &mut self.signal_uses,
             &mut self.route_sets,
             key,
-            KeptRoute::of(self.alloc, route)?,
-            found,
+            FoundRoute {
+                route: KeptRoute::of(self.alloc, route)?,
+                signals: found,
+            },
         )?;
         Ok(Ok(()))
     }
@@ -139,6 +141,13 @@ impl LineTables {
     }
 }
 
+// A route, with what was found of its signals.
+#[derive(Drop)]
+struct FoundRoute {
+    route: KeptRoute,
+    signals: RouteSignals,
+}
+
 // Puts a route in the place of the one under a key, and counts its signals in place of those of
 // that one. Its key goes out of the sets of those and of their blocks, and into those of its own.
 // Without memory all stays.
@@ -148,35 +157,34 @@ fn swap_route(
     uses: &mut KeyCounts,
     sets: &mut RouteSets,
     key: usize,
-    route: KeptRoute,
-    found: RouteSignals,
+    found: FoundRoute,
 ) -> Result<(), OutOfMemory>
-    requires same_name { option_map (λ e. e.item.name) (under routes.old key) ≡ Some route.name }
+    requires same_name { option_map (λ e. e.item.name) (under routes.old key) ≡ Some found.route.name }
     requires counted_before { (e : Linked Route) (k : ℕ) → under routes.old key ≡ Some e
         → times k e.refs ≤ count_of uses.old k }
     requires there { (e : Linked Route) → under routes.old key ≡ Some e → All (IsKey signals.now) e.refs }
     requires one { All (λ e. length e.1.refs ≡ 1) signals.now }
     ensures changed { OnOk result
-        (routes.new ≡ with_change routes.old key (record { item = route; refs = found.keys })) }
+        (routes.new ≡ with_change routes.old key (record { item = found.route; refs = found.signals.keys })) }
     ensures counted { OnOk result ((e : Linked Route) (k : ℕ) → under routes.old key ≡ Some e
-        → count_of uses.new k + times k e.refs ≡ count_of uses.old k + times k found.keys) }
+        → count_of uses.new k + times k e.refs ≡ count_of uses.old k + times k found.signals.keys) }
     ensures signals { OnOk result ((e : Linked Route) → under routes.old key ≡ Some e
-        → IsChangedAt (λ q. q) e.refs (λ q. q) found.keys key sets.old.of_signals sets.new.of_signals) }
+        → IsChangedAt (λ q. q) e.refs (λ q. q) found.signals.keys key sets.old.of_signals sets.new.of_signals) }
     ensures blocks { OnOk result ((e : Linked Route) → under routes.old key ≡ Some e
-        → IsChangedAt (block_of signals.now) e.refs (λ q. q) found.blocks key sets.old.of_blocks sets.new.of_blocks) }
+        → IsChangedAt (block_of signals.now) e.refs (λ q. q) found.signals.blocks key sets.old.of_blocks sets.new.of_blocks) }
     ensures kept { OnErr result (routes.new ≡ routes.old) }
     ensures kept_counts { OnErr result (SameCounts uses.old uses.new) }
     ensures kept_signals { OnErr result (SameSets sets.old.of_signals sets.new.of_signals) }
     ensures kept_blocks { OnErr result (SameSets sets.old.of_blocks sets.new.of_blocks) }
 {
-    uses.make_room(found.keys.slice())?;
+    uses.make_room(found.signals.keys.slice())?;
     sets.change(
         signals,
         routes.get(key).refs.slice(),
-        found.keys.slice(),
-        found.blocks.slice(),
+        found.signals.keys.slice(),
+        found.signals.blocks.slice(),
         key,
     )?;
-    swap_linked(routes, uses, key, route, found.keys);
+    swap_linked(routes, uses, key, found.route, found.signals.keys);
     Ok(())
 }

@@ -22,6 +22,15 @@ use plan_model::SoundCut;
 use rail_model::{List, OutOfMemory, Use};
 use std::alloc::Global;
 
+// The edges of a net of an earlier cut, by the positions that its members had; where each member of
+// the later cut stood in that one, if it is kept; and, by its position there, where it stands now.
+#[derive(Clone, Copy)]
+struct EarlierNet<'a> {
+    edges: &'a EdgeLists,
+    origin: &'a [Option<u32>],
+    now: &'a [Option<u32>],
+}
+
 /// The net of a later cut, made of the net of an earlier one, if it can be: the members have an
 /// order then. `origin` has, for each member of the later cut, where it stood in the earlier one if
 /// it is kept.
@@ -106,7 +115,12 @@ fn mended_in(
     requires now { AreNow origin.now now.now }
     ensures { IfOk result (λ r. IfSome r (MendsIn cut.now origin.now net.now order)) }
 {
-    match edges_in(alloc, cut, order.slice(), &net.edges, origin, now)? {
+    let earlier = EarlierNet {
+        edges: &net.edges,
+        origin,
+        now,
+    };
+    match edges_in(alloc, cut, order.slice(), earlier)? {
         Some(edges) => Ok(Some(Net { order, edges })),
         None => Ok(None),
     }
@@ -156,15 +170,14 @@ fn edges_in(
     alloc: Global,
     cut: &SoundCut,
     order: &[u32],
-    old: &EdgeLists,
-    origin: &[Option<u32>],
-    now: &[Option<u32>],
+    earlier: EarlierNet<'_>,
 ) -> Result<Option<EdgeLists>, OutOfMemory>
     requires there { All (λ i. i < member_count cut.now) order.now }
-    ensures { IfOk result (λ r. IfSome r (AreAllMended cut.now origin.now now.now order.now old.now)) }
+    ensures { IfOk result (λ r. IfSome r (AreAllMended cut.now earlier.entry.origin.now
+        earlier.entry.now.now order.now earlier.entry.edges.now)) }
 {
-    let marks = marks_after_fresh(alloc, cut, order, origin)?;
-    remade(alloc, cut, order, old, origin, now, &marks)
+    let marks = marks_after_fresh(alloc, cut, order, earlier.origin)?;
+    remade(alloc, cut, order, earlier, &marks)
 }
 
 // The edges to each member, in an order, where those that stand nearest after a fresh one are
@@ -173,19 +186,18 @@ fn remade(
     alloc: Global,
     cut: &SoundCut,
     order: &[u32],
-    old: &EdgeLists,
-    origin: &[Option<u32>],
-    now: &[Option<u32>],
+    earlier: EarlierNet<'_>,
     marks: &[bool],
 ) -> Result<Option<EdgeLists>, OutOfMemory>
     requires there { All (λ i. i < member_count cut.now) order.now }
     requires marks { length marks.now ≡ member_count cut.now }
-    ensures { IfOk result (λ r. IfSome r (AreRemadeUpto cut.now origin.now now.now marks.now order.now old.now (member_count cut.now))) }
+    ensures { IfOk result (λ r. IfSome r (AreRemadeUpto cut.now earlier.entry.origin.now
+        earlier.entry.now.now marks.now order.now earlier.entry.edges.now (member_count cut.now))) }
 {
     let mut edges = EdgeLists::with_room(alloc, cut.member_count() as usize)?;
     let mut kept = Vec::new(alloc);
     for member in 0..cut.member_count() {
-        if keep_edges(old, origin, now, marks, member, &mut kept)? {
+        if keep_edges(earlier, marks, member, &mut kept)? {
             edges.push(&kept)?;
             continue;
         }
@@ -200,25 +212,24 @@ fn remade(
 // Puts into `kept` the edges that a member had, if it may keep them: it isn't marked, and is kept,
 // and so are all members from which it had an edge. `false` says nothing: they are made anew.
 fn keep_edges(
-    old: &EdgeLists,
-    origin: &[Option<u32>],
-    now: &[Option<u32>],
+    earlier: EarlierNet<'_>,
     marks: &[bool],
     member: u32,
     kept: &mut Vec<Edge>,
 ) -> Result<bool, OutOfMemory>
     requires { member < length marks.now }
     ensures { IfOk result (λ keeps. IsTrue keeps
-        → AreMoved origin.now now.now marks.now old.now member kept.new.items) }
+        → AreMoved earlier.entry.origin.now earlier.entry.now.now marks.now earlier.entry.edges.now
+        member kept.new.items) }
 {
     if marks[member as usize] {
         return Ok(false);
     }
-    match position_of(origin, member) {
+    match position_of(earlier.origin, member) {
         Some(before) => {
             let at = before as usize;
-            if at < old.len() {
-                move_edges(old.of(at), now, kept)
+            if at < earlier.edges.len() {
+                move_edges(earlier.edges.of(at), earlier.now, kept)
             } else {
                 Ok(false)
             }

@@ -33,15 +33,14 @@ pub fn plan_by(alloc: Global, cut: &FitCut, net: &Net) -> Result<Plan, OutOfMemo
 {
     let last = last_users(alloc, cut.sound(), net.order.slice())?;
     let placing = placing(alloc, cut, net, &last)?;
-    let (time, busiest) = occupied(alloc, cut, net, &placing.entries, &last)?;
+    let kept = occupied(alloc, cut, net, &placing.entries, &last)?;
     plan_of_occupied(
         alloc,
         cut,
         &placing.entries,
         &placing.ties,
         &placing.last,
-        time,
-        busiest,
+        kept,
     )
 }
 

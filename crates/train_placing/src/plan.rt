@@ -28,12 +28,12 @@ pub fn plan_of_placed(
     ensures compressed { IfOk result (λ plan. IsCompressed cut.now plan) }
     ensures bounded { IfOk result (λ plan. HasBoundedTimes cut.now plan) }
 {
-    let (time, busiest) = occupancy(cut.sound().cut(), entries);
-    plan_of_occupied(alloc, cut, entries, ties, last, time, busiest)
+    let kept = occupancy(cut.sound().cut(), entries);
+    plan_of_occupied(alloc, cut, entries, ties, last, kept)
 }
 
 /// The plan of trains that are placed, none before the window, where the occupancy time, in
-/// seconds, and the position of the busiest block are known.
+/// seconds, and the position of the busiest block are known (`kept`).
 ///
 /// Entries and ties are by the trains' positions, last uses by the places' positions.
 pub fn plan_of_occupied(
@@ -42,13 +42,12 @@ pub fn plan_of_occupied(
     entries: &[i64],
     ties: &[Tie],
     last: &[Option<Last>],
-    time: u64,
-    busiest: Option<u32>,
+    kept: (u64, Option<u32>),
 ) -> Result<Plan, OutOfMemory>
     requires none { remaining cut.now ≡ [] }
     requires placed { AreAllPlaced cut.now entries.now ties.now last.now }
-    requires time { time ≡ occupied.occupancy cut.now entries.now }
-    requires busiest { busiest ≡ occupied.busiest cut.now entries.now }
+    requires time { kept.0 ≡ occupied.occupancy cut.now entries.now }
+    requires busiest { kept.1 ≡ occupied.busiest cut.now entries.now }
     ensures compressed { IfOk result (λ plan. IsCompressed cut.now plan) }
     ensures bounded { IfOk result (λ plan. HasBoundedTimes cut.now plan) }
 {
@@ -56,6 +55,7 @@ pub fn plan_of_occupied(
     let places = sound.place_names(alloc)?;
     let placed = placed(alloc, sound.rows(), entries, ties)?;
     let section = &sound.cut().section;
+    let (time, busiest) = kept;
     Ok(Plan {
         from_s: section.from_s,
         to_s: section.to_s,

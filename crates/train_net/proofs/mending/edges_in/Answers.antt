@@ -10,10 +10,10 @@ use Rattle.train_net.proofs.mending.edges_in.Goals as goal
 pub returns : goal.returns
 returns c =
     let cut = c.args.cut.now in
-    let origin = c.args.origin.now in
-    let now = c.args.now.now in
+    let origin = c.args.earlier.origin.now in
+    let now = c.args.earlier.now.now in
     let order = c.args.order.now in
-    let old = c.args.old.now in
+    let old = c.args.earlier.edges.now in
     let marks = c.deref.result.now in
     IfOk-weaker c.remade.result (λ r. IfSome r (AreRemadeUpto cut origin now marks order old (member_count cut)))
     (λ r. IfSome r (AreAllMended cut origin now order old))

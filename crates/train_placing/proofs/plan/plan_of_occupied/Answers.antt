@@ -13,7 +13,7 @@ critical-requires c =
     let sound = c.sound-sound.ensures.sound in
     let at = c.requires.placed in
     busiest_below cut at.0 c.args.entries.now c.args.ties.now c.args.last.now sound c.sound-sound.ensures.few at.1 at.2
-    c.args.busiest c.requires.busiest
+    c.args.kept.1 c.requires.busiest
 
 pub returns : goal.returns
 returns c =
@@ -31,7 +31,7 @@ returns c =
     ∙ ap (λ (rs : List CutRow). map (placed_with rs entries ties) (range_with_len 0 (length rs))) rows in
     let is =
     plan_is cut at.0 entries ties last sound few at.1 at.2 c.cut.result.now c.in_ok-places.places c.in_ok-placed.placed
-    c.args.time c.args.busiest c.critical.result (c.cut.ensures.cut ∙ same) (c.in_ok-places.ensures ∙ ap place_names same)
+    c.args.kept.0 c.args.kept.1 c.critical.result (c.cut.ensures.cut ∙ same) (c.in_ok-places.ensures ∙ ap place_names same)
     trains c.requires.time c.requires.busiest c.critical.ensures in
     record {
       compressed = compressed cut at.0 entries ties last sound few at.1 at.2 _ c.requires.none is;
