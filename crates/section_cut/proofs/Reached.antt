@@ -1,5 +1,5 @@
--- What an edit of a run leaves of tables.
-use Rattle.std.proofs.Common.{◌≡◌, ℕ, List, Option, Some, None, refl, sym, ap, ◌∙◌, subst}
+-- What an edit of a run, a section or a connection leaves of tables.
+use Rattle.std.proofs.Common.{◌≡◌, ℕ, List, Option, Some, refl, sym, ap, ◌∙◌, subst}
 use Rattle.std.specs.Prelude.{find, option_map}
 use Rattle.rail_model.specs.declared.items.Run.{Run}
 use Rattle.rail_model.specs.declared.items.Section.{Section}
@@ -20,9 +20,7 @@ use Rattle.rail_model.specs.declared.items.Connection.{Connection}
 use Rattle.section_cut.specs.declared.one_connection.EditedConnection.{EditedConnection}
 use Rattle.section_cut.specs.EditedConnection.{connection_of_item, connection_of_kind, connection_edited, IsEditedConnection}
 use Rattle.section_cut.specs.OneRun.{run_of_item, run_of_kind, run_edited, before, behind, IsOneRun}
-use Rattle.section_cut.specs.declared.reach.RowReach.{RowReach}
-use Rattle.section_cut.specs.declared.reach.RowReach.TheVariants as rows
-use Rattle.section_cut.specs.Reach.{section_of_item, section_of_kind, section_edited, IsOneSection, IsRowReach}
+use Rattle.section_cut.specs.Reach.{section_of_item, section_of_kind, section_edited, IsOneSection}
 use Rattle.section_cut.proofs.Around.{found_still, put_front, put_back, change_front, change_back, drop_front, drop_back}
 
 -- all but the run of a name stays
@@ -183,22 +181,3 @@ pub one_connection : (earlier later : Tables) (x : Edit) (edited : EditedConnect
 one_connection earlier later x edited is named found =
     let stay = subst (λ (t : Tables). OtherConnectionsStay earlier t edited.name) (sym is) (connection_after earlier edited.name x named) in
     record { others = stay.same; front = stay.front; back = stay.back; after = found }
-
--- ---- an edit that leaves the sections
-
-missing_stays : (earlier later : Tables) (name : List ℕ) → later.sections ≡ earlier.sections → cut_of earlier name ≡ None → cut_of later name ≡ cut_of earlier name
-missing_stays earlier later name same none =
-    ap (λ ss. option_map (section_cut later) (find (λ (s : Section). is_same s.name name) ss)) same ∙ by_found (find (λ (s : Section). is_same s.name name) earlier.sections) none
-  where
-    by_found : (found : Option Section) → option_map (section_cut earlier) found ≡ None → option_map (section_cut later) found ≡ option_map (section_cut earlier) found
-    by_found None e = refl
-    by_found (Some s) e = absurd (cc)
-
--- a section that isn't there before it isn't there after it
-pub none_stays : (earlier later : Tables) (name : List ℕ) (reach : RowReach) → IsRowReach earlier later reach → cut_of earlier name ≡ None
-    → cut_of later name ≡ cut_of earlier name
-none_stays earlier later name rows.Nothing is none = is name
-none_stays earlier later name (rows.Run run) is none = missing_stays earlier later name (ap (λ (t : Tables). t.sections) is.one.others) none
-none_stays earlier later name (rows.Connection edited) is none = missing_stays earlier later name (ap (λ (t : Tables). t.sections) is.others) none
-none_stays earlier later name (rows.Minimum c) is none = missing_stays earlier later name (ap (λ (t : Tables). t.sections) is.others) none
-none_stays earlier later name (rows.Runs runs) is none = missing_stays earlier later name is.stairs.same.sections none
