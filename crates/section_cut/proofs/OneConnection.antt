@@ -17,7 +17,7 @@ use Rattle.plan_model.specs.declared.cut.Cut.{Cut}
 use Rattle.plan_model.specs.Cut.{section_uses, is_member, binds, binding_connections, section_cut}
 use Rattle.section_cut.specs.declared.cut_changes.CutChange.TheVariants as change
 use Rattle.section_cut.specs.declared.cut_changes.StoredCut.{StoredCut}
-use Rattle.section_cut.specs.Stored.{IsStored, IsChangeOf}
+use Rattle.section_cut.specs.Stored.{IsStored, IsChangeOfStored}
 use Rattle.section_cut.specs.Connected.{entry_in, IsOfRuns, TellsEntries}
 use Rattle.section_cut.specs.OneRun.{before, behind}
 use Rattle.section_cut.specs.declared.one_connection.EditedConnection.{EditedConnection}
@@ -71,7 +71,7 @@ module _ {stored : StoredCut} (kept : IsStored stored) where
   s = old.section
 
   module _ (others : later ≡ record earlier { connections = later.connections }) where
-    pub cut_of_stays : binding_connections later s ≡ binding_connections earlier s → IsChangeOf stored change.Untouched
+    pub cut_of_stays : binding_connections later s ≡ binding_connections earlier s → IsChangeOfStored stored change.Untouched
     cut_of_stays binding =
         ap (option_map (section_cut later)) (stored_section kept (ap (λ (t : Tables). t.sections) others))
         ∙ ap Some (cut_stays earlier later others s binding ∙ stored_is kept) ∙ sym kept.is
@@ -123,5 +123,5 @@ module _ {stored : StoredCut} (kept : IsStored stored) where
         ∙ ap (λ xs. filter p front ++ (xs ++ filter p back)) (sym (none_before out (find (λ (c : Connection). is_same c.name n) earlier.connections) refl))
         ∙ sym (parted name p n earlier.connections kept.earlier_sound.connections.names)
 
-    pub untouched : is_named (λ n. n) old.connections edited.name ≡ false → IfSome edited.after (λ c. binds later s c ≡ false) → IsChangeOf stored change.Untouched
+    pub untouched : is_named (λ n. n) old.connections edited.name ≡ false → IfSome edited.after (λ c. binds later s c ≡ false) → IsChangeOfStored stored change.Untouched
     untouched out after = cut_of_stays is.others (binding_kept out after)

@@ -32,7 +32,7 @@ use Rattle.std.proofs.lemmas.List.{get_or_default}
 use Rattle.section_cut.specs.declared.cut_changes.CutChange.{CutChange}
 use Rattle.section_cut.specs.declared.cut_changes.StoredCut.{StoredCut}
 use Rattle.section_cut.specs.Change.{IsChange}
-use Rattle.section_cut.specs.Stored.{IsStored, IsChangeOf}
+use Rattle.section_cut.specs.Stored.{IsStored, IsChangeOfStored}
 use Rattle.section_cut.specs.EditedRun.{IsPut}
 use Rattle.section_cut.specs.OneRun.{before, behind, cut_with, row_of_stair, IsOneRun}
 use Rattle.section_cut.specs.Stamps.{IsReached, IsOwn}
@@ -246,7 +246,7 @@ module _ {stored : StoredCut} (is : IsStored stored) (name : List ℕ) where
         ∙ sym (bare_with name row old))
 
     pub row_changes : (own : Option CutRow) (at : ℕ) → IsReached old.rows name at → IsOwn old.rows name at own
-        → (result : CutChange) → IsPut old at own row result → IsChangeOf stored result
+        → (result : CutChange) → IsPut old at own row result → IsChangeOfStored stored result
     row_changes own at reached own_is result put =
         subst (λ v. IsChange v (cut_of later section) stored.number (Some old) result) (sym is.is)
         (subst (λ v. IsChange (Some (stamped 0 old)) v stored.number (Some old) result) (sym cut_later_is)
@@ -256,7 +256,7 @@ module _ {stored : StoredCut} (is : IsStored stored) (name : List ℕ) where
   -- by an edit of one run, where the same connections bind
   module _ (its : Option Stair) (one : IsOneRun earlier later name its) (bare row : Option CutRow) (bare_is : bare ≡ row_of_stair later old.section stored.number its) (row_is : row ≡ option_map (with_bound later old.section (run_named later name)) bare) (binding : binding_connections later old.section ≡ binding_connections earlier old.section) where
     pub run_changes : (own : Option CutRow) (at : ℕ) → IsReached old.rows name at → IsOwn old.rows name at own
-        → (result : CutChange) → IsPut old at own row result → IsChangeOf stored result
+        → (result : CutChange) → IsPut old at own row result → IsChangeOfStored stored result
     run_changes =
         row_changes (ap (λ (t : Tables). t.sections) one.others) row
         (row_is

@@ -28,7 +28,7 @@ use Rattle.section_cut.specs.Members.{enters, member_row, row_with}
 use Rattle.section_cut.specs.Positions.{uses_in}
 use Rattle.section_cut.specs.declared.cut_changes.CutChange.TheVariants as change
 use Rattle.section_cut.specs.declared.cut_changes.StoredCut.{StoredCut}
-use Rattle.section_cut.specs.Stored.{IsStored, IsChangeOf}
+use Rattle.section_cut.specs.Stored.{IsStored, IsChangeOfStored}
 use Rattle.section_cut.specs.RowsAfter.{AreBeside, AllStay, IsKept, AreRowsAfter, IsOwnOf}
 use Rattle.section_cut.specs.Stamps.{AreBefore, IsReached, IsStamped, IsStampedBy}
 use Rattle.section_cut.specs.ReachedRuns.{IsStairIfReached, AreReachedRuns, IsOwnRow, IsRowAfter, row_after, uses_if_there}
@@ -407,7 +407,7 @@ module _ {stored : StoredCut} (is : IsStored stored) {stairs : List (Option Stai
   count = ap length beside.reached.same.runs
 
   -- ---- where all rows stay, so does the cut
-  pub cut_same : AllStay later stairs s positions old.rows → IsChangeOf stored change.Untouched
+  pub cut_same : AllStay later stairs s positions old.rows → IsChangeOfStored stored change.Untouched
   cut_same stay =
       let entry : (n : ℕ) → n < length earlier.runs → IsKept earlier later s n = λ n l.
       let below : n < length later.runs = omega (arith, l, count) in
@@ -429,7 +429,7 @@ module _ {stored : StoredCut} (is : IsStored stored) {stairs : List (Option Stai
   -- ---- a cut of other rows, and what becomes of the earlier one by it
   pub cut_changes : (made : Cut) → made.section ≡ s → made.connections ≡ old.connections
       → AreRowsAfter earlier later s stored.number old.rows made.rows → (AllStay later stairs s positions old.rows → ⊥)
-      → IsChangeOf stored (change.Touched (Some made))
+      → IsChangeOfStored stored (change.Touched (Some made))
   cut_changes made section connections after changes =
       let binding = kept_binding beside after.kept in
       let now = cut_made made section connections binding after.value in (

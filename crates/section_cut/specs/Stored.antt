@@ -13,6 +13,6 @@ pub record IsStored (stored : StoredCut) : Type 0 where
   pub is : cut_of stored.both.before.now stored.section.now ≡ Some (stamped 0 stored.cut.now)
 
 -- this is what the edit makes of it
-abbrev pub IsChangeOf : StoredCut → CutChange → Type 0
-IsChangeOf stored result =
+abbrev pub IsChangeOfStored : StoredCut → CutChange → Type 0
+IsChangeOfStored stored result =
     IsChange (cut_of stored.both.before.now stored.section.now) (cut_of stored.both.after.now stored.section.now) stored.number (Some stored.cut.now) result

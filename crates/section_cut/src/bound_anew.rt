@@ -8,7 +8,7 @@ ghost use Rattle.rail_model.specs.declared.limits.TheConstants.{PATH_HOPS};
 ghost use Rattle.section_cut.specs.Members.{rows_on_blocks, members_by_run};
 ghost use Rattle.section_cut.specs.RowsAfter.{AreOfMembers};
 ghost use Rattle.section_cut.specs.RowsAfter as bare;
-ghost use Rattle.section_cut.specs.Stored.{IsStored, IsChangeOf};
+ghost use Rattle.section_cut.specs.Stored.{IsStored, IsChangeOfStored};
 
 use crate::connected::block_part;
 use crate::cut_changes::{CutChange, StoredCut, compared};
@@ -30,7 +30,7 @@ pub(crate) fn cut_bound_anew(
     requires stored { IsStored stored }
     requires sections { stored.both.after.now.sections ≡ stored.both.before.now.sections }
     requires members { AreOfMembers stored.both.after.now stored.cut.now.section rows.now }
-    ensures { IfOk result (IsChangeOf stored.entry) }
+    ensures { IfOk result (IsChangeOfStored stored.entry) }
 {
     let old = stored.cut;
     let later = cut_by_rows(alloc, stored.both.after, &old.section, rows, stored.number)?;

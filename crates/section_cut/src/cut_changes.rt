@@ -7,7 +7,7 @@ ghost use Rattle.plan_model.specs.Cut.{stamped, IsSoundCut, cut_of};
 ghost use Rattle.section_cut.specs.Change.{IsChange, IsCutAfter, HasPlace, with_row};
 ghost use Rattle.section_cut.specs.Put.{HasItsPlace, touches, put};
 ghost use Rattle.section_cut.specs.Reach.{IsOneSection, IsRowReach};
-ghost use Rattle.section_cut.specs.Stored.{IsStored, IsChangeOf};
+ghost use Rattle.section_cut.specs.Stored.{IsStored, IsChangeOfStored};
 
 use crate::all_stairways::AllStairways;
 use crate::cuts::{cut_among, cut_of};
@@ -136,7 +136,7 @@ fn cut_after_rows(
 ) -> Result<CutChange, OutOfMemory>
     requires stored { IsStored stored }
     requires reach { IsRowReach stored.both.before.now stored.both.after.now reach.now }
-    ensures { IfOk result (IsChangeOf stored.entry) }
+    ensures { IfOk result (IsChangeOfStored stored.entry) }
 {
     match reach {
         RowReach::Nothing => Ok(CutChange::Untouched),
@@ -205,7 +205,7 @@ fn cut_of_same_rows(alloc: Global, stored: StoredCut<'_>) -> Result<Option<CutCh
     requires stored { IsStored stored }
     requires others { stored.both.after.now
         ≡ record stored.both.before.now { sections = stored.both.after.now.sections } }
-    ensures { IfOk result (λ made. IfSome made (IsChangeOf stored.entry)) }
+    ensures { IfOk result (λ made. IfSome made (IsChangeOfStored stored.entry)) }
 {
     let after = stored.both.after;
     let Some(place) = after.section_number(stored.section) else {
@@ -234,7 +234,7 @@ pub(crate) fn stored_made_anew(
     stored: StoredCut<'_>,
 ) -> Result<CutChange, OutOfMemory>
     requires { IsStored stored }
-    ensures { IfOk result (IsChangeOf stored.entry) }
+    ensures { IfOk result (IsChangeOfStored stored.entry) }
 {
     cut_made_anew(
         alloc,

@@ -7,7 +7,7 @@ ghost use Rattle.rail_model.specs.Name.{NamesRise, is_same};
 ghost use Rattle.section_cut.specs.Connected.{IsOfRuns, TellsEntries};
 ghost use Rattle.section_cut.specs.EditedConnection.{connection_edited, IsEditedConnection, IsMinimumChanged, IsOfSameRuns};
 ghost use Rattle.section_cut.specs.EditedConnection as ends;
-ghost use Rattle.section_cut.specs.Stored.{IsStored, IsChangeOf};
+ghost use Rattle.section_cut.specs.Stored.{IsStored, IsChangeOfStored};
 
 use crate::bound_anew::cut_bound_anew;
 use crate::connected::{binds, place_in, row_named, until};
@@ -85,7 +85,7 @@ pub(crate) fn cut_after_connection(
 ) -> Result<CutChange, OutOfMemory>
     requires stored { IsStored stored }
     requires edited { IsEditedConnection stored.both.before.now stored.both.after.now edited.now }
-    ensures { IfOk result (IsChangeOf stored.entry) }
+    ensures { IfOk result (IsChangeOfStored stored.entry) }
 {
     if place_in(stored.cut.connections.slice(), &edited.name).is_some() {
         return cut_bound_anew(alloc, stored, stored.cut.rows.slice());
@@ -120,7 +120,7 @@ pub(crate) fn cut_after_minimum(
 ) -> Result<CutChange, OutOfMemory>
     requires stored { IsStored stored }
     requires changed { IsMinimumChanged stored.both.before.now stored.both.after.now connection.now }
-    ensures { IfOk result (IsChangeOf stored.entry) }
+    ensures { IfOk result (IsChangeOfStored stored.entry) }
 {
     let old = stored.cut;
     let Some(k) = place_in(old.connections.slice(), &connection.name) else {

@@ -3,7 +3,7 @@
 //! anew.
 ghost use Rattle.std.specs.Prelude.{◌≡◌, ◌<◌, ◌≤◌, true, false, All, length, IfOk, IfSome, Some, filter, find, option_map, insert, remove};
 ghost use Rattle.std.specs.Option.{option_copied};
-ghost use Rattle.section_cut.specs.Stored.{IsStored, IsChangeOf};
+ghost use Rattle.section_cut.specs.Stored.{IsStored, IsChangeOfStored};
 ghost use Rattle.section_cut.specs.Members.{member_row};
 ghost use Rattle.section_cut.specs.OneRun.{run_edited, uses_of_section, PassesBy};
 ghost use Rattle.section_cut.specs.Connected.{joins};
@@ -266,7 +266,7 @@ pub(crate) fn cut_after_run(
 ) -> Result<CutChange, OutOfMemory>
     requires stored { IsStored stored }
     requires edited { IsEditedRun stored.both.before.now stored.both.after.now run.now }
-    ensures { IfOk result (IsChangeOf stored.entry) }
+    ensures { IfOk result (IsChangeOfStored stored.entry) }
 {
     let old = stored.cut;
     let after = stored.both.after;

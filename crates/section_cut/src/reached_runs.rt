@@ -5,7 +5,7 @@ ghost use Rattle.std.specs.Prelude.{◌≡◌, ◌↔◌, ◌<◌, ◌++◌, IsT
 ghost use Rattle.std.specs.Option.{option_to_list, option_copied};
 ghost use Rattle.line_tables.specs.Paths.{paths_of};
 ghost use Rattle.rail_model.specs.Tables.{run_at, path_in};
-ghost use Rattle.section_cut.specs.Stored.{IsStored, IsChangeOf};
+ghost use Rattle.section_cut.specs.Stored.{IsStored, IsChangeOfStored};
 ghost use Rattle.section_cut.specs.Positions.{IsPositions};
 ghost use Rattle.section_cut.specs.ReachedRuns.{IsSameTraffic, KeepsBlocks, IsTold, AreReachedRuns, uses_if_there};
 ghost use Rattle.section_cut.specs.Reach.{AreRunsOf};
@@ -233,7 +233,7 @@ pub(crate) fn cut_after_runs(
 ) -> Result<CutChange, OutOfMemory>
     requires stored { IsStored stored }
     requires runs { AreRunsOf stored.both.before.now stored.both.after.now runs.now }
-    ensures { IfOk result (IsChangeOf stored.entry) }
+    ensures { IfOk result (IsChangeOfStored stored.entry) }
 {
     let section = &stored.cut.section;
     let Some(place) = stored.both.after.section_number(stored.section) else {
@@ -262,7 +262,7 @@ fn cut_by_table(
     requires positions { IsPositions stored.both.after.now table.section.now table.positions.now }
     requires spans { AreSpans table.positions.now (length table.section.now.blocks)
         (map uses_if_there runs.now.stairs.items) table.spans.now }
-    ensures { IfOk result (IsChangeOf stored.entry) }
+    ensures { IfOk result (IsChangeOfStored stored.entry) }
 {
     let old = stored.cut.rows.slice();
     if rows_stay(alloc, stored.both, &runs.stairs, table, old)? {

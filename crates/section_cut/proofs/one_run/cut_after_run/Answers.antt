@@ -14,7 +14,7 @@ use Rattle.plan_model.specs.Cut.{binds, binding_connections}
 use Rattle.section_cut.specs.Connected.{IsOfRuns, TellsEntries, row_beside}
 use Rattle.section_cut.specs.EditedRun.{IsPut, KeepsPlaces}
 use Rattle.section_cut.specs.Stamps.{IsReached, IsOwn}
-use Rattle.section_cut.specs.Stored.{IsChangeOf}
+use Rattle.section_cut.specs.Stored.{IsChangeOfStored}
 use Rattle.section_cut.proofs.BlockPart.{own_blocks_first}
 use Rattle.section_cut.proofs.JoinedRun.{binding_as_listed, entries_told, bare_entry, bare_there, joined_there}
 use Rattle.section_cut.proofs.OneRun.{run_changes}
@@ -118,7 +118,7 @@ returns c =
     let at = c.place_of-at.result in
     let own = option_copied c.own_row-own.result in
     let row = c.in_ok-row-2.row in
-    IfOk-weaker c.with_row.result (IsPut c.args.stored.cut.now at own row) (IsChangeOf c.args.stored)
+    IfOk-weaker c.with_row.result (IsPut c.args.stored.cut.now at own row) (IsChangeOfStored c.args.stored)
     (run_changes c.requires.stored run.name run.stair c.requires.edited.one c.in_ok-row.row row c.in_ok-row.ensures c.in_ok-row-2.ensures
     (binding (goal.at.returns c).Else-not-bind_as_before) own at
     (subst (λ rs. IsReached rs run.name at) c.slice-rows.ensures c.place_of-at.ensures)
