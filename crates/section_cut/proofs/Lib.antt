@@ -54,4 +54,3 @@ mod WholeRow
 pub mod JoinedRuns
 pub mod RowsKept
 pub mod SameRows
-pub mod Putting

@@ -7,7 +7,6 @@ pub mod Bound
 pub mod Connected
 pub mod Change
 pub mod Stored
-pub mod Put
 pub mod Stamps
 pub mod OneRun
 pub mod EditedRun

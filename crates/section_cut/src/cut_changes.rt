@@ -5,7 +5,6 @@ ghost use Rattle.rail_model.specs.Rules as rules;
 ghost use Rattle.rail_model.specs.Conflict.{timetable};
 ghost use Rattle.plan_model.specs.Cut.{stamped, IsSoundCut, cut_of};
 ghost use Rattle.section_cut.specs.Change.{IsChange, IsCutAfter, HasPlace, with_row};
-ghost use Rattle.section_cut.specs.Put.{HasItsPlace, touches, put};
 ghost use Rattle.section_cut.specs.Reach.{IsOneSection, IsRowReach};
 ghost use Rattle.section_cut.specs.Stored.{IsStored, IsChangeOfStored};
 
@@ -347,12 +346,21 @@ pub fn cut_change(
 {
     after.learn_sound();
     let both = BothTables { before, after };
-    let change = change_of(alloc, both, edit, cut.as_ref(), section, number)?;
-    Ok(put_change(cut, change))
+    match cut_after_edit(alloc, both, edit, cut.as_ref(), section, number)? {
+        CutChange::Untouched => Ok(false),
+        CutChange::Touched(later) => {
+            *cut = later;
+            Ok(true)
+        }
+        CutChange::Row { place, row } => {
+            put_row(cut, place, row);
+            Ok(true)
+        }
+    }
 }
 
 // What the edit of a number makes of the cut of the section of a name.
-fn change_of(
+fn cut_after_edit(
     alloc: Global,
     both: BothTables<'_>,
     edit: &Edit,
@@ -367,25 +375,6 @@ fn change_of(
 {
     let changes = CutChanges::of(alloc, both.before, both.after, edit)?;
     changes.cut_after(alloc, cut, section, number)
-}
-
-// Makes of a cut what an edit makes of it, and tells whether the edit touches the section.
-fn put_change(cut: &mut Option<Cut>, change: CutChange) -> bool
-    requires { HasItsPlace change cut.old }
-    ensures touched { result ≡ touches change }
-    ensures cut { cut.new ≡ put change cut.old }
-{
-    match change {
-        CutChange::Untouched => false,
-        CutChange::Touched(later) => {
-            *cut = later;
-            true
-        }
-        CutChange::Row { place, row } => {
-            put_row(cut, place, row);
-            true
-        }
-    }
 }
 
 // Puts a row at a place of a cut, if there is one, in place of the one that stands there.

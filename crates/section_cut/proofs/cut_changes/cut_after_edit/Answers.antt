@@ -3,7 +3,7 @@ use Rattle.std.specs.Prelude.{IfOk}
 use Rattle.std.specs.Option.{option_copied}
 use Rattle.plan_model.specs.Cut.{cut_of}
 use Rattle.section_cut.specs.Change.{TwoTables, IsChange}
-use Rattle.section_cut.proofs.cut_changes.change_of.Goals as goal
+use Rattle.section_cut.proofs.cut_changes.cut_after_edit.Goals as goal
 
 pub returns : goal.returns
 returns c =
