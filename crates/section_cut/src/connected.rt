@@ -116,8 +116,8 @@ fn binds_after(
     binds(tables, &old.section, first, second, connection)
 }
 
-// The row of a name: the one that is given for one name, if there is one, and for another that
-// among some rows.
+// The row of the wanted name, if there is one: `row` where that is `name`, and otherwise the one among
+// `rows`.
 fn row_beside<'a>(
     name: &Name,
     row: Option<&'a CutRow>,
@@ -312,7 +312,7 @@ pub(crate) fn until(tables: &LineTables, number: u32, connection: &Connection) -
     (last_arrival(tables, number) + u64::from(connection.minimum_s)) as i64
 }
 
-// The uses of the section's blocks in its row, if that is there: they stand before those of
+// Of a row's uses, if there is a row, those of the section's blocks: they stand before those of
 // connections.
 pub(crate) fn uses_of_blocks<'a>(section: &Section, row: Option<&'a CutRow>) -> Option<&'a [Use]>
     requires { IfSome (option_copied row)

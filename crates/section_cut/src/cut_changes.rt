@@ -71,7 +71,7 @@ impl<'a> Model for CutChanges<'a> {
 }
 
 impl<'a> CutChanges<'a> {
-    /// Those of tables and of the same tables after an edit.
+    /// What is made of the tables before an edit and of those after it.
     pub fn of(
         alloc: Global,
         before: &'a LineTables,
@@ -300,7 +300,8 @@ fn cut_anew(
     Ok(Some(cut_among(alloc, tables, stairs, place, stamp)?))
 }
 
-// The same of a cut that is there before it and after it.
+// What the edit of a number makes of a section's cut, by the cut that the section has after it:
+// nothing where both have one value, and otherwise the later cut with the stamps of its rows.
 pub(crate) fn compared(old: &Cut, later: Cut, number: u64) -> CutChange
     requires old_sound { IsSoundCut old.now }
     requires sound { IsSoundCut later }

@@ -54,8 +54,8 @@ pub(crate) fn connection_named(tables: &LineTables, name: &Name) -> Option<Conne
     None
 }
 
-// Whether a connection, if there is one of its name, has the same two runs as that. `false` says
-// nothing: the slow way follows.
+// Whether the connection of the tables that has this one's name, if there is one, is of the same two
+// runs. `false` says nothing: the slow way follows.
 pub(crate) fn keeps_runs(tables: &LineTables, connection: &Connection) -> bool
     ensures { result ≡ true → All (IsOfSameRuns connection.now) tables.now.connections }
 {

@@ -129,8 +129,8 @@ fn row_with_times(
     Ok(row_with(section, own.run, stamp, stair.entry(), uses))
 }
 
-// The row in a section of the run of a name, whose stair this is, if it is a member. Where it is
-// told otherwise that the run is none, no table of positions is made.
+// The row in a section of the run of a name, whose stair this is, if it is a member. Where a cheaper
+// test says that the run is no member, no table of positions is made.
 fn row_by_stair(
     alloc: Global,
     tables: &LineTables,
@@ -283,8 +283,8 @@ pub(crate) fn cut_after_run(
     with_row(alloc, old, at, own, row)
 }
 
-// What becomes of a cut whose row at a place, if it is there, is another, or is to stand there, or
-// goes.
+// What an edit makes of a cut whose row at a place, if the run has one there, is to be replaced by
+// this row, or to go where no row is given. Where the run has none there, this row is inserted.
 pub(crate) fn with_row(
     alloc: Global,
     old: &Cut,

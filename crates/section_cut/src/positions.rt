@@ -95,8 +95,9 @@ pub(crate) fn same_first(uses: &[Use], positions: &[u32], stairway: &[Use]) -> u
     uses.len()
 }
 
-// How many are so, four by four, up to the first four of which one isn't, so that fewer steps are
-// taken. Fewer may be told.
+// How many of these uses are those of a stairway of as many by their positions, up to the first four
+// of which one isn't. They are compared four by four, so that fewer steps are taken. Fewer may be
+// told.
 fn same_fours(uses: &[Use], positions: &[u32], stairway: &[Use]) -> usize
     requires there { All (λ u. u.block < length positions.now) stairway.now }
     requires long { length uses.now ≡ length stairway.now }
@@ -114,7 +115,8 @@ fn same_fours(uses: &[Use], positions: &[u32], stairway: &[Use]) -> usize
     uses.len() / 4 * 4
 }
 
-// Whether the two uses from a place on are so, where those before them are. `false` says nothing.
+// Whether the two uses from a place on are those of a stairway by their positions, where those
+// before them are. `false` says nothing.
 fn same_two(uses: &[Use], positions: &[u32], stairway: &[Use], at: usize) -> bool
     requires there { All (λ u. u.block < length positions.now) stairway.now }
     requires long { length uses.now ≡ length stairway.now }

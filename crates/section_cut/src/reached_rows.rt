@@ -68,7 +68,7 @@ fn has_uses(own: Option<&CutRow>, table: SectionTable<'_>, stair: &TimedStair, u
     }
 }
 
-// Whether a row is another but for its stamp, or neither is there.
+// Whether two rows are equal but for their stamps, or neither is there.
 fn is_same(row: &Option<CutRow>, own: Option<&CutRow>) -> bool
     ensures { IsTrue result ↔ (option_map (stamped_row 0) row.now
         ≡ option_map (stamped_row 0) (option_copied own.entry)) }

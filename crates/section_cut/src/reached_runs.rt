@@ -249,7 +249,8 @@ pub(crate) fn cut_after_runs(
     cut_by_table(alloc, stored, runs, table)
 }
 
-// The same, by the positions of blocks in the section, and the spans of the stairs.
+// What the edit makes of the cut of a section that is there, by the positions of blocks in the
+// section and the spans of the stairs.
 fn cut_by_table(
     alloc: Global,
     stored: StoredCut<'_>,
