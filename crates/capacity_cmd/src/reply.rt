@@ -1,5 +1,5 @@
 //! The reply to an input: the text to write, and the status that says so.
-ghost use Rattle.std.specs.Prelude.{◌≡◌, ◌≤◌, length, IfOk};
+ghost use Rattle.std.specs.Prelude.{◌≡◌, ◌⊎◌, ◌≤◌, length, IfOk};
 ghost use Rattle.session_run.specs.declared.threads.TheConstants.{WORKERS};
 ghost use Rattle.capacity_cmd.specs.declared.command.Command.TheVariants as command;
 ghost use Rattle.capacity_cmd.specs.declared.status.Cause.TheVariants as causes;
@@ -9,6 +9,7 @@ ghost use Rattle.capacity_cmd.specs.Ends.{IsMadeText, EndsOnAccepted, EndsOn};
 ghost use Rattle.capacity_cmd.specs.Outcome as outcome;
 ghost use Rattle.capacity_cmd.specs.InputSoFar.{IsWithin};
 ghost use Rattle.plan_book.specs.declared.book.TheConstants.{PLANNERS};
+ghost use Rattle.sentences.specs.Told.{IsOfRow};
 ghost use Rattle.capacity_cmd.specs.Reply.{Says, IsReply};
 ghost use Rattle.capacity_cmd.specs.Given.{GivesOrRefuses};
 
@@ -70,7 +71,8 @@ fn refusal_told(
     refused: Refusal,
     told: &mut Told,
 ) -> Result<Reply, OutOfMemory>
-    ensures { IfOk result (Says (Refuses refused.row refused.cause)) }
+    ensures says { IfOk result (Says (Refuses refused.row refused.cause)) }
+    ensures told { (told.new ≡ told.old) ⊎ IsOfRow refused.row told.new }
 {
     if let Some(fault) = fault_of(planners, refused.cause) {
         *told = told_of_row(alloc, input, rows, refused.row, fault);

@@ -28,5 +28,5 @@ returns g c =
     record {
       outcome = Refuses refused.row refused.cause;
       ends = ends_refused c.args.command.now input refused c.requires made;
-      said = c.in_ok-refusal_told-in-Err.ensures;
+      said = c.in_ok-refusal_told-in-Err.ensures.says;
     }
