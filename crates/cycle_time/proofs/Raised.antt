@@ -1,16 +1,17 @@
 -- Entries that are raised along an edge: what is known of them stays.
-use Rattle.std.proofs.Common.{◌≡◌, ◌≢◌, ℕ, ◌+◌, ◌<◌, ◌==◌, List, length, inl, inr, refl, sym, ap, subst, ◌∙◌, arith}
-use Rattle.std.specs.Prelude.{ℤ, pos, ◌+ℤ◌, ◌-ℤ◌, ◌≤ℤ◌, ◌<ℤ◌, if◌then◌else◌, Option, None, Some}
+use Rattle.std.proofs.Common.{◌≡◌, ◌≢◌, ℕ, ◌<◌, ◌==◌, List, [], ◌∷◌, length, inl, inr, refl, sym, ap, subst, ◌∙◌, arith}
+use Rattle.std.specs.Prelude.{ℤ, pos, ◌+ℤ◌, ◌-ℤ◌, ◌≤ℤ◌, ◌<ℤ◌, if◌then◌else◌, All, Option, None, Some}
 use Rattle.std.proofs.lemmas.Bool.{cases_eq, eq-eqb, ne_eqb}
 use Rattle.std.proofs.lemmas.Int.{ints}
 use Rattle.std.proofs.lemmas.List.{length-set, get_or-set_same, get_or-set_other}
+use Rattle.std.proofs.lemmas.List.Elements.{All-cons, All-head, All-tail}
 use Rattle.plan_model.specs.declared.cut.Cut.{Cut}
 use Rattle.plan_model.specs.Members.{member_count}
-use Rattle.plan_model.specs.Schedule.{entry_at}
+use Rattle.plan_model.specs.Schedule.{window_start, entry_at}
 use Rattle.cycle_time.specs.declared.edge.Edge.{Edge}
 use Rattle.cycle_time.specs.Cycle.{IsRepeating}
 use Rattle.cycle_time.specs.Edges.{IsEdge, asks, Keeps}
-use Rattle.cycle_time.specs.Raising.{cause_at, IsCause, IsWhy, AreRaisedAt, AreRaised, IsRaisedBy}
+use Rattle.cycle_time.specs.Raising.{cause_at, Back, asked, IsAlong, HasOrHad, BeginsWith, AreRaisedAlong, AreRaised, IsRaisedBy}
 use Rattle.cycle_time.proofs.Refused.{keeps_step, step_asks}
 
 -- what an edge asks is what its step asks
@@ -24,9 +25,29 @@ keeps_edge cut period entries repeats e is =
     subst (λ a. (entry_at entries e.step.from +ℤ a) ≤ℤ entry_at entries e.step.to) (sym (asks_is cut period e is))
     (keeps_step cut period entries repeats e.step is.is_step)
 
+-- what repeats enters no earlier than trails of edges ask for
+pub reaches : (cut : Cut) (period : ℕ) (entries : List ℤ) → IsRepeating cut period entries → (i : ℕ) (trail : List Edge)
+    (root : ℕ) → i < member_count cut → All (IsEdge cut) trail → Back i trail root
+    → (window_start cut +ℤ asked period trail) ≤ℤ entry_at entries i
+reaches cut period entries repeats i [] root l all back = let from = repeats.schedule.from i l in omega (arith, ints, from)
+reaches cut period entries repeats i (e ∷ trail) root l all back =
+    let is = All-head (IsEdge cut) e trail all in
+    let rest = reaches cut period entries repeats e.step.from trail root is.is_step.one_there (All-tail (IsEdge cut) e trail all) back.1 in
+    let keep = keeps_edge cut period entries repeats e is in
+    subst (λ k. (window_start cut +ℤ asked period (e ∷ trail)) ≤ℤ entry_at entries k) back.0 (omega (arith, ints, rest, keep))
+
+-- so no train that was raised along a trail enters later
+pub least : (cut : Cut) (period : ℕ) (entries : List ℤ) (causes : List (Option Edge)) → AreRaised cut period entries causes
+    → (other : List ℤ) → IsRepeating cut period other → (i : ℕ) → i < member_count cut
+    → entry_at entries i ≤ℤ entry_at other i
+least cut period entries causes (trails, raised) other repeats i l =
+    let its = raised.along i l in
+    let least = reaches cut period other repeats i (trails i) its.leads.0 l its.each its.leads.1 in
+    omega (arith, ints, its.entry, least)
+
 module _ (cut : Cut) (period : ℕ) (entries : List ℤ) (causes : List (Option Edge)) (e : Edge) (is : IsEdge cut e)
     (after : List ℤ) (causes_after : List (Option Edge)) (by : IsRaisedBy period e entries causes after causes_after)
-    (stamp : ℕ → ℕ) (clock : ℕ) (raised : AreRaisedAt cut period entries causes stamp clock) where
+    (trails : ℕ → List Edge) (raised : AreRaisedAlong cut period entries causes trails) where
   abbrev t : ℕ
   t = e.step.to
 
@@ -36,27 +57,13 @@ module _ (cut : Cut) (period : ℕ) (entries : List ℤ) (causes : List (Option 
   abbrev v : ℤ
   v = entry_at entries f +ℤ asks period e
 
-  within : t < length entries
-  within = omega (arith, raised.count, is.is_step.other_there)
-
   at_t : entry_at after t ≡ v
-  at_t = ap (λ xs. entry_at xs t) by.entries ∙ get_or-set_same entries t v (pos 0) within
+  at_t =
+      ap (λ xs. entry_at xs t) by.entries
+      ∙ get_or-set_same entries t v (pos 0) (omega (arith, raised.count, is.is_step.other_there))
 
   other : (i : ℕ) → i ≢ t → entry_at after i ≡ entry_at entries i
   other i ne = ap (λ xs. entry_at xs i) by.entries ∙ get_or-set_other entries t i v (pos 0) ne
-
-  raised_to : (i : ℕ) → i ≡ t → entry_at after i ≡ v
-  raised_to i s = ap (λ k. entry_at after k) s ∙ at_t
-
-  before_t : (i : ℕ) → i ≡ t → entry_at entries i <ℤ v
-  before_t i s = subst (λ k. entry_at entries k <ℤ v) (sym s) by.later
-
-  higher : (i : ℕ) → entry_at entries i ≤ℤ entry_at after i
-  higher i =
-      elim (cases_eq i t) [
-        | inl s ↦ omega (arith, ints, raised_to i s, before_t i s)
-        | inr ne ↦ omega (arith, ints, other i ne)
-      ]
 
   cause_t : cause_at causes_after t ≡ Some e
   cause_t =
@@ -66,89 +73,93 @@ module _ (cut : Cut) (period : ℕ) (entries : List ℤ) (causes : List (Option 
   cause_other : (i : ℕ) → i ≢ t → cause_at causes_after i ≡ cause_at causes i
   cause_other i ne = ap (λ cs. cause_at cs i) by.causes ∙ get_or-set_other causes t i (Some e) None ne
 
-  abbrev new_stamp : ℕ → ℕ
-  new_stamp i = if i == t then clock else stamp i
+  -- the raised train's trail is the edge, and behind it the trail of the edge's first train
+  abbrev now : ℕ → List Edge
+  now i = if i == t then e ∷ trails f else trails i
 
-  stamp_t : (i : ℕ) → i ≡ t → new_stamp i ≡ clock
-  stamp_t i s = ap (λ b. if b then clock else stamp i) (eq-eqb i t s)
+  now_t : now t ≡ e ∷ trails f
+  now_t = ap (λ b. if b then e ∷ trails f else trails t) (eq-eqb t t refl)
 
-  stamp_other : (i : ℕ) → i ≢ t → new_stamp i ≡ stamp i
-  stamp_other i ne = ap (λ b. if b then clock else stamp i) (ne_eqb i t ne)
+  now_other : (i : ℕ) → i ≢ t → now i ≡ trails i
+  now_other i ne = ap (λ b. if b then e ∷ trails f else trails i) (ne_eqb i t ne)
 
-  -- the raised train has the edge for its cause
-  new_cause : IsCause cut period after new_stamp t e
-  new_cause = record {
-    is_edge = is;
-    leads = refl;
-    asked = let h = higher f in omega (arith, ints, at_t, h);
-    later = elim (cases_eq f t) [
-      | inl s ↦ inr (omega (arith, ints, at_t, raised_to f s, before_t f s))
-      | inr ne ↦ inl (omega (arith, stamp_t t refl, stamp_other f ne, raised.stamps f is.is_step.one_there))
-    ];
+  first : IsAlong cut period entries f (trails f)
+  first = raised.along f is.is_step.one_there
+
+  along_t : IsAlong cut period after t (e ∷ trails f)
+  along_t = record {
+    each = All-cons (IsEdge cut) e (trails f) is first.each;
+    leads = (first.leads.0, (refl, first.leads.1));
+    entry = omega (arith, ints, at_t, first.entry);
   }
 
-  -- each other train keeps its own
-  kept : (i : ℕ) → i < member_count cut → i ≢ t → (why : Option Edge) → IsWhy cut period entries stamp i why
-      → IsWhy cut period after new_stamp i why
-  kept i l ne None h = other i ne ∙ h
-  kept i l ne (Some d) h = record {
-    is_edge = h.is_edge;
-    leads = h.leads;
-    asked = let a = h.asked in let b = higher d.step.from in omega (arith, ints, a, other i ne, b);
-    later = elim (cases_eq d.step.from t) [
-      | inl s ↦
-          let a = h.asked in
-          inr (omega (arith, ints, a, other i ne, raised_to d.step.from s, before_t d.step.from s))
-      | inr nt ↦ elim h.later [
-        | inl lt ↦ inl (omega (arith, lt, stamp_other d.step.from nt, stamp_other i ne))
-        | inr lt ↦ inr (omega (arith, ints, lt, other i ne, other d.step.from nt))
-      ]
-    ];
-  }
-
-  why_after : (i : ℕ) → i < member_count cut → IsWhy cut period after new_stamp i (cause_at causes_after i)
-  why_after i l =
+  along_now : (i : ℕ) → i < member_count cut → IsAlong cut period after i (now i)
+  along_now i l =
       elim (cases_eq i t) [
         | inl s ↦
-            subst (λ k. IsWhy cut period after new_stamp k (cause_at causes_after k)) (sym s)
-            (subst (IsWhy cut period after new_stamp t) (sym cause_t) new_cause)
+            subst (λ k. IsAlong cut period after k (now k)) (sym s) (subst (IsAlong cut period after t) (sym now_t) along_t)
         | inr ne ↦
-            subst (IsWhy cut period after new_stamp i) (sym (cause_other i ne))
-            (kept i l ne (cause_at causes i) (raised.why i l))
+            let its = raised.along i l in
+            subst (IsAlong cut period after i) (sym (now_other i ne))
+            (record { each = its.each; leads = its.leads; entry = other i ne ∙ its.entry })
       ]
 
-  stamp_below : (i : ℕ) → i < member_count cut → new_stamp i < clock + 1
-  stamp_below i l =
-      elim (cases_eq i t) [
-        | inl s ↦ omega (arith, stamp_t i s)
-        | inr ne ↦ omega (arith, stamp_other i ne, raised.stamps i l)
-      ]
-
-  least_after : (more : List ℤ) → IsRepeating cut period more → (i : ℕ) → i < member_count cut
-      → entry_at after i ≤ℤ entry_at more i
-  least_after more repeats i l =
+  -- a trail that a train had then it has yet, or had before this raising
+  had_now : (i : ℕ) (trail : List Edge) → HasOrHad period (trails i) trail → HasOrHad period (now i) trail
+  had_now i trail had =
       elim (cases_eq i t) [
         | inl s ↦
-            let at = raised_to i s in
-            let first = raised.least more repeats f is.is_step.one_there in
-            let follows = keeps_edge cut period more repeats e is in
-            subst (λ k. entry_at after k ≤ℤ entry_at more k) (sym s) (omega (arith, ints, at_t, first, follows))
-        | inr ne ↦
-            let first = raised.least more repeats i l in omega (arith, ints, other i ne, first)
+            let more = (raised.along t is.is_step.other_there).entry in
+            let now_asked = ap (asked period) now_t in
+            let before : asked period trail ≤ℤ asked period (trails t) =
+            subst (λ k. asked period trail ≤ℤ asked period (trails k)) s (elim had [
+              | inl same ↦ omega (arith, ints, ap (asked period) same)
+              | inr less ↦ omega (arith, ints, less)
+            ]) in
+            let later = by.later in
+            inr (subst (λ k. asked period trail <ℤ asked period (now k)) (sym s)
+            (omega (arith, ints, before, later, more, first.entry, now_asked)))
+        | inr ne ↦ subst (λ ts. HasOrHad period ts trail) (sym (now_other i ne)) had
       ]
 
-  raised_at : AreRaisedAt cut period after causes_after new_stamp (clock + 1)
-  raised_at = record {
+  begins_other : (o : Option Edge) (trail : List Edge) → BeginsWith period trails o trail → BeginsWith period now o trail
+  begins_other None trail begins = begins
+  begins_other (Some d) trail (behind, is, had) = (behind, is, had_now d.step.from behind had)
+
+  begins_now : (i : ℕ) → i < member_count cut → BeginsWith period now (cause_at causes_after i) (now i)
+  begins_now i l =
+      elim (cases_eq i t) [
+        | inl s ↦
+            subst (λ k. BeginsWith period now (cause_at causes_after k) (now k)) (sym s)
+            (subst (λ o. BeginsWith period now o (now t)) (sym cause_t) (trails f, now_t, had_now f (trails f) (inl refl)))
+        | inr ne ↦
+            subst (λ o. BeginsWith period now o (now i)) (sym (cause_other i ne))
+            (subst (BeginsWith period now (cause_at causes i)) (sym (now_other i ne))
+            (begins_other (cause_at causes i) (trails i) (raised.begins i l)))
+      ]
+
+  from_now : (i : ℕ) → i < member_count cut → window_start cut ≤ℤ entry_at after i
+  from_now i l =
+      let from = raised.from i l in
+      elim (cases_eq i t) [
+        | inl s ↦
+            let later = by.later in
+            subst (λ k. window_start cut ≤ℤ entry_at after k) (sym s)
+            (omega (arith, ints, raised.from t is.is_step.other_there, later, at_t))
+        | inr ne ↦ omega (arith, ints, other i ne, from)
+      ]
+
+  raised_now : AreRaisedAlong cut period after causes_after now
+  raised_now = record {
     count = ap length by.entries ∙ length-set entries t v ∙ raised.count;
     causes_count = ap length by.causes ∙ length-set causes t (Some e) ∙ raised.causes_count;
-    from = λ i l. let a = raised.from i l in let b = higher i in omega (arith, ints, a, b);
-    why = why_after;
-    stamps = stamp_below;
-    least = least_after;
+    from = from_now;
+    along = along_now;
+    begins = begins_now;
   }
 
 pub raised_more : (cut : Cut) (period : ℕ) (entries : List ℤ) (causes : List (Option Edge)) (e : Edge) → IsEdge cut e
     → (after : List ℤ) (causes_after : List (Option Edge)) → IsRaisedBy period e entries causes after causes_after
     → AreRaised cut period entries causes → AreRaised cut period after causes_after
-raised_more cut period entries causes e is after causes_after by (stamp, clock, raised) =
-    (_, clock + 1, raised_at cut period entries causes e is after causes_after by stamp clock raised)
+raised_more cut period entries causes e is after causes_after by (trails, raised) =
+    (_, raised_now cut period entries causes e is after causes_after by trails raised)

@@ -1,6 +1,6 @@
 -- A round along the edges: what is known after each of them.
 use Rattle.std.proofs.Common.{◌≡◌, ℕ, ◌+◌, ◌<◌, List, [], length, take, get_or, inr, refl, sym, ap, subst, ◌∙◌, arith}
-use Rattle.std.specs.Prelude.{ℤ, pos, ◌+ℤ◌, ◌-ℤ◌, ◌≤ℤ◌, ◌<ℤ◌, ◌^◌, nat_abs, Option, None, Some, IfSome}
+use Rattle.std.specs.Prelude.{ℤ, pos, ◌+ℤ◌, ◌-ℤ◌, ◌≤ℤ◌, ◌<ℤ◌, nat_abs, Option, None, Some, IfSome}
 use Rattle.std.proofs.lemmas.Int.{ints}
 use Rattle.std.proofs.lemmas.List.{length-set, get_or-set_same}
 use Rattle.std.proofs.lemmas.List.Elements.{All-more, All-set, All-get_or, All-nil}
@@ -8,8 +8,9 @@ use Rattle.std.proofs.lemmas.List.Sums.{sum_by-set}
 use Rattle.plan_model.specs.declared.cut.Cut.{Cut}
 use Rattle.plan_model.specs.Schedule.{entry_at}
 use Rattle.cycle_time.specs.declared.edge.Edge.{Edge}
+use Rattle.cycle_time.specs.declared.settling.TheConstants.{LATEST}
 use Rattle.cycle_time.specs.Edges.{IsEdge, asks, Keeps}
-use Rattle.cycle_time.specs.Raising.{AreRaised, IsRaisedBy, IsEarly, AreEarly, room, IsHigher}
+use Rattle.cycle_time.specs.Raising.{AreRaised, IsRaisedBy, IsEarly, AreEarly, highest, room, IsHigher}
 use Rattle.cycle_time.specs.Settling.{IsRaisedOnce, IsSoFar}
 use Rattle.cycle_time.proofs.Trails.{light}
 
@@ -32,7 +33,7 @@ kept_more period edges k d before entries after (Some top) l same keep h = recor
 
 pub ends_there : (cut : Cut) (period : ℕ) (entries : List ℤ) (causes : List (Option Edge)) (e : Edge) → IsEdge cut e
     → AreRaised cut period entries causes → (e.step.from < length entries) × (e.step.to < length entries)
-ends_there cut period entries causes e is (stamp, clock, raised) = (
+ends_there cut period entries causes e is (trails, raised) = (
   omega (arith, is.is_step.one_there, raised.count),
   omega (arith, is.is_step.other_there, raised.count),
 )
@@ -52,10 +53,10 @@ module _ (cut : Cut) (period : ℕ) (e : Edge) (is : IsEdge cut e) (entries afte
   at_v = ap (λ xs. entry_at xs e.step.to) by.entries ∙ get_or-set_same entries e.step.to v (pos 0) other
 
   abbrev late : ℤ → ℕ
-  late x = nat_abs (pos (2 ^ 42) -ℤ x)
+  late x = nat_abs (highest -ℤ x)
 
-  later_late : (x y z a : ℤ) → x <ℤ y → y ≡ z +ℤ a → a ≤ℤ pos 200000000 → z ≤ℤ pos (2 ^ 40)
-      → nat_abs (pos (2 ^ 42) -ℤ y) < nat_abs (pos (2 ^ 42) -ℤ x)
+  later_late : (x y z a : ℤ) → x <ℤ y → y ≡ z +ℤ a → a ≤ℤ pos 200000000 → z ≤ℤ LATEST
+      → nat_abs (highest -ℤ y) < nat_abs (highest -ℤ x)
   later_late x y z a l is_y small near = omega (arith, ints, l, is_y, small, near)
 
   pub room_less : room after < room entries
@@ -69,7 +70,7 @@ module _ (cut : Cut) (period : ℕ) (e : Edge) (is : IsEdge cut e) (entries afte
   pub same_length : length after ≡ length entries
   same_length = ap length by.entries ∙ length-set entries e.step.to v
 
-  pub early_after : entry_at after e.step.to ≤ℤ pos (2 ^ 40) → AreEarly after
+  pub early_after : entry_at after e.step.to ≤ℤ LATEST → AreEarly after
   early_after most =
       let to = All-get_or IsEarly entries e.step.to (pos 0) other early in
       let a = to.after in
@@ -84,7 +85,7 @@ module _ (cut : Cut) (period : ℕ) (e : Edge) (is : IsEdge cut e) (entries afte
 
   -- a train that is raised too far
   pub too_late : (edges : List Edge) (before : List ℤ) (top : Option ℕ) → IsSoFar period edges before entries top
-      → pos (2 ^ 40) <ℤ entry_at after e.step.to → IsHigher before after e.step.to
+      → LATEST <ℤ entry_at after e.step.to → IsHigher before after e.step.to
   too_late edges before top h past = record {
     there = omega (arith, other, same_length);
     higher = raised_now edges before top h;

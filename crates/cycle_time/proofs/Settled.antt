@@ -19,8 +19,9 @@ use Rattle.train_order.proofs.Users.{users, somewhere}
 use Rattle.cycle_time.specs.declared.edge.Edge.{Edge}
 use Rattle.cycle_time.specs.Cycle.{IsLeastRepeating}
 use Rattle.cycle_time.specs.Edges.{IsEdge, Keeps, AreEnough}
-use Rattle.cycle_time.specs.Raising.{cause_at, IsWhy, AreRaised, IsEarly, AreEarly, IsSettled, IsHigher}
-use Rattle.cycle_time.specs.Rings.{to_of, EndsAt, GoesRound, Back, weights, laps, IsLoop, IsRefusal}
+use Rattle.cycle_time.specs.Raising.{cause_at, Back, asked, BeginsWith, AreRaised, IsEarly, AreEarly, IsSettled, IsHigher}
+use Rattle.cycle_time.specs.Rings.{to_of, EndsAt, GoesRound, weights, laps, IsLoop, IsRefusal}
+use Rattle.cycle_time.proofs.Raised.{least}
 use Rattle.cycle_time.proofs.Trails.{asked_is, soon, round, edges_of, back_of}
 
 -- ---- at the start
@@ -44,16 +45,17 @@ module _ (cut : Cut) (period : ℕ) (entries : List ℤ) (causes : List (Option 
 
   pub start_raised : AreRaised cut period entries causes
   start_raised = (
-    λ i. 0,
-    1,
+    λ i. [],
     record {
       count = ap length start ∙ length-replicate (member_count cut) (window_start cut);
       causes_count = ap length none ∙ length-replicate (member_count cut) None;
       from = λ i l. let e = at_start i l in omega (arith, ints, e);
-      why = λ i l. subst (IsWhy cut period entries (λ i. 0) i) (sym (no_cause i l)) (at_start i l);
-      stamps = λ i l. omega arith;
-      least = λ other repeats i l.
-          let e = at_start i l in let f = repeats.schedule.from i l in omega (arith, ints, e, f);
+      along = λ i l. record {
+        each = All-nil (IsEdge cut);
+        leads = (i, refl);
+        entry = let e = at_start i l in omega (arith, ints, e);
+      };
+      begins = λ i l. subst (λ o. BeginsWith period (λ i. []) o []) (sym (no_cause i l)) refl;
     },
   )
 
@@ -71,13 +73,13 @@ module _ (cut : Cut) (period : ℕ) (entries : List ℤ) (causes : List (Option 
 module _ (cut : Cut) (sound : IsSoundCut cut) (edges : List Edge) (enough : AreEnough cut edges) (period : ℕ) where
   pub repeats_at : (entries after : List ℤ) (causes : List (Option Edge)) → AreRaised cut period after causes
       → IsSettled period edges entries after → IsLeastRepeating cut period after
-  repeats_at entries after causes (stamp, clock, raised) settled =
+  repeats_at entries after causes raised settled =
       let keep = subst (λ xs. All (Keeps period xs) edges) (sym settled.same) settled.keep in
       record {
         repeats = record {
           schedule = record {
-            count = raised.count;
-            from = raised.from;
+            count = raised.1.count;
+            from = raised.1.from;
             order = λ i j place li lj h.
                 let used = users cut i j place h in
                 (enough.enough period after keep place (place_there cut sound i place li used.0)).order i j li lj h;
@@ -85,7 +87,7 @@ module _ (cut : Cut) (sound : IsSoundCut cut) (edges : List Edge) (enough : AreE
           again = λ i j block li lj lb ui uj.
               (enough.enough period after keep block (place_there cut sound i block li ui)).again lb i j li lj ui uj;
         };
-        least = raised.least;
+        least = least cut period after causes raised;
       }
 
 -- ---- a trail that ends
@@ -94,11 +96,12 @@ module _ (cut : Cut) (sound : IsSoundCut cut) (edges : List Edge) (enough : AreE
 pub soon_again : (cut : Cut) (period : ℕ) (entries : List ℤ) (causes : List (Option Edge)) (top : ℕ)
     → AreRaised cut period entries causes → top < member_count cut → EndsAt causes top
     → entry_at entries top ≤ℤ (window_start cut +ℤ pos (member_count cut * 200000000))
-soon_again cut period entries causes top (stamp, clock, raised) l ends =
+soon_again cut period entries causes top (trails, raised) l ends =
     let lr : ends.root < member_count cut = omega (arith, ends.there, raised.causes_count) in
-    let reach = soon cut period entries causes stamp clock raised top ends.trail ends.root l ends.leads in
-    let root : entry_at entries ends.root ≡ window_start cut =
-    subst (IsWhy cut period entries stamp ends.root) ends.never (raised.why ends.root lr) in
+    let reach = soon cut period entries causes trails raised top ends.trail ends.root l ends.leads in
+    let none : trails ends.root ≡ [] =
+    subst (λ o. BeginsWith period trails o (trails ends.root)) ends.never (raised.begins ends.root lr) in
+    let root = (raised.along ends.root lr).entry ∙ ap (λ t. window_start cut +ℤ asked period t) none in
     omega (arith, ints, reach, root, ends.short, raised.causes_count)
 
 pub early_again : (cut : Cut) → IsSoundCut cut → member_count cut ≤ MEMBERS → (period : ℕ) (before after : List ℤ)
@@ -108,7 +111,7 @@ early_again cut sound few period before after causes top raised higher ends =
     elim higher.early [
       | inl early ↦ early
       | inr past ↦
-          let reach = soon_again cut period after causes top raised (omega (arith, higher.there, raised.2.count)) ends in
+          let reach = soon_again cut period after causes top raised (omega (arith, higher.there, raised.1.count)) ends in
           let w = sound.window_start in
           absurd (omega (arith, ints, past, reach, w, few))
     ]
@@ -199,11 +202,11 @@ module _ (cut : Cut) (sound : IsSoundCut cut) (none : remaining cut ≡ []) wher
   pub round_asks : (period : ℕ) (entries : List ℤ) (causes : List (Option Edge)) (ring : List Edge)
       → AreRaised cut period entries causes → GoesRound causes ring
       → IsLoop cut ring × ((pos (laps ring) *ℤ pos period) <ℤ weights ring)
-  round_asks period entries causes ring (stamp, clock, raised) round_it =
+  round_asks period entries causes ring (trails, raised) round_it =
       let l : round_it.at < member_count cut = omega (arith, round_it.there, raised.causes_count) in
-      let edges = edges_of cut period entries causes stamp clock raised round_it.at ring round_it.at l round_it.leads in
-      let back = back_of cut period entries causes stamp clock raised round_it.at ring round_it.at l round_it.leads in
-      let more = round cut period entries causes stamp clock raised round_it.at ring l round_it.some round_it.leads in
+      let edges = edges_of cut period entries causes trails raised round_it.at ring round_it.at l round_it.leads in
+      let back = back_of cut period entries causes trails raised round_it.at ring round_it.at l round_it.leads in
+      let more = round cut period entries causes trails raised round_it.at ring l round_it.some round_it.leads in
       let sum = asked_is period ring in
       let there : All (λ k. k < member_count cut) (map to_of ring) =
       All-map (λ k. k < member_count cut) to_of ring (λ k d lk. (edges k d lk).is_step.other_there) in

@@ -24,7 +24,7 @@ use Rattle.cycle_time.specs.Raising.{cause_at, AreRaised, IsRaisedBy}
 use Rattle.cycle_time.specs.Rings.{to_of, step_of, no_edge, AreCauses, IsBehind, IsTurned, weights, laps, IsLoop, IsLimit, IsFound}
 use Rattle.cycle_time.specs.Laws.{CycleIsThere}
 use Rattle.cycle_time.proofs.Refused.{nat_times, mono}
-use Rattle.cycle_time.proofs.Raised.{raised_more}
+use Rattle.cycle_time.proofs.Raised.{least, raised_more}
 use Rattle.cycle_time.proofs.Behind.{IsTrail, no_trail, short, trail_more, ends_at, goes_round}
 use Rattle.cycle_time.proofs.Trails.{light, are_causes}
 use Rattle.cycle_time.proofs.Settled.{start_raised, soon_again, round_asks}
@@ -113,7 +113,7 @@ module _ (cut : Cut) (sound : IsSoundCut cut) (none : remaining cut ≡ []) (per
   -- along an edge that isn't kept
   raise : (entries : List ℤ) (causes : List (Option Edge)) → AreRaised cut period entries causes
       → All (λ x. x ≤ℤ most) entries → AsksForMore cut period entries → Comes ⊎ Higher entries
-  raise entries causes (stamp, clock, raised) near more =
+  raise entries causes (trails, raised) near more =
       let e = more.edge in
       let t = e.step.to in
       let v = entry_at entries e.step.from +ℤ asks period e in
@@ -121,15 +121,15 @@ module _ (cut : Cut) (sound : IsSoundCut cut) (none : remaining cut ≡ []) (per
       let causes_after = slice_set causes t (Some e) in
       let by : IsRaisedBy period e entries causes after causes_after =
       record { later = more.later; entries = refl; causes = refl } in
-      let again = raised_more cut period entries causes e more.is_edge after causes_after by (stamp, clock, raised) in
+      let again = raised_more cut period entries causes e more.is_edge after causes_after by (trails, raised) in
       let there : t < length entries = omega (arith, more.is_edge.is_step.other_there, raised.count) in
       let from = All-get_or (λ x. x ≤ℤ most) entries e.step.from (pos 0)
       (omega (arith, more.is_edge.is_step.one_there, raised.count)) near in
       let summed = sum_by-set (λ x. nat_abs (most +ℤ pos 200000000 -ℤ x)) entries t v (pos 0) there in
       let lower = less_room (entry_at entries t) v (entry_at entries e.step.from) (asks period e) more.later refl
       (light cut period e more.is_edge) from in
-      let trail = behind causes_after (are_causes cut period after causes_after again.0 again.1 again.2) t
-      (omega (arith, more.is_edge.is_step.other_there, again.2.causes_count)) in
+      let trail = behind causes_after (are_causes cut period after causes_after again.0 again.1) t
+      (omega (arith, more.is_edge.is_step.other_there, again.1.causes_count)) in
       after_raise entries after causes_after t again more.is_edge.is_step.other_there
       (λ a. All-set (λ x. x ≤ℤ most) entries t v (subst (λ x. x ≤ℤ most) (get_or-set_same entries t v (pos 0) there) a) near)
       (omega (arith, summed, lower)) trail.0 trail.1
@@ -138,8 +138,8 @@ module _ (cut : Cut) (sound : IsSoundCut cut) (none : remaining cut ≡ []) (per
       → All (λ x. x ≤ℤ most) entries → room entries < fuel → Comes
   settle zero entries causes raised near l = absurd (omega (arith, l))
   settle (suc fuel) entries causes raised near l =
-      elim (repeats_or cut sound period entries raised.2.count raised.2.from) [
-        | inl repeats ↦ inl (entries, record { repeats = repeats; least = raised.2.least })
+      elim (repeats_or cut sound period entries raised.1.count raised.1.from) [
+        | inl repeats ↦ inl (entries, record { repeats = repeats; least = least cut period entries causes raised })
         | inr more ↦ elim (raise entries causes raised near more) [
           | inl comes ↦ comes
           | inr higher ↦ settle fuel higher.after higher.causes higher.raised higher.near (omega (arith, l, higher.less))

@@ -3,21 +3,16 @@ use Rattle.std.proofs.Common.{◌≡◌, ℕ, ◌+◌, ◌*◌, ◌<◌, ◌≤�
 use Rattle.std.specs.Prelude.{ℤ, pos, ◌+ℤ◌, ◌-ℤ◌, ◌*ℤ◌, ◌≤ℤ◌, ◌<ℤ◌, ◌⊎◌, if◌then◌else◌, cond, All, Option, None, Some, IfSome}
 use Rattle.std.proofs.lemmas.Bool.{cases_Bool}
 use Rattle.std.proofs.lemmas.Int.{ints}
-use Rattle.std.proofs.lemmas.List.Elements.{All-cons, All-nil}
+use Rattle.std.proofs.lemmas.List.Elements.{All-cons, All-head, All-nil, All-tail}
 use Rattle.std.proofs.lemmas.List.Sums.{sum_by-cons}
 use Rattle.plan_model.specs.declared.cut.Cut.{Cut}
 use Rattle.plan_model.specs.Members.{member_count}
-use Rattle.plan_model.specs.Schedule.{entry_at}
+use Rattle.plan_model.specs.Schedule.{window_start, entry_at}
 use Rattle.cycle_time.specs.declared.edge.Edge.{Edge}
 use Rattle.cycle_time.specs.Edges.{IsEdge, asks}
-use Rattle.cycle_time.specs.Raising.{cause_at, IsCause, IsWhy, AreRaisedAt}
-use Rattle.cycle_time.specs.Rings.{IsCauseOf, AreCauses, Trails, Back, weights, laps}
+use Rattle.cycle_time.specs.Raising.{cause_at, Back, asked, BeginsWith, AreRaisedAlong}
+use Rattle.cycle_time.specs.Rings.{IsCauseOf, AreCauses, Trails, weights, laps}
 use Rattle.cycle_time.proofs.Refused.{times}
-
--- what all edges of a trail ask for
-abbrev pub asked : ℕ → List Edge → ℤ
-asked period [] = pos 0
-asked period (e ∷ trail) = asks period e +ℤ asked period trail
 
 pub asked_is : (period : ℕ) (trail : List Edge)
     → (asked period trail +ℤ (pos (laps trail) *ℤ pos period)) ≡ weights trail
@@ -54,62 +49,79 @@ light cut period e is =
           omega (arith, ints, here, most)
     ]
 
-module _ (cut : Cut) (period : ℕ) (entries : List ℤ) (causes : List (Option Edge)) (stamp : ℕ → ℕ) (clock : ℕ)
-    (raised : AreRaisedAt cut period entries causes stamp clock) where
-  pub cause : (i : ℕ) (e : Edge) → i < member_count cut → cause_at causes i ≡ Some e
-      → IsCause cut period entries stamp i e
-  cause i e l is = subst (IsWhy cut period entries stamp i) is (raised.why i l)
+light_trail : (cut : Cut) (period : ℕ) (trail : List Edge) → All (IsEdge cut) trail
+    → asked period trail ≤ℤ pos (length trail * 200000000)
+light_trail cut period [] all = omega (arith, ints)
+light_trail cut period (e ∷ trail) all =
+    let here = light cut period e (All-head (IsEdge cut) e trail all) in
+    let rest = light_trail cut period trail (All-tail (IsEdge cut) e trail all) in
+    omega (arith, ints, here, rest)
+
+module _ (cut : Cut) (period : ℕ) (entries : List ℤ) (causes : List (Option Edge)) (trails : ℕ → List Edge)
+    (raised : AreRaisedAlong cut period entries causes trails) where
+  -- the cause of a train is an edge that leads to it, from a train that was raised before it or asks for more now
+  pub record IsCause (i : ℕ) (e : Edge) : Type 0 where
+    pub is_edge : IsEdge cut e
+    pub leads : e.step.to ≡ i
+    pub rises : (length (trails i) ≡ 1 + length (trails e.step.from)) × (entry_at entries i ≡ (entry_at entries e.step.from +ℤ asks period e))
+        ⊎ (entry_at entries i <ℤ (entry_at entries e.step.from +ℤ asks period e))
+
+  pub cause : (i : ℕ) (e : Edge) → i < member_count cut → cause_at causes i ≡ Some e → IsCause i e
+  cause i e l is =
+      let (behind, begins, had) = subst (λ o. BeginsWith period trails o (trails i)) is (raised.begins i l) in
+      let its = raised.along i l in
+      let edge = All-head (IsEdge cut) e behind (subst (All (IsEdge cut)) begins its.each) in
+      let before = (raised.along e.step.from edge.is_step.one_there).entry in
+      let here : entry_at entries i ≡ (window_start cut +ℤ (asks period e +ℤ asked period behind)) =
+      its.entry ∙ ap (λ t. window_start cut +ℤ asked period t) begins in record {
+        is_edge = edge;
+        leads = (subst (λ t. Back i t its.leads.0) begins its.leads.1).0;
+        rises = elim had [
+          | inl same ↦ inl (
+            omega (arith, ap length begins, ap length same),
+            omega (arith, ints, here, before, ap (asked period) same),
+          )
+          | inr less ↦ inr (omega (arith, ints, here, before, less))
+        ];
+      }
 
   pub are_causes : AreCauses causes
-  are_causes i l = go (cause_at causes i) (raised.why i (omega (arith, l, raised.causes_count)))
+  are_causes i l = go (cause_at causes i) refl
     where
-      go : (why : Option Edge) → IsWhy cut period entries stamp i why → IfSome why (IsCauseOf (length causes) i)
-      go None h = tt
-      go (Some e) h = record { leads = h.leads; there = omega (arith, h.is_edge.is_step.one_there, raised.causes_count) }
-
-  -- a train enters soon after the one at the trail's end
-  pub soon : (i : ℕ) (trail : List Edge) (j : ℕ) → i < member_count cut → Trails causes i trail j
-      → entry_at entries i ≤ℤ (entry_at entries j +ℤ pos (length trail * 200000000))
-  soon i [] j l leads = rw leads (omega (arith, ints))
-  soon i (e ∷ trail) j l leads =
-      let c = cause i e l leads.0 in
-      let rest = soon e.step.from trail j c.is_edge.is_step.one_there leads.1 in
-      let a = c.asked in
-      let b = light cut period e c.is_edge in
-      omega (arith, ints, rest, a, b)
+      go : (why : Option Edge) → cause_at causes i ≡ why → IfSome why (IsCauseOf (length causes) i)
+      go None is = tt
+      go (Some e) is =
+          let c = cause i e (omega (arith, l, raised.causes_count)) is in
+          record { leads = c.leads; there = omega (arith, c.is_edge.is_step.one_there, raised.causes_count) }
 
   -- along a trail entries rise by no more than it asks for, and where they rise just so, the trains were raised in turn
   abbrev Rises : ℕ → List Edge → ℕ → Type 0
   Rises i trail j =
-      ((stamp j ≤ stamp i) × (entry_at entries i ≤ℤ (entry_at entries j +ℤ asked period trail)))
+      ((length (trails j) + length trail ≤ length (trails i)) × (entry_at entries i ≤ℤ (entry_at entries j +ℤ asked period trail)))
       ⊎ (entry_at entries i <ℤ (entry_at entries j +ℤ asked period trail))
 
   rises : (i : ℕ) (trail : List Edge) (j : ℕ) → i < member_count cut → Trails causes i trail j → Rises i trail j
   rises i [] j l leads = rw leads (inl (omega arith, omega (arith, ints)))
   rises i (e ∷ trail) j l leads =
       let c = cause i e l leads.0 in
-      let a = c.asked in
       elim (rises e.step.from trail j c.is_edge.is_step.one_there leads.1) [
-        | inr lt ↦ inr (omega (arith, ints, lt, a))
-        | inl both ↦ elim c.later [
-          | inr lt ↦ let m = both.1 in inr (omega (arith, ints, lt, m))
-          | inl before ↦ let m = both.1 in inl (omega (arith, before, both.0), omega (arith, ints, m, a))
+        | inr lt ↦ elim c.rises [
+          | inr less ↦ inr (omega (arith, ints, lt, less))
+          | inl same ↦ inr (omega (arith, ints, lt, same.1))
+        ]
+        | inl both ↦ elim c.rises [
+          | inr less ↦ inr (omega (arith, ints, less, both.1))
+          | inl same ↦ inl (omega (arith, same.0, both.0), omega (arith, ints, same.1, both.1))
         ]
       ]
 
   -- so round a ring they ask for more than nothing
   pub round : (at : ℕ) (ring : List Edge) → at < member_count cut → 0 < length ring → Trails causes at ring at
       → pos 0 <ℤ asked period ring
-  round at [] l some leads = absurd (omega (arith, some))
-  round at (e ∷ trail) l some leads =
-      let c = cause at e l leads.0 in
-      let a = c.asked in
-      elim (rises e.step.from trail at c.is_edge.is_step.one_there leads.1) [
-        | inr lt ↦ omega (arith, ints, lt, a)
-        | inl both ↦ elim c.later [
-          | inr lt ↦ let m = both.1 in omega (arith, ints, lt, m)
-          | inl before ↦ absurd (omega (arith, before, both.0))
-        ]
+  round at ring l some leads =
+      elim (rises at ring at l leads) [
+        | inr lt ↦ omega (arith, ints, lt)
+        | inl both ↦ absurd (omega (arith, some, both.0))
       ]
 
   -- the edges of a trail are edges of the cut, each from the train to which the next leads
@@ -123,3 +135,13 @@ module _ (cut : Cut) (period : ℕ) (entries : List ℤ) (causes : List (Option 
   back_of i [] j l leads = leads
   back_of i (e ∷ trail) j l leads =
       let c = cause i e l leads.0 in (c.leads, back_of e.step.from trail j c.is_edge.is_step.one_there leads.1)
+
+  -- a train enters soon after the one at the trail's end
+  pub soon : (i : ℕ) (trail : List Edge) (j : ℕ) → i < member_count cut → Trails causes i trail j
+      → entry_at entries i ≤ℤ (entry_at entries j +ℤ pos (length trail * 200000000))
+  soon i trail j l leads =
+      let most = light_trail cut period trail (edges_of i trail j l leads) in
+      elim (rises i trail j l leads) [
+        | inl both ↦ omega (arith, ints, both.1, most)
+        | inr lt ↦ omega (arith, ints, lt, most)
+      ]

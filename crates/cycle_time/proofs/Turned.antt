@@ -16,7 +16,8 @@ use Rattle.cycle_time.specs.declared.edge.Edge.{Edge}
 use Rattle.cycle_time.specs.declared.found.Step.{Step}
 use Rattle.cycle_time.specs.Cycle.{IsStep, total, patterns, Leads, first_train, Refuses}
 use Rattle.cycle_time.specs.Edges.{IsEdge}
-use Rattle.cycle_time.specs.Rings.{to_of, step_of, no_edge, IsTurned, Back, weights, laps, IsLoop}
+use Rattle.cycle_time.specs.Raising.{Back}
+use Rattle.cycle_time.specs.Rings.{to_of, step_of, no_edge, IsTurned, weights, laps, IsLoop}
 
 -- ---- back from one train to another
 

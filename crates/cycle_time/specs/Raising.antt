@@ -1,44 +1,53 @@
 -- Entries that are raised, edge by edge, until they keep all edges.
-use Rattle.std.specs.Prelude.{◌≡◌, ◌⊎◌, ℕ, ◌<◌, ◌^◌, ℤ, pos, ◌+ℤ◌, ◌-ℤ◌, ◌≤ℤ◌, ◌<ℤ◌, nat_abs, List, length, slice_index_or, slice_set, sum_by, All, Option, None, Some}
+use Rattle.std.specs.Prelude.{◌≡◌, ◌⊎◌, ℕ, ◌<◌, ℤ, pos, ◌+ℤ◌, ◌-ℤ◌, ◌≤ℤ◌, ◌<ℤ◌, nat_abs, List, [], ◌∷◌, length, slice_index_or, slice_set, sum_by, All, Option, None, Some}
 use Rattle.plan_model.specs.declared.cut.Cut.{Cut}
 use Rattle.plan_model.specs.Members.{member_count}
 use Rattle.plan_model.specs.Schedule.{window_start, entry_at}
 use Rattle.cycle_time.specs.Types.{Edge}
+use Rattle.cycle_time.specs.declared.settling.TheConstants.{LATEST}
 use Rattle.cycle_time.specs.Edges.{IsEdge, asks, Keeps}
-use Rattle.cycle_time.specs.Cycle.{IsRepeating}
 
 -- the edge along which a train was raised last, if it was raised
 abbrev pub cause_at : List (Option Edge) → ℕ → Option Edge
 cause_at causes i = slice_index_or causes i None
 
--- the cause of a train: it enters no later than the edge asks, and where it enters just then, the edge's first train
--- was raised before it
-pub record IsCause (cut : Cut) (period : ℕ) (entries : List ℤ) (stamp : ℕ → ℕ) (i : ℕ) (e : Edge) : Type 0 where
-  pub is_edge : IsEdge cut e
-  pub leads : e.step.to ≡ i
-  pub asked : entry_at entries i ≤ℤ (entry_at entries e.step.from +ℤ asks period e)
-  pub later : (stamp e.step.from < stamp i)
-      ⊎ (entry_at entries i <ℤ (entry_at entries e.step.from +ℤ asks period e))
+-- edges each of which begins where the next ends, back from one train to another
+abbrev pub Back : ℕ → List Edge → ℕ → Type 0
+Back i [] j = i ≡ j
+Back i (e ∷ edges) j = (e.step.to ≡ i) × Back e.step.from edges j
 
-abbrev pub IsWhy : Cut → ℕ → List ℤ → (ℕ → ℕ) → ℕ → Option Edge → Type 0
-IsWhy cut period entries stamp i None = entry_at entries i ≡ window_start cut
-IsWhy cut period entries stamp i (Some e) = IsCause cut period entries stamp i e
+-- what the edges of a trail ask for in all
+abbrev pub asked : ℕ → List Edge → ℤ
+asked period [] = pos 0
+asked period (e ∷ trail) = asks period e +ℤ asked period trail
 
--- entries that were raised from the window's start on, each train with its cause and with the number of the raising: no
--- train enters later than in any list that repeats in the period
-pub record AreRaisedAt (cut : Cut) (period : ℕ) (entries : List ℤ) (causes : List (Option Edge)) (stamp : ℕ → ℕ) (clock : ℕ)
+-- a trail of edges back from a train, along which it was raised: it enters as long after the window's start as they ask
+pub record IsAlong (cut : Cut) (period : ℕ) (entries : List ℤ) (i : ℕ) (trail : List Edge) : Type 0 where
+  pub each : All (IsEdge cut) trail
+  pub leads : (root : ℕ) × Back i trail root
+  pub entry : entry_at entries i ≡ (window_start cut +ℤ asked period trail)
+
+-- the trail that a train has now, or one that it had before it was raised again: this one asks for less
+abbrev pub HasOrHad : ℕ → List Edge → List Edge → Type 0
+HasOrHad period now trail = (trail ≡ now) ⊎ (asked period trail <ℤ asked period now)
+
+-- a train's trail begins with its cause, and behind this is the trail that the cause's first train had then
+abbrev pub BeginsWith : ℕ → (ℕ → List Edge) → Option Edge → List Edge → Type 0
+BeginsWith period trails None trail = trail ≡ []
+BeginsWith period trails (Some e) trail =
+    (behind : List Edge) × (trail ≡ e ∷ behind) × HasOrHad period (trails e.step.from) behind
+
+-- entries that were raised from the window's start on, each train along a trail that begins with its cause
+pub record AreRaisedAlong (cut : Cut) (period : ℕ) (entries : List ℤ) (causes : List (Option Edge)) (trails : ℕ → List Edge)
     : Type 0 where
   pub count : length entries ≡ member_count cut
   pub causes_count : length causes ≡ member_count cut
   pub from : (i : ℕ) → i < member_count cut → window_start cut ≤ℤ entry_at entries i
-  pub why : (i : ℕ) → i < member_count cut → IsWhy cut period entries stamp i (cause_at causes i)
-  pub stamps : (i : ℕ) → i < member_count cut → stamp i < clock
-  pub least : (other : List ℤ) → IsRepeating cut period other → (i : ℕ) → i < member_count cut
-      → entry_at entries i ≤ℤ entry_at other i
+  pub along : (i : ℕ) → i < member_count cut → IsAlong cut period entries i (trails i)
+  pub begins : (i : ℕ) → i < member_count cut → BeginsWith period trails (cause_at causes i) (trails i)
 
 abbrev pub AreRaised : Cut → ℕ → List ℤ → List (Option Edge) → Type 0
-AreRaised cut period entries causes =
-    (stamp : ℕ → ℕ) × (clock : ℕ) × AreRaisedAt cut period entries causes stamp clock
+AreRaised cut period entries causes = (trails : ℕ → List Edge) × AreRaisedAlong cut period entries causes trails
 
 -- entries and causes before and after one edge along which a train was raised
 pub record IsRaisedBy (period : ℕ) (e : Edge) (before : List ℤ) (causes_before : List (Option Edge)) (after : List ℤ)
@@ -47,17 +56,22 @@ pub record IsRaisedBy (period : ℕ) (e : Edge) (before : List ℤ) (causes_befo
   pub entries : after ≡ slice_set before e.step.to (entry_at before e.step.from +ℤ asks period e)
   pub causes : causes_after ≡ slice_set causes_before e.step.to (Some e)
 
--- an entry from -2^40 to 2^40: no train enters later unless the causes behind it come to a ring
+-- an entry that is raised further: one after LATEST has a ring behind it. Without a ring a train is raised along fewer than
+-- MEMBERS edges, none of which asks for more than 200,000,000 s
 pub record IsEarly (x : ℤ) : Type 0 where
-  pub after : (pos 0 -ℤ pos (2 ^ 40)) ≤ℤ x
-  pub before : x ≤ℤ pos (2 ^ 40)
+  pub after : (pos 0 -ℤ LATEST) ≤ℤ x
+  pub before : x ≤ℤ LATEST
 
 abbrev pub AreEarly : List ℤ → Type 0
 AreEarly entries = All IsEarly entries
 
+-- no entry lies above this one: that of an early train, raised along one edge more
+abbrev pub highest : ℤ
+highest = LATEST +ℤ pos 200000000
+
 -- how much later the trains could enter, in all
 abbrev pub room : List ℤ → ℕ
-room entries = sum_by (λ x. nat_abs (pos (2 ^ 42) -ℤ x)) entries
+room entries = sum_by (λ x. nat_abs (highest -ℤ x)) entries
 
 -- after a round along all edges: no train was raised, and the entries keep all edges; or some were, and one of them is
 -- named: all are early, or that one isn't
@@ -68,7 +82,7 @@ pub record IsSettled (period : ℕ) (edges : List Edge) (before after : List ℤ
 pub record IsHigher (before after : List ℤ) (top : ℕ) : Type 0 where
   pub there : top < length after
   pub higher : room after < room before
-  pub early : AreEarly after ⊎ (pos (2 ^ 40) <ℤ entry_at after top)
+  pub early : AreEarly after ⊎ (LATEST <ℤ entry_at after top)
 
 abbrev pub IsRound : ℕ → List Edge → List ℤ → List ℤ → Option ℕ → Type 0
 IsRound period edges before after None = IsSettled period edges before after

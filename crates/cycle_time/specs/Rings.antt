@@ -8,7 +8,7 @@ use Rattle.cycle_time.specs.Types.{Edge, Settled, Step, Found}
 use Rattle.cycle_time.specs.declared.settling.Settled.TheVariants as settled
 use Rattle.cycle_time.specs.Cycle.{no_step, Refuses, IsLeastRepeating}
 use Rattle.cycle_time.specs.Edges.{IsEdge}
-use Rattle.cycle_time.specs.Raising.{cause_at}
+use Rattle.cycle_time.specs.Raising.{Back, cause_at}
 
 -- the train to which an edge leads
 abbrev pub to_of : Edge → ℕ
@@ -47,11 +47,6 @@ pub record GoesRound (causes : List (Option Edge)) (ring : List Edge) : Type 0 w
 abbrev pub IsBehind : List (Option Edge) → ℕ → Option (List Edge) → Type 0
 IsBehind causes top None = EndsAt causes top
 IsBehind causes top (Some ring) = GoesRound causes ring
-
--- edges each of which begins where the next ends, back from one train to another
-abbrev pub Back : ℕ → List Edge → ℕ → Type 0
-Back i [] j = i ≡ j
-Back i (e ∷ edges) j = (e.step.to ≡ i) × Back e.step.from edges j
 
 abbrev pub step_of : Edge → Step
 step_of e = e.step

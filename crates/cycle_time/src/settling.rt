@@ -5,6 +5,7 @@ ghost use Rattle.plan_model.specs.Members.{member_count};
 ghost use Rattle.plan_model.specs.Cut.{IsSoundCut};
 ghost use Rattle.plan_model.specs.Disorder.{remaining};
 ghost use Rattle.plan_model.specs.declared.limits.TheConstants.{MEMBERS};
+ghost use Rattle.cycle_time.specs.declared.settling.TheConstants as constants;
 ghost use Rattle.cycle_time.specs.Edges.{AreEnough, IsEdge};
 ghost use Rattle.cycle_time.specs.Raising.{AreEarly, AreRaised, IsRound};
 ghost use Rattle.cycle_time.specs.Rings.{IsSettling};
@@ -122,8 +123,8 @@ fn round(
 // Whether a train enters later than `LATEST`.
 fn is_late(entries: &[i64], train: u32) -> bool
     requires there { train < length entries.now }
-    ensures late { result ≡ true → pos (2 ^ 40) <ℤ entry_at entries.now train }
-    ensures early { result ≡ false → entry_at entries.now train ≤ℤ pos (2 ^ 40) }
+    ensures late { result ≡ true → constants.LATEST <ℤ entry_at entries.now train }
+    ensures early { result ≡ false → entry_at entries.now train ≤ℤ constants.LATEST }
 {
     entries[train as usize] > LATEST
 }

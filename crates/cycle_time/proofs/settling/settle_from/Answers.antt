@@ -2,7 +2,13 @@ use Rattle.std.proofs.Common.{sym, subst}
 use Rattle.cycle_time.specs.Cycle.{IsLeastRepeating}
 use Rattle.cycle_time.specs.Rings.{IsBehind}
 use Rattle.cycle_time.proofs.Settled.{repeats_at, early_again, refused}
+use Rattle.cycle_time.proofs.Trails.{are_causes}
 use Rattle.cycle_time.proofs.settling.settle_from.Goals as goal
+
+pub ring_behind-requires-clause-causes : goal.ring_behind-requires-clause-causes
+ring_behind-requires-clause-causes c =
+    let (trails, raised) = c.round.ensures.raised in
+    are_causes c.args.cut.now c.args.period c.round.new.entries c.round.new.causes trails raised
 
 pub returns-in-Some-2 : goal.returns-in-Some-2
 returns-in-Some-2 c =
