@@ -11,7 +11,7 @@ use Rattle.plan_model.specs.Schedule.{window_start, entry_at}
 use Rattle.cycle_time.specs.declared.edge.Edge.{Edge}
 use Rattle.cycle_time.specs.Cycle.{IsRepeating}
 use Rattle.cycle_time.specs.Edges.{IsEdge, asks, Keeps}
-use Rattle.cycle_time.specs.Raising.{cause_at, Back, asked, IsAlong, HasOrHad, BeginsWith, AreRaisedAlong, AreRaised, IsRaisedBy}
+use Rattle.cycle_time.specs.Raising.{cause_at, Back, asked, HasOrHad, BeginsWith, IsRaised, AreRaisedAlong, AreRaised, IsRaisedBy}
 use Rattle.cycle_time.proofs.Refused.{keeps_step, step_asks}
 
 -- what an edge asks is what its step asks
@@ -41,7 +41,7 @@ pub least : (cut : Cut) (period : ℕ) (entries : List ℤ) (causes : List (Opti
     → (other : List ℤ) → IsRepeating cut period other → (i : ℕ) → i < member_count cut
     → entry_at entries i ≤ℤ entry_at other i
 least cut period entries causes (trails, raised) other repeats i l =
-    let its = raised.along i l in
+    let its = raised.each i l in
     let least = reaches cut period other repeats i (trails i) its.leads.0 l its.each its.leads.1 in
     omega (arith, ints, its.entry, least)
 
@@ -83,79 +83,60 @@ module _ (cut : Cut) (period : ℕ) (entries : List ℤ) (causes : List (Option 
   now_other : (i : ℕ) → i ≢ t → now i ≡ trails i
   now_other i ne = ap (λ b. if b then e ∷ trails f else trails i) (ne_eqb i t ne)
 
-  first : IsAlong cut period entries f (trails f)
-  first = raised.along f is.is_step.one_there
+  first : IsRaised cut period entries trails (cause_at causes f) f (trails f)
+  first = raised.each f is.is_step.one_there
 
-  along_t : IsAlong cut period after t (e ∷ trails f)
-  along_t = record {
-    each = All-cons (IsEdge cut) e (trails f) is first.each;
-    leads = (first.leads.0, (refl, first.leads.1));
-    entry = omega (arith, ints, at_t, first.entry);
-  }
-
-  along_now : (i : ℕ) → i < member_count cut → IsAlong cut period after i (now i)
-  along_now i l =
-      elim (cases_eq i t) [
-        | inl s ↦
-            subst (λ k. IsAlong cut period after k (now k)) (sym s) (subst (IsAlong cut period after t) (sym now_t) along_t)
-        | inr ne ↦
-            let its = raised.along i l in
-            subst (IsAlong cut period after i) (sym (now_other i ne))
-            (record { each = its.each; leads = its.leads; entry = other i ne ∙ its.entry })
-      ]
+  last : IsRaised cut period entries trails (cause_at causes t) t (trails t)
+  last = raised.each t is.is_step.other_there
 
   -- a trail that a train had then it has yet, or had before this raising
   had_now : (i : ℕ) (trail : List Edge) → HasOrHad period (trails i) trail → HasOrHad period (now i) trail
   had_now i trail had =
       elim (cases_eq i t) [
         | inl s ↦
-            let more = (raised.along t is.is_step.other_there).entry in
-            let now_asked = ap (asked period) now_t in
-            let before : asked period trail ≤ℤ asked period (trails t) =
-            subst (λ k. asked period trail ≤ℤ asked period (trails k)) s (elim had [
-              | inl same ↦ omega (arith, ints, ap (asked period) same)
-              | inr less ↦ omega (arith, ints, less)
-            ]) in
             let later = by.later in
-            inr (subst (λ k. asked period trail <ℤ asked period (now k)) (sym s)
-            (omega (arith, ints, before, later, more, first.entry, now_asked)))
-        | inr ne ↦ subst (λ ts. HasOrHad period ts trail) (sym (now_other i ne)) had
+            let less : asked period trail <ℤ asked period (e ∷ trails f) = elim had [
+              | inl same ↦ omega (arith, ints, ap (asked period) (same ∙ ap trails s), later, last.entry, first.entry)
+              | inr less ↦ omega (arith, ints, less, ap (λ k. asked period (trails k)) s, later, last.entry, first.entry)
+            ] in
+            rw (s, now_t) (inr less)
+        | inr ne ↦ rw (now_other i ne) had
       ]
+
+  raised_t : IsRaised cut period after now (Some e) t (e ∷ trails f)
+  raised_t = record {
+    each = All-cons (IsEdge cut) e (trails f) is first.each;
+    leads = (first.leads.0, (refl, first.leads.1));
+    entry = omega (arith, ints, at_t, first.entry);
+    from = let later = by.later in omega (arith, ints, at_t, later, last.from);
+    begins = (trails f, refl, had_now f (trails f) (inl refl));
+  }
 
   begins_other : (o : Option Edge) (trail : List Edge) → BeginsWith period trails o trail → BeginsWith period now o trail
   begins_other None trail begins = begins
   begins_other (Some d) trail (behind, is, had) = (behind, is, had_now d.step.from behind had)
 
-  begins_now : (i : ℕ) → i < member_count cut → BeginsWith period now (cause_at causes_after i) (now i)
-  begins_now i l =
+  each_now : (i : ℕ) → i < member_count cut → IsRaised cut period after now (cause_at causes_after i) i (now i)
+  each_now i l =
       elim (cases_eq i t) [
-        | inl s ↦
-            subst (λ k. BeginsWith period now (cause_at causes_after k) (now k)) (sym s)
-            (subst (λ o. BeginsWith period now o (now t)) (sym cause_t) (trails f, now_t, had_now f (trails f) (inl refl)))
+        | inl s ↦ rw (s, cause_t, now_t) raised_t
         | inr ne ↦
-            subst (λ o. BeginsWith period now o (now i)) (sym (cause_other i ne))
-            (subst (BeginsWith period now (cause_at causes i)) (sym (now_other i ne))
-            (begins_other (cause_at causes i) (trails i) (raised.begins i l)))
-      ]
-
-  from_now : (i : ℕ) → i < member_count cut → window_start cut ≤ℤ entry_at after i
-  from_now i l =
-      let from = raised.from i l in
-      elim (cases_eq i t) [
-        | inl s ↦
-            let later = by.later in
-            subst (λ k. window_start cut ≤ℤ entry_at after k) (sym s)
-            (omega (arith, ints, raised.from t is.is_step.other_there, later, at_t))
-        | inr ne ↦ omega (arith, ints, other i ne, from)
+            let its = raised.each i l in
+            let still = other i ne in
+            rw (cause_other i ne, now_other i ne) (record {
+              each = its.each;
+              leads = its.leads;
+              entry = still ∙ its.entry;
+              from = omega (arith, ints, still, its.from);
+              begins = begins_other (cause_at causes i) (trails i) its.begins;
+            })
       ]
 
   raised_now : AreRaisedAlong cut period after causes_after now
   raised_now = record {
     count = ap length by.entries ∙ length-set entries t v ∙ raised.count;
     causes_count = ap length by.causes ∙ length-set causes t (Some e) ∙ raised.causes_count;
-    from = from_now;
-    along = along_now;
-    begins = begins_now;
+    each = each_now;
   }
 
 pub raised_more : (cut : Cut) (period : ℕ) (entries : List ℤ) (causes : List (Option Edge)) (e : Edge) → IsEdge cut e

@@ -19,7 +19,7 @@ use Rattle.train_order.proofs.Users.{users, somewhere}
 use Rattle.cycle_time.specs.declared.edge.Edge.{Edge}
 use Rattle.cycle_time.specs.Cycle.{IsLeastRepeating}
 use Rattle.cycle_time.specs.Edges.{IsEdge, Keeps, AreEnough}
-use Rattle.cycle_time.specs.Raising.{cause_at, Back, asked, BeginsWith, AreRaised, IsEarly, AreEarly, IsSettled, IsHigher}
+use Rattle.cycle_time.specs.Raising.{cause_at, Back, asked, IsRaised, AreRaised, IsEarly, AreEarly, IsSettled, IsHigher}
 use Rattle.cycle_time.specs.Rings.{to_of, EndsAt, GoesRound, weights, laps, IsLoop, IsRefusal}
 use Rattle.cycle_time.proofs.Raised.{least}
 use Rattle.cycle_time.proofs.Trails.{asked_is, soon, round, edges_of, back_of}
@@ -49,13 +49,13 @@ module _ (cut : Cut) (period : ℕ) (entries : List ℤ) (causes : List (Option 
     record {
       count = ap length start ∙ length-replicate (member_count cut) (window_start cut);
       causes_count = ap length none ∙ length-replicate (member_count cut) None;
-      from = λ i l. let e = at_start i l in omega (arith, ints, e);
-      along = λ i l. record {
+      each = λ i l. let e = at_start i l in rw (no_cause i l) (record {
         each = All-nil (IsEdge cut);
         leads = (i, refl);
-        entry = let e = at_start i l in omega (arith, ints, e);
-      };
-      begins = λ i l. subst (λ o. BeginsWith period (λ i. []) o []) (sym (no_cause i l)) refl;
+        entry = omega (arith, ints, e);
+        from = omega (arith, ints, e);
+        begins = refl;
+      });
     },
   )
 
@@ -79,7 +79,7 @@ module _ (cut : Cut) (sound : IsSoundCut cut) (edges : List Edge) (enough : AreE
         repeats = record {
           schedule = record {
             count = raised.1.count;
-            from = raised.1.from;
+            from = λ i l. (raised.1.each i l).from;
             order = λ i j place li lj h.
                 let used = users cut i j place h in
                 (enough.enough period after keep place (place_there cut sound i place li used.0)).order i j li lj h;
@@ -99,9 +99,8 @@ pub soon_again : (cut : Cut) (period : ℕ) (entries : List ℤ) (causes : List 
 soon_again cut period entries causes top (trails, raised) l ends =
     let lr : ends.root < member_count cut = omega (arith, ends.there, raised.causes_count) in
     let reach = soon cut period entries causes trails raised top ends.trail ends.root l ends.leads in
-    let none : trails ends.root ≡ [] =
-    subst (λ o. BeginsWith period trails o (trails ends.root)) ends.never (raised.begins ends.root lr) in
-    let root = (raised.along ends.root lr).entry ∙ ap (λ t. window_start cut +ℤ asked period t) none in
+    let its = subst (λ o. IsRaised cut period entries trails o ends.root (trails ends.root)) ends.never (raised.each ends.root lr) in
+    let root = its.entry ∙ ap (λ t. window_start cut +ℤ asked period t) its.begins in
     omega (arith, ints, reach, root, ends.short, raised.causes_count)
 
 pub early_again : (cut : Cut) → IsSoundCut cut → member_count cut ≤ MEMBERS → (period : ℕ) (before after : List ℤ)

@@ -138,7 +138,7 @@ module _ (cut : Cut) (sound : IsSoundCut cut) (none : remaining cut ≡ []) (per
       → All (λ x. x ≤ℤ most) entries → room entries < fuel → Comes
   settle zero entries causes raised near l = absurd (omega (arith, l))
   settle (suc fuel) entries causes raised near l =
-      elim (repeats_or cut sound period entries raised.1.count raised.1.from) [
+      elim (repeats_or cut sound period entries raised.1.count (λ i l. (raised.1.each i l).from)) [
         | inl repeats ↦ inl (entries, record { repeats = repeats; least = least cut period entries causes raised })
         | inr more ↦ elim (raise entries causes raised near more) [
           | inl comes ↦ comes

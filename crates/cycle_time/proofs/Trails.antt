@@ -10,7 +10,7 @@ use Rattle.plan_model.specs.Members.{member_count}
 use Rattle.plan_model.specs.Schedule.{window_start, entry_at}
 use Rattle.cycle_time.specs.declared.edge.Edge.{Edge}
 use Rattle.cycle_time.specs.Edges.{IsEdge, asks}
-use Rattle.cycle_time.specs.Raising.{cause_at, Back, asked, BeginsWith, AreRaisedAlong}
+use Rattle.cycle_time.specs.Raising.{cause_at, Back, asked, IsRaised, AreRaisedAlong}
 use Rattle.cycle_time.specs.Rings.{IsCauseOf, AreCauses, Trails, weights, laps}
 use Rattle.cycle_time.proofs.Refused.{times}
 
@@ -68,20 +68,19 @@ module _ (cut : Cut) (period : ℕ) (entries : List ℤ) (causes : List (Option 
 
   pub cause : (i : ℕ) (e : Edge) → i < member_count cut → cause_at causes i ≡ Some e → IsCause i e
   cause i e l is =
-      let (behind, begins, had) = subst (λ o. BeginsWith period trails o (trails i)) is (raised.begins i l) in
-      let its = raised.along i l in
-      let edge = All-head (IsEdge cut) e behind (subst (All (IsEdge cut)) begins its.each) in
-      let before = (raised.along e.step.from edge.is_step.one_there).entry in
-      let here : entry_at entries i ≡ (window_start cut +ℤ (asks period e +ℤ asked period behind)) =
-      its.entry ∙ ap (λ t. window_start cut +ℤ asked period t) begins in record {
+      let its = subst (λ o. IsRaised cut period entries trails o i (trails i)) is (raised.each i l) in
+      let (behind, begins, had) = its.begins in
+      let now = subst (IsRaised cut period entries trails (Some e) i) begins its in
+      let edge = All-head (IsEdge cut) e behind now.each in
+      let before = (raised.each e.step.from edge.is_step.one_there).entry in record {
         is_edge = edge;
-        leads = (subst (λ t. Back i t its.leads.0) begins its.leads.1).0;
+        leads = now.leads.1.0;
         rises = elim had [
           | inl same ↦ inl (
             omega (arith, ap length begins, ap length same),
-            omega (arith, ints, here, before, ap (asked period) same),
+            omega (arith, ints, now.entry, before, ap (asked period) same),
           )
-          | inr less ↦ inr (omega (arith, ints, here, before, less))
+          | inr less ↦ inr (omega (arith, ints, now.entry, before, less))
         ];
       }
 
@@ -104,16 +103,9 @@ module _ (cut : Cut) (period : ℕ) (entries : List ℤ) (causes : List (Option 
   rises i [] j l leads = rw leads (inl (omega arith, omega (arith, ints)))
   rises i (e ∷ trail) j l leads =
       let c = cause i e l leads.0 in
-      elim (rises e.step.from trail j c.is_edge.is_step.one_there leads.1) [
-        | inr lt ↦ elim c.rises [
-          | inr less ↦ inr (omega (arith, ints, lt, less))
-          | inl same ↦ inr (omega (arith, ints, lt, same.1))
-        ]
-        | inl both ↦ elim c.rises [
-          | inr less ↦ inr (omega (arith, ints, less, both.1))
-          | inl same ↦ inl (omega (arith, same.0, both.0), omega (arith, ints, same.1, both.1))
-        ]
-      ]
+      let here = c.rises in
+      let rest = rises e.step.from trail j c.is_edge.is_step.one_there leads.1 in
+      grind (arith, ints)
 
   -- so round a ring they ask for more than nothing
   pub round : (at : ℕ) (ring : List Edge) → at < member_count cut → 0 < length ring → Trails causes at ring at

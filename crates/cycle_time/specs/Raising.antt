@@ -21,30 +21,31 @@ abbrev pub asked : ℕ → List Edge → ℤ
 asked period [] = pos 0
 asked period (e ∷ trail) = asks period e +ℤ asked period trail
 
--- a trail of edges back from a train, along which it was raised: it enters as long after the window's start as they ask
-pub record IsAlong (cut : Cut) (period : ℕ) (entries : List ℤ) (i : ℕ) (trail : List Edge) : Type 0 where
-  pub each : All (IsEdge cut) trail
-  pub leads : (root : ℕ) × Back i trail root
-  pub entry : entry_at entries i ≡ (window_start cut +ℤ asked period trail)
-
--- the trail that a train has now, or one that it had before it was raised again: this one asks for less
+-- the trail of a train, or one that it had before it was raised again: that one asks for less
 abbrev pub HasOrHad : ℕ → List Edge → List Edge → Type 0
 HasOrHad period now trail = (trail ≡ now) ⊎ (asked period trail <ℤ asked period now)
 
--- a train's trail begins with its cause, and behind this is the trail that the cause's first train had then
+-- a trail begins with the cause of its train, and behind that is the trail that the cause's first train had then
 abbrev pub BeginsWith : ℕ → (ℕ → List Edge) → Option Edge → List Edge → Type 0
 BeginsWith period trails None trail = trail ≡ []
 BeginsWith period trails (Some e) trail =
     (behind : List Edge) × (trail ≡ e ∷ behind) × HasOrHad period (trails e.step.from) behind
 
--- entries that were raised from the window's start on, each train along a trail that begins with its cause
+-- a train was raised along a trail of edges back from it: it enters as long after the window's start as they ask for
+pub record IsRaised (cut : Cut) (period : ℕ) (entries : List ℤ) (trails : ℕ → List Edge) (cause : Option Edge) (i : ℕ)
+    (trail : List Edge) : Type 0 where
+  pub each : All (IsEdge cut) trail
+  pub leads : (root : ℕ) × Back i trail root
+  pub entry : entry_at entries i ≡ (window_start cut +ℤ asked period trail)
+  pub from : window_start cut ≤ℤ entry_at entries i
+  pub begins : BeginsWith period trails cause trail
+
+-- entries that were raised from the window's start on, each train along a trail
 pub record AreRaisedAlong (cut : Cut) (period : ℕ) (entries : List ℤ) (causes : List (Option Edge)) (trails : ℕ → List Edge)
     : Type 0 where
   pub count : length entries ≡ member_count cut
   pub causes_count : length causes ≡ member_count cut
-  pub from : (i : ℕ) → i < member_count cut → window_start cut ≤ℤ entry_at entries i
-  pub along : (i : ℕ) → i < member_count cut → IsAlong cut period entries i (trails i)
-  pub begins : (i : ℕ) → i < member_count cut → BeginsWith period trails (cause_at causes i) (trails i)
+  pub each : (i : ℕ) → i < member_count cut → IsRaised cut period entries trails (cause_at causes i) i (trails i)
 
 abbrev pub AreRaised : Cut → ℕ → List ℤ → List (Option Edge) → Type 0
 AreRaised cut period entries causes = (trails : ℕ → List Edge) × AreRaisedAlong cut period entries causes trails
