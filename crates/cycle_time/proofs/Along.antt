@@ -21,13 +21,13 @@ use Rattle.train_order.specs.Ordering.{IsOrder}
 use Rattle.train_order.proofs.Among.{among_first, first_among, among_more}
 use Rattle.train_order.proofs.Following.{apart}
 use Rattle.train_order.proofs.Next.{is_there}
-use Rattle.train_order.proofs.Users.{users}
+use Rattle.train_order.proofs.Users.{user_there, users}
 use Rattle.cycle_time.specs.declared.edge.Edge.{Edge}
 use Rattle.cycle_time.specs.declared.stay.Stay.{Stay}
 use Rattle.cycle_time.specs.declared.stay.Ends.{Ends}
 use Rattle.cycle_time.specs.Cycle.{IsStep, weight}
 use Rattle.cycle_time.specs.Edges.{step_on, IsSpan, IsLight, IsEdge, Keeps, KeepsPlace, AreEnough}
-use Rattle.cycle_time.specs.Laying.{stay_by, with_stay, edge_to, IsAdded, IsLedTo, IsLedOn, HaveSpans, IsStayOf, KeepSome, AreEnds, AreSeen, ends_at, AreLaid, gone, AreLaidSoFar, AreLaidAgain}
+use Rattle.cycle_time.specs.Laying.{stay_by, with_stay, edge_to, Cover, IsAdded, IsLedTo, IsLedOn, HaveSpans, IsStayOf, AreEnds, AreSeen, KeepOrder, AreEnoughFor, ends_at, AreLaidOn, AreLaid, with_uses, AreLaidAgain}
 
 -- ---- at first
 
@@ -36,28 +36,16 @@ pub none_laid : (cut : Cut) (some : List ℕ) (edges : List Edge) (ends : List (
 none_laid cut some edges ends s e is = record {
   each = subst (All (IsEdge cut)) (sym e) (All-nil (IsEdge cut));
   count = ap length is ∙ length-replicate (place_count cut) None;
-  seen = λ place l.
+  places = λ place l.
       let none : ends_at ends place ≡ None = ap (λ es. ends_at es place) is ∙ get_or-replicate (place_count cut) place None None l in
-      subst (AreSeen cut place some edges) (sym none)
-      (λ i h. absurd (let a : is_among [] i ≡ true = subst (λ is. is_among is i ≡ true) s h in (cc)));
+      let nobody : (i : ℕ) → IsTrue (is_among some i) → ⊥ =
+      λ i h. let a : is_among [] i ≡ true = subst (λ is. is_among is i ≡ true) s h in absurd (cc) in
+      rw none (record { enough = λ period entries keep i j hi hj p. absurd (nobody i hi); seen = λ i h. absurd (nobody i h) });
 }
-
--- ---- with more edges
 
 -- entries that keep the edges that there are keep those that there were
 abbrev IsKept : List Edge → List Edge → Type 0
 IsKept before after = (period : ℕ) (entries : List ℤ) → All (Keeps period entries) after → All (Keeps period entries) before
-
-seen_kept : (cut : Cut) (place : ℕ) (some : List ℕ) (before after : List Edge) → IsKept before after → (o : Option Ends)
-    → AreSeen cut place some before o → AreSeen cut place some after o
-seen_kept cut place some before after kept None seen = seen
-seen_kept cut place some before after kept (Some ends) seen = record {
-  spans = seen.spans;
-  first = seen.first;
-  last = seen.last;
-  among = seen.among;
-  kept = λ period entries keep. seen.kept period entries (kept period entries keep);
-}
 
 -- ---- an edge between two uses of a place
 
@@ -122,6 +110,38 @@ takes cut sound place i l used entries =
     moved (use_at (member cut i) place).start (use_at (member cut i) place).«end» (member cut i).entry (entry_at entries i)
     (takes_time cut sound i place l used)
 
+-- all of some trains have left a place by when the last one leaves, and start there from when the first one starts on
+module _ (cut : Cut) (sound : IsSoundCut cut) (place : ℕ) (some : List ℕ) (ends : Ends) (are : AreEnds cut place some ends)
+    (entries : List ℤ) (keep : KeepOrder cut place some entries) (i : ℕ) (among : IsTrue (is_among some i))
+    (used : IsTrue (uses_place (member cut i) place)) where
+  by_last : end_by cut entries i place ≤ℤ end_by cut entries ends.last.train place
+  by_last =
+      let last = ends.last.train in
+      elim (cases_eq i last) [
+        | inl e ↦ rw e (omega (arith, ints))
+        | inr ne ↦ elim (one_precedes cut sound i last place (user_there cut i place used) are.last.there ne used are.last.used) [
+          | inl p ↦
+              let off = keep i last among are.last_among p in
+              let lasts = takes cut sound place last are.last.there are.last.used entries in
+              omega (arith, ints, off, lasts)
+          | inr p ↦ absurd (are.none_after i among p)
+        ]
+      ]
+
+  from_first : start_by cut entries ends.first.train place ≤ℤ start_by cut entries i place
+  from_first =
+      let first = ends.first.train in
+      elim (cases_eq i first) [
+        | inl e ↦ rw e (omega (arith, ints))
+        | inr ne ↦ elim (one_precedes cut sound i first place (user_there cut i place used) are.first.there ne used are.first.used) [
+          | inl p ↦ absurd (are.none_before i among p)
+          | inr p ↦
+              let off = keep first i are.first_among among p in
+              let lasts = takes cut sound place first are.first.there are.first.used entries in
+              omega (arith, ints, off, lasts)
+        ]
+      ]
+
 -- ---- one train more
 
 -- a list of trains with one more
@@ -152,172 +172,140 @@ module _ (cut : Cut) (sound : IsSoundCut cut) (some more : List ℕ) (j : ℕ) (
       both_ways _ next.not_yet (next.before j place itself)
 
   -- a place that the train doesn't use
-  unused : (place : ℕ) → uses_place (member cut j) place ≡ false → (edges : List Edge) (o : Option Ends)
-      → AreSeen cut place some edges o → AreSeen cut place more edges o
-  unused place free edges None seen = λ i h. elim (is_more.either i h) [
-    | inl a ↦ seen i a
-    | inr e ↦ ap (λ m. uses_place (member cut m) place) e ∙ free
-  ]
-  unused place free edges (Some ends) seen =
-      let among : (i : ℕ) → IsTrue (is_among more i) → IsTrue (uses_place (member cut i) place) → IsTrue (is_among some i) =
-      λ i h u. elim (is_more.either i h) [
-        | inl a ↦ a
-        | inr e ↦ absurd (both_ways _ (ap (λ m. uses_place (member cut m) place) e ∙ free) u)
-      ] in record {
-        spans = seen.spans;
-        first = seen.first;
-        last = seen.last;
-        among = is_more.old ends.last.train seen.among;
-        kept = λ period entries keep.
-            let old = seen.kept period entries keep in record {
-              order = λ i k hi hk p.
-                  let both = users cut i k place p in
-                  old.order i k (among i hi both.0) (among k hk both.1) p;
-              first = λ i h u. old.first i (among i h u) u;
-              last = λ i h u. old.last i (among i h u) u;
-            };
-      }
+  module _ (place : ℕ) (free : uses_place (member cut j) place ≡ false) where
+    still : (i : ℕ) → IsTrue (is_among more i) → IsTrue (uses_place (member cut i) place) → IsTrue (is_among some i)
+    still i h u =
+        elim (is_more.either i h) [
+          | inl a ↦ a
+          | inr e ↦ absurd (both_ways _ (ap (λ m. uses_place (member cut m) place) e ∙ free) u)
+        ]
+
+    seen_still : (o : Option Ends) → AreSeen cut place some o → AreSeen cut place more o
+    seen_still None seen = λ i h. elim (is_more.either i h) [
+      | inl a ↦ seen i a
+      | inr e ↦ ap (λ m. uses_place (member cut m) place) e ∙ free
+    ]
+    seen_still (Some ends) seen = record {
+      spans = seen.spans;
+      first = seen.first;
+      last = seen.last;
+      first_among = is_more.old ends.first.train seen.first_among;
+      last_among = is_more.old ends.last.train seen.last_among;
+      none_before = λ i h p. seen.none_before i (still i h (users cut i ends.first.train place p).0) p;
+      none_after = λ i h p. seen.none_after i (still i h (users cut ends.last.train i place p).1) p;
+    }
+
+    unused : (edges : List Edge) (o : Option Ends) → AreEnoughFor cut place some edges o → AreEnoughFor cut place more edges o
+    unused edges o are = record {
+      enough = λ period entries keep i k hi hk p.
+          let both = users cut i k place p in
+          are.enough period entries keep i k (still i hi both.0) (still k hk both.1) p;
+      seen = seen_still o are.seen;
+    }
 
   -- a place that it uses
   module _ (place : ℕ) (stay : Stay) (its : IsStayOf cut place stay) (train : stay.train ≡ j) (from : IsSpan stay.from)
       (until : IsSpan stay.until) (before after : List Edge) where
     -- what there is after an edge from the last train on the place
-    record IsSeenNow (o : Option Ends) : Type 0 where
+    record IsLaidNow (o : Option Ends) : Type 0 where
       each : All (IsEdge cut) before → All (IsEdge cut) after
       kept : IsKept before after
-      seen : AreSeen cut place more after (Some (with_stay o stay))
+      now : AreEnoughFor cut place more after (Some (with_stay o stay))
 
-    alone : (o : Option Ends) → o ≡ None → AreSeen cut place some before o → after ≡ before → IsSeenNow None
-    alone o e seen same =
-        let none = subst (AreSeen cut place some before) e seen in
+    among : IsTrue (is_among more stay.train)
+    among = rw train is_more.new
+
+    none_after_it : (i : ℕ) → IsTrue (is_among more i) → IsTrue (precedes (member cut stay.train) (member cut i) place) → ⊥
+    none_after_it i h p =
+        elim (is_more.either i h) [
+          | inl a ↦ next.none_after i place a (subst (λ m. IsTrue (precedes (member cut m) (member cut i) place)) train p)
+          | inr e ↦ not_itself stay.train i place train e p
+        ]
+
+    alone : AreEnoughFor cut place some before None → after ≡ before → IsLaidNow None
+    alone are same =
         let only : (i : ℕ) → IsTrue (is_among more i) → IsTrue (uses_place (member cut i) place) → i ≡ j =
         λ i h u. elim (is_more.either i h) [
-          | inl a ↦ absurd (both_ways _ (none i a) u)
+          | inl a ↦ absurd (both_ways _ (are.seen i a) u)
           | inr e ↦ e
         ] in record {
-          each = λ all. subst (All (IsEdge cut)) (sym same) all;
+          each = λ all. rw same all;
           kept = λ period entries keep. subst (All (Keeps period entries)) same keep;
-          seen = record {
-            spans = record { first = from; last = until };
-            first = its;
-            last = its;
-            among = subst (λ m. IsTrue (is_among more m)) (sym train) is_more.new;
-            kept = λ period entries keep. record {
-              order = λ i k hi hk p.
-                  let both = users cut i k place p in
-                  absurd (not_itself i k place (only i hi both.0) (only k hk both.1) p);
-              first = λ i h u.
-                  subst (λ m. start_by cut entries stay.train place ≤ℤ start_by cut entries m place)
-                  (train ∙ sym (only i h u)) (omega (arith, ints));
-              last = λ i h u.
-                  subst (λ m. end_by cut entries m place ≤ℤ end_by cut entries stay.train place)
-                  (train ∙ sym (only i h u)) (omega (arith, ints));
+          now = record {
+            enough = λ period entries keep i k hi hk p.
+                let both = users cut i k place p in
+                absurd (not_itself i k place (only i hi both.0) (only k hk both.1) p);
+            seen = record {
+              spans = record { first = from; last = until };
+              first = its;
+              last = its;
+              first_among = among;
+              last_among = among;
+              none_before = λ i h p. not_itself i stay.train place (only i h (users cut i stay.train place p).0) train p;
+              none_after = none_after_it;
             };
           };
         }
 
-    module _ (ends : Ends) (seen : AreEnds cut place some before ends) where
+    module _ (ends : Ends) (are : AreEnoughFor cut place some before (Some ends)) where
       abbrev last : ℕ
       last = ends.last.train
 
       goes : IsTrue (precedes (member cut last) (member cut stay.train) place)
       goes =
-          elim (one_precedes cut sound last stay.train place seen.last.there its.there
-          (λ e. both_ways _ next.not_yet (subst (λ m. IsTrue (is_among some m)) (e ∙ train) seen.among))
-          seen.last.used its.used) [
+          elim (one_precedes cut sound last stay.train place are.seen.last.there its.there
+          (λ e. both_ways _ next.not_yet (subst (λ m. IsTrue (is_among some m)) (e ∙ train) are.seen.last_among))
+          are.seen.last.used its.used) [
             | inl p ↦ p
-            | inr p ↦ absurd (next.none_after last place seen.among
-                (subst (λ m. IsTrue (precedes (member cut m) (member cut last) place)) train p))
+            | inr p ↦ absurd (none_after_it last (is_more.old last are.seen.last_among) p)
           ]
 
       step : IsStep cut (step_on last stay.train place false)
       step = record {
-        one_there = seen.last.there;
+        one_there = are.seen.last.there;
         other_there = its.there;
         same = λ e. goes;
         next = λ e. absurd (cc);
       }
 
-      module _ (added : IsAdded before after (edge_to ends.last stay place false)) (period : ℕ) (entries : List ℤ)
-          (keep : All (Keeps period entries) after) where
-        old : KeepSome cut place some ends entries
-        old = seen.kept period entries (added.kept period entries keep)
-
-        off : end_by cut entries last place ≤ℤ start_by cut entries j place
-        off =
-            subst (λ m. end_by cut entries last place ≤ℤ start_by cut entries m place) train
-            (clear cut place ends.last stay seen.last its period entries (added.more period entries keep))
-
-        takes_now : start_by cut entries j place <ℤ end_by cut entries j place
-        takes_now =
-            takes cut sound place j next.there (subst (λ m. IsTrue (uses_place (member cut m) place)) train its.used) entries
-
-        takes_before : start_by cut entries last place <ℤ end_by cut entries last place
-        takes_before = takes cut sound place last seen.last.there seen.last.used entries
-
-        order_now : (i k : ℕ) → IsTrue (is_among more i) → IsTrue (is_among more k)
-            → IsTrue (precedes (member cut i) (member cut k) place)
-            → end_by cut entries i place ≤ℤ start_by cut entries k place
-        order_now i k hi hk p =
-            elim (is_more.either i hi) [
-              | inl a ↦ elim (is_more.either k hk) [
-                | inl b ↦ old.order i k a b p
-                | inr e ↦
-                    let by = old.last i a (users cut i k place p).0 in
-                    subst (λ m. end_by cut entries i place ≤ℤ start_by cut entries m place) (sym e)
-                    (omega (arith, ints, by, off))
-              ]
-              | inr e ↦ absurd (elim (is_more.either k hk) [
-                | inl b ↦ next.none_after k place b (subst (λ m. IsTrue (precedes (member cut m) (member cut k) place)) e p)
-                | inr f ↦ not_itself i k place e f p
-              ])
-            ]
-
-        first_now : (i : ℕ) → IsTrue (is_among more i) → IsTrue (uses_place (member cut i) place)
-            → start_by cut entries ends.first.train place ≤ℤ start_by cut entries i place
-        first_now i h u =
-            elim (is_more.either i h) [
-              | inl a ↦ old.first i a u
-              | inr e ↦
-                  let a = old.first last seen.among seen.last.used in
-                  let b = takes_before in
-                  subst (λ m. start_by cut entries ends.first.train place ≤ℤ start_by cut entries m place) (sym e)
-                  (omega (arith, ints, a, b, off))
-            ]
-
-        last_now : (i : ℕ) → IsTrue (is_among more i) → IsTrue (uses_place (member cut i) place)
-            → end_by cut entries i place ≤ℤ end_by cut entries j place
-        last_now i h u =
-            elim (is_more.either i h) [
-              | inl a ↦ let b = old.last i a u in let c = takes_now in omega (arith, ints, b, off, c)
-              | inr e ↦
-                  subst (λ m. end_by cut entries m place ≤ℤ end_by cut entries j place) (sym e) (omega (arith, ints))
-            ]
-
-        keep_now : KeepSome cut place more (record { first = ends.first; last = stay }) entries
-        keep_now = record {
-          order = order_now;
-          first = first_now;
-          last = λ i h u. subst (λ m. end_by cut entries i place ≤ℤ end_by cut entries m place) (sym train) (last_now i h u);
-        }
-
-      behind : IsAdded before after (edge_to ends.last stay place false) → IsSeenNow (Some ends)
+      behind : IsAdded before after (edge_to ends.last stay place false) → IsLaidNow (Some ends)
       behind added = record {
         each = λ all. added.each cut all
-            (is_edge cut place ends.last stay seen.last its false seen.spans.last from step);
+            (is_edge cut place ends.last stay are.seen.last its false are.seen.spans.last from step);
         kept = added.kept;
-        seen = record {
-          spans = record { first = seen.spans.first; last = until };
-          first = seen.first;
-          last = its;
-          among = subst (λ m. IsTrue (is_among more m)) (sym train) is_more.new;
-          kept = keep_now added;
+        now = record {
+          enough = λ period entries keep i k hi hk p.
+              let old = are.enough period entries (added.kept period entries keep) in
+              elim (is_more.either i hi) [
+                | inl a ↦ elim (is_more.either k hk) [
+                  | inl b ↦ old i k a b p
+                  | inr e ↦
+                      let by = by_last cut sound place some ends are.seen entries old i a (users cut i k place p).0 in
+                      let off = clear cut place ends.last stay are.seen.last its period entries (added.more period entries keep) in
+                      rw (e ∙ sym train) (omega (arith, ints, by, off))
+                ]
+                | inr e ↦
+                    absurd (none_after_it k hk (subst (λ m. IsTrue (precedes (member cut m) (member cut k) place)) (e ∙ sym train) p))
+              ];
+          seen = record {
+            spans = record { first = are.seen.spans.first; last = until };
+            first = are.seen.first;
+            last = its;
+            first_among = is_more.old ends.first.train are.seen.first_among;
+            last_among = among;
+            none_before = λ i h p. elim (is_more.either i h) [
+              | inl a ↦ are.seen.none_before i a p
+              | inr e ↦ next.none_after ends.first.train place are.seen.first_among
+                  (subst (λ m. IsTrue (precedes (member cut m) (member cut ends.first.train) place)) e p)
+            ];
+            none_after = none_after_it;
+          };
         };
       }
 
-    seen_now : (o : Option Ends) → AreSeen cut place some before o → IsLedTo o stay place before after → IsSeenNow o
-    seen_now None seen led = alone None refl seen led
-    seen_now (Some ends) seen led = behind ends seen led
+    laid_now : (o : Option Ends) → AreEnoughFor cut place some before o → IsLedTo o stay place before after → IsLaidNow o
+    laid_now None are led = alone are led
+    laid_now (Some ends) are led = behind ends are led
 
 -- ---- its uses one after the other
 
@@ -371,76 +359,70 @@ module _ (cut : Cut) (sound : IsSoundCut cut) (some more : List ℕ) (j : ℕ) (
         or_none true = refl
         or_none false = refl
 
-    module _ (laid : AreLaidSoFar cut some more (take n uses) before ends)
+    module _ (laid : AreLaidOn cut (with_uses some more (take n uses)) before ends)
         (led : IsLedTo (ends_at ends place) (stay n) place before after)
         (is : now ≡ set ends place (Some (with_stay (ends_at ends place) (stay n)))) (from : IsSpan (stay n).from)
         (until : IsSpan (stay n).until) where
       there : place < place_count cut
       there = ((sound.each j no_member next.there).each n no_use l).place
 
-      seen_before : AreSeen cut place some before (ends_at ends place)
-      seen_before =
-          subst (λ b. AreSeen cut place (if b then more else some) before (ends_at ends place))
-          (apart uses n (differ cut sound j next.there) l) (laid.seen place there)
+      led_now : IsLaidNow cut sound some more j is_more next place (stay n) (is_stay n l) refl from until before after (ends_at ends place)
+      led_now = laid_now cut sound some more j is_more next place (stay n) (is_stay n l) refl from until before after
+          (ends_at ends place)
+          (subst (λ b. AreEnoughFor cut place (if b then more else some) before (ends_at ends place))
+          (apart uses n (differ cut sound j next.there) l) (laid.places place there)) led
 
-      led_now : IsSeenNow cut sound some more j is_more next place (stay n) (is_stay n l) refl from until before after (ends_at ends place)
-      led_now = seen_now cut sound some more j is_more next place (stay n) (is_stay n l) refl from until before after
-          (ends_at ends place) seen_before led
-
-      pub use_laid : AreLaidSoFar cut some more (take (n + 1) uses) after now
+      pub use_laid : AreLaidOn cut (with_uses some more (take (n + 1) uses)) after now
       use_laid = record {
         each = led_now.each laid.each;
         count = ap length is ∙ length-set ends place _ ∙ laid.count;
-        seen = λ p lp. elim (cases_eq p place) [
+        places = λ p lp. elim (cases_eq p place) [
           | inl e ↦
               let at : ends_at now place ≡ Some (with_stay (ends_at ends place) (stay n)) =
               ap (λ es. ends_at es place) is ∙ get_or-set_same ends place _ None (omega (arith, there, laid.count)) in
-              subst (λ q. AreSeen cut q (gone some more (take (n + 1) uses) q) after (ends_at now q)) (sym e)
-              (subst (λ b. AreSeen cut place (if b then more else some) after (ends_at now place)) (sym here)
-              (subst (AreSeen cut place more after) (sym at) led_now.seen))
+              rw (e, at, here) led_now.now
           | inr ne ↦
               let at : ends_at now p ≡ ends_at ends p =
               ap (λ es. ends_at es p) is ∙ get_or-set_other ends place p _ None ne in
-              subst (λ b. AreSeen cut p (if b then more else some) after (ends_at now p)) (sym (elsewhere p ne))
-              (subst (AreSeen cut p (gone some more (take n uses) p) after) (sym at)
-              (seen_kept cut p (gone some more (take n uses) p) before after led_now.kept (ends_at ends p) (laid.seen p lp)))
+              rw (at, elsewhere p ne) (record {
+                enough = λ period entries keep. (laid.places p lp).enough period entries (led_now.kept period entries keep);
+                seen = (laid.places p lp).seen;
+              })
         ];
       }
 
   -- all of them
-  pub train_laid : (edges : List Edge) (ends : List (Option Ends)) → AreLaidSoFar cut some more uses edges ends
+  pub train_laid : (edges : List Edge) (ends : List (Option Ends)) → AreLaidOn cut (with_uses some more uses) edges ends
       → AreLaid cut more edges ends
   train_laid edges ends laid = record {
     each = laid.each;
     count = laid.count;
-    seen = λ place l.
-        let seen = laid.seen place l in
+    places = λ place l.
+        let are = laid.places place l in
         elim (cases_Bool (uses_place (member cut j) place)) [
-          | inl used ↦ subst (λ b. AreSeen cut place (if b then more else some) edges (ends_at ends place)) used seen
+          | inl used ↦ subst (λ b. AreEnoughFor cut place (if b then more else some) edges (ends_at ends place)) used are
           | inr free ↦
               unused cut sound some more j is_more next place free edges (ends_at ends place)
-              (subst (λ b. AreSeen cut place (if b then more else some) edges (ends_at ends place)) free seen)
+              (subst (λ b. AreEnoughFor cut place (if b then more else some) edges (ends_at ends place)) free are)
         ];
   }
 
 -- ---- the next pattern
 
-pub have_spans : (cut : Cut) (place : ℕ) (some : List ℕ) (edges : List Edge) (o : Option Ends) → AreSeen cut place some edges o
-    → IfSome o HaveSpans
-have_spans cut p some edges None seen = tt
-have_spans cut p some edges (Some ends) seen = seen.spans
+pub have_spans : (cut : Cut) (place : ℕ) (some : List ℕ) (o : Option Ends) → AreSeen cut place some o → IfSome o HaveSpans
+have_spans cut p some None seen = tt
+have_spans cut p some (Some ends) seen = seen.spans
 
 module _ (cut : Cut) (some : List ℕ) (ends : List (Option Ends)) (n : ℕ) (block : n < block_count cut) (there : n < place_count cut)
     (before after : List Edge) where
   record IsOn (o : Option Ends) : Type 0 where
     each : All (IsEdge cut) before → All (IsEdge cut) after
     kept : IsKept before after
-    again : IfSome o (λ e. (period : ℕ) (entries : List ℤ) → All (Keeps period entries) after
-        → Keeps period entries (edge_to e.last e.first n true))
+    again : IfSome o (λ e. Cover after (edge_to e.last e.first n true))
 
-  led_on : (o : Option Ends) → AreSeen cut n some before o → IsLedOn o n before after → IsOn o
+  led_on : (o : Option Ends) → AreSeen cut n some o → IsLedOn o n before after → IsOn o
   led_on None seen led = record {
-    each = λ all. subst (All (IsEdge cut)) (sym led) all;
+    each = λ all. rw led all;
     kept = λ period entries keep. subst (All (Keeps period entries)) led keep;
     again = tt;
   }
@@ -455,57 +437,53 @@ module _ (cut : Cut) (some : List ℕ) (ends : List (Option Ends)) (n : ℕ) (bl
     again = led.more;
   }
 
-  again_kept : IsKept before after → (m : ℕ) (o : Option Ends)
-      → IfSome o (λ e. (period : ℕ) (entries : List ℤ) → All (Keeps period entries) before
-      → Keeps period entries (edge_to e.last e.first m true))
-      → IfSome o (λ e. (period : ℕ) (entries : List ℤ) → All (Keeps period entries) after
-      → Keeps period entries (edge_to e.last e.first m true))
+  again_kept : IsKept before after → (m : ℕ) (o : Option Ends) → IfSome o (λ e. Cover before (edge_to e.last e.first m true))
+      → IfSome o (λ e. Cover after (edge_to e.last e.first m true))
   again_kept kept m None h = tt
   again_kept kept m (Some e) h = λ period entries keep. h period entries (kept period entries keep)
 
   pub again_more : AreLaidAgain cut some before ends n → IsLedOn (ends_at ends n) n before after
       → AreLaidAgain cut some after ends (n + 1)
   again_more laid led =
-      let on = led_on (ends_at ends n) (laid.laid.seen n there) led in record {
+      let on = led_on (ends_at ends n) (laid.laid.places n there).seen led in record {
         laid = record {
           each = on.each laid.laid.each;
           count = laid.laid.count;
-          seen = λ p l. seen_kept cut p some before after on.kept (ends_at ends p) (laid.laid.seen p l);
+          places = λ p l. record {
+            enough = λ period entries keep. (laid.laid.places p l).enough period entries (on.kept period entries keep);
+            seen = (laid.laid.places p l).seen;
+          };
         };
         again = λ m l. elim (cases_eq m n) [
-          | inl e ↦
-              subst (λ k. IfSome (ends_at ends k) (λ e. (period : ℕ) (entries : List ℤ) → All (Keeps period entries) after
-              → Keeps period entries (edge_to e.last e.first k true))) (sym e) on.again
+          | inl e ↦ rw e on.again
           | inr ne ↦ again_kept on.kept m (ends_at ends m) (laid.again m (omega (arith, l, ne)))
         ];
       }
 
 -- ---- all places
 
-module _ (cut : Cut) (order : List ℕ) (is : IsOrder cut order) (edges : List Edge) (place : ℕ) where
-  place_kept : (o : Option Ends) → AreSeen cut place order edges o
-      → (place < block_count cut → IfSome o (λ e. (period : ℕ) (entries : List ℤ) → All (Keeps period entries) edges
-      → Keeps period entries (edge_to e.last e.first place true)))
-      → (period : ℕ) (entries : List ℤ) → All (Keeps period entries) edges → KeepsPlace cut period entries place
-  place_kept None seen again period entries keep = record {
-    order = λ i j li lj p. absurd (both_ways _ (seen i (is_there cut order is i li)) (users cut i j place p).0);
-    again = λ block i j li lj ui uj. absurd (both_ways _ (seen i (is_there cut order is i li)) ui);
-  }
-  place_kept (Some e) seen again period entries keep =
-      let kept = seen.kept period entries keep in record {
-        order = λ i j li lj p. kept.order i j (is_there cut order is i li) (is_there cut order is j lj) p;
-        again = λ block i j li lj ui uj.
-            let a = kept.last i (is_there cut order is i li) ui in
-            let b = clear_again cut place e.last e.first seen.last seen.first period entries (again block period entries keep) in
-            let c = kept.first j (is_there cut order is j lj) uj in
-            omega (arith, ints, a, b, c);
-      }
+module _ (cut : Cut) (sound : IsSoundCut cut) (order : List ℕ) (is : IsOrder cut order) (edges : List Edge) (place : ℕ) where
+  again_kept_on : (o : Option Ends) → AreSeen cut place order o → IfSome o (λ e. Cover edges (edge_to e.last e.first place true))
+      → (period : ℕ) (entries : List ℤ) → All (Keeps period entries) edges → KeepOrder cut place order entries
+      → (i j : ℕ) → i < member_count cut → j < member_count cut → IsTrue (uses_place (member cut i) place)
+      → IsTrue (uses_place (member cut j) place) → end_by cut entries i place ≤ℤ (start_by cut entries j place +ℤ pos period)
+  again_kept_on None seen again period entries keep kept i j li lj ui uj =
+      absurd (both_ways _ (seen i (is_there cut order is i li)) ui)
+  again_kept_on (Some e) seen again period entries keep kept i j li lj ui uj =
+      let a = by_last cut sound place order e seen entries kept i (is_there cut order is i li) ui in
+      let b = clear_again cut place e.last e.first seen.last seen.first period entries (again period entries keep) in
+      let c = from_first cut sound place order e seen entries kept j (is_there cut order is j lj) uj in
+      omega (arith, ints, a, b, c)
 
-pub all_laid : (cut : Cut) (order : List ℕ) → IsOrder cut order → (edges : List Edge) (ends : List (Option Ends)) (n : ℕ)
-    → block_count cut ≤ n → AreLaidAgain cut order edges ends n → AreEnough cut edges
-all_laid cut order is edges ends n all laid = record {
+pub all_laid : (cut : Cut) → IsSoundCut cut → (order : List ℕ) → IsOrder cut order → (edges : List Edge)
+    (ends : List (Option Ends)) (n : ℕ) → block_count cut ≤ n → AreLaidAgain cut order edges ends n → AreEnough cut edges
+all_laid cut sound order is edges ends n all laid = record {
   each = laid.laid.each;
   enough = λ period entries keep place l.
-      place_kept cut order is edges place (ends_at ends place) (laid.laid.seen place l)
-      (λ block. laid.again place (omega (arith, block, all))) period entries keep;
+      let are = laid.laid.places place l in
+      let kept = are.enough period entries keep in record {
+        order = λ i j li lj p. kept i j (is_there cut order is i li) (is_there cut order is j lj) p;
+        again = λ block. again_kept_on cut sound order is edges place (ends_at ends place) are.seen
+            (laid.again place (omega (arith, block, all))) period entries keep kept;
+      };
 }

@@ -26,7 +26,7 @@ use Rattle.cycle_time.specs.Laws.{CycleIsThere}
 use Rattle.cycle_time.proofs.Refused.{nat_times, mono}
 use Rattle.cycle_time.proofs.Raised.{least, raised_more}
 use Rattle.cycle_time.proofs.Behind.{IsTrail, no_trail, short, trail_more, ends_at, goes_round}
-use Rattle.cycle_time.proofs.Trails.{light, are_causes}
+use Rattle.cycle_time.proofs.Trails.{light, weights_most, are_causes}
 use Rattle.cycle_time.proofs.Settled.{start_raised, soon_again, round_asks}
 use Rattle.cycle_time.proofs.Limits.{found_it}
 use Rattle.cycle_time.proofs.Turned.{is_turned}
@@ -154,13 +154,6 @@ module _ (cut : Cut) (sound : IsSoundCut cut) (none : remaining cut ≡ []) (per
       (All-replicate (λ x. x ≤ℤ most) n (window_start cut) (omega (arith, ints))) (omega arith)
 
 -- ---- the least period
-
-weights_most : (cut : Cut) (ring : List Edge) → All (IsEdge cut) ring → weights ring ≤ℤ pos (length ring * 200000000)
-weights_most cut [] all = omega (arith, ints)
-weights_most cut (e ∷ ring) all =
-    let most = (All-head (IsEdge cut) e ring all).light.below in
-    let rest = weights_most cut ring (All-tail (IsEdge cut) e ring all) in
-    omega (arith, ints, most, rest)
 
 -- a ring refuses short periods alone
 within : (cut : Cut) (period : ℕ) (ring : List Edge) → AsksFor cut period ring → period < member_count cut * 200000000

@@ -12,7 +12,7 @@ use Rattle.cycle_time.specs.declared.edge.Edge.{Edge}
 use Rattle.cycle_time.specs.Edges.{IsEdge, asks}
 use Rattle.cycle_time.specs.Raising.{cause_at, Back, asked, IsRaised, AreRaisedAlong}
 use Rattle.cycle_time.specs.Rings.{IsCauseOf, AreCauses, Trails, weights, laps}
-use Rattle.cycle_time.proofs.Refused.{times}
+use Rattle.cycle_time.proofs.Refused.{nat_times, times}
 
 pub asked_is : (period : ℕ) (trail : List Edge)
     → (asked period trail +ℤ (pos (laps trail) *ℤ pos period)) ≡ weights trail
@@ -39,23 +39,14 @@ asked_is period (e ∷ trail) =
 -- an edge asks for little
 pub light : (cut : Cut) (period : ℕ) (e : Edge) → IsEdge cut e → asks period e ≤ℤ pos 200000000
 light cut period e is =
-    let most = is.light.below in
-    elim (cases_Bool e.step.next) [
-      | inl q ↦
-          let here : asks period e ≡ e.weight -ℤ pos period = ap (λ b. if b then e.weight -ℤ pos period else e.weight) q in
-          omega (arith, ints, here, most)
-      | inr q ↦
-          let here : asks period e ≡ e.weight = ap (λ b. if b then e.weight -ℤ pos period else e.weight) q in
-          omega (arith, ints, here, most)
-    ]
+    let most = is.light.below in grind (arith, ints)
 
-light_trail : (cut : Cut) (period : ℕ) (trail : List Edge) → All (IsEdge cut) trail
-    → asked period trail ≤ℤ pos (length trail * 200000000)
-light_trail cut period [] all = omega (arith, ints)
-light_trail cut period (e ∷ trail) all =
-    let here = light cut period e (All-head (IsEdge cut) e trail all) in
-    let rest = light_trail cut period trail (All-tail (IsEdge cut) e trail all) in
-    omega (arith, ints, here, rest)
+pub weights_most : (cut : Cut) (ring : List Edge) → All (IsEdge cut) ring → weights ring ≤ℤ pos (length ring * 200000000)
+weights_most cut [] all = omega (arith, ints)
+weights_most cut (e ∷ ring) all =
+    let most = (All-head (IsEdge cut) e ring all).light.below in
+    let rest = weights_most cut ring (All-tail (IsEdge cut) e ring all) in
+    omega (arith, ints, most, rest)
 
 module _ (cut : Cut) (period : ℕ) (entries : List ℤ) (causes : List (Option Edge)) (trails : ℕ → List Edge)
     (raised : AreRaisedAlong cut period entries causes trails) where
@@ -76,10 +67,7 @@ module _ (cut : Cut) (period : ℕ) (entries : List ℤ) (causes : List (Option 
         is_edge = edge;
         leads = now.leads.1.0;
         rises = elim had [
-          | inl same ↦ inl (
-            omega (arith, ap length begins, ap length same),
-            omega (arith, ints, now.entry, before, ap (asked period) same),
-          )
+          | inl same ↦ inl (omega (arith, ap length begins, ap length same), omega (arith, ints, now.entry, before, ap (asked period) same))
           | inr less ↦ inr (omega (arith, ints, now.entry, before, less))
         ];
       }
@@ -110,11 +98,7 @@ module _ (cut : Cut) (period : ℕ) (entries : List ℤ) (causes : List (Option 
   -- so round a ring they ask for more than nothing
   pub round : (at : ℕ) (ring : List Edge) → at < member_count cut → 0 < length ring → Trails causes at ring at
       → pos 0 <ℤ asked period ring
-  round at ring l some leads =
-      elim (rises at ring at l leads) [
-        | inr lt ↦ omega (arith, ints, lt)
-        | inl both ↦ absurd (omega (arith, some, both.0))
-      ]
+  round at ring l some leads = let rise = rises at ring at l leads in grind (arith, ints)
 
   -- the edges of a trail are edges of the cut, each from the train to which the next leads
   pub edges_of : (i : ℕ) (trail : List Edge) (j : ℕ) → i < member_count cut → Trails causes i trail j → All (IsEdge cut) trail
@@ -132,8 +116,8 @@ module _ (cut : Cut) (period : ℕ) (entries : List ℤ) (causes : List (Option 
   pub soon : (i : ℕ) (trail : List Edge) (j : ℕ) → i < member_count cut → Trails causes i trail j
       → entry_at entries i ≤ℤ (entry_at entries j +ℤ pos (length trail * 200000000))
   soon i trail j l leads =
-      let most = light_trail cut period trail (edges_of i trail j l leads) in
-      elim (rises i trail j l leads) [
-        | inl both ↦ omega (arith, ints, both.1, most)
-        | inr lt ↦ omega (arith, ints, lt, most)
-      ]
+      let most = weights_most cut trail (edges_of i trail j l leads) in
+      let same = asked_is period trail in
+      let more = nat_times (laps trail) period in
+      let rise = rises i trail j l leads in
+      grind (arith, ints)

@@ -69,11 +69,15 @@ pub record AreBetweenSame (one other : Edge) : Type 0 where
   pub to : one.step.to ≡ other.step.to
   pub next : one.step.next ≡ other.step.next
 
--- some edges and one more: who keeps those that there are keeps those that there were, and the one
+-- edges cover one more: entries that keep them keep that one, too
+abbrev pub Cover : List Edge → Edge → Type 0
+Cover edges e = (period : ℕ) (entries : List ℤ) → All (Keeps period entries) edges → Keeps period entries e
+
+-- some edges and one more: those that there are cover those that there were, and the one
 pub record IsAdded (before after : List Edge) (e : Edge) : Type 0 where
   pub each : (cut : Cut) → All (IsEdge cut) before → IsEdge cut e → All (IsEdge cut) after
   pub kept : (period : ℕ) (entries : List ℤ) → All (Keeps period entries) after → All (Keeps period entries) before
-  pub more : (period : ℕ) (entries : List ℤ) → All (Keeps period entries) after → Keeps period entries e
+  pub more : Cover after e
 
 -- the edge from the last use of a place so far, if there is one, is added to some edges
 abbrev pub IsLedTo : Option Ends → Stay → ℕ → List Edge → List Edge → Type 0
@@ -95,53 +99,52 @@ pub record IsStayOf (cut : Cut) (place : ℕ) (s : Stay) : Type 0 where
   pub used : IsTrue (uses_place (member cut s.train) place)
   pub is : s ≡ stay_by s.train (member cut s.train).entry (use_at (member cut s.train) place)
 
--- entries keep a place for some trains, of which the first and the last to use it are known
-pub record KeepSome (cut : Cut) (place : ℕ) (some : List ℕ) (ends : Ends) (entries : List ℤ) : Type 0 where
-  pub order : (i j : ℕ) → IsTrue (is_among some i) → IsTrue (is_among some j)
-      → IsTrue (precedes (member cut i) (member cut j) place)
-      → end_by cut entries i place ≤ℤ start_by cut entries j place
-  pub first : (i : ℕ) → IsTrue (is_among some i) → IsTrue (uses_place (member cut i) place)
-      → start_by cut entries ends.first.train place ≤ℤ start_by cut entries i place
-  pub last : (i : ℕ) → IsTrue (is_among some i) → IsTrue (uses_place (member cut i) place)
-      → end_by cut entries i place ≤ℤ end_by cut entries ends.last.train place
-
--- the first and the last use of a place by some trains: entries that keep the edges keep the place for these trains
-pub record AreEnds (cut : Cut) (place : ℕ) (some : List ℕ) (edges : List Edge) (ends : Ends) : Type 0 where
+-- the first and the last use of a place by some trains: none of them precedes the first one there, nor does the last one
+-- precede any of them
+pub record AreEnds (cut : Cut) (place : ℕ) (some : List ℕ) (ends : Ends) : Type 0 where
   pub spans : HaveSpans ends
   pub first : IsStayOf cut place ends.first
   pub last : IsStayOf cut place ends.last
-  pub among : IsTrue (is_among some ends.last.train)
-  pub kept : (period : ℕ) (entries : List ℤ) → All (Keeps period entries) edges → KeepSome cut place some ends entries
+  pub first_among : IsTrue (is_among some ends.first.train)
+  pub last_among : IsTrue (is_among some ends.last.train)
+  pub none_before : (i : ℕ) → IsTrue (is_among some i) → IsTrue (precedes (member cut i) (member cut ends.first.train) place) → ⊥
+  pub none_after : (i : ℕ) → IsTrue (is_among some i) → IsTrue (precedes (member cut ends.last.train) (member cut i) place) → ⊥
 
-abbrev pub AreSeen : Cut → ℕ → List ℕ → List Edge → Option Ends → Type 0
-AreSeen cut place some edges None = (i : ℕ) → IsTrue (is_among some i) → uses_place (member cut i) place ≡ false
-AreSeen cut place some edges (Some ends) = AreEnds cut place some edges ends
+abbrev pub AreSeen : Cut → ℕ → List ℕ → Option Ends → Type 0
+AreSeen cut place some None = (i : ℕ) → IsTrue (is_among some i) → uses_place (member cut i) place ≡ false
+AreSeen cut place some (Some ends) = AreEnds cut place some ends
+
+-- entries keep the order of some trains on a place: who precedes another has left before the other starts, or as it starts
+abbrev pub KeepOrder : Cut → ℕ → List ℕ → List ℤ → Type 0
+KeepOrder cut place some entries =
+    (i j : ℕ) → IsTrue (is_among some i) → IsTrue (is_among some j)
+    → IsTrue (precedes (member cut i) (member cut j) place) → end_by cut entries i place ≤ℤ start_by cut entries j place
+
+-- edges that are enough for the order of some trains on a place, of which the ends are known
+pub record AreEnoughFor (cut : Cut) (place : ℕ) (some : List ℕ) (edges : List Edge) (ends : Option Ends) : Type 0 where
+  pub enough : (period : ℕ) (entries : List ℤ) → All (Keeps period entries) edges → KeepOrder cut place some entries
+  pub seen : AreSeen cut place some ends
 
 -- the ends of a place, in a table of all places
 abbrev pub ends_at : List (Option Ends) → ℕ → Option Ends
 ends_at ends place = slice_index_or ends place None
 
--- the edges of some trains are laid, and the ends of each place are known
-pub record AreLaid (cut : Cut) (some : List ℕ) (edges : List Edge) (ends : List (Option Ends)) : Type 0 where
+-- edges of a cut that are enough, on each place, for the order of those trains for which edges to them are laid there
+pub record AreLaidOn (cut : Cut) (some : ℕ → List ℕ) (edges : List Edge) (ends : List (Option Ends)) : Type 0 where
   pub each : All (IsEdge cut) edges
   pub count : length ends ≡ place_count cut
-  pub seen : (place : ℕ) → place < place_count cut → AreSeen cut place some edges (ends_at ends place)
+  pub places : (place : ℕ) → place < place_count cut → AreEnoughFor cut place (some place) edges (ends_at ends place)
 
--- of these trains, those with whom the edges of a place are laid: one train more on those that it uses so far
-abbrev pub gone : List ℕ → List ℕ → List Use → ℕ → List ℕ
-gone some more uses place = if list_any (λ u. u.block == place) uses then more else some
+-- the edges to some trains are laid on all places
+abbrev pub AreLaid : Cut → List ℕ → List Edge → List (Option Ends) → Type 0
+AreLaid cut some edges ends = AreLaidOn cut (λ place. some) edges ends
 
--- the edges of some trains are laid, and those of one train more at some of its uses; the ends of each place are known
-pub record AreLaidSoFar (cut : Cut) (some more : List ℕ) (uses : List Use) (edges : List Edge) (ends : List (Option Ends))
-    : Type 0 where
-  pub each : All (IsEdge cut) edges
-  pub count : length ends ≡ place_count cut
-  pub seen : (place : ℕ) → place < place_count cut
-      → AreSeen cut place (gone some more uses place) edges (ends_at ends place)
+-- on the places of some uses they are laid to one train more
+abbrev pub with_uses : List ℕ → List ℕ → List Use → ℕ → List ℕ
+with_uses some more uses place = if list_any (λ u. u.block == place) uses then more else some
 
 -- all are laid, and on the first blocks the edges to the next pattern
 pub record AreLaidAgain (cut : Cut) (some : List ℕ) (edges : List Edge) (ends : List (Option Ends)) (n : ℕ) : Type 0 where
   pub laid : AreLaid cut some edges ends
   pub again : (block : ℕ) → block < n
-      → IfSome (ends_at ends block) (λ e. (period : ℕ) (entries : List ℤ) → All (Keeps period entries) edges
-      → Keeps period entries (edge_to e.last e.first block true))
+      → IfSome (ends_at ends block) (λ e. Cover edges (edge_to e.last e.first block true))

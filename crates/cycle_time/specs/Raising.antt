@@ -57,8 +57,8 @@ pub record IsRaisedBy (period : ℕ) (e : Edge) (before : List ℤ) (causes_befo
   pub entries : after ≡ slice_set before e.step.to (entry_at before e.step.from +ℤ asks period e)
   pub causes : causes_after ≡ slice_set causes_before e.step.to (Some e)
 
--- an entry that is raised further: one after LATEST has a ring behind it. Without a ring a train is raised along fewer than
--- MEMBERS edges, none of which asks for more than 200,000,000 s
+-- an entry no further from 0 than LATEST: a later one has a ring behind it. Without a ring a train is raised along fewer
+-- than MEMBERS edges, none of which asks for more than 200,000,000 s
 pub record IsEarly (x : ℤ) : Type 0 where
   pub after : (pos 0 -ℤ LATEST) ≤ℤ x
   pub before : x ≤ℤ LATEST

@@ -12,5 +12,5 @@ loop-block-preserved c =
 
 pub returns : goal.returns
 returns c =
-    all_laid c.args.cut.now c.args.order.now c.requires.order c.loop-block.edges.items c.args.ends.now c.loop-block.block
+    all_laid c.args.cut.now c.requires.sound c.args.order.now c.requires.order c.loop-block.edges.items c.args.ends.now c.loop-block.block
     (omega (arith, c.loop-block-test.false, c.block_count-block-end.ensures.count)) c.loop-block.invariant

@@ -6,7 +6,7 @@ use Rattle.plan_model.specs.declared.cut.CutRow.{CutRow}
 use Rattle.plan_model.specs.Members.{member, no_use}
 use Rattle.cycle_time.specs.declared.stay.Stay.{Stay}
 use Rattle.cycle_time.specs.Edges.{IsSpan}
-use Rattle.cycle_time.specs.Laying.{stay_by, with_stay, ends_at, IsLedTo, AreLaidSoFar}
+use Rattle.cycle_time.specs.Laying.{stay_by, with_stay, ends_at, IsLedTo, AreLaidOn, with_uses}
 use Rattle.cycle_time.proofs.Along.{next_more, use_laid, train_laid}
 use Rattle.cycle_time.proofs.laying.lay_train.Goals as goal
 
@@ -53,4 +53,4 @@ returns c =
     let all = take_all c.loop-one.one-index (member cut j).uses (omega (arith, c.loop-one-test.false, ap length its)) in
     train_laid cut c.requires.sound (take k order) (take (k + 1) order) j (next_more order k c.requires.there) c.requires.next
     c.loop-one.edges.items c.loop-one.ends
-    (subst (λ us. AreLaidSoFar cut (take k order) (take (k + 1) order) us c.loop-one.edges.items c.loop-one.ends) all c.loop-one.invariant)
+    (subst (λ us. AreLaidOn cut (with_uses (take k order) (take (k + 1) order) us) c.loop-one.edges.items c.loop-one.ends) all c.loop-one.invariant)

@@ -1,8 +1,8 @@
 use Rattle.std.proofs.Common.{◌+◌, take}
 use Rattle.plan_model.specs.Members.{member}
-use Rattle.cycle_time.specs.Laying.{AreLaidSoFar}
+use Rattle.cycle_time.specs.Laying.{AreLaidOn, with_uses}
 use Rattle.cycle_time.proofs.laying.lay_train.Given as goal
 
 abbrev pub invariant-loop-one : goal.invariant-loop-one
 invariant-loop-one l =
-    AreLaidSoFar l.cut (take l.k l.order) (take (l.k + 1) l.order) (take l.one-index (member l.cut l.train).uses) l.edges.items l.ends
+    AreLaidOn l.cut (with_uses (take l.k l.order) (take (l.k + 1) l.order) (take l.one-index (member l.cut l.train).uses)) l.edges.items l.ends
