@@ -27,7 +27,7 @@ use Rattle.cycle_time.specs.declared.stay.Stay.{Stay}
 use Rattle.cycle_time.specs.declared.stay.Ends.{Ends}
 use Rattle.cycle_time.specs.Cycle.{IsStep, weight}
 use Rattle.cycle_time.specs.Edges.{step_on, IsSpan, IsLight, IsEdge, Keeps, KeepsPlace, AreEnough}
-use Rattle.cycle_time.specs.Laying.{stay_by, with_stay, edge_to, Cover, IsAdded, IsLedTo, IsLedOn, HaveSpans, IsStayOf, AreEnds, AreSeen, KeepOrder, AreEnoughFor, ends_at, AreLaidOn, AreLaid, with_uses, AreLaidAgain}
+use Rattle.cycle_time.specs.Laying.{stay_by, with_stay, edge_to, Cover, IsAdded, IsLedTo, IsLedOn, HaveSpans, IsStayOf, AreEnds, AreEndsIfAny, KeepOrder, AreEnoughFor, ends_at, AreLaidOn, AreLaid, with_uses, AreLaidAgain}
 
 -- ---- at first
 
@@ -40,7 +40,7 @@ none_laid cut some edges ends s e is = record {
       let none : ends_at ends place ≡ None = ap (λ es. ends_at es place) is ∙ get_or-replicate (place_count cut) place None None l in
       let nobody : (i : ℕ) → IsTrue (is_among some i) → ⊥ =
       λ i h. let a : is_among [] i ≡ true = subst (λ is. is_among is i ≡ true) s h in absurd (cc) in
-      rw none (record { enough = λ period entries keep i j hi hj p. absurd (nobody i hi); seen = λ i h. absurd (nobody i h) });
+      rw none (record { enough = λ period entries keep i j hi hj p. absurd (nobody i hi); ends = λ i h. absurd (nobody i h) });
 }
 
 -- entries that keep the edges that there are keep those that there were
@@ -81,10 +81,9 @@ module _ (cut : Cut) (place : ℕ) (one other : Stay) (first : IsStayOf cut plac
   weight_is next = ap (λ u. u -ℤ other.from) until_is
       ∙ ap (λ f. ((use_at (member cut i) place).«end» -ℤ (member cut i).entry) -ℤ f) from_is
 
-  is_edge : (next : Bool) → IsSpan one.until → IsSpan other.from → IsStep cut (step_on i j place next)
-      → IsEdge cut (edge_to one other place next)
-  is_edge next until from step =
-      record { is_step = step; weight_is = weight_is next; light = light one.until other.from until from }
+  is_edge : (next : Bool) → IsStep cut (step_on i j place next) → IsEdge cut (edge_to one other place next)
+  is_edge next step =
+      record { is_step = step; weight_is = weight_is next; light = light one.until other.from first.until second.from }
 
   module _ (period : ℕ) (entries : List ℤ) where
     abbrev x : ℤ
@@ -180,13 +179,12 @@ module _ (cut : Cut) (sound : IsSoundCut cut) (some more : List ℕ) (j : ℕ) (
           | inr e ↦ absurd (both_ways _ (ap (λ m. uses_place (member cut m) place) e ∙ free) u)
         ]
 
-    seen_still : (o : Option Ends) → AreSeen cut place some o → AreSeen cut place more o
-    seen_still None seen = λ i h. elim (is_more.either i h) [
+    ends_still : (o : Option Ends) → AreEndsIfAny cut place some o → AreEndsIfAny cut place more o
+    ends_still None seen = λ i h. elim (is_more.either i h) [
       | inl a ↦ seen i a
       | inr e ↦ ap (λ m. uses_place (member cut m) place) e ∙ free
     ]
-    seen_still (Some ends) seen = record {
-      spans = seen.spans;
+    ends_still (Some ends) seen = record {
       first = seen.first;
       last = seen.last;
       first_among = is_more.old ends.first.train seen.first_among;
@@ -200,12 +198,11 @@ module _ (cut : Cut) (sound : IsSoundCut cut) (some more : List ℕ) (j : ℕ) (
       enough = λ period entries keep i k hi hk p.
           let both = users cut i k place p in
           are.enough period entries keep i k (still i hi both.0) (still k hk both.1) p;
-      seen = seen_still o are.seen;
+      ends = ends_still o are.ends;
     }
 
   -- a place that it uses
-  module _ (place : ℕ) (stay : Stay) (its : IsStayOf cut place stay) (train : stay.train ≡ j) (from : IsSpan stay.from)
-      (until : IsSpan stay.until) (before after : List Edge) where
+  module _ (place : ℕ) (stay : Stay) (its : IsStayOf cut place stay) (train : stay.train ≡ j) (before after : List Edge) where
     -- what there is after an edge from the last train on the place
     record IsLaidNow (o : Option Ends) : Type 0 where
       each : All (IsEdge cut) before → All (IsEdge cut) after
@@ -226,7 +223,7 @@ module _ (cut : Cut) (sound : IsSoundCut cut) (some more : List ℕ) (j : ℕ) (
     alone are same =
         let only : (i : ℕ) → IsTrue (is_among more i) → IsTrue (uses_place (member cut i) place) → i ≡ j =
         λ i h u. elim (is_more.either i h) [
-          | inl a ↦ absurd (both_ways _ (are.seen i a) u)
+          | inl a ↦ absurd (both_ways _ (are.ends i a) u)
           | inr e ↦ e
         ] in record {
           each = λ all. rw same all;
@@ -235,8 +232,7 @@ module _ (cut : Cut) (sound : IsSoundCut cut) (some more : List ℕ) (j : ℕ) (
             enough = λ period entries keep i k hi hk p.
                 let both = users cut i k place p in
                 absurd (not_itself i k place (only i hi both.0) (only k hk both.1) p);
-            seen = record {
-              spans = record { first = from; last = until };
+            ends = record {
               first = its;
               last = its;
               first_among = among;
@@ -253,16 +249,16 @@ module _ (cut : Cut) (sound : IsSoundCut cut) (some more : List ℕ) (j : ℕ) (
 
       goes : IsTrue (precedes (member cut last) (member cut stay.train) place)
       goes =
-          elim (one_precedes cut sound last stay.train place are.seen.last.there its.there
-          (λ e. both_ways _ next.not_yet (subst (λ m. IsTrue (is_among some m)) (e ∙ train) are.seen.last_among))
-          are.seen.last.used its.used) [
+          elim (one_precedes cut sound last stay.train place are.ends.last.there its.there
+          (λ e. both_ways _ next.not_yet (subst (λ m. IsTrue (is_among some m)) (e ∙ train) are.ends.last_among))
+          are.ends.last.used its.used) [
             | inl p ↦ p
-            | inr p ↦ absurd (none_after_it last (is_more.old last are.seen.last_among) p)
+            | inr p ↦ absurd (none_after_it last (is_more.old last are.ends.last_among) p)
           ]
 
       step : IsStep cut (step_on last stay.train place false)
       step = record {
-        one_there = are.seen.last.there;
+        one_there = are.ends.last.there;
         other_there = its.there;
         same = λ e. goes;
         next = λ e. absurd (cc);
@@ -270,8 +266,7 @@ module _ (cut : Cut) (sound : IsSoundCut cut) (some more : List ℕ) (j : ℕ) (
 
       behind : IsAdded before after (edge_to ends.last stay place false) → IsLaidNow (Some ends)
       behind added = record {
-        each = λ all. added.each cut all
-            (is_edge cut place ends.last stay are.seen.last its false are.seen.spans.last from step);
+        each = λ all. added.each cut all (is_edge cut place ends.last stay are.ends.last its false step);
         kept = added.kept;
         now = record {
           enough = λ period entries keep i k hi hk p.
@@ -280,22 +275,21 @@ module _ (cut : Cut) (sound : IsSoundCut cut) (some more : List ℕ) (j : ℕ) (
                 | inl a ↦ elim (is_more.either k hk) [
                   | inl b ↦ old i k a b p
                   | inr e ↦
-                      let by = by_last cut sound place some ends are.seen entries old i a (users cut i k place p).0 in
-                      let off = clear cut place ends.last stay are.seen.last its period entries (added.more period entries keep) in
+                      let by = by_last cut sound place some ends are.ends entries old i a (users cut i k place p).0 in
+                      let off = clear cut place ends.last stay are.ends.last its period entries (added.more period entries keep) in
                       rw (e ∙ sym train) (omega (arith, ints, by, off))
                 ]
                 | inr e ↦
                     absurd (none_after_it k hk (subst (λ m. IsTrue (precedes (member cut m) (member cut k) place)) (e ∙ sym train) p))
               ];
-          seen = record {
-            spans = record { first = are.seen.spans.first; last = until };
-            first = are.seen.first;
+          ends = record {
+            first = are.ends.first;
             last = its;
-            first_among = is_more.old ends.first.train are.seen.first_among;
+            first_among = is_more.old ends.first.train are.ends.first_among;
             last_among = among;
             none_before = λ i h p. elim (is_more.either i h) [
-              | inl a ↦ are.seen.none_before i a p
-              | inr e ↦ next.none_after ends.first.train place are.seen.first_among
+              | inl a ↦ are.ends.none_before i a p
+              | inr e ↦ next.none_after ends.first.train place are.ends.first_among
                   (subst (λ m. IsTrue (precedes (member cut m) (member cut ends.first.train) place)) e p)
             ];
             none_after = none_after_it;
@@ -321,14 +315,16 @@ module _ (cut : Cut) (sound : IsSoundCut cut) (some more : List ℕ) (j : ℕ) (
   stay n = stay_by j (member cut j).entry (use_of n)
 
   -- what it uses is a use of that place
-  is_stay : (n : ℕ) → n < length uses → IsStayOf cut (use_of n).block (stay n)
-  is_stay n l =
+  is_stay : (n : ℕ) → n < length uses → IsSpan (stay n).from → IsSpan (stay n).until → IsStayOf cut (use_of n).block (stay n)
+  is_stay n l from until =
       let place = (use_of n).block in
       let found = found_at place uses n (differ cut sound j next.there) l refl in
       let at : use_at (member cut j) place ≡ use_of n = ap (λ o. unwrap_or o no_use) found in record {
         there = next.there;
         used = list_any_at (λ (u : Use). u.block == place) uses n no_use l (eq-eqb place place refl);
         is = ap (stay_by j (member cut j).entry) (sym at);
+        from = from;
+        until = until;
       }
 
   module _ (n : ℕ) (l : n < length uses) (before after : List Edge) (ends now : List (Option Ends)) where
@@ -366,9 +362,8 @@ module _ (cut : Cut) (sound : IsSoundCut cut) (some more : List ℕ) (j : ℕ) (
       there : place < place_count cut
       there = ((sound.each j no_member next.there).each n no_use l).place
 
-      led_now : IsLaidNow cut sound some more j is_more next place (stay n) (is_stay n l) refl from until before after (ends_at ends place)
-      led_now = laid_now cut sound some more j is_more next place (stay n) (is_stay n l) refl from until before after
-          (ends_at ends place)
+      led_now : IsLaidNow cut sound some more j is_more next place (stay n) (is_stay n l from until) refl before after (ends_at ends place)
+      led_now = laid_now cut sound some more j is_more next place (stay n) (is_stay n l from until) refl before after (ends_at ends place)
           (subst (λ b. AreEnoughFor cut place (if b then more else some) before (ends_at ends place))
           (apart uses n (differ cut sound j next.there) l) (laid.places place there)) led
 
@@ -386,7 +381,7 @@ module _ (cut : Cut) (sound : IsSoundCut cut) (some more : List ℕ) (j : ℕ) (
               ap (λ es. ends_at es p) is ∙ get_or-set_other ends place p _ None ne in
               rw (at, elsewhere p ne) (record {
                 enough = λ period entries keep. (laid.places p lp).enough period entries (led_now.kept period entries keep);
-                seen = (laid.places p lp).seen;
+                ends = (laid.places p lp).ends;
               })
         ];
       }
@@ -409,9 +404,9 @@ module _ (cut : Cut) (sound : IsSoundCut cut) (some more : List ℕ) (j : ℕ) (
 
 -- ---- the next pattern
 
-pub have_spans : (cut : Cut) (place : ℕ) (some : List ℕ) (o : Option Ends) → AreSeen cut place some o → IfSome o HaveSpans
+pub have_spans : (cut : Cut) (place : ℕ) (some : List ℕ) (o : Option Ends) → AreEndsIfAny cut place some o → IfSome o HaveSpans
 have_spans cut p some None seen = tt
-have_spans cut p some (Some ends) seen = seen.spans
+have_spans cut p some (Some ends) seen = record { first = seen.first.from; last = seen.last.until }
 
 module _ (cut : Cut) (some : List ℕ) (ends : List (Option Ends)) (n : ℕ) (block : n < block_count cut) (there : n < place_count cut)
     (before after : List Edge) where
@@ -420,14 +415,14 @@ module _ (cut : Cut) (some : List ℕ) (ends : List (Option Ends)) (n : ℕ) (bl
     kept : IsKept before after
     again : IfSome o (λ e. Cover after (edge_to e.last e.first n true))
 
-  led_on : (o : Option Ends) → AreSeen cut n some o → IsLedOn o n before after → IsOn o
+  led_on : (o : Option Ends) → AreEndsIfAny cut n some o → IsLedOn o n before after → IsOn o
   led_on None seen led = record {
     each = λ all. rw led all;
     kept = λ period entries keep. subst (All (Keeps period entries)) led keep;
     again = tt;
   }
   led_on (Some e) seen led = record {
-    each = λ all. led.each cut all (is_edge cut n e.last e.first seen.last seen.first true seen.spans.last seen.spans.first (record {
+    each = λ all. led.each cut all (is_edge cut n e.last e.first seen.last seen.first true (record {
       one_there = seen.last.there;
       other_there = seen.first.there;
       same = λ e. absurd (cc);
@@ -445,13 +440,13 @@ module _ (cut : Cut) (some : List ℕ) (ends : List (Option Ends)) (n : ℕ) (bl
   pub again_more : AreLaidAgain cut some before ends n → IsLedOn (ends_at ends n) n before after
       → AreLaidAgain cut some after ends (n + 1)
   again_more laid led =
-      let on = led_on (ends_at ends n) (laid.laid.places n there).seen led in record {
+      let on = led_on (ends_at ends n) (laid.laid.places n there).ends led in record {
         laid = record {
           each = on.each laid.laid.each;
           count = laid.laid.count;
           places = λ p l. record {
             enough = λ period entries keep. (laid.laid.places p l).enough period entries (on.kept period entries keep);
-            seen = (laid.laid.places p l).seen;
+            ends = (laid.laid.places p l).ends;
           };
         };
         again = λ m l. elim (cases_eq m n) [
@@ -463,7 +458,7 @@ module _ (cut : Cut) (some : List ℕ) (ends : List (Option Ends)) (n : ℕ) (bl
 -- ---- all places
 
 module _ (cut : Cut) (sound : IsSoundCut cut) (order : List ℕ) (is : IsOrder cut order) (edges : List Edge) (place : ℕ) where
-  again_kept_on : (o : Option Ends) → AreSeen cut place order o → IfSome o (λ e. Cover edges (edge_to e.last e.first place true))
+  again_kept_on : (o : Option Ends) → AreEndsIfAny cut place order o → IfSome o (λ e. Cover edges (edge_to e.last e.first place true))
       → (period : ℕ) (entries : List ℤ) → All (Keeps period entries) edges → KeepOrder cut place order entries
       → (i j : ℕ) → i < member_count cut → j < member_count cut → IsTrue (uses_place (member cut i) place)
       → IsTrue (uses_place (member cut j) place) → end_by cut entries i place ≤ℤ (start_by cut entries j place +ℤ pos period)
@@ -483,7 +478,7 @@ all_laid cut sound order is edges ends n all laid = record {
       let are = laid.laid.places place l in
       let kept = are.enough period entries keep in record {
         order = λ i j li lj p. kept i j (is_there cut order is i li) (is_there cut order is j lj) p;
-        again = λ block. again_kept_on cut sound order is edges place (ends_at ends place) are.seen
+        again = λ block. again_kept_on cut sound order is edges place (ends_at ends place) are.ends
             (laid.again place (omega (arith, block, all))) period entries keep kept;
       };
 }

@@ -98,11 +98,12 @@ pub record IsStayOf (cut : Cut) (place : ℕ) (s : Stay) : Type 0 where
   pub there : s.train < member_count cut
   pub used : IsTrue (uses_place (member cut s.train) place)
   pub is : s ≡ stay_by s.train (member cut s.train).entry (use_at (member cut s.train) place)
+  pub from : IsSpan s.from
+  pub until : IsSpan s.until
 
 -- the first and the last use of a place by some trains: none of them precedes the first one there, nor does the last one
 -- precede any of them
 pub record AreEnds (cut : Cut) (place : ℕ) (some : List ℕ) (ends : Ends) : Type 0 where
-  pub spans : HaveSpans ends
   pub first : IsStayOf cut place ends.first
   pub last : IsStayOf cut place ends.last
   pub first_among : IsTrue (is_among some ends.first.train)
@@ -110,9 +111,10 @@ pub record AreEnds (cut : Cut) (place : ℕ) (some : List ℕ) (ends : Ends) : T
   pub none_before : (i : ℕ) → IsTrue (is_among some i) → IsTrue (precedes (member cut i) (member cut ends.first.train) place) → ⊥
   pub none_after : (i : ℕ) → IsTrue (is_among some i) → IsTrue (precedes (member cut ends.last.train) (member cut i) place) → ⊥
 
-abbrev pub AreSeen : Cut → ℕ → List ℕ → Option Ends → Type 0
-AreSeen cut place some None = (i : ℕ) → IsTrue (is_among some i) → uses_place (member cut i) place ≡ false
-AreSeen cut place some (Some ends) = AreEnds cut place some ends
+-- these are the ends, or none of the trains uses the place
+abbrev pub AreEndsIfAny : Cut → ℕ → List ℕ → Option Ends → Type 0
+AreEndsIfAny cut place some None = (i : ℕ) → IsTrue (is_among some i) → uses_place (member cut i) place ≡ false
+AreEndsIfAny cut place some (Some ends) = AreEnds cut place some ends
 
 -- entries keep the order of some trains on a place: who precedes another has left before the other starts, or as it starts
 abbrev pub KeepOrder : Cut → ℕ → List ℕ → List ℤ → Type 0
@@ -120,30 +122,30 @@ KeepOrder cut place some entries =
     (i j : ℕ) → IsTrue (is_among some i) → IsTrue (is_among some j)
     → IsTrue (precedes (member cut i) (member cut j) place) → end_by cut entries i place ≤ℤ start_by cut entries j place
 
--- edges that are enough for the order of some trains on a place, of which the ends are known
-pub record AreEnoughFor (cut : Cut) (place : ℕ) (some : List ℕ) (edges : List Edge) (ends : Option Ends) : Type 0 where
+-- edges are enough for the order of some trains on a place, and the ends are known
+pub record AreEnoughFor (cut : Cut) (place : ℕ) (some : List ℕ) (edges : List Edge) (known : Option Ends) : Type 0 where
   pub enough : (period : ℕ) (entries : List ℤ) → All (Keeps period entries) edges → KeepOrder cut place some entries
-  pub seen : AreSeen cut place some ends
+  pub ends : AreEndsIfAny cut place some known
 
 -- the ends of a place, in a table of all places
 abbrev pub ends_at : List (Option Ends) → ℕ → Option Ends
 ends_at ends place = slice_index_or ends place None
 
--- edges of a cut that are enough, on each place, for the order of those trains for which edges to them are laid there
+-- the edges of a cut that are laid so far are enough on each place for some trains
 pub record AreLaidOn (cut : Cut) (some : ℕ → List ℕ) (edges : List Edge) (ends : List (Option Ends)) : Type 0 where
   pub each : All (IsEdge cut) edges
   pub count : length ends ≡ place_count cut
   pub places : (place : ℕ) → place < place_count cut → AreEnoughFor cut place (some place) edges (ends_at ends place)
 
--- the edges to some trains are laid on all places
+-- on all places for the same ones
 abbrev pub AreLaid : Cut → List ℕ → List Edge → List (Option Ends) → Type 0
 AreLaid cut some edges ends = AreLaidOn cut (λ place. some) edges ends
 
--- on the places of some uses they are laid to one train more
+-- some trains, and on the places of some uses one more
 abbrev pub with_uses : List ℕ → List ℕ → List Use → ℕ → List ℕ
 with_uses some more uses place = if list_any (λ u. u.block == place) uses then more else some
 
--- all are laid, and on the first blocks the edges to the next pattern
+-- the edges are laid, and on the first blocks those to the next pattern
 pub record AreLaidAgain (cut : Cut) (some : List ℕ) (edges : List Edge) (ends : List (Option Ends)) (n : ℕ) : Type 0 where
   pub laid : AreLaid cut some edges ends
   pub again : (block : ℕ) → block < n
