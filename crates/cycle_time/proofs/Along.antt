@@ -26,7 +26,7 @@ use Rattle.cycle_time.specs.declared.edge.Edge.{Edge}
 use Rattle.cycle_time.specs.declared.stay.Stay.{Stay}
 use Rattle.cycle_time.specs.declared.stay.Ends.{Ends}
 use Rattle.cycle_time.specs.Cycle.{IsStep, weight}
-use Rattle.cycle_time.specs.Edges.{step_on, IsSpan, IsLight, IsEdge, Keeps, KeepsPlace, AreEnough}
+use Rattle.cycle_time.specs.Edges.{step_on, IsSpan, IsLight, IsEdge, Keeps, AreEnough}
 use Rattle.cycle_time.specs.Laying.{stay_by, with_stay, edge_to, Cover, IsAdded, IsLedTo, IsLedOn, HaveSpans, IsStayOf, AreEnds, AreEndsIfAny, KeepOrder, AreEnoughFor, ends_at, AreLaidOn, AreLaid, with_uses, AreLaidAgain}
 
 -- ---- at first

@@ -6,7 +6,7 @@ use Rattle.std.specs.List.{position_or_len}
 use Rattle.std.proofs.lemmas.Bool.{cases_lt}
 use Rattle.std.proofs.lemmas.Int.{ints}
 use Rattle.std.proofs.lemmas.List.{take-append-drop, get_or-set_same, length-append}
-use Rattle.std.proofs.lemmas.List.Elements.{All-nil, All-cons, All-head, All-tail, All-weaker, All-replicate, All-set, All-get_or}
+use Rattle.std.proofs.lemmas.List.Elements.{All-nil, All-cons, All-weaker, All-replicate, All-set, All-get_or}
 use Rattle.std.proofs.lemmas.List.Sorted.{IsPermutation-append_comm, IsPermutation-reverse}
 use Rattle.std.specs.List.Sorted.{IsPermutation}
 use Rattle.std.proofs.lemmas.List.Sums.{sum_by-set}
@@ -18,7 +18,7 @@ use Rattle.plan_model.specs.Schedule.{window_start, entry_at}
 use Rattle.cycle_time.specs.declared.edge.Edge.{Edge}
 use Rattle.cycle_time.specs.declared.found.Step.{Step}
 use Rattle.cycle_time.specs.declared.least_period.Found.{Found}
-use Rattle.cycle_time.specs.Edges.{IsEdge, asks}
+use Rattle.cycle_time.specs.Edges.{asks}
 use Rattle.cycle_time.specs.Cycle.{IsLeastRepeating}
 use Rattle.cycle_time.specs.Raising.{cause_at, AreRaised, IsRaisedBy}
 use Rattle.cycle_time.specs.Rings.{to_of, step_of, no_edge, AreCauses, IsBehind, IsTurned, weights, laps, IsLoop, IsLimit, IsFound}
