@@ -89,6 +89,7 @@ abbrev pub IsLedOn : Option Ends → ℕ → List Edge → List Edge → Type 0
 IsLedOn None place before after = after ≡ before
 IsLedOn (Some ends) place before after = IsAdded before after (edge_to ends.last ends.first place true)
 
+-- what edges from the last use and to the first one are weighed by
 pub record HaveSpans (ends : Ends) : Type 0 where
   pub first : IsSpan ends.first.from
   pub last : IsSpan ends.last.until

@@ -25,7 +25,7 @@ asked period (e ∷ trail) = asks period e +ℤ asked period trail
 abbrev pub HasOrHad : ℕ → List Edge → List Edge → Type 0
 HasOrHad period now trail = (trail ≡ now) ⊎ (asked period trail <ℤ asked period now)
 
--- a trail begins with the cause of its train, and behind that is the trail that the cause's first train had then
+-- a trail begins with the cause of its train, and goes on with the trail that the cause's first train had then
 abbrev pub BeginsWith : ℕ → (ℕ → List Edge) → Option Edge → List Edge → Type 0
 BeginsWith period trails None trail = trail ≡ []
 BeginsWith period trails (Some e) trail =

@@ -27,7 +27,8 @@ pub(crate) enum Settled {
     Refused(List<Edge>),
 }
 
-// The least entries that repeat in a period, or a ring that refuses it.
+// The least entries that repeat in a period, or a ring that refuses it. No period that a ring allows
+// is above 200,000,000,000 s, which is less than 2^40: sums with it stay far within 64 bits.
 pub(crate) fn settle(
     alloc: Global,
     cut: &FitCut,
