@@ -2,19 +2,28 @@
 use capacity_cmd::{Cause, Status};
 use std::io;
 
+const USAGE: &str = "\
+usage: capacity COMMAND < LINE.csv, or capacity made N
+
+  stairs                         the blocking times of each run
+  check                          the conflicts of the timetable
+  report                         each section in short, and a total
+  compress SECTION               the compressed timetable and the capacity consumption
+  headways SECTION               the least headways between the section's trains
+  cut SECTION                    the fewest orderly pieces
+  cycle SECTION                  the least time after which its trains can come again
+  delays SECTION RUN SECONDS ..  what delays of 1 to 64 trains do to the others
+  fill SECTION RUN               how many copies of a train there is room for
+  session W                      planners' edits, with W workers beside them, 0 to 16
+  made N                         a line made from N, of one to nine digits; reads no line";
+
 pub(crate) fn explain(rt: &impl Eprint, status: Status, told: &str) -> io::Result<()> {
     match status {
         Status::Done if told.is_empty() => Ok(()),
         Status::Done => eprintln!(rt; "{told}"),
         Status::Refused { row, cause } => explain_refusal(rt, row, cause, told),
-        Status::BadWords => {
-            eprintln!(rt;
-                "usage: capacity COMMAND < LINE.csv, COMMAND being stairs, check, report, \
-                compress NAME, headways NAME, cut NAME, cycle NAME, delays NAME RUN SECONDS .., \
-                fill NAME RUN or session W, W from 0 to 16; or capacity made N, N of one to nine \
-                digits, which reads no line"
-            )
-        }
+        Status::BadWords if told.is_empty() => eprintln!(rt; "{USAGE}"),
+        Status::BadWords => eprintln!(rt; "{told}\n{USAGE}"),
         Status::ReadFault => eprintln!(rt; "the input could not be read"),
         Status::WriteFault => eprintln!(rt; "the output could not be written"),
         Status::OutOfMemory => eprintln!(rt; "memory ran out"),

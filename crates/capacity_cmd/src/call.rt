@@ -21,6 +21,7 @@ use crate::send::send;
 use crate::{Cause, Command, Status, Told};
 use rail_model::OutOfMemory;
 use rail_outside::{Gate, Sink, Source, Taken, take_all};
+use sentences::told_of_words;
 use std::sync::Wait;
 use std::thread::Threads;
 
@@ -52,9 +53,9 @@ pub fn run<R: AllocGlobal + Threads + Wait + Sync, S: Source, K: Sink, G: Gate>(
     run_telling(rt, words, source, sink, gate, &mut Told::nothing())
 }
 
-/// Runs a command as `run` does, and tells people why a row is refused, which named run is no train
-/// of the section, and what the answer of `compress` leaves out. A command that waits for nobody is
-/// run by a call that can't wait.
+/// Runs a command as `run` does, and tells people what is wrong with the words, why a row is refused,
+/// which named section isn't there, which named run is no train of it, and what the answer of
+/// `compress` leaves out. A command that waits for nobody is run by a call that can't wait.
 pub fn run_telling<R: AllocGlobal + Threads + Wait + Sync, S: Source, K: Sink, G: Gate>(
     rt: &R,
     words: &[String],
@@ -141,8 +142,7 @@ pub fn run_alone<R: AllocGlobal + Threads + Sync, S: Source, K: Sink>(
     run_alone_telling(rt, words, source, sink, &mut Told::nothing())
 }
 
-/// Runs a command as `run_alone` does, and tells people why a row is refused, which named run is no
-/// train of the section, and what the answer of `compress` leaves out.
+/// Runs a command as `run_alone` does, and tells people what `run_telling` does.
 pub fn run_alone_telling<R: AllocGlobal + Threads + Sync, S: Source, K: Sink>(
     rt: &R,
     words: &[String],
@@ -176,7 +176,10 @@ fn run_spelled_alone<R: AllocGlobal + Threads + Sync, S: Source, K: Sink>(
         (sink_call K.taken K.written K.flushed K.faults sink.old sink.new) }
 {
     match command_of(rt.alloc(), words) {
-        None => Status::BadWords,
+        None => {
+            *told = told_of_words(rt.alloc(), words);
+            Status::BadWords
+        }
         Some(Err(OutOfMemory)) => Status::OutOfMemory,
         Some(Ok(command)) => run_command(rt, &command, source, sink, told),
     }

@@ -1,5 +1,5 @@
 -- Lines for people: what holds of them, whatever they say.
-use Rattle.std.specs.Prelude.{◌≡◌, ℕ, Bool, ◌||◌, ◌==◌, ◌⊎◌, List, [], ◌++◌, Option, None, Some, codes, decimal}
+use Rattle.std.specs.Prelude.{◌≡◌, ℕ, Bool, ◌||◌, ◌==◌, ◌⊎◌, List, [], ◌∷◌, ◌++◌, Option, None, Some, codes, decimal}
 use Rattle.std.specs.List.{list_all}
 use Rattle.rail_model.specs.Name.{is_name_byte}
 
@@ -29,3 +29,14 @@ IsOfRow row told = (told ≡ []) ⊎ ((line : Option ℕ) × ((why : List ℕ) �
 abbrev pub IsOfRun : {X : Type 0} → Option X → List ℕ → Type 0
 IsOfRun None told = BeginsWith (codes "the word of a run is no name") told
 IsOfRun (Some run) told = BeginsWith (codes "run ") told
+
+-- nothing is told, or a text about a section that isn't there, or about a word that is no name
+abbrev pub IsOfSection : {X : Type 0} → Option X → List ℕ → Type 0
+IsOfSection None told = BeginsWith (codes "the word of a section is no name") told
+IsOfSection (Some section) told = BeginsWith (codes "no section is named ") told
+
+-- nothing is told, or a text about the first of some words: that there is none, that no command has it, or what its
+-- command wants
+abbrev pub IsOfWords : List (List ℕ) → List ℕ → Type 0
+IsOfWords [] told = BeginsWith (codes "no command is given") told
+IsOfWords (word ∷ more) told = BeginsWith (codes "no such command: ") told ⊎ BeginsWith (word ++ codes " wants ") told

@@ -1,5 +1,6 @@
-//! Lines for people about a call, to be written on standard error: why a row is refused, which run
-//! is no train of its section, and what the answer of a section leaves out.
+//! Lines for people about a call, to be written on standard error: what is wrong with its words, why
+//! a row is refused, which section isn't there, which run is no train of its section, and what the
+//! answer of a section leaves out.
 //!
 //! No answer rests on these lines. Contracts say what a person can rely on: no byte is a control
 //! character of ASCII but the line feeds, whatever the input has, and a refused row is told by its
@@ -31,11 +32,15 @@ mod row_sentence;
 mod rule_sentence;
 mod said;
 mod script_sentence;
+mod section_sentence;
 mod standing;
 mod told;
 mod twice_sentence;
+mod words_sentence;
 
 pub use member_sentence::told_of_run;
 pub use notes::told_of_cut;
 pub use row_sentence::{Fault, told_of_row};
+pub use section_sentence::told_of_section;
 pub use told::Told;
+pub use words_sentence::told_of_words;
