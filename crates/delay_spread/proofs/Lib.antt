@@ -3,6 +3,5 @@ pub mod Later
 pub mod Greater
 pub mod Tied
 pub mod Tally
-pub mod SomeLeast
 pub mod SomeSpread
 pub mod Unique

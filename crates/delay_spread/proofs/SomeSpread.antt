@@ -9,11 +9,11 @@ use Rattle.plan_model.specs.Disorder.{Opposite, opposite, remaining, ring}
 use Rattle.delay_spread.specs.declared.found.Spread.{Spread}
 use Rattle.delay_spread.specs.Spreading.{delayed_floor, spread_by, IsSpreading}
 use Rattle.delay_spread.specs.Laws.{SpreadIsThere, SpreadingIsThere}
-use Rattle.delay_spread.proofs.SomeLeast.{some_least}
+use Rattle.compression.proofs.SomeLeast.{least_is_there}
 
 pub spread_is_there : SpreadIsThere
 spread_is_there cut delays sound none =
-    let (entries, least) = some_least cut sound (delayed_floor cut delays) none in
+    let (entries, least) = least_is_there cut (delayed_floor cut delays) sound none in
     (spread_by cut delays entries, (entries, least, refl))
 
 module _ (cut : Cut) (delays : List ℕ) (sound : IsSoundCut cut) where
