@@ -3,23 +3,23 @@ ghost use Rattle.std.specs.Prelude.{◌≡◌, ◌+◌, ◌≤◌, ◌<◌, ◌+
 ghost use Rattle.std.specs.Prelude.{IfOk, OnOk, OnErr, MatchResult};
 ghost use Rattle.plan_model.specs.Journal.{opening, last_number, tables_of, issued, tasks_left};
 ghost use Rattle.plan_model.specs.Legal.{IsJournal, IsNext, MayBePublished};
-ghost use Rattle.rail_model.specs.Rules.{IsSound, rule_of};
+ghost use Rattle.rail_model.specs.Rules.{rule_of};
 ghost use Rattle.plan_model.specs.Session.{opened};
 ghost use Rattle.plan_model.specs.Board.{Gives};
 ghost use Rattle.plan_model.specs.Outcome.{AddsEntry, EditsTo, AsksTo, PublishesTo, IsDone, IsNotTaken};
-ghost use Rattle.plan_model.specs.Outcome.{reply_of};
 ghost use Rattle.rail_model.specs.Rules as rules;
 ghost use Rattle.plan_model.specs.declared.journal.Act.TheVariants as acts;
 ghost use Rattle.plan_model.specs.declared.scripts.Task.TheVariants as tasks;
 ghost use Rattle.plan_book.specs.Kept.{IsQuiet, IsBy, MayDo, IsAnswered};
 
 use crate::changes::{Accepted, change_shelves, changes_for, share_cuts};
+use crate::entries::{add_edited, opening, published_entry, replied};
 use crate::first::first_shelves;
 use crate::shelf::{Published, Shelf, asked_of, place_of, shelf_of, verdict_of};
 use crate::tasks::count_task;
 use crate::twin::TwinTables;
 use line_tables::LineTables;
-use plan_model::{Act, Asked, Done, Entry, NotTaken, Reply, Scripts};
+use plan_model::{Act, Asked, Done, Entry, NotTaken, Scripts};
 use rail_model::{Edit, List, Name, OutOfMemory, Rule};
 use std::alloc::Global;
 use std::marker::Model;
@@ -372,77 +372,5 @@ impl Book {
         self.journal.push(published_entry(who, done))?;
         self.shelves.get_mut(place).published = Some(published);
         Ok(())
-    }
-}
-
-// The journal of a book that is started.
-fn opening(
-    alloc: Global,
-    tables: &LineTables,
-    at: u64,
-    scripts: Scripts,
-) -> Result<List<Entry>, OutOfMemory>
-    ensures same { IfOk result (λ journal. journal ≡ opened tables.now at scripts ∷ []) }
-    ensures sound { IsSound tables.now }
-{
-    tables.learn_sound();
-    let mut journal = List::new(alloc);
-    let act = Act::Opened {
-        tables: tables.plain()?,
-        at,
-        scripts,
-    };
-    journal.push(Entry { pass: 0, act })?;
-    Ok(journal)
-}
-
-// What an entry says of an answer that was asked for.
-fn replied(asked: &Asked) -> Reply
-    ensures { result ≡ reply_of asked.now }
-{
-    match asked {
-        Asked::Ready { at, .. } => Reply::Ready { at: *at },
-        Asked::Stale { at, by } => Reply::Stale { at: *at, by: *by },
-        Asked::NotYet => Reply::NotYet,
-        Asked::Unknown => Reply::Unknown,
-    }
-}
-
-// Adds the entry of an edit that is made. Without memory the journal stays as it was.
-fn add_edited(
-    alloc: Global,
-    journal: &mut List<Entry>,
-    who: u32,
-    planner: u32,
-    number: u64,
-    edit: &Edit,
-) -> Result<(), OutOfMemory>
-    ensures ok { OnOk result (journal.new ≡ journal.old
-        ++ record { pass = who; act = acts.Edited planner number edit.now } ∷ []) }
-    ensures err { OnErr result (journal.new ≡ journal.old) }
-{
-    let act = Act::Edited {
-        planner,
-        at: number,
-        edit: edit.copy(alloc)?,
-    };
-    journal.push(Entry { pass: who, act })?;
-    Ok(())
-}
-
-// The entry of a publication.
-fn published_entry(who: u32, done: Done) -> Entry
-    ensures { result ≡ record {
-      pass = who;
-      act = acts.Published done.section done.at done.answer;
-    } }
-{
-    Entry {
-        pass: who,
-        act: Act::Published {
-            section: done.section,
-            at: done.at,
-            answer: done.answer,
-        },
     }
 }

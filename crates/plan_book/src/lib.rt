@@ -24,6 +24,7 @@
 mod alone;
 mod book;
 mod changes;
+mod entries;
 mod first;
 mod kept;
 mod laws;
