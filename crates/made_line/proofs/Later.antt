@@ -15,7 +15,7 @@ use Rattle.rail_model.specs.declared.edit.Edit.TheVariants as edit
 use Rattle.rail_model.specs.declared.tables.Tables.{Tables}
 use Rattle.rail_model.specs.Name.{is_same}
 use Rattle.rail_model.specs.Within.{is_within}
-use Rattle.rail_model.specs.Rules.{with_changed, after, rule_of, rule_of_change, is_there, is_named, refers_to_known, repeats, makes_repeat, miscounts_legs, makes_miscount}
+use Rattle.rail_model.specs.Rules.{with_changed, after, rule_of, rule_of_change, has, kind_of_item, name_of_item, is_named, refers_to_known, repeats, makes_repeat, miscounts_legs, makes_miscount}
 use Rattle.rail_model.proofs.Lists.{map_same}
 use Rattle.rail_model.proofs.NameOrder.{is_same-from, is_same-before, is_same-after}
 use Rattle.made_line.specs.Base.{after_draws, run_name, run_of, first_runs, later_run, change_run, base_tables}
@@ -105,7 +105,8 @@ unfolding runs_where_later
 is_known n count j is_later below =
     named_image (λ (r : Run). r.name) (run_where_later n is_later) count j (run_name j) below (named n is_later j)
 
-accepted_change : (tables : Tables) (x : Item) → is_within x ≡ true → is_there tables x ≡ true → refers_to_known tables x ≡ true
+accepted_change : (tables : Tables) (x : Item) → is_within x ≡ true
+    → has tables (kind_of_item x) (name_of_item x) ≡ true → refers_to_known tables x ≡ true
     → repeats tables x ≡ false → makes_repeat tables x ≡ false → miscounts_legs tables x ≡ false → makes_miscount tables x ≡ false
     → rule_of_change tables x ≡ None
 accepted_change tables x within there known once still_once counted still_counted =

@@ -23,7 +23,7 @@ use Rattle.rail_model.specs.declared.limits.TheConstants.{BLOCKS, SIGNALS, ROUTE
 use Rattle.rail_model.specs.Name.{is_same, has_repeat}
 use Rattle.rail_model.specs.Tables.{no_signal, no_route, signal_named, route_named}
 use Rattle.rail_model.specs.Within.{is_within}
-use Rattle.rail_model.specs.Rules.{with_item, with_changed, without, after_put, after_change, after_drop, after, is_named, has_block, has_signal, has_run, has_connection, has, lists, is_there, is_taken, is_full, refers_to_known, repeats_block, repeats, miscounts_legs, makes_repeat, makes_miscount, is_used, rule_of_put, rule_of_change, rule_of_drop, rule_of, Stands, AreSound, IsSound}
+use Rattle.rail_model.specs.Rules.{with_item, with_changed, without, after_put, after_change, after_drop, after, is_named, has_block, has_signal, has_run, has, lists, kind_of_item, name_of_item, is_taken, is_full, refers_to_known, repeats_block, repeats, miscounts_legs, makes_repeat, makes_miscount, is_used, rule_of_put, rule_of_change, rule_of_drop, rule_of, Stands, AreSound, IsSound}
 use Rattle.rail_model.proofs.Members.{never, not_never, Keeps, none_passes, grown_by_put, All-with_item, not_named-with_item, length-with_changed, is_named-with_changed, NamesRise-with_changed, kept_by_change, first-with_changed, All-with_changed, kept_by_drop, NamesRise-without, length-without, not_named-without}
 use Rattle.rail_model.proofs.NameOrder.{same_name, is_same-sym}
 
@@ -207,7 +207,7 @@ stands_put t x a = record { within = a.within; known = a.known; no_repeat = ap n
 -- no rule refuses a change
 pub record IsChangeable (t : Tables) (x : Item) : Type 0 where
   pub within : is_within x ≡ true
-  pub there : is_there t x ≡ true
+  pub there : has t (kind_of_item x) (name_of_item x) ≡ true
   pub known : refers_to_known t x ≡ true
   pub no_repeat : repeats t x ≡ false
   pub makes_none : makes_repeat t x ≡ false
@@ -226,7 +226,7 @@ no_rule_of_change true true true false false false false h = (refl, refl, refl, 
 
 pub changeable : (t : Tables) (x : Item) → rule_of_change t x ≡ None → IsChangeable t x
 changeable t x h =
-    let all = no_rule_of_change (is_within x) (is_there t x) (refers_to_known t x) (repeats t x) (makes_repeat t x) (miscounts_legs t x) (makes_miscount t x) h in
+    let all = no_rule_of_change (is_within x) (has t (kind_of_item x) (name_of_item x)) (refers_to_known t x) (repeats t x) (makes_repeat t x) (miscounts_legs t x) (makes_miscount t x) h in
     record { within = all.0; there = all.1; known = all.2; no_repeat = all.3; makes_none = all.4; count = all.5; counts = all.6 }
 
 stands_change : (t : Tables) (x : Item) → IsChangeable t x → Stands t x
@@ -265,7 +265,7 @@ count_kept t u r same h =
 pub IsSound-after_put : (t : Tables) (x : Item) → IsSound t → rule_of_put t x ≡ None → IsSound (after_put t x)
 IsSound-after_put t (item.Block x) s none =
     let a = accepted t (item.Block x) none in
-    let new = or_parts (has_block t x.name) (has_connection t x.name) a.new in
+    let new = or_parts (has_block t x.name) (has t kind.Connection x.name) a.new in
     let grown = grown_by_put (λ (y : Block). y.name) t.blocks x s.blocks.names new.0 in
     blocks_moved t s (with_item (λ y. y.name) t.blocks x) (put_list t t item.Block (λ y. y.name) BLOCKS t.blocks x s.blocks new.0 a.room (stands_put t (item.Block x) a)) never never grown.keeps
     (λ k d l. not_never (get_or t.signals k d).block)
@@ -298,7 +298,7 @@ IsSound-after_put t (item.Section x) s none =
     sections_moved t s (with_item (λ y. y.name) t.sections x) (put_list t t item.Section (λ y. y.name) SECTIONS t.sections x s.sections a.new a.room (stands_put t (item.Section x) a))
 IsSound-after_put t (item.Connection x) s none =
     let a = accepted t (item.Connection x) none in
-    let new = or_parts (has_connection t x.name) (has_block t x.name) a.new in
+    let new = or_parts (has t kind.Connection x.name) (has_block t x.name) a.new in
     connections_moved t s (with_item (λ y. y.name) t.connections x) (put_list t t item.Connection (λ y. y.name) CONNECTIONS t.connections x s.connections new.0 a.room (stands_put t (item.Connection x) a))
     (All-with_item (λ (y : Connection). y.name) t.connections x (λ c. has_block t c.name ≡ false) new.1 s.apart)
 
@@ -356,9 +356,9 @@ IsSound-after_change t (item.Connection x) s none =
     (All-with_changed (λ (y : Connection). y.name) x (λ c. has_block t c.name ≡ false) t.connections (apart_there t s x a.there) s.apart)
   where
     -- a connection whose name is there has no block's name
-    apart_there : (t : Tables) → IsSound t → (x : Connection) → has_connection t x.name ≡ true → has_block t x.name ≡ false
+    apart_there : (t : Tables) → IsSound t → (x : Connection) → has t kind.Connection x.name ≡ true → has_block t x.name ≡ false
     apart_there t s x there =
-        false_from_ne_true (has_block t x.name) (λ block. both_ways (has_connection t x.name)
+        false_from_ne_true (has_block t x.name) (λ block. both_ways (has t kind.Connection x.name)
         (list_any_none (λ c. is_same c.name x.name) t.connections (λ k d l.
         false_from_ne_true (is_same (get_or t.connections k d).name x.name) (λ same. both_ways (has_block t x.name)
         (ap (has_block t) (sym (same_name (get_or t.connections k d).name x.name same)) ∙ s.apart k d l) block))) there)

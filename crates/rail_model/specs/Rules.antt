@@ -76,7 +76,7 @@ has tables kind.Run n = is_named (λ r. r.name) tables.runs n
 has tables kind.Section n = is_named (λ s. s.name) tables.sections n
 has tables kind.Connection n = is_named (λ c. c.name) tables.connections n
 
--- the same for each kind
+-- the tables have a block, a signal, a route, a run or a section of this name
 abbrev pub has_block : Tables → List ℕ → Bool
 has_block tables n = has tables kind.Block n
 
@@ -92,29 +92,34 @@ has_run tables n = has tables kind.Run n
 abbrev pub has_section : Tables → List ℕ → Bool
 has_section tables n = has tables kind.Section n
 
-abbrev pub has_connection : Tables → List ℕ → Bool
-has_connection tables n = has tables kind.Connection n
-
 -- a name stands among names
 abbrev pub lists : List (List ℕ) → List ℕ → Bool
 lists names n = list_any (λ m. is_same m n) names
 
 -- ---- tests of an item
 
--- the item's name is there in its kind
-abbrev pub is_there : Tables → Item → Bool
-is_there tables (item.Block b) = has tables kind.Block b.name
-is_there tables (item.Signal s) = has tables kind.Signal s.name
-is_there tables (item.Route r) = has tables kind.Route r.name
-is_there tables (item.Run r) = has tables kind.Run r.name
-is_there tables (item.Section s) = has tables kind.Section s.name
-is_there tables (item.Connection c) = has tables kind.Connection c.name
+-- the kind of an item, and its name
+abbrev pub kind_of_item : Item → Kind
+kind_of_item (item.Block b) = kind.Block
+kind_of_item (item.Signal s) = kind.Signal
+kind_of_item (item.Route r) = kind.Route
+kind_of_item (item.Run r) = kind.Run
+kind_of_item (item.Section s) = kind.Section
+kind_of_item (item.Connection c) = kind.Connection
+
+abbrev pub name_of_item : Item → List ℕ
+name_of_item (item.Block b) = b.name
+name_of_item (item.Signal s) = s.name
+name_of_item (item.Route r) = r.name
+name_of_item (item.Run r) = r.name
+name_of_item (item.Section s) = s.name
+name_of_item (item.Connection c) = c.name
 
 -- the item's name is taken: it is there in its kind, or a block and a connection would share it
 abbrev pub is_taken : Tables → Item → Bool
 is_taken tables (item.Block b) = has tables kind.Block b.name || has tables kind.Connection b.name
 is_taken tables (item.Connection c) = has tables kind.Connection c.name || has tables kind.Block c.name
-is_taken tables x = is_there tables x
+is_taken tables x = has tables (kind_of_item x) (name_of_item x)
 
 -- the item's kind has its greatest number of items
 abbrev pub is_full : Tables → Item → Bool
@@ -191,7 +196,7 @@ rule_of_put tables x =
 abbrev pub rule_of_change : Tables → Item → Option Rule
 rule_of_change tables x =
     if not (is_within x) then Some Range
-    else if not (is_there tables x) then Some Unknown
+    else if not (has tables (kind_of_item x) (name_of_item x)) then Some Unknown
     else if not (refers_to_known tables x) then Some Unknown
     else if repeats tables x || makes_repeat tables x then Some Twice
     else if miscounts_legs tables x || makes_miscount tables x then Some Count

@@ -36,7 +36,7 @@ is_within (item.Section s) =
     && nat_lt s.from_s s.to_s && nat_le s.add_percent GREATEST_RATE
 is_within (item.Connection c) = nat_le c.minimum_s GREATEST_TIME_S
 
--- the same for each kind
+-- whether a block, a signal, a route, a run, a section or a connection is within its limits
 abbrev pub is_block_within : Block → Bool
 is_block_within b = is_within (item.Block b)
 

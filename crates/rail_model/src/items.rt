@@ -1,5 +1,8 @@
 //! The items of a line and its timetable.
-use crate::{List, Name};
+ghost use Rattle.std.specs.Prelude.{◌≡◌};
+ghost use Rattle.rail_model.specs.Rules.{kind_of_item, name_of_item};
+
+use crate::{Kind, List, Name};
 
 /// A stretch of track that one train may block at a time.
 #[derive(Clone, Copy)]
@@ -94,4 +97,34 @@ pub enum Item {
     Run(Run),
     Section(Section),
     Connection(Connection),
+}
+
+impl Item {
+    /// The kind of which it is.
+    pub fn kind(&self) -> Kind
+        ensures { result ≡ kind_of_item self.now }
+    {
+        match self {
+            Item::Block(_) => Kind::Block,
+            Item::Signal(_) => Kind::Signal,
+            Item::Route(_) => Kind::Route,
+            Item::Run(_) => Kind::Run,
+            Item::Section(_) => Kind::Section,
+            Item::Connection(_) => Kind::Connection,
+        }
+    }
+
+    /// The name by which its kind knows it.
+    pub fn name(&self) -> &Name
+        ensures { result.now ≡ name_of_item self.now }
+    {
+        match self {
+            Item::Block(block) => &block.name,
+            Item::Signal(signal) => &signal.name,
+            Item::Route(route) => &route.name,
+            Item::Run(run) => &run.name,
+            Item::Section(section) => &section.name,
+            Item::Connection(connection) => &connection.name,
+        }
+    }
 }
