@@ -15,10 +15,11 @@ use Rattle.row_text.specs.declared.line.Line.{Line}
 use Rattle.row_text.specs.declared.line.Line.TheVariants as line
 use Rattle.row_text.specs.declared.word.Word.{Word}
 use Rattle.row_text.specs.declared.word.Word.TheVariants as word
+use Rattle.rail_model.specs.Rules.{kind_of_item}
 use Rattle.rail_model.specs.Within.{is_from_one}
 use Rattle.row_text.specs.SheetRows.{Row, field}
 use Rattle.row_text.specs.Words.{name_in, time_in, kind_shape, shape_of, word_text, word_of, allows}
-use Rattle.row_text.specs.Lines.{read_each, legs_of, differences, falls, run_legs, legs_in, item_in, line_of, read_in, leg_times, sums, run_times, time_text, kind_of_item, item_fields, row_in, has_clock_times, has_times_in, IsSpelled}
+use Rattle.row_text.specs.Lines.{read_each, legs_of, differences, falls, run_legs, legs_in, item_in, line_of, read_in, leg_times, sums, run_times, time_text, item_fields, row_in, has_clock_times, has_times_in, IsSpelled}
 use Rattle.std.proofs.lemmas.List.{length-map}
 use Rattle.row_text.proofs.Numbers.{number_in-decimal, rate_in-decimal, time_in-text}
 use Rattle.row_text.proofs.Says.{Name, Number, Rate, Time, Says, Each, bind-ok, name-ok, number-ok, rate-ok, time-ok, names-ok, times-ok}

@@ -15,6 +15,7 @@ use Rattle.row_text.specs.declared.word.Word.TheVariants as word
 use Rattle.row_text.specs.SheetRows.{Row, field}
 use Rattle.row_text.specs.Words.{name_in, number_in, rate_in, time_in, shape_of, word_of, allows, word_text}
 use Rattle.rail_model.specs.Name.{is_same}
+use Rattle.rail_model.specs.Rules.{kind_of_item}
 use Rattle.std.specs.List.{list_all}
 use Rattle.rail_model.specs.declared.edit.Edit.{Edit}
 use Rattle.row_text.specs.declared.line_row.Part.TheVariants as part
@@ -174,14 +175,6 @@ sums before (step ∷ steps) = (before + step) ∷ sums (before + step) steps
 -- the times after a run's start: in version 1 the running and dwell times, in version 2 the arrivals and departures
 abbrev pub run_times : ℕ → ℕ → List Leg → List ℕ
 run_times version start legs = if version == 2 then sums start (leg_times legs) else leg_times legs
-
-abbrev pub kind_of_item : Item → Kind
-kind_of_item (item.Block b) = kind.Block
-kind_of_item (item.Signal s) = kind.Signal
-kind_of_item (item.Route r) = kind.Route
-kind_of_item (item.Run r) = kind.Run
-kind_of_item (item.Section s) = kind.Section
-kind_of_item (item.Connection c) = kind.Connection
 
 -- the fields of an item's row after its word
 abbrev pub item_fields : ℕ → Item → Row

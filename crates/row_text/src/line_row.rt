@@ -12,7 +12,7 @@ use crate::line::Line;
 use crate::time_text::{GREATEST_CLOCK_S, clock_text};
 use crate::word::Word;
 use itoa::Buffer;
-use rail_model::{Edit, Item, Kind, Name, OutOfMemory, Route, Run, Section, Signal};
+use rail_model::{Edit, Item, Name, OutOfMemory, Route, Run, Section, Signal};
 use std::alloc::Global;
 
 /// The row that spells a line in version 1 of the rows: where any row spells the line, reading this
@@ -91,24 +91,11 @@ fn word_of_line(line: &Line) -> Word
     ensures { word_text result ≡ field (lines.row_in 1 line.now) 0 }
 {
     match line {
-        Line::Edit(Edit::Put(item)) => Word::Put(kind_of_item(item)),
-        Line::Edit(Edit::Change(item)) => Word::Change(kind_of_item(item)),
+        Line::Edit(Edit::Put(item)) => Word::Put(item.kind()),
+        Line::Edit(Edit::Change(item)) => Word::Change(item.kind()),
         Line::Edit(Edit::Drop(kind, _)) => Word::Drop(*kind),
         Line::Ask(_) => Word::Ask,
         Line::Planner(_) => Word::Planner,
-    }
-}
-
-fn kind_of_item(item: &Item) -> Kind
-    ensures { result ≡ lines.kind_of_item item.now }
-{
-    match item {
-        Item::Block(_) => Kind::Block,
-        Item::Signal(_) => Kind::Signal,
-        Item::Route(_) => Kind::Route,
-        Item::Run(_) => Kind::Run,
-        Item::Section(_) => Kind::Section,
-        Item::Connection(_) => Kind::Connection,
     }
 }
 
