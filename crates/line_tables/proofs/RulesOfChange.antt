@@ -7,12 +7,12 @@ use Rattle.rail_model.specs.declared.items.Item.{Item}
 use Rattle.rail_model.specs.declared.items.Item.TheVariants as item
 use Rattle.rail_model.specs.declared.edit.Rule.TheVariants.{Unknown, Twice, Count}
 use Rattle.rail_model.specs.declared.tables.Tables.{Tables}
-use Rattle.rail_model.specs.Rules.{has_signal, has_block, has_route, is_there, refers_to_known, repeats, makes_repeat, miscounts_legs, makes_miscount, rule_of_change}
+use Rattle.rail_model.specs.Rules.{has_signal, has_block, has_route, has, kind_of_item, name_of_item, refers_to_known, repeats, makes_repeat, miscounts_legs, makes_miscount, rule_of_change}
 use Rattle.rail_model.specs.Within.{is_within}
 use Rattle.line_tables.specs.References.{rule_of_parts}
 
 -- an item that is there, and whose change touches no other item, is refused for its parts, or not at all
-pub refused_last : (t : Tables) (x : Item) → is_within x ≡ true → is_there t x ≡ true → makes_repeat t x ≡ false → makes_miscount t x ≡ false → rule_of_change t x ≡ rule_of_parts t x
+pub refused_last : (t : Tables) (x : Item) → is_within x ≡ true → has t (kind_of_item x) (name_of_item x) ≡ true → makes_repeat t x ≡ false → makes_miscount t x ≡ false → rule_of_change t x ≡ rule_of_parts t x
 refused_last t x within there repeat miscount =
     rw (within, there, repeat, miscount, or-false (repeats t x), or-false (miscounts_legs t x)) refl
 

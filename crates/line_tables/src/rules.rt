@@ -1,5 +1,5 @@
 //! Which rule refuses an edit.
-ghost use Rattle.std.specs.Prelude.{◌≡◌, true, false, not, if◌then◌else◌, length, Some, None, IfOk};
+ghost use Rattle.std.specs.Prelude.{◌≡◌, true, false, not, if◌then◌else◌, length, Some, None, is_some, IfOk, IfSome};
 ghost use Rattle.rail_model.specs.declared.items.Item.TheVariants as item;
 ghost use Rattle.rail_model.specs.declared.edit.Kind.TheVariants as kind;
 ghost use Rattle.rail_model.specs.Tables.{route_named};
@@ -91,7 +91,7 @@ impl LineTables {
         if !is_within(item) {
             return Ok(Some(Rule::Range));
         }
-        if !self.is_there(item) {
+        if !self.has(item.kind(), item.name()) {
             return Ok(Some(Rule::Unknown));
         }
         self.rule_of_parts(item)
@@ -105,59 +105,21 @@ impl LineTables {
             Kind::Signal => rule_of_key(self.signals.key_of(name), &self.signal_uses),
             Kind::Route => rule_of_key(self.routes.key_of(name), &self.route_uses),
             Kind::Run => rule_of_key(self.runs.key_of(name), &self.run_uses),
-            Kind::Section => unknown_unless(self.has_section(name)),
-            Kind::Connection => unknown_unless(self.has_connection(name)),
+            Kind::Section | Kind::Connection => unknown_unless(self.has(kind, name)),
         }
     }
 
-    /// Whether a block of a name is there.
-    pub fn has_block(&self, name: &Name) -> bool
-        ensures { result ≡ rules.has_block self.now name.now }
+    /// Whether an item of a kind and a name is there.
+    pub fn has(&self, kind: Kind, name: &Name) -> bool
+        ensures { result ≡ rules.has self.now kind name.now }
     {
-        self.blocks.key_of(name).is_some()
-    }
-
-    /// Whether a signal of a name is there.
-    pub fn has_signal(&self, name: &Name) -> bool
-        ensures { result ≡ rules.has_signal self.now name.now }
-    {
-        self.signals.key_of(name).is_some()
-    }
-
-    pub(crate) fn has_route(&self, name: &Name) -> bool
-        ensures { result ≡ rules.has_route self.now name.now }
-    {
-        self.routes.key_of(name).is_some()
-    }
-
-    fn has_run(&self, name: &Name) -> bool
-        ensures { result ≡ rules.has_run self.now name.now }
-    {
-        self.runs.key_of(name).is_some()
-    }
-
-    fn has_section(&self, name: &Name) -> bool
-        ensures { result ≡ rules.has_section self.now name.now }
-    {
-        self.sections.key_of(name).is_some()
-    }
-
-    fn has_connection(&self, name: &Name) -> bool
-        ensures { result ≡ rules.has_connection self.now name.now }
-    {
-        self.connections.key_of(name).is_some()
-    }
-
-    fn is_there(&self, item: &Item) -> bool
-        ensures { result ≡ rules.is_there self.now item.now }
-    {
-        match item {
-            Item::Block(block) => self.has_block(&block.name),
-            Item::Signal(signal) => self.has_signal(&signal.name),
-            Item::Route(route) => self.has_route(&route.name),
-            Item::Run(run) => self.has_run(&run.name),
-            Item::Section(section) => self.has_section(&section.name),
-            Item::Connection(connection) => self.has_connection(&connection.name),
+        match kind {
+            Kind::Block => self.blocks.key_of(name).is_some(),
+            Kind::Signal => self.signals.key_of(name).is_some(),
+            Kind::Route => self.routes.key_of(name).is_some(),
+            Kind::Run => self.runs.key_of(name).is_some(),
+            Kind::Section => self.sections.key_of(name).is_some(),
+            Kind::Connection => self.connections.key_of(name).is_some(),
         }
     }
 
@@ -166,13 +128,15 @@ impl LineTables {
         ensures { result ≡ rules.is_taken self.now item.now }
     {
         match item {
-            Item::Block(block) => self.has_block(&block.name) || self.has_connection(&block.name),
-            Item::Signal(signal) => self.has_signal(&signal.name),
-            Item::Route(route) => self.has_route(&route.name),
-            Item::Run(run) => self.has_run(&run.name),
-            Item::Section(section) => self.has_section(&section.name),
+            Item::Block(block) => {
+                self.has(Kind::Block, &block.name) || self.has(Kind::Connection, &block.name)
+            }
             Item::Connection(connection) => {
-                self.has_connection(&connection.name) || self.has_block(&connection.name)
+                self.has(Kind::Connection, &connection.name)
+                    || self.has(Kind::Block, &connection.name)
+            }
+            Item::Signal(_) | Item::Route(_) | Item::Run(_) | Item::Section(_) => {
+                self.has(item.kind(), item.name())
             }
         }
     }
@@ -199,7 +163,7 @@ impl LineTables {
     {
         match item {
             Item::Block(_) => Ok(None),
-            Item::Signal(signal) => Ok(unknown_unless(self.has_block(&signal.block))),
+            Item::Signal(signal) => Ok(unknown_unless(self.has(Kind::Block, &signal.block))),
             Item::Route(_) => unreachable!(),
             Item::Run(run) => Ok(self.rule_of_run(run)),
             Item::Section(section) => self.rule_of_blocks(section),
@@ -211,10 +175,10 @@ impl LineTables {
     fn rule_of_run(&self, run: &Run) -> Option<Rule>
         ensures { result ≡ rule_of_parts self.now (item.Run run.now) }
     {
-        if !self.has_route(&run.route) {
+        let Some(count) = self.signal_count(&run.route) else {
             return Some(Rule::Unknown);
-        }
-        if run.legs.len() != self.signal_count(&run.route) {
+        };
+        if run.legs.len() != count {
             return Some(Rule::Count);
         }
         None
@@ -232,20 +196,21 @@ impl LineTables {
     fn rule_of_runs(&self, connection: &Connection) -> Option<Rule>
         ensures { result ≡ rule_of_references self.now (item.Connection connection.now) }
     {
-        if !self.has_run(&connection.first) || !self.has_run(&connection.second) {
+        if !self.has(Kind::Run, &connection.first) || !self.has(Kind::Run, &connection.second) {
             return Some(Rule::Unknown);
         }
         twice_if(connection.first == connection.second)
     }
 
-    // How many signals the route of a name has: none where it isn't there.
-    fn signal_count(&self, route: &Name) -> usize
-        ensures count { result ≡ length (route_named self.now route.now).signals }
+    // How many signals the route of a name has, if it is there.
+    fn signal_count(&self, route: &Name) -> Option<usize>
+        ensures there { is_some result ≡ rules.has_route self.now route.now }
+        ensures count { IfSome result (λ n. n ≡ length (route_named self.now route.now).signals) }
         ensures sound { IsSound self.now }
     {
         match self.routes.key_of(route) {
-            Some(key) => self.routes.get(key).item.signal_count(),
-            None => 0,
+            Some(key) => Some(self.routes.get(key).item.signal_count()),
+            None => None,
         }
     }
 
@@ -254,7 +219,8 @@ impl LineTables {
         requires { rules.has_route self.now route.now.name ≡ true }
         ensures { result ≡ rules.makes_miscount self.now (item.Route route.now) }
     {
-        self.signal_count(&route.name) != route.signals.len() && self.is_route_used(&route.name)
+        self.signal_count(&route.name).unwrap() != route.signals.len()
+            && self.is_route_used(&route.name)
     }
 
     fn is_route_used(&self, name: &Name) -> bool
