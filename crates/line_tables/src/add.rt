@@ -19,23 +19,23 @@ use crate::route_signals::{RouteSignals, route_signals};
 use rail_model::{Block, Connection, Named, OutOfMemory, Route, Rule, Run, Section, Signal};
 
 impl LineTables {
-    pub(crate) fn add_block(&mut self, block: Block) -> Result<Result<(), Rule>, OutOfMemory>
+    pub(crate) fn add_block(&mut self, block: Block) -> Result<(), OutOfMemory>
         requires { rule_of_put self.old (item.Block block) ≡ None }
-        ensures { AnswersEdit (rule_of_put self.old (item.Block block)) (after_put self.old (item.Block block))
-            result self.old self.new }
+        ensures put { OnOk result (self.new ≡ after_put self.old (item.Block block)) }
+        ensures kept { OnErr result (self.new ≡ self.old) }
     {
         self.blocks.put(block)?;
-        Ok(Ok(()))
+        Ok(())
     }
 
-    pub(crate) fn add_signal(&mut self, signal: Signal) -> Result<Result<(), Rule>, OutOfMemory>
+    pub(crate) fn add_signal(&mut self, signal: Signal) -> Result<(), OutOfMemory>
         requires { rule_of_put self.old (item.Signal signal) ≡ None }
-        ensures { AnswersEdit (rule_of_put self.old (item.Signal signal)) (after_put self.old (item.Signal signal))
-            result self.old self.new }
+        ensures put { OnOk result (self.new ≡ after_put self.old (item.Signal signal)) }
+        ensures kept { OnErr result (self.new ≡ self.old) }
     {
         let refs = keys_of(self.alloc, &self.blocks, &[signal.block])?;
         put_linked(&mut self.signals, &mut self.block_uses, signal, refs)?;
-        Ok(Ok(()))
+        Ok(())
     }
 
     // Puts a route in, or tells the rule by which what it refers to refuses it. Its signals are
@@ -62,33 +62,30 @@ impl LineTables {
         Ok(Ok(()))
     }
 
-    pub(crate) fn add_run(&mut self, run: Run) -> Result<Result<(), Rule>, OutOfMemory>
+    pub(crate) fn add_run(&mut self, run: Run) -> Result<(), OutOfMemory>
         requires { rule_of_put self.old (item.Run run) ≡ None }
-        ensures { AnswersEdit (rule_of_put self.old (item.Run run)) (after_put self.old (item.Run run))
-            result self.old self.new }
+        ensures put { OnOk result (self.new ≡ after_put self.old (item.Run run)) }
+        ensures kept { OnErr result (self.new ≡ self.old) }
     {
         let refs = keys_of(self.alloc, &self.routes, &[run.route])?;
         put_linked(&mut self.runs, &mut self.route_uses, run, refs)?;
-        Ok(Ok(()))
+        Ok(())
     }
 
-    pub(crate) fn add_section(&mut self, section: Section) -> Result<Result<(), Rule>, OutOfMemory>
+    pub(crate) fn add_section(&mut self, section: Section) -> Result<(), OutOfMemory>
         requires { rule_of_put self.old (item.Section section) ≡ None }
-        ensures { AnswersEdit (rule_of_put self.old (item.Section section)) (after_put self.old (item.Section section))
-            result self.old self.new }
+        ensures put { OnOk result (self.new ≡ after_put self.old (item.Section section)) }
+        ensures kept { OnErr result (self.new ≡ self.old) }
     {
         let refs = keys_of(self.alloc, &self.blocks, section.blocks.slice())?;
         put_linked(&mut self.sections, &mut self.block_uses, section, refs)?;
-        Ok(Ok(()))
+        Ok(())
     }
 
-    pub(crate) fn add_connection(
-        &mut self,
-        connection: Connection,
-    ) -> Result<Result<(), Rule>, OutOfMemory>
+    pub(crate) fn add_connection(&mut self, connection: Connection) -> Result<(), OutOfMemory>
         requires { rule_of_put self.old (item.Connection connection) ≡ None }
-        ensures { AnswersEdit (rule_of_put self.old (item.Connection connection)) (after_put self.old (item.Connection connection))
-            result self.old self.new }
+        ensures put { OnOk result (self.new ≡ after_put self.old (item.Connection connection)) }
+        ensures kept { OnErr result (self.new ≡ self.old) }
     {
         let refs = keys_of(
             self.alloc,
@@ -96,7 +93,7 @@ impl LineTables {
             &[connection.first, connection.second],
         )?;
         put_linked(&mut self.connections, &mut self.run_uses, connection, refs)?;
-        Ok(Ok(()))
+        Ok(())
     }
 }
 

@@ -62,13 +62,14 @@ impl LineTables {
             result self.old self.new }
     {
         match item {
-            Item::Block(block) => self.add_block(block),
-            Item::Signal(signal) => self.add_signal(signal),
-            Item::Route(route) => self.put_route(&route),
-            Item::Run(run) => self.add_run(run),
-            Item::Section(section) => self.add_section(section),
-            Item::Connection(connection) => self.add_connection(connection),
+            Item::Block(block) => self.add_block(block)?,
+            Item::Signal(signal) => self.add_signal(signal)?,
+            Item::Route(route) => return self.put_route(&route),
+            Item::Run(run) => self.add_run(run)?,
+            Item::Section(section) => self.add_section(section)?,
+            Item::Connection(connection) => self.add_connection(connection)?,
         }
+        Ok(Ok(()))
     }
 
     fn replace(&mut self, item: Item) -> Result<Result<(), Rule>, OutOfMemory>
@@ -77,16 +78,14 @@ impl LineTables {
             result self.old self.new }
     {
         match item {
-            Item::Block(block) => {
-                self.replace_block(block);
-                Ok(Ok(()))
-            }
-            Item::Signal(signal) => self.change_signal(signal),
-            Item::Route(route) => self.change_route(&route),
-            Item::Run(run) => self.replace_run(run),
-            Item::Section(section) => self.replace_section(section),
-            Item::Connection(connection) => self.replace_connection(connection),
+            Item::Block(block) => self.replace_block(block),
+            Item::Signal(signal) => return self.change_signal(signal),
+            Item::Route(route) => return self.change_route(&route),
+            Item::Run(run) => self.replace_run(run)?,
+            Item::Section(section) => self.replace_section(section)?,
+            Item::Connection(connection) => self.replace_connection(connection)?,
         }
+        Ok(Ok(()))
     }
 
     fn remove(&mut self, kind: Kind, name: &Name)

@@ -91,38 +91,32 @@ impl LineTables {
         Ok(Ok(()))
     }
 
-    pub(crate) fn replace_run(&mut self, run: Run) -> Result<Result<(), Rule>, OutOfMemory>
+    pub(crate) fn replace_run(&mut self, run: Run) -> Result<(), OutOfMemory>
         requires { rule_of_change self.old (item.Run run) ≡ None }
-        ensures { AnswersEdit (rule_of_change self.old (item.Run run))
-            (after_change self.old (item.Run run)) result self.old self.new }
+        ensures changed { OnOk result (self.new ≡ after_change self.old (item.Run run)) }
+        ensures kept { OnErr result (self.new ≡ self.old) }
     {
         let refs = keys_of(self.alloc, &self.routes, &[run.route])?;
         let key = self.runs.key_of(&run.name).unwrap();
         change_linked(&mut self.runs, &mut self.route_uses, key, run, refs)?;
-        Ok(Ok(()))
+        Ok(())
     }
 
-    pub(crate) fn replace_section(
-        &mut self,
-        section: Section,
-    ) -> Result<Result<(), Rule>, OutOfMemory>
+    pub(crate) fn replace_section(&mut self, section: Section) -> Result<(), OutOfMemory>
         requires { rule_of_change self.old (item.Section section) ≡ None }
-        ensures { AnswersEdit (rule_of_change self.old (item.Section section))
-            (after_change self.old (item.Section section)) result self.old self.new }
+        ensures changed { OnOk result (self.new ≡ after_change self.old (item.Section section)) }
+        ensures kept { OnErr result (self.new ≡ self.old) }
     {
         let refs = keys_of(self.alloc, &self.blocks, section.blocks.slice())?;
         let key = self.sections.key_of(&section.name).unwrap();
         change_linked(&mut self.sections, &mut self.block_uses, key, section, refs)?;
-        Ok(Ok(()))
+        Ok(())
     }
 
-    pub(crate) fn replace_connection(
-        &mut self,
-        connection: Connection,
-    ) -> Result<Result<(), Rule>, OutOfMemory>
+    pub(crate) fn replace_connection(&mut self, connection: Connection) -> Result<(), OutOfMemory>
         requires { rule_of_change self.old (item.Connection connection) ≡ None }
-        ensures { AnswersEdit (rule_of_change self.old (item.Connection connection))
-            (after_change self.old (item.Connection connection)) result self.old self.new }
+        ensures changed { OnOk result (self.new ≡ after_change self.old (item.Connection connection)) }
+        ensures kept { OnErr result (self.new ≡ self.old) }
     {
         let refs = keys_of(
             self.alloc,
@@ -137,7 +131,7 @@ impl LineTables {
             connection,
             refs,
         )?;
-        Ok(Ok(()))
+        Ok(())
     }
 }
 

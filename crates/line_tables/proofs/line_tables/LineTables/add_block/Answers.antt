@@ -2,7 +2,6 @@ use Rattle.std.proofs.Common.{ℕ, ap}
 use Rattle.rail_model.specs.declared.items.Block.{Block}
 use Rattle.line_tables.specs.Inside.{tables_of}
 use Rattle.line_tables.proofs.Views.{map-with_item}
-use Rattle.line_tables.proofs.Answered.{makes}
 use Rattle.line_tables.proofs.JoinedBlocks.{block_is_new, block_put}
 use Rattle.line_tables.proofs.line_tables.LineTables.add_block.Goals as goal
 
@@ -14,9 +13,8 @@ invariant_of-self-2 c =
     let done = c.in_ok-put.ensures in
     rw done.put (block_put c.self.inside c.in_ok-put.field-0 c.args.block c.self.invariant done.table (rw (← c.self.view_is) at c.requires))
 
-pub returns : goal.returns
-returns c =
+pub returns-clause-put : goal.returns-clause-put
+returns-clause-put c =
     let t = c.self.inside in
     rw (← c.self.view_is, c.in_ok-put.ensures.put)
-    (makes _ _ _ _ (rw (← c.self.view_is) at c.requires)
-    (ap (λ l. record (tables_of t) { blocks = l }) (map-with_item (λ (e : ℕ × Block). e.1) (λ x. x.name) t.blocks (c.in_ok-put.field-0, c.args.block))))
+    (ap (λ l. record (tables_of t) { blocks = l }) (map-with_item (λ (e : ℕ × Block). e.1) (λ x. x.name) t.blocks (c.in_ok-put.field-0, c.args.block)))

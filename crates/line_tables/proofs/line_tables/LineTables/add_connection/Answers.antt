@@ -6,7 +6,6 @@ use Rattle.line_tables.specs.Inside.{tables_of}
 use Rattle.line_tables.proofs.References.{entry}
 use Rattle.line_tables.proofs.Views.{map-with_item}
 use Rattle.line_tables.proofs.Known.{connection_knows}
-use Rattle.line_tables.proofs.Answered.{makes}
 use Rattle.line_tables.proofs.JoinedTrains.{connection_is_new, connection_put}
 use Rattle.line_tables.proofs.line_tables.LineTables.add_connection.Goals as goal
 
@@ -25,9 +24,8 @@ invariant_of-self-2 c =
     let done = c.in_ok-put_linked.ensures in
     rw done.put (connection_put c.self.inside c.in_ok-put_linked.field-0 c.args.connection c.in_ok-refs.refs c.put_linked.new.uses c.self.invariant done.table (rw (← c.self.view_is) at c.requires) c.in_ok-refs.ensures.keys done.counted)
 
-pub returns : goal.returns
-returns c =
+pub returns-clause-put : goal.returns-clause-put
+returns-clause-put c =
     let t = c.self.inside in
     rw (← c.self.view_is, c.in_ok-put_linked.ensures.put)
-    (makes _ _ _ _ (rw (← c.self.view_is) at c.requires)
-    (ap (λ l. record (tables_of t) { connections = l }) (map-with_item (λ (e : ℕ × Linked _). e.1.item) (λ x. x.name) t.connections (c.in_ok-put_linked.field-0, entry c.args.connection c.in_ok-refs.refs))))
+    (ap (λ l. record (tables_of t) { connections = l }) (map-with_item (λ (e : ℕ × Linked _). e.1.item) (λ x. x.name) t.connections (c.in_ok-put_linked.field-0, entry c.args.connection c.in_ok-refs.refs)))

@@ -7,7 +7,6 @@ use Rattle.line_tables.proofs.Found.{name_under}
 use Rattle.line_tables.proofs.References.{entry}
 use Rattle.line_tables.proofs.Views.{map-with_change}
 use Rattle.line_tables.proofs.Known.{refs_of_found, run_knows}
-use Rattle.line_tables.proofs.Answered.{makes}
 use Rattle.line_tables.proofs.JoinedTrains.{run_stays, run_change}
 use Rattle.line_tables.proofs.line_tables.LineTables.replace_run.Goals as goal
 
@@ -37,11 +36,10 @@ invariant_of-self-2 c =
     let same = name_under (λ (e : Linked _). e.item.name) c.self.inside.runs c.args.run.name c.unwrap-key.result c.key_of.ensures.table (sym c.key_of.ensures.key ∙ c.unwrap-key.ensures) in
     rw done.changed (run_change c.self.inside c.unwrap-key.result c.args.run c.in_ok-refs.refs c.change_linked.new.uses c.self.invariant c.key_of.ensures.table same (rw (← c.self.view_is) at c.requires) c.in_ok-refs.ensures.keys done.counted)
 
-pub returns : goal.returns
-returns c =
+pub returns-clause-changed : goal.returns-clause-changed
+returns-clause-changed c =
     let t = c.self.inside in
     let key = c.unwrap-key.result in
     let same = name_under (λ (e : Linked _). e.item.name) t.runs c.args.run.name key c.key_of.ensures.table (sym c.key_of.ensures.key ∙ c.unwrap-key.ensures) in
     rw (← c.self.view_is, c.in_ok-change_linked.ensures.changed)
-    (makes _ _ _ _ (rw (← c.self.view_is) at c.requires)
-    (ap (λ l. record (tables_of t) { runs = l }) (map-with_change (λ (e : Linked _). e.item) (λ x. x.name) t.runs key (entry c.args.run c.in_ok-refs.refs) c.key_of.ensures.table same)))
+    (ap (λ l. record (tables_of t) { runs = l }) (map-with_change (λ (e : Linked _). e.item) (λ x. x.name) t.runs key (entry c.args.run c.in_ok-refs.refs) c.key_of.ensures.table same))
