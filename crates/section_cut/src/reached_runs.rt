@@ -29,7 +29,7 @@ use crate::timed_stair::TimedStair;
 use blocking_time::stairs;
 use line_tables::{LineTables, Paths};
 use plan_model::{Cut, CutRow};
-use rail_model::{Edit, Item, List, Name, OutOfMemory, Path, Use};
+use rail_model::{Edit, Item, Kind, List, Name, OutOfMemory, Path, Use};
 use std::alloc::Global;
 
 // How many reached runs each get a path of their own: for more, the paths of all runs are made.
@@ -129,7 +129,7 @@ fn runs_past_block(alloc: Global, after: &LineTables, name: &Name) -> Result<Vec
     ensures { IfOk result
         (λ told. IsTold (passes_block after.now name.now) after.now.runs told.items) }
 {
-    if !after.has_block(name) {
+    if !after.has(Kind::Block, name) {
         return all_runs(alloc, after);
     }
     after.runs_past_block(name)
@@ -143,7 +143,7 @@ fn runs_past_signal(
     ensures { IfOk result
         (λ told. IsTold (passes_signal after.now name.now) after.now.runs told.items) }
 {
-    if !after.has_signal(name) {
+    if !after.has(Kind::Signal, name) {
         return all_runs(alloc, after);
     }
     after.runs_past_signal(name)

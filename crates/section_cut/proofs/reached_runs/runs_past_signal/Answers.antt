@@ -5,5 +5,5 @@ use Rattle.section_cut.proofs.reached_runs.runs_past_signal.Goals as goal
 pub returns : goal.returns
 returns c = read_told (passes_signal c.args.after.now c.args.name.now) c.args.after.now.runs c.runs_past_signal.result c.runs_past_signal.ensures
 
-pub returns-then-not-has_signal : goal.returns-then-not-has_signal
-returns-then-not-has_signal c = any_told (passes_signal c.args.after.now c.args.name.now) c.args.after.now.runs c.all_runs.result c.all_runs.ensures
+pub returns-then-not-has : goal.returns-then-not-has
+returns-then-not-has c = any_told (passes_signal c.args.after.now c.args.name.now) c.args.after.now.runs c.all_runs.result c.all_runs.ensures
