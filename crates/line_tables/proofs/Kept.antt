@@ -15,7 +15,7 @@ use Rattle.rail_model.specs.Name.{IsBefore, is_same, NamesRise}
 use Rattle.rail_model.specs.Rules.{with_item, without}
 use Rattle.rail_model.proofs.NameOrder.{is_same-from, is_same-before, is_same-after, never_before_itself}
 use Rattle.rail_model.proofs.Places.{IsPlace, place_searched, is_named-place, with_item-place, number_of-found, All-insert, filter_all}
-use Rattle.line_tables.specs.Table.{filed, under, with_change, named, name_at, key_of, item_of, IsTable, IsKept, IsPlaceOf, IsPlaceFor}
+use Rattle.line_tables.specs.Table.{filed, under, with_change, named, name_at, key_of, item_of, IsTable, IsKept, IsPositionOf, IsPositionFor}
 use Rattle.line_tables.proofs.Filed.{IsStored, stored_at, filed-append, filed-cons, filed-same, length-filed, filed-at, All-filed, under-filed, under_slot, some_from_map}
 use Rattle.line_tables.proofs.Entries.{KeepsName, key_of-with_item, rise-with_item, key_of-without, rise-without, key_of-with_change}
 
@@ -257,7 +257,7 @@ module _ {X : Type 0} (name : X → List ℕ) where
 
   -- ---- a search
 
-  pub searched_is : (at : ℕ → Option X) (order : List ℕ) (n : List ℕ) (r : Result ℕ ℕ) → All (IsStored at) order → NamesRise (named name) (filed at order) → IsSearchInRange r (length order) → IsBinarySearchResult (λ k. slice_cmp nat_cmp (name_at name at k) n) order r → MatchResult r (IsPlaceOf name at order n) (IsPlaceFor name at order n)
+  pub searched_is : (at : ℕ → Option X) (order : List ℕ) (n : List ℕ) (r : Result ℕ ℕ) → All (IsStored at) order → NamesRise (named name) (filed at order) → IsSearchInRange r (length order) → IsBinarySearchResult (λ k. slice_cmp nat_cmp (name_at name at k) n) order r → MatchResult r (IsPositionOf name at order n) (IsPositionFor name at order n)
   searched_is at order n (Ok i) s rise l h =
       let long = length-filed at order s in
       let here = filed-at at order i 0 s l in
@@ -281,10 +281,10 @@ module _ {X : Type 0} (name : X → List ℕ) where
       }
 
   -- the same of a place, as the lemmas on lists take it
-  pub place_is : (at : ℕ → Option X) (order : List ℕ) (n : List ℕ) (i : ℕ) → IsPlaceFor name at order n i → IsPlace (name_at name at) order n i
+  pub place_is : (at : ℕ → Option X) (order : List ℕ) (n : List ℕ) (i : ℕ) → IsPositionFor name at order n i → IsPlace (name_at name at) order n i
   place_is at order n i p = record { within = p.within; below = p.below; above = p.above }
 
-  pub stands_at : (at : ℕ → Option X) (order : List ℕ) (n : List ℕ) (i : ℕ) (p : IsPlaceOf name at order n i) → StandsAt at order i (get_or order i 0) p.item
+  pub stands_at : (at : ℕ → Option X) (order : List ℕ) (n : List ℕ) (i : ℕ) (p : IsPositionOf name at order n i) → StandsAt at order i (get_or order i 0) p.item
   stands_at at order n i p = record { within = p.within; key = λ d. get_or_default order i d 0 p.within; item = p.under }
 
   -- the item under a key that is to be changed
@@ -304,7 +304,7 @@ module _ {X : Type 0} (name : X → List ℕ) where
         found = λ n. found n ∙ kept.found n ∙ ap (λ l. key_of name l n) (sym is);
       })
 
-  pub item_is : (at : ℕ → Option X) (order : List ℕ) (n : List ℕ) (i : ℕ) (p : IsPlaceOf name at order n i) → All (IsStored at) order → item_of name (filed at order) n ≡ Some p.item
+  pub item_is : (at : ℕ → Option X) (order : List ℕ) (n : List ℕ) (i : ℕ) (p : IsPositionOf name at order n i) → All (IsStored at) order → item_of name (filed at order) n ≡ Some p.item
   item_is at order n i p s =
       let long = length-filed at order s in
       let here = filed-at at order i 0 s p.within in

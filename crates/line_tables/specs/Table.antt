@@ -56,8 +56,8 @@ module _ {X : Type 0} where
       pub rise : NamesRise named (filed at order)
       pub found : (n : List ℕ) → sought n ≡ key_of (filed at order) n
 
-    -- the item of a name stands under the key at place i
-    pub record IsPlaceOf (at : ℕ → Option X) (order : List ℕ) (n : List ℕ) (i : ℕ) : Type 0 where
+    -- the item of a name stands under the key at position i
+    pub record IsPositionOf (at : ℕ → Option X) (order : List ℕ) (n : List ℕ) (i : ℕ) : Type 0 where
       pub within : i < length order
       pub number : i ≡ number_of named (filed at order) n
       pub there : is_named named (filed at order) n ≡ true
@@ -65,8 +65,8 @@ module _ {X : Type 0} where
       pub under : at (slice_index_or order i 0) ≡ Some item
       pub label : name item ≡ n
 
-    -- names of items under keys before place i are before n, and those from i on after it
-    pub record IsPlaceFor (at : ℕ → Option X) (order : List ℕ) (n : List ℕ) (i : ℕ) : Type 0 where
+    -- names of items under keys before position i are before n, and those from i on after it
+    pub record IsPositionFor (at : ℕ → Option X) (order : List ℕ) (n : List ℕ) (i : ℕ) : Type 0 where
       pub within : i ≤ length order
       pub missing : is_named named (filed at order) n ≡ false
       pub below : All (λ k. IsBefore (name_at at k) n) (take i order)

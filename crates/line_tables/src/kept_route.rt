@@ -6,8 +6,8 @@ use rail_model::{Name, Named, OutOfMemory, Route};
 use std::alloc::{AllocError, Global};
 use std::marker::Model;
 
-/// A route, seen as `Route`. Its signals' names take little memory: a line may have half a million
-/// of them, and once a route is put in, only `LineTables::plain` reads them.
+// A route, seen as `Route`. Its signals' names take little memory: a line may have half a million
+// of them, and once a route is put in, only `LineTables::plain` reads them.
 #[derive(Drop)]
 pub(crate) struct KeptRoute {
     name: Name,
@@ -23,7 +23,7 @@ impl Model for KeptRoute {
 }
 
 impl KeptRoute {
-    /// A route, its names copied.
+    // A route, its names copied.
     pub(crate) fn of(alloc: Global, route: &Route) -> Result<KeptRoute, OutOfMemory>
         ensures { IfOk result (λ kept. kept ≡ route.now) }
     {
@@ -33,7 +33,7 @@ impl KeptRoute {
         })
     }
 
-    /// The plain route.
+    // The plain route.
     pub(crate) fn plain(&self, alloc: Global) -> Result<Route, OutOfMemory>
         ensures { IfOk result (λ route. route ≡ self.now) }
     {
@@ -43,7 +43,7 @@ impl KeptRoute {
         })
     }
 
-    /// How many signals it has.
+    // How many signals it has.
     pub(crate) fn signal_count(&self) -> usize
         ensures { result ≡ length self.now.signals }
     {

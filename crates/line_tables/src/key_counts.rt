@@ -6,9 +6,9 @@ use rail_model::OutOfMemory;
 use std::alloc::Global;
 use std::marker::Model;
 
-/// How often each key is referred to, seen as the list of counts by key.
-///
-/// A count that would pass the greatest number of its type finds no memory.
+// How often each key is referred to, seen as the list of counts by key.
+//
+// A count that would pass the greatest number of its type finds no memory.
 #[derive(Drop)]
 pub(crate) struct KeyCounts {
     counts: Vec<usize>,
@@ -23,7 +23,7 @@ impl Model for KeyCounts {
 }
 
 impl KeyCounts {
-    /// No key is referred to.
+    // No key is referred to.
     pub(crate) fn new(alloc: Global) -> Self
         ensures { result ≡ [] }
     {
@@ -32,14 +32,14 @@ impl KeyCounts {
         }
     }
 
-    /// How often a key is referred to.
+    // How often a key is referred to.
     pub(crate) fn of(&self, key: usize) -> usize
         ensures { result ≡ count_of self.now key }
     {
         self.counts.get(key).copied().unwrap_or(0)
     }
 
-    /// Makes room to count each of these keys; no count changes.
+    // Makes room to count each of these keys; no count changes.
     pub(crate) fn make_room(&mut self, keys: &[usize]) -> Result<(), OutOfMemory>
         ensures same { SameCounts self.old self.new }
         ensures room { OnOk result (HasRoom self.new keys.now) }
@@ -50,7 +50,7 @@ impl KeyCounts {
         Ok(())
     }
 
-    /// Counts each of these keys once more.
+    // Counts each of these keys once more.
     pub(crate) fn add(&mut self, keys: &[usize])
         requires { HasRoom self.old keys.now }
         ensures { (k : ℕ) → count_of self.new k ≡ count_of self.old k + times k keys.now }
@@ -60,7 +60,7 @@ impl KeyCounts {
         }
     }
 
-    /// Counts each of these keys once less.
+    // Counts each of these keys once less.
     pub(crate) fn remove(&mut self, keys: &[usize])
         requires { (k : ℕ) → times k keys.now ≤ count_of self.old k }
         ensures { (k : ℕ) → count_of self.new k + times k keys.now ≡ count_of self.old k }
@@ -70,7 +70,7 @@ impl KeyCounts {
         }
     }
 
-    /// A copy of the counts.
+    // A copy of the counts.
     pub(crate) fn copy(&self) -> Result<Self, OutOfMemory>
         ensures { IfOk result (λ other. other ≡ self.now) }
     {
@@ -93,7 +93,7 @@ fn make_room_for(counts: &mut Vec<usize>, key: usize, more: usize) -> Result<(),
     Ok(())
 }
 
-/// Adds counts of 0 until the key has one.
+// Adds counts of 0 until the key has one.
 pub(crate) fn grow(counts: &mut Vec<usize>, key: usize) -> Result<(), OutOfMemory>
     ensures same { SameCounts counts.old.items counts.new.items }
     ensures longer { length counts.old.items ≤ length counts.new.items }

@@ -8,13 +8,13 @@ use rail_model::OutOfMemory;
 use std::alloc::{AllocError, Global};
 use std::marker::Model;
 
-/// How many keys a word has bits for.
+// How many keys a word has bits for.
 const WORD: usize = 64;
 
-/// For how many words a set asks at first, so that few sets move while they grow.
+// For how many words a set asks at first, so that few sets move while they grow.
 const FIRST_WORDS: usize = 16;
 
-/// A set of keys, seen as the words that have a bit for each key.
+// A set of keys, seen as the words that have a bit for each key.
 #[derive(Drop)]
 pub(crate) struct KeySet {
     words: Vec<u64>,
@@ -29,7 +29,7 @@ impl Model for KeySet {
 }
 
 impl KeySet {
-    /// A set without keys.
+    // A set without keys.
     pub(crate) fn new(alloc: Global) -> Self
         ensures { result ≡ [] }
     {
@@ -38,28 +38,28 @@ impl KeySet {
         }
     }
 
-    /// The words of the set.
+    // The words of the set.
     pub(crate) fn words(&self) -> &[u64]
         ensures { result.now ≡ self.now }
     {
         &self.words
     }
 
-    /// Puts a key in, and says whether it is new there.
+    // Puts a key in, and says whether it is new there.
     pub(crate) fn insert(&mut self, key: usize) -> Result<bool, OutOfMemory>
         ensures fresh { IfOk result (λ new. new ≡ not (holds self.old key)) }
         ensures ok { OnOk result ((k : ℕ) → holds self.new k ≡ ((k == key) || holds self.old k)) }
         ensures err { OnErr result ((k : ℕ) → holds self.new k ≡ holds self.old k) }
     {
-        let place = key / WORD;
-        grow(&mut self.words, place + 1)?;
+        let word = key / WORD;
+        grow(&mut self.words, word + 1)?;
         let bit = key % WORD;
-        let word = self.words[place];
-        self.words[place] = with_bit(word, bit);
-        Ok(!has_bit(word, bit))
+        let bits = self.words[word];
+        self.words[word] = with_bit(bits, bit);
+        Ok(!has_bit(bits, bit))
     }
 
-    /// Makes room for this many words; the keys stay.
+    // Makes room for this many words; the keys stay.
     pub(crate) fn make_room(&mut self, words: usize) -> Result<(), OutOfMemory>
         ensures same { SameKeys self.old self.new }
         ensures longer { length self.old ≤ length self.new }
@@ -68,28 +68,28 @@ impl KeySet {
         grow(&mut self.words, words)
     }
 
-    /// Puts a key in.
+    // Puts a key in.
     pub(crate) fn put(&mut self, key: usize)
         requires { HasWord self.old key }
         ensures put { (k : ℕ) → holds self.new k ≡ ((k == key) || holds self.old k) }
         ensures long { length self.new ≡ length self.old }
     {
-        let place = key / WORD;
-        self.words[place] = with_bit(self.words[place], key % WORD);
+        let word = key / WORD;
+        self.words[word] = with_bit(self.words[word], key % WORD);
     }
 
-    /// Takes a key out.
+    // Takes a key out.
     pub(crate) fn take(&mut self, key: usize)
         ensures taken { (k : ℕ) → holds self.new k ≡ (not (k == key) && holds self.old k) }
         ensures long { length self.new ≡ length self.old }
     {
-        let place = key / WORD;
-        if place < self.words.len() {
-            self.words[place] = without_bit(self.words[place], key % WORD);
+        let word = key / WORD;
+        if word < self.words.len() {
+            self.words[word] = without_bit(self.words[word], key % WORD);
         }
     }
 
-    /// Puts the keys of another set in.
+    // Puts the keys of another set in.
     pub(crate) fn put_all(&mut self, others: &[u64])
         requires { length others.now ≤ length self.old }
         ensures { (k : ℕ) → holds self.new k ≡ (holds others.now k || holds self.old k) }
@@ -97,7 +97,7 @@ impl KeySet {
         join(&mut self.words, others);
     }
 
-    /// Takes the keys of another set out.
+    // Takes the keys of another set out.
     pub(crate) fn take_all(&mut self, others: &[u64])
         ensures taken { (k : ℕ) → holds self.new k ≡ (not (holds others.now k) && holds self.old k) }
         ensures long { length self.new ≡ length self.old }
@@ -116,7 +116,7 @@ impl Clone for KeySet {
     }
 }
 
-/// Whether a key stands twice.
+// Whether a key stands twice.
 pub(crate) fn repeats(alloc: Global, keys: &[usize]) -> Result<bool, OutOfMemory>
     ensures { IfOk result (λ twice. twice ≡ repeats_key keys.now) }
 {
@@ -129,31 +129,31 @@ pub(crate) fn repeats(alloc: Global, keys: &[usize]) -> Result<bool, OutOfMemory
     Ok(false)
 }
 
-/// Whether some key is in both sets, given by their words.
+// Whether some key is in both sets, given by their words.
 pub(crate) fn meet(one: &[u64], other: &[u64]) -> bool
     ensures some { result ≡ true → Meets one.now other.now }
     ensures none { result ≡ false → KeepsApart one.now other.now }
 {
-    for place in 0..one.len().min(other.len()) {
-        if one[place] & other[place] != 0 {
+    for word in 0..one.len().min(other.len()) {
+        if one[word] & other[word] != 0 {
             return true;
         }
     }
     false
 }
 
-/// Whether a key is in a set, given by its words.
+// Whether a key is in a set, given by its words.
 pub(crate) fn has_key(words: &[u64], key: usize) -> bool
     ensures { result ≡ holds words.now key }
 {
-    let place = key / WORD;
-    if place >= words.len() {
+    let word = key / WORD;
+    if word >= words.len() {
         return false;
     }
-    has_bit(words[place], key % WORD)
+    has_bit(words[word], key % WORD)
 }
 
-/// How many words a set has where a key is its greatest.
+// How many words a set has where a key is its greatest.
 pub(crate) fn words_for(key: usize) -> usize
     ensures { key / 64 < result }
 {
@@ -183,8 +183,8 @@ fn join(words: &mut [u64], others: &[u64])
     requires { length others.now ≤ length words.old }
     ensures { (k : ℕ) → holds words.new k ≡ (holds others.now k || holds words.old k) }
 {
-    for place in 0..others.len() {
-        words[place] |= others[place];
+    for word in 0..others.len() {
+        words[word] |= others[word];
     }
 }
 
@@ -192,8 +192,8 @@ fn join(words: &mut [u64], others: &[u64])
 fn part(words: &mut [u64], others: &[u64])
     ensures { (k : ℕ) → holds words.new k ≡ (not (holds others.now k) && holds words.old k) }
 {
-    for place in 0..words.len().min(others.len()) {
-        words[place] &= !others[place];
+    for word in 0..words.len().min(others.len()) {
+        words[word] &= !others[word];
     }
 }
 

@@ -9,7 +9,7 @@ use rail_model::OutOfMemory;
 use std::alloc::Global;
 use std::marker::Model;
 
-/// A set at each key, seen as the list of the sets by key. A set without keys need take no memory.
+// A set at each key, seen as the list of the sets by key. A set without keys need take no memory.
 #[derive(Drop)]
 pub(crate) struct KeySets {
     alloc: Global,
@@ -25,7 +25,7 @@ impl Model for KeySets {
 }
 
 impl KeySets {
-    /// Sets without keys, which ask for no memory.
+    // Sets without keys, which ask for no memory.
     pub(crate) fn new(alloc: Global) -> Self
         ensures { result ≡ [] }
     {
@@ -35,7 +35,7 @@ impl KeySets {
         }
     }
 
-    /// The words of the set at a key.
+    // The words of the set at a key.
     pub(crate) fn words(&self, at: usize) -> &[u64]
         ensures { result.now ≡ slice_index_or self.now at [] }
     {
@@ -45,7 +45,7 @@ impl KeySets {
         }
     }
 
-    /// Makes room for this many words in the set at a key; no set changes. Most sets have room.
+    // Makes room for this many words in the set at a key; no set changes. Most sets have room.
     #[inline]
     pub(crate) fn make_room(&mut self, at: usize, words: usize) -> Result<(), OutOfMemory>
         ensures same { SameSets self.old self.new }
@@ -71,7 +71,7 @@ impl KeySets {
         set.make_room(words)
     }
 
-    /// Puts a key into the set at another.
+    // Puts a key into the set at another.
     pub(crate) fn put(&mut self, at: usize, key: usize)
         requires { key / 64 < words_of self.old at }
         ensures put { (x r : ℕ) → has self.new x r ≡ ((at == x && r == key) || has self.old x r) }
@@ -81,7 +81,7 @@ impl KeySets {
         set.put(key);
     }
 
-    /// Makes room for a key in the sets at others; no set changes.
+    // Makes room for a key in the sets at others; no set changes.
     pub(crate) fn make_room_at(&mut self, places: &[usize], key: usize) -> Result<(), OutOfMemory>
         ensures same { SameSets self.old self.new }
         ensures room { OnOk result (HasRoomAt (λ q. q) places.now key self.new) }
@@ -93,7 +93,7 @@ impl KeySets {
         Ok(())
     }
 
-    /// Puts a key into the sets at others.
+    // Puts a key into the sets at others.
     pub(crate) fn put_at(&mut self, places: &[usize], key: usize)
         requires { HasRoomAt (λ q. q) places.now key self.old }
         ensures { IsPutAt (λ q. q) places.now key self.old self.new }
@@ -103,7 +103,7 @@ impl KeySets {
         }
     }
 
-    /// Takes a key out of the set at another.
+    // Takes a key out of the set at another.
     pub(crate) fn take(&mut self, at: usize, key: usize)
         ensures taken { (x r : ℕ)
             → has self.new x r ≡ (not (at == x && r == key) && has self.old x r) }
@@ -115,7 +115,7 @@ impl KeySets {
         }
     }
 
-    /// Puts the keys of a set, given by its words, into the set at a key.
+    // Puts the keys of a set, given by its words, into the set at a key.
     pub(crate) fn put_all(&mut self, at: usize, keys: &[u64])
         requires { length keys.now ≤ words_of self.old at }
         ensures { (x r : ℕ) → has self.new x r ≡ ((at == x && holds keys.now r) || has self.old x r) }
@@ -126,7 +126,7 @@ impl KeySets {
         }
     }
 
-    /// Takes the keys of a set, given by its words, out of the set at a key.
+    // Takes the keys of a set, given by its words, out of the set at a key.
     pub(crate) fn take_all(&mut self, at: usize, keys: &[u64])
         ensures taken { (x r : ℕ)
             → has self.new x r ≡ (not (at == x && holds keys.now r) && has self.old x r) }
@@ -138,7 +138,7 @@ impl KeySets {
         }
     }
 
-    /// A copy of the sets.
+    // A copy of the sets.
     pub(crate) fn copy(&self) -> Result<Self, OutOfMemory>
         ensures { IfOk result (λ other. other ≡ self.now) }
     {

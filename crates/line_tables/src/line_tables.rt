@@ -7,7 +7,7 @@ ghost use Rattle.line_tables.specs.Inside.{tables_of, parts, IsJoined};
 use crate::kept_route::KeptRoute;
 use crate::key_counts::KeyCounts;
 use crate::linked::Linked;
-use crate::named_table::{NamedTable, Stored};
+use crate::named_table::{NamedTable, TableItem};
 use crate::route_sets::RouteSets;
 use rail_model::{Block, Connection, List, Name, OutOfMemory, Route, Run, Section, Signal, Tables};
 use std::alloc::Global;
@@ -314,7 +314,7 @@ fn plain_blocks(alloc: Global, table: &NamedTable<Block>) -> Result<List<Block>,
 }
 
 // The items of a table's entries, in their order.
-fn plain_items<T: Stored>(
+fn plain_items<T: TableItem>(
     alloc: Global,
     table: &NamedTable<Linked<T>>,
 ) -> Result<List<T>, OutOfMemory>

@@ -11,11 +11,11 @@ ghost use Rattle.line_tables.specs.declared.linked.Linked.{Linked};
 
 use crate::kept_route::KeptRoute;
 use crate::key_counts::KeyCounts;
-use crate::named_table::{NamedTable, Stored};
+use crate::named_table::{NamedTable, TableItem};
 use rail_model::{Block, Connection, List, Name, Named, OutOfMemory, Run, Section, Signal};
 use std::alloc::Global;
 
-/// An item, and the keys of the items that it names, in its order.
+// An item, and the keys of the items that it names, in its order.
 #[derive(Clone, Drop)]
 pub(crate) struct Linked<T> {
     pub(crate) item: T,
@@ -30,19 +30,19 @@ impl<T: Named> Named for Linked<T> {
     }
 }
 
-impl Stored for Block {
+impl TableItem for Block {
     ghost copies = { λ a b h. h };
 }
 
-impl Stored for Signal {
+impl TableItem for Signal {
     ghost copies = { λ a b h. h };
 }
 
-impl Stored for KeptRoute {
+impl TableItem for KeptRoute {
     ghost copies = { λ a b h. h };
 }
 
-impl Stored for Run {
+impl TableItem for Run {
     ghost copies = { λ a b h. λ j. record {
       name = h.0 j;
       route = h.1.0 j;
@@ -53,7 +53,7 @@ impl Stored for Run {
     } };
 }
 
-impl Stored for Section {
+impl TableItem for Section {
     ghost copies = { λ a b h. λ j. record {
       name = h.0 j;
       from_s = h.1.0 j;
@@ -63,16 +63,16 @@ impl Stored for Section {
     } };
 }
 
-impl Stored for Connection {
+impl TableItem for Connection {
     ghost copies = { λ a b h. h };
 }
 
-impl<T: Stored> Stored for Linked<T> {
+impl<T: TableItem> TableItem for Linked<T> {
     ghost copies = { λ a b h. λ j. record { item = T.copies a.item b.item h.0 j; refs = h.1 j } };
 }
 
-/// The keys of the items of these names, in their order.
-pub(crate) fn keys_of<T: Stored>(
+// The keys of the items of these names, in their order.
+pub(crate) fn keys_of<T: TableItem>(
     alloc: Global,
     table: &NamedTable<T>,
     names: &[Name],
@@ -86,8 +86,8 @@ pub(crate) fn keys_of<T: Stored>(
     Ok(keys.unwrap())
 }
 
-/// The keys of the items of these names, in their order, if all are there.
-pub(crate) fn known_keys<T: Stored>(
+// The keys of the items of these names, in their order, if all are there.
+pub(crate) fn known_keys<T: TableItem>(
     alloc: Global,
     table: &NamedTable<T>,
     names: &[Name],
@@ -110,14 +110,14 @@ pub(crate) fn known_keys<T: Stored>(
     Ok(Some(List::from_vec(keys)))
 }
 
-/// A list of one key.
+// A list of one key.
 pub(crate) fn one_key(alloc: Global, key: usize) -> Result<List<usize>, OutOfMemory>
     ensures { IfOk result (λ keys. keys ≡ key ∷ []) }
 {
     Ok(List::from_vec(Vec::from_slice(alloc, &[key])?))
 }
 
-/// The key of the block beyond the signal under a key.
+// The key of the block beyond the signal under a key.
 pub(crate) fn block_of(signals: &NamedTable<Linked<Signal>>, key: usize) -> usize
     requires there { IsKey signals.now key }
     requires one { All (λ e. length e.1.refs ≡ 1) signals.now }
@@ -126,7 +126,7 @@ pub(crate) fn block_of(signals: &NamedTable<Linked<Signal>>, key: usize) -> usiz
     signals.get(key).refs.slice()[0]
 }
 
-/// The keys of the blocks beyond the signals under keys, in their order.
+// The keys of the blocks beyond the signals under keys, in their order.
 pub(crate) fn blocks_of(
     alloc: Global,
     signals: &NamedTable<Linked<Signal>>,
@@ -143,8 +143,8 @@ pub(crate) fn blocks_of(
     Ok(List::from_vec(blocks))
 }
 
-/// Puts an item of a new name in, and counts the keys that it refers to. Without memory all stays.
-pub(crate) fn put_linked<T: Stored>(
+// Puts an item of a new name in, and counts the keys that it refers to. Without memory all stays.
+pub(crate) fn put_linked<T: TableItem>(
     table: &mut NamedTable<Linked<T>>,
     uses: &mut KeyCounts,
     item: T,
@@ -168,9 +168,9 @@ pub(crate) fn put_linked<T: Stored>(
     Ok(key)
 }
 
-/// Puts an item in the place of the one under a key, and counts what it refers to in place of what
-/// that one does. Without memory all stays.
-pub(crate) fn change_linked<T: Stored>(
+// Puts an item in the place of the one under a key, and counts what it refers to in place of what
+// that one does. Without memory all stays.
+pub(crate) fn change_linked<T: TableItem>(
     table: &mut NamedTable<Linked<T>>,
     uses: &mut KeyCounts,
     key: usize,
@@ -194,9 +194,9 @@ pub(crate) fn change_linked<T: Stored>(
     Ok(())
 }
 
-/// Puts an item in the place of the one under a key, as `change_linked` does, where there is room
-/// for the counts.
-pub(crate) fn swap_linked<T: Stored>(
+// Puts an item in the place of the one under a key, as `change_linked` does, where there is room
+// for the counts.
+pub(crate) fn swap_linked<T: TableItem>(
     table: &mut NamedTable<Linked<T>>,
     uses: &mut KeyCounts,
     key: usize,
@@ -218,8 +218,8 @@ pub(crate) fn swap_linked<T: Stored>(
     uses.remove(old.refs.slice());
 }
 
-/// Takes the item of a name out, and what it refers to out of the counts.
-pub(crate) fn take_linked<T: Stored>(
+// Takes the item of a name out, and what it refers to out of the counts.
+pub(crate) fn take_linked<T: TableItem>(
     table: &mut NamedTable<Linked<T>>,
     uses: &mut KeyCounts,
     name: &Name,

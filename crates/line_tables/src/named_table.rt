@@ -9,7 +9,7 @@ ghost use Rattle.rail_model.specs.Name.{NamesRise};
 ghost use Rattle.rail_model.specs.Rules.{is_named, with_item, without};
 ghost use Rattle.rail_model.specs.Tables.{number_of};
 ghost use Rattle.line_tables.specs.Table as tables;
-ghost use Rattle.line_tables.specs.Table.{IsPlaceOf, IsPlaceFor};
+ghost use Rattle.line_tables.specs.Table.{IsPositionOf, IsPositionFor};
 
 use indexmap::IndexMap;
 use rail_model::{Name, Named, OutOfMemory};
@@ -18,13 +18,13 @@ use std::alloc::Global;
 use std::marker::Model;
 use std::mem;
 
-/// What a table holds: a copy of it equals it.
-pub(crate) trait Stored: Named + Clone {
+// What a table holds: a copy of it equals it.
+pub(crate) trait TableItem: Named + Clone {
     ghost copies: { (a b : Self) → Self.is_clone a b → b ≡ a };
 }
 
-/// Items of one kind, seen as the list of (key, item) in the order of names.
-pub(crate) struct NamedTable<T: Stored> {
+// Items of one kind, seen as the list of (key, item) in the order of names.
+pub(crate) struct NamedTable<T: TableItem> {
     // The key of each name.
     by_name: IndexMap<Name, usize>,
     // The item under each key.
@@ -33,7 +33,7 @@ pub(crate) struct NamedTable<T: Stored> {
     order: Vec<usize>,
 }
 
-impl<T: Stored> Drop for NamedTable<T> {
+impl<T: TableItem> Drop for NamedTable<T> {
     fn drop(self) {
         let NamedTable {
             by_name: _,
@@ -43,7 +43,7 @@ impl<T: Stored> Drop for NamedTable<T> {
     }
 }
 
-impl<T: Stored> Model for NamedTable<T> {
+impl<T: TableItem> Model for NamedTable<T> {
     ghost use Rattle.std.specs.Prelude.{ℕ, List, nat_eq};
     ghost use Rattle.std.specs.Coded.{coded_list, coded×, coded_ℕ};
     ghost use Rattle.std.specs.Cmp.Lexicographic.{pointwise};
@@ -60,8 +60,8 @@ impl<T: Stored> Model for NamedTable<T> {
     ghost invariant = { λ t. IsKept T.label (slot t.slots) t.order.items (get (pointwise nat_eq) t.by_name) };
 }
 
-impl<T: Stored> NamedTable<T> {
-    /// A table without items, which asks for no memory.
+impl<T: TableItem> NamedTable<T> {
+    // A table without items, which asks for no memory.
     pub(crate) fn new(alloc: Global) -> Self
         ensures { result ≡ [] }
     {
@@ -72,21 +72,21 @@ impl<T: Stored> NamedTable<T> {
         }
     }
 
-    /// Learns that names rise, and that one item stands under each key.
+    // Learns that names rise, and that one item stands under each key.
     pub(crate) fn learn_order(&self)
         ensures { tables.IsTable T.label self.now }
     {
         let _order = &self.order;
     }
 
-    /// How many items there are.
+    // How many items there are.
     pub(crate) fn len(&self) -> usize
         ensures { result ≡ length self.now }
     {
         self.order.len()
     }
 
-    /// The key of the item of a name, if there is one.
+    // The key of the item of a name, if there is one.
     pub(crate) fn key_of(&self, name: &Name) -> Option<usize>
         ensures key { result ≡ tables.key_of T.label self.now name.now }
         ensures there { is_some result ≡ is_named (tables.named T.label) self.now name.now }
@@ -95,18 +95,18 @@ impl<T: Stored> NamedTable<T> {
         self.by_name.get(name).copied()
     }
 
-    /// What `key_of` gives, in a list of names. Each list starts with `near` at 0, and names that
-    /// follow each other in it as they were put in are found without being hashed.
+    // What `key_of` gives, in a list of names. Each list starts with `near` at 0, and names that
+    // follow each other in it as they were put in are found without being hashed.
     pub(crate) fn key_near(&self, name: &Name, near: &mut usize) -> Option<usize>
         ensures key { result ≡ tables.key_of T.label self.now name.now }
         ensures there { is_some result ≡ is_named (tables.named T.label) self.now name.now }
     {
-        let (place, key) = entry_near(&self.by_name, name, *near)?;
-        *near = place.wrapping_add(1);
+        let (position, key) = entry_near(&self.by_name, name, *near)?;
+        *near = position.wrapping_add(1);
         Some(key)
     }
 
-    /// The item under a key.
+    // The item under a key.
     pub(crate) fn get(&self, key: usize) -> &T
         requires { IsSome (tables.under self.now key) }
         ensures item { tables.under self.now key ≡ Some result.now }
@@ -115,16 +115,16 @@ impl<T: Stored> NamedTable<T> {
         &self.slots[key]
     }
 
-    /// The number of the item of a name, if there is one.
+    // The number of the item of a name, if there is one.
     pub(crate) fn number_of(&self, name: &Name) -> Option<usize>
         ensures there { is_some result ≡ is_named (tables.named T.label) self.now name.now }
         ensures number { IfSome result (λ i. i ≡ number_of (tables.named T.label) self.now name.now) }
         ensures in_range { IfSome result (λ i. i < length self.now) }
     {
-        place_of(&self.order, &self.slots, name).ok()
+        position_of(&self.order, &self.slots, name).ok()
     }
 
-    /// The item of a number.
+    // The item of a number.
     pub(crate) fn nth(&self, number: usize) -> &T
         requires { number < length self.now }
         ensures item { option_map (λ e. e.1) (slice_get self.now number) ≡ Some result.now }
@@ -133,7 +133,7 @@ impl<T: Stored> NamedTable<T> {
         &self.slots[self.order[number]]
     }
 
-    /// The key of the item of a number.
+    // The key of the item of a number.
     pub(crate) fn key_at(&self, number: usize) -> usize
         requires { number < length self.now }
         ensures key { option_map (λ e. e.0) (slice_get self.now number) ≡ Some result }
@@ -142,7 +142,7 @@ impl<T: Stored> NamedTable<T> {
         self.order[number]
     }
 
-    /// Puts an item of a new name in, and gives its key. Without memory the table stays as it was.
+    // Puts an item of a new name in, and gives its key. Without memory the table stays as it was.
     pub(crate) fn put(&mut self, item: T) -> Result<usize, OutOfMemory>
         requires { is_named (tables.named T.label) self.old (T.label item) ≡ false }
         ensures put { IfOk result
@@ -152,31 +152,31 @@ impl<T: Stored> NamedTable<T> {
         ensures table { OnOk result (tables.IsTable T.label self.old) }
         ensures kept { OnErr result (self.new ≡ self.old) }
     {
-        let place = place_for(&self.order, &self.slots, item.name());
+        let position = position_for(&self.order, &self.slots, item.name());
         self.slots.reserve(1)?;
         self.order.reserve(1)?;
         let key = self.slots.vacant_key();
         self.by_name.insert(*item.name(), key)?;
         self.slots.insert_reserved(item);
-        self.order.insert(place, key).unwrap();
+        self.order.insert(position, key).unwrap();
         Ok(key)
     }
 
-    /// Takes the item of a name out.
+    // Takes the item of a name out.
     pub(crate) fn take(&mut self, name: &Name) -> T
         requires { is_named (tables.named T.label) self.old name.now ≡ true }
         ensures item { tables.item_of T.label self.old name.now ≡ Some result }
         ensures rest { self.new ≡ without (tables.named T.label) self.old name.now }
         ensures table { tables.IsTable T.label self.old }
     {
-        let place = place_at(&self.order, &self.slots, name);
+        let position = position_at(&self.order, &self.slots, name);
         self.by_name.swap_remove(name);
-        let key = self.order.remove(place);
+        let key = self.order.remove(position);
         self.slots.remove(key)
     }
 
-    /// Puts an item in the place of the one under a key, which has the same name, and gives that
-    /// one.
+    // Puts an item in the place of the one under a key, which has the same name, and gives that
+    // one.
     pub(crate) fn change(&mut self, key: usize, item: T) -> T
         requires { option_map T.label (tables.under self.old key) ≡ Some (T.label item) }
         ensures old { tables.under self.old key ≡ Some result }
@@ -186,7 +186,7 @@ impl<T: Stored> NamedTable<T> {
         mem::replace(&mut self.slots[key], item)
     }
 
-    /// A table of the same items under the same keys.
+    // A table of the same items under the same keys.
     pub(crate) fn copy(&self) -> Result<Self, OutOfMemory>
         ensures { IfOk result (λ other. other ≡ self.now) }
     {
@@ -198,7 +198,7 @@ impl<T: Stored> NamedTable<T> {
     }
 }
 
-// The place of the entry of a name among the entries, and its key. The entry at `near` is tried
+// The position of the entry of a name among the entries, and its key. The entry at `near` is tried
 // before all.
 #[inline]
 fn entry_near(by_name: &IndexMap<Name, usize>, name: &Name, near: usize) -> Option<(usize, usize)>
@@ -218,12 +218,12 @@ fn entry_near(by_name: &IndexMap<Name, usize>, name: &Name, near: usize) -> Opti
 fn entry_sought(by_name: &IndexMap<Name, usize>, name: &Name) -> Option<(usize, usize)>
     ensures { option_map (λ e. e.1) result ≡ get (pointwise nat_eq) by_name.now name.now }
 {
-    let (place, _, key) = by_name.get_full(name)?;
-    Some((place, *key))
+    let (position, _, key) = by_name.get_full(name)?;
+    Some((position, *key))
 }
 
 // The bytes of the name of the item under a key: none where there is no item.
-fn name_at<T: Stored>(slots: &Slab<T>, key: usize) -> &[u8]
+fn name_at<T: TableItem>(slots: &Slab<T>, key: usize) -> &[u8]
     ensures { result.now ≡ tables.name_at T.label (slot slots.now) key }
 {
     match slots.get(key) {
@@ -232,32 +232,32 @@ fn name_at<T: Stored>(slots: &Slab<T>, key: usize) -> &[u8]
     }
 }
 
-// The place of the key of the item of a name in the order, or the place at which such a key is to
-// be put in.
-fn place_of<T: Stored>(order: &[usize], slots: &Slab<T>, name: &Name) -> Result<usize, usize>
+// The position of the key of the item of a name in the order, or the position at which such a key
+// is to be put in.
+fn position_of<T: TableItem>(order: &[usize], slots: &Slab<T>, name: &Name) -> Result<usize, usize>
     requires stored { All (λ k. IsSome (slot slots.now k)) order.now }
     requires rise { NamesRise (tables.named T.label) (tables.filed (slot slots.now) order.now) }
     ensures { MatchResult result
-        (IsPlaceOf T.label (slot slots.now) order.now name.now)
-        (IsPlaceFor T.label (slot slots.now) order.now name.now) }
+        (IsPositionOf T.label (slot slots.now) order.now name.now)
+        (IsPositionFor T.label (slot slots.now) order.now name.now) }
 {
     order.binary_search_by(|key| name_at(slots, *key).cmp(name.bytes()))
 }
 
-fn place_at<T: Stored>(order: &[usize], slots: &Slab<T>, name: &Name) -> usize
+fn position_at<T: TableItem>(order: &[usize], slots: &Slab<T>, name: &Name) -> usize
     requires stored { All (λ k. IsSome (slot slots.now k)) order.now }
     requires rise { NamesRise (tables.named T.label) (tables.filed (slot slots.now) order.now) }
     requires there { is_named (tables.named T.label) (tables.filed (slot slots.now) order.now) name.now ≡ true }
-    ensures { IsPlaceOf T.label (slot slots.now) order.now name.now result }
+    ensures { IsPositionOf T.label (slot slots.now) order.now name.now result }
 {
-    place_of(order, slots, name).unwrap()
+    position_of(order, slots, name).unwrap()
 }
 
-fn place_for<T: Stored>(order: &[usize], slots: &Slab<T>, name: &Name) -> usize
+fn position_for<T: TableItem>(order: &[usize], slots: &Slab<T>, name: &Name) -> usize
     requires stored { All (λ k. IsSome (slot slots.now k)) order.now }
     requires rise { NamesRise (tables.named T.label) (tables.filed (slot slots.now) order.now) }
     requires new { is_named (tables.named T.label) (tables.filed (slot slots.now) order.now) name.now ≡ false }
-    ensures { IsPlaceFor T.label (slot slots.now) order.now name.now result }
+    ensures { IsPositionFor T.label (slot slots.now) order.now name.now result }
 {
-    place_of(order, slots, name).unwrap_err()
+    position_of(order, slots, name).unwrap_err()
 }

@@ -7,8 +7,8 @@ use rail_model::{List, Name, OutOfMemory};
 use std::alloc::{AllocError, Global};
 use std::marker::Model;
 
-/// Names in order, seen as their list. Their bytes stand one after another, and their lengths
-/// beside them: a name takes its own bytes and one more, in place of the 72 of a `Name`.
+// Names in order, seen as their list. Their bytes stand one after another, and their lengths
+// beside them: a name takes its own bytes and one more, in place of the 72 of a `Name`.
 #[derive(Drop)]
 pub(crate) struct Names {
     bytes: Vec<u8>,
@@ -28,7 +28,7 @@ impl Model for Names {
 }
 
 impl Names {
-    /// The names of a list, in their order.
+    // The names of a list, in their order.
     pub(crate) fn of(alloc: Global, names: &[Name]) -> Result<Names, OutOfMemory>
         ensures { IfOk result (λ kept. kept ≡ names.now) }
     {
@@ -40,14 +40,14 @@ impl Names {
         Ok(Names { bytes, lens })
     }
 
-    /// The names as a list.
+    // The names as a list.
     pub(crate) fn to_list(&self, alloc: Global) -> Result<List<Name>, OutOfMemory>
         ensures { IfOk result (λ names. names ≡ self.now) }
     {
         parted(alloc, &self.lens, &self.bytes)
     }
 
-    /// How many names there are.
+    // How many names there are.
     pub(crate) fn len(&self) -> usize
         ensures { result ≡ length self.now }
     {

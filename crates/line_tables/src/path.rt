@@ -14,7 +14,7 @@ use crate::named_table::NamedTable;
 use rail_model::{BLOCKS, Block, Hop, Leg, List, OutOfMemory, Path, Run, Signal};
 use std::alloc::Global;
 
-/// The number of each block, at its key: a list that reaches up to the greatest key.
+// The number of each block, at its key: a list that reaches up to the greatest key.
 pub(crate) fn numbers_by_key(
     alloc: Global,
     blocks: &NamedTable<Block>,
@@ -30,7 +30,7 @@ pub(crate) fn numbers_by_key(
     Ok(numbers)
 }
 
-/// The hop beyond the signal under a key, before any run has timed it.
+// The hop beyond the signal under a key, before any run has timed it.
 pub(crate) fn untimed_hop(
     blocks: &NamedTable<Block>,
     numbers: &[usize],
@@ -107,7 +107,7 @@ fn path_over(alloc: Global, run: &Run, hops: &[Hop]) -> Result<Path, OutOfMemory
     Ok(path_with(run, timed))
 }
 
-/// The path of a run with these hops.
+// The path of a run with these hops.
 pub(crate) fn path_with(run: &Run, hops: List<Hop>) -> Path
     ensures { result ≡ hops_in.path_with run.now hops }
 {

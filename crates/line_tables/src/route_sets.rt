@@ -12,8 +12,8 @@ use crate::named_table::NamedTable;
 use rail_model::{OutOfMemory, Signal};
 use std::alloc::Global;
 
-/// At each signal's key the keys of the routes that list it, and at each block's key the keys of
-/// the routes that have a signal of it.
+// At each signal's key the keys of the routes that list it, and at each block's key the keys of
+// the routes that have a signal of it.
 #[derive(Drop)]
 pub(crate) struct RouteSets {
     pub(crate) of_signals: KeySets,
@@ -21,7 +21,7 @@ pub(crate) struct RouteSets {
 }
 
 impl RouteSets {
-    /// Sets without routes, which ask for no memory.
+    // Sets without routes, which ask for no memory.
     pub(crate) fn new(alloc: Global) -> Self
         ensures signals { result.of_signals ≡ [] }
         ensures blocks { result.of_blocks ≡ [] }
@@ -32,8 +32,8 @@ impl RouteSets {
         }
     }
 
-    /// Makes room to put the route under a key into the sets of these signals and of these blocks.
-    /// No set changes.
+    // Makes room to put the route under a key into the sets of these signals and of these blocks.
+    // No set changes.
     pub(crate) fn make_room(
         &mut self,
         signals: &[usize],
@@ -51,7 +51,7 @@ impl RouteSets {
         self.of_blocks.make_room_at(blocks, route)
     }
 
-    /// Puts the route under a key into the sets of these signals and of these blocks.
+    // Puts the route under a key into the sets of these signals and of these blocks.
     pub(crate) fn put(&mut self, signals: &[usize], blocks: &[usize], route: usize)
         requires signal_room { HasRoomAt (λ q. q) signals.now route self.old.of_signals }
         requires block_room { HasRoomAt (λ q. q) blocks.now route self.old.of_blocks }
@@ -64,7 +64,7 @@ impl RouteSets {
         self.of_blocks.put_at(blocks, route);
     }
 
-    /// Takes the route under a key out of the sets of these signals and of their blocks.
+    // Takes the route under a key out of the sets of these signals and of their blocks.
     pub(crate) fn take(
         &mut self,
         signals: &NamedTable<Linked<Signal>>,
@@ -84,8 +84,8 @@ impl RouteSets {
         }
     }
 
-    /// Takes the route under a key out of the sets of the signals that it had and of their blocks,
-    /// and puts it into those of other signals and blocks. Without memory no set changes.
+    // Takes the route under a key out of the sets of the signals that it had and of their blocks,
+    // and puts it into those of other signals and blocks. Without memory no set changes.
     pub(crate) fn change(
         &mut self,
         signals: &NamedTable<Linked<Signal>>,
@@ -109,7 +109,7 @@ impl RouteSets {
         Ok(())
     }
 
-    /// Makes room to move the routes that list a signal to another block; no set changes.
+    // Makes room to move the routes that list a signal to another block; no set changes.
     pub(crate) fn make_room_to_move(
         &mut self,
         signal: usize,
@@ -128,7 +128,7 @@ impl RouteSets {
             .make_room(to, self.of_signals.words(signal).len())
     }
 
-    /// Moves the routes that list a signal from the set of one block into that of another.
+    // Moves the routes that list a signal from the set of one block into that of another.
     pub(crate) fn move_routes(&mut self, signal: usize, from: usize, to: usize)
         requires { from ≢ to → words_of self.old.of_signals signal ≤ words_of self.old.of_blocks to }
         ensures signals { self.new.of_signals ≡ self.old.of_signals }
@@ -154,7 +154,7 @@ impl RouteSets {
         meet(self.of_signals.words(signal), self.of_blocks.words(block))
     }
 
-    /// Whether some route lists a signal and has one of the block to which it moves from another.
+    // Whether some route lists a signal and has one of the block to which it moves from another.
     pub(crate) fn meet_where_moved(&self, signal: usize, from: usize, to: usize) -> bool
         ensures stays { from ≡ to → result ≡ false }
         ensures some { from ≢ to → result ≡ true → Meets
@@ -167,7 +167,7 @@ impl RouteSets {
         from != to && self.meet(signal, to)
     }
 
-    /// Whether the route under a key has a signal of one of these blocks.
+    // Whether the route under a key has a signal of one of these blocks.
     pub(crate) fn has_some(&self, blocks: &[usize], route: usize) -> bool
         ensures { result ≡ list_any (λ b. has self.now.of_blocks b route) blocks.now }
     {
@@ -179,7 +179,7 @@ impl RouteSets {
         false
     }
 
-    /// A copy of the sets.
+    // A copy of the sets.
     pub(crate) fn copy(&self) -> Result<Self, OutOfMemory>
         ensures { IfOk result (λ other. other ≡ self.now) }
     {

@@ -12,8 +12,8 @@ use crate::named_table::NamedTable;
 use rail_model::{List, Name, OutOfMemory, Signal};
 use std::alloc::Global;
 
-/// The keys of a route's signals and of their blocks, in its order, and whether two signals are of
-/// one block.
+// The keys of a route's signals and of their blocks, in its order, and whether two signals are of
+// one block.
 #[derive(Drop)]
 pub(crate) struct RouteSignals {
     pub(crate) keys: List<usize>,
@@ -21,7 +21,7 @@ pub(crate) struct RouteSignals {
     pub(crate) twice: bool,
 }
 
-/// What is found of the signals of these names, if all are there.
+// What is found of the signals of these names, if all are there.
 pub(crate) fn route_signals(
     alloc: Global,
     signals: &NamedTable<Linked<Signal>>,

@@ -19,8 +19,8 @@ use rail_model::{
 };
 
 impl LineTables {
-    /// The first rule that refuses an edit, if one does, but for what a put or changed route refers
-    /// to, and for a changed signal and its block: they are looked up when the edit is made.
+    // The first rule that refuses an edit, if one does, but for what a put or changed route refers
+    // to, and for a changed signal and its block: they are looked up when the edit is made.
     pub(crate) fn rule_before(&self, edit: &Edit) -> Result<Option<Rule>, OutOfMemory>
         ensures { IfOk result (λ rule. rule ≡ rule_before self.now edit.now) }
     {

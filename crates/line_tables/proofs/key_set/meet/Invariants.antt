@@ -1,5 +1,5 @@
 use Rattle.line_tables.proofs.Bits.{ApartTo}
 use Rattle.line_tables.proofs.key_set.meet.Given as goal
 
-abbrev pub invariant-loop-place : goal.invariant-loop-place
-invariant-loop-place l = ApartTo l.one l.other l.place
+abbrev pub invariant-loop-word : goal.invariant-loop-word
+invariant-loop-word l = ApartTo l.one l.other l.word

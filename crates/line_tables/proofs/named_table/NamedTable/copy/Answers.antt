@@ -16,13 +16,13 @@ pub invariant_of-result : goal.invariant_of-result
 invariant_of-result g c =
     let s = c.self.inside in
     let names = same_from_all_zip _ s.by_name.entries c.in_ok-clone-3.field-0.entries c.in_ok-clone-3.ensures.cases same_pair in
-    let slots = same_from_all_zip _ s.slots.slots c.in_ok-clone-2.field-0.slots c.in_ok-clone-2.ensures.cases.slots (same_slot g.T.Clone.is_clone g.met.T.Stored.copies) in
+    let slots = same_from_all_zip _ s.slots.slots c.in_ok-clone-2.field-0.slots c.in_ok-clone-2.ensures.cases.slots (same_slot g.T.Clone.is_clone g.met.T.TableItem.copies) in
     let order = same_from_all_zip _ s.order.items c.in_ok-clone.field-0.items c.in_ok-clone.ensures.cases.0 (λ x y r. r) in
     kept_by_copy g.T.Named.label (slot s.slots) _ s.order.items _ _ _ c.self.invariant (λ k. rw slots refl) order (λ n. rw names refl)
 
 pub returns : goal.returns
 returns g c =
     let s = c.self.inside in
-    let slots = same_from_all_zip _ s.slots.slots c.in_ok-clone-2.field-0.slots c.in_ok-clone-2.ensures.cases.slots (same_slot g.T.Clone.is_clone g.met.T.Stored.copies) in
+    let slots = same_from_all_zip _ s.slots.slots c.in_ok-clone-2.field-0.slots c.in_ok-clone-2.ensures.cases.slots (same_slot g.T.Clone.is_clone g.met.T.TableItem.copies) in
     let order = same_from_all_zip _ s.order.items c.in_ok-clone.field-0.items c.in_ok-clone.ensures.cases.0 (λ x y r. r) in
     rw (← c.self.view_is, slots, order) refl

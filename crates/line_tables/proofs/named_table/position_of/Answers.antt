@@ -5,7 +5,7 @@ use Rattle.std.proofs.lemmas.Fn.{always_returns_same}
 use Rattle.slab.specs.Slab.{get as slot}
 use Rattle.line_tables.specs.Table.{name_at}
 use Rattle.line_tables.proofs.Kept.{searched_is}
-use Rattle.line_tables.proofs.named_table.place_of.Goals as goal
+use Rattle.line_tables.proofs.named_table.position_of.Goals as goal
 
 -- the closure compares each item's name with the name that is sought
 pub returns : goal.returns
