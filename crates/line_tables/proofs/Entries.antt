@@ -10,14 +10,10 @@ use Rattle.std.proofs.lemmas.List.Folds.{find-append}
 use Rattle.std.proofs.lemmas.List.Kept.{AllPairs-filter}
 use Rattle.rail_model.specs.Name.{IsBefore, is_same, NamesRise}
 use Rattle.rail_model.specs.Rules.{is_named, with_item, without}
+use Rattle.rail_model.proofs.Lists.{find_none}
 use Rattle.rail_model.proofs.NameOrder.{same_name, is_same-from, is_same-before}
 use Rattle.rail_model.proofs.Places.{IsPlace, place, with_item-place, NamesRise-insert}
 use Rattle.line_tables.specs.Table.{with_change, named, key_of}
-
-pub find_none : {X : Type 0} (p : X → Bool) (xs : List X) → All (λ x. p x ≡ false) xs → find p xs ≡ None
-find_none p [] h = refl
-find_none p (x ∷ xs) h =
-    rw (All-head (λ x. p x ≡ false) x xs h) (find_none p xs (All-tail (λ x. p x ≡ false) x xs h))
 
 module _ {X : Type 0} (name : X → List ℕ) where
   -- the keys that names have once one more item is put in

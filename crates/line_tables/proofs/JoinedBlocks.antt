@@ -19,9 +19,7 @@ use Rattle.line_tables.proofs.Filed.{stored_at}
 use Rattle.line_tables.proofs.Entries.{is_some-key_of}
 use Rattle.line_tables.proofs.Views.{is_named-map, map-with_item, map-with_change, map-without}
 use Rattle.line_tables.proofs.Joined.{is_listed, to_put, to_change, to_drop, unreferred}
-
-abbrev block_name : Block → List ℕ
-block_name b = b.name
+use Rattle.line_tables.proofs.Labels.{block_name}
 
 module _ (t : Inside) where
   -- other blocks, to which signals and sections refer

@@ -2,7 +2,6 @@
 use Rattle.std.proofs.Common.{◌≡◌, ℕ, ◌+◌, true, false, List, map, Some, None, sym, ◌∙◌, arith}
 use Rattle.std.specs.Prelude.{option_map}
 use Rattle.rail_model.specs.declared.items.Route.{Route}
-use Rattle.rail_model.specs.declared.items.Signal.{Signal}
 use Rattle.rail_model.specs.declared.items.Item.TheVariants as item
 use Rattle.rail_model.specs.declared.edit.Kind.TheVariants as kind
 use Rattle.rail_model.specs.Name.{is_same}
@@ -22,12 +21,7 @@ use Rattle.line_tables.proofs.Under.{swapped_by_put, swapped_by_change, swapped_
 use Rattle.line_tables.proofs.Reaches.{sets_by_add, sets_by_swap, sets_by_remove}
 use Rattle.line_tables.proofs.Known.{CountsMore}
 use Rattle.line_tables.proofs.Joined.{IsEdited, by_put, by_change, by_drop, to_put, to_change, to_drop, is_listed, unreferred}
-
-abbrev signal_name : Linked Signal → List ℕ
-signal_name e = e.item.name
-
-abbrev route_name : Linked Route → List ℕ
-route_name e = e.item.name
+use Rattle.line_tables.proofs.Labels.{signal_name, route_name}
 
 module _ (t : Inside) where
   -- other routes, which refer to signals and to which runs refer

@@ -1,7 +1,6 @@
 -- How the tables of a line still fit together after an edit of a signal that no rule refuses.
 use Rattle.std.proofs.Common.{◌≡◌, ℕ, ◌+◌, true, false, List, [], map, get_or, Some, None, refl, sym, ap, ◌∙◌, arith}
 use Rattle.std.specs.Prelude.{option_map}
-use Rattle.rail_model.specs.declared.items.Block.{Block}
 use Rattle.rail_model.specs.declared.items.Signal.{Signal}
 use Rattle.rail_model.specs.declared.items.Item.TheVariants as item
 use Rattle.rail_model.specs.declared.edit.Kind.TheVariants as kind
@@ -24,12 +23,7 @@ use Rattle.line_tables.proofs.Reaches.{sets_same}
 use Rattle.line_tables.proofs.Moves.{HasFollowed, sets_by_put, sets_by_drop, sets_by_change}
 use Rattle.line_tables.proofs.Known.{CountsMore}
 use Rattle.line_tables.proofs.Joined.{IsEdited, by_put, by_change, by_drop, to_put, to_change, to_drop, unreferred}
-
-abbrev block_name : Block → List ℕ
-block_name b = b.name
-
-abbrev signal_name : Linked Signal → List ℕ
-signal_name e = e.item.name
+use Rattle.line_tables.proofs.Labels.{block_name, signal_name}
 
 module _ (t : Inside) where
   -- other signals, which refer to blocks and to which routes refer

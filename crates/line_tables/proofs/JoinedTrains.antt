@@ -3,8 +3,6 @@ use Rattle.std.proofs.Common.{◌≡◌, ℕ, ◌+◌, true, false, ◌||◌, Li
 use Rattle.std.specs.Prelude.{option_map}
 use Rattle.std.specs.List.{list_any}
 use Rattle.std.proofs.lemmas.Bool.{cases_Bool, or_parts}
-use Rattle.rail_model.specs.declared.items.Block.{Block}
-use Rattle.rail_model.specs.declared.items.Route.{Route}
 use Rattle.rail_model.specs.declared.items.Run.{Run}
 use Rattle.rail_model.specs.declared.items.Section.{Section}
 use Rattle.rail_model.specs.declared.items.Connection.{Connection}
@@ -25,15 +23,10 @@ use Rattle.line_tables.proofs.References.{entry}
 use Rattle.line_tables.proofs.Views.{is_named-map, map-with_item, map-with_change, map-without}
 use Rattle.line_tables.proofs.Known.{CountsMore}
 use Rattle.line_tables.proofs.Joined.{IsEdited, by_put, by_change, by_drop, to_put, to_change, to_drop, unreferred}
+use Rattle.line_tables.proofs.Labels.{block_name, route_name}
 
 pub either_is_listed : (c : Connection) (n : List ℕ) → list_any (λ m. is_same m n) (names_of_connection c) ≡ (is_same c.first n || is_same c.second n)
 either_is_listed c n = elim (cases_Bool (is_same c.second n)) [ inl e ↦ rw e refl | inr e ↦ rw e refl ]
-
-abbrev block_name : Block → List ℕ
-block_name b = b.name
-
-abbrev route_name : Linked Route → List ℕ
-route_name e = e.item.name
 
 -- ---- runs
 

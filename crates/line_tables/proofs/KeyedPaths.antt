@@ -27,12 +27,7 @@ use Rattle.line_tables.proofs.Meets.{only_key, some_key, under_passes}
 use Rattle.line_tables.proofs.Numbers.{at_key}
 use Rattle.line_tables.proofs.TimedHops.{untimed_hop, route_hops}
 use Rattle.line_tables.proofs.RunPaths.{same_images, read_entry, path_is, numbered, linked_under}
-
-abbrev signal_name : Linked Signal → List ℕ
-signal_name e = e.item.name
-
-abbrev route_name : Linked Route → List ℕ
-route_name e = e.item.name
+use Rattle.line_tables.proofs.Labels.{signal_name, route_name}
 
 -- each hop stands at its signal's key
 abbrev pub AreHops : List (ℕ × Block) → List (ℕ × Linked Signal) → List Hop → Type 0

@@ -20,7 +20,7 @@ use Rattle.line_tables.specs.Table.{named, key_of, entry_of}
 use Rattle.line_tables.specs.KeyCounts.{count_of, times}
 use Rattle.line_tables.specs.Links.{references}
 use Rattle.line_tables.specs.References.{rule_of_references}
-use Rattle.line_tables.specs.Inside.{tables_of, names_of_signal, names_of_route, names_of_run, names_of_section, names_of_connection}
+use Rattle.line_tables.specs.Inside.{tables_of, names_of_signal, names_of_run, names_of_section, names_of_connection}
 use Rattle.line_tables.proofs.Filed.{stored_at, some_from_map}
 use Rattle.line_tables.proofs.Entries.{is_some-key_of}
 use Rattle.line_tables.proofs.Views.{is_named-map, list_all_same, found_in_sum}
@@ -44,10 +44,6 @@ signal_knows t x h = and_from _ true (sym (named_block t x.block) ∙ h) refl
 
 pub section_knows : (t : Inside) (x : Section) → refers_to_known (tables_of t) (item.Section x) ≡ true → list_all (is_named (λ e. e.1.name) t.blocks) (names_of_section x) ≡ true
 section_knows t x h = list_all_same _ _ (λ n. sym (named_block t n)) x.blocks ∙ h
-
-pub route_knows : (t : Inside) (x : Route) → refers_to_known (tables_of t) (item.Route x) ≡ true → list_all (is_named (λ e. e.1.item.name) t.signals) (names_of_route x) ≡ true
-route_knows t x h =
-    list_all_same _ _ (λ n. sym (is_named-map (λ (e : ℕ × Linked Signal). e.1.item) (λ x. x.name) t.signals n)) x.signals ∙ h
 
 -- the same as one equation
 pub section_known_by : (t : Inside) (x : Section) → refers_to_known (tables_of t) (item.Section x) ≡ list_all (is_named (λ e. e.1.name) t.blocks) x.blocks

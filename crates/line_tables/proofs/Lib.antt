@@ -1,3 +1,4 @@
+pub mod Labels
 pub mod Split
 pub mod Filed
 pub mod Entries

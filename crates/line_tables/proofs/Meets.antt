@@ -28,6 +28,7 @@ use Rattle.line_tables.proofs.References.{named_listed, list_any_same}
 use Rattle.rail_model.proofs.Lists.{map_same}
 use Rattle.line_tables.proofs.Views.{is_named-map, item_named}
 use Rattle.line_tables.proofs.Repeats.{moved, repeats_moved}
+use Rattle.line_tables.proofs.Labels.{block_name, signal_name}
 
 -- ---- lists of names and of their keys
 
@@ -82,12 +83,6 @@ All-unmap : {X Y : Type 0} (P : Y → Type 0) (f : X → Y) (xs : List X) → Al
 All-unmap P f xs all i d l = subst P (get_or-map f xs i d (f d) l) (all i (f d) (omega (arith, length-map xs f)))
 
 module _ (t : Inside) (j : IsJoined t) (signals : IsTable (λ (e : Linked Signal). e.item.name) t.signals) (blocks : IsTable (λ (b : Block). b.name) t.blocks) where
-  abbrev signal_name : Linked Signal → List ℕ
-  signal_name e = e.item.name
-
-  abbrev block_name : Block → List ℕ
-  block_name b = b.name
-
   -- the block of the signal of a name stands under the key that the signal's key gives
   pub block_keyed : (n : List ℕ) (q : ℕ) → key_of signal_name t.signals n ≡ Some q → key_of block_name t.blocks (signal_named (tables_of t) n).block ≡ Some (block_of t.signals q)
   block_keyed n q key =

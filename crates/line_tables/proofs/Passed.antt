@@ -8,7 +8,6 @@ use Rattle.std.proofs.lemmas.Option.{slice_get_within, get_or_from_slice_get}
 use Rattle.std.proofs.lemmas.Simd.{map-map}
 use Rattle.std.proofs.lemmas.List.{length-map, get_or-map}
 use Rattle.rail_model.specs.declared.items.Block.{Block}
-use Rattle.rail_model.specs.declared.items.Signal.{Signal}
 use Rattle.rail_model.specs.declared.items.Route.{Route}
 use Rattle.rail_model.specs.declared.items.Run.{Run}
 use Rattle.rail_model.specs.declared.items.Section.{Section}
@@ -29,15 +28,7 @@ use Rattle.line_tables.proofs.Meets.{some_key, only_key, map_keyed, block_keyed}
 use Rattle.line_tables.proofs.Numbers.{number_at_key}
 use Rattle.line_tables.proofs.RunPaths.{linked_under, same_images, read_entry, all_at}
 use Rattle.line_tables.proofs.Views.{item_named, number_of-map}
-
-abbrev block_name : Block → List ℕ
-block_name b = b.name
-
-abbrev signal_name : Linked Signal → List ℕ
-signal_name e = e.item.name
-
-abbrev route_name : Linked Route → List ℕ
-route_name e = e.item.name
+use Rattle.line_tables.proofs.Labels.{block_name, signal_name, route_name}
 
 -- what holds of the key of each name holds of each key
 keys_hold : (P : ℕ → Type 0) (find : List ℕ → Option ℕ) (ns : List (List ℕ)) (ks : List ℕ) → ((n : List ℕ) (k : ℕ) → find n ≡ Some k → P k) → map find ns ≡ map Some ks → All P ks

@@ -24,6 +24,7 @@ use Rattle.line_tables.proofs.Views.{item_named}
 use Rattle.line_tables.proofs.Meets.{under_passes, only_key}
 use Rattle.rail_model.proofs.Paths.{path_fits, route_stands, hops_numbered}
 use Rattle.line_tables.proofs.TimedHops.{untimed_hop, route_hops, looked_up_first}
+use Rattle.line_tables.proofs.Labels.{signal_name, route_name}
 
 -- what names and their keys give alike
 pub same_images : {Y : Type 0} (find : List ℕ → Option ℕ) (g : List ℕ → Y) (f : ℕ → Y) (ns : List (List ℕ)) (ks : List ℕ) → ((n : List ℕ) (q : ℕ) → find n ≡ Some q → g n ≡ f q) → map find ns ≡ map Some ks → map g ns ≡ map f ks
@@ -84,12 +85,6 @@ module _ (tables : Tables) (sound : IsSound tables) (run : Run) (stands : Stands
 -- ---- by keys
 
 module _ (t : Inside) (j : IsJoined t) where
-  abbrev route_name : Linked Route → List ℕ
-  route_name e = e.item.name
-
-  abbrev signal_name : Linked Signal → List ℕ
-  signal_name e = e.item.name
-
   pub run_is : (n : ℕ) (e : Linked Run) → option_map (λ e. e.1) (slice_get t.runs n) ≡ Some e → run_at (tables_of t) n ≡ e.item
   run_is n e h =
       let u = read_entry t.runs n e h in
@@ -124,9 +119,4 @@ module _ (t : Inside) (j : IsJoined t) where
   pub linked_under : (k : ℕ) (r : Linked Route) → under t.routes k ≡ Some r → map (key_of signal_name t.signals) r.item.signals ≡ map Some r.refs
   linked_under k r here =
       let one = under_passes (λ u. map (key_of signal_name t.signals) (names_of_route u.1.item) ≡ map Some u.1.refs) t.routes k r here j.routes in
-      subst (λ (r : Linked Route). map (key_of signal_name t.signals) r.item.signals ≡ map Some r.refs) one.1 one.2
-
-  pub linked_at : (n : ℕ) (r : Linked Route) → option_map (λ e. e.1) (slice_get t.routes n) ≡ Some r → map (key_of signal_name t.signals) r.item.signals ≡ map Some r.refs
-  linked_at n r here =
-      let one = all_at (λ u. map (key_of signal_name t.signals) (names_of_route u.1.item) ≡ map Some u.1.refs) t.routes n r here j.routes in
       subst (λ (r : Linked Route). map (key_of signal_name t.signals) r.item.signals ≡ map Some r.refs) one.1 one.2

@@ -1,8 +1,8 @@
 -- Bytes split into names, part by part.
 use Rattle.std.proofs.Common.{◌≡◌, ℕ, ◌+◌, ◌≤◌, ◌<◌, List, [], ◌∷◌, ◌++◌, length, map, take, drop, get_or, refl, sym, ap, ◌∙◌, arith}
 use Rattle.std.specs.Prelude.{All}
-use Rattle.std.proofs.lemmas.List.{length-append, take_at, drop_at, take_more, drop_more, drop-drop, append_assoc, append-nil, get_or_at}
-use Rattle.std.proofs.lemmas.List.Concat.{flat_map-append, length-flat_map}
+use Rattle.std.proofs.lemmas.List.{length-append, take_at, drop_at, drop_more, drop-drop, get_or_at}
+use Rattle.std.proofs.lemmas.List.Concat.{length-flat_map}
 use Rattle.std.proofs.lemmas.List.Sums.{sum-map, sum_by_more_le}
 use Rattle.std.proofs.Math.Logic.{∥∥₁_elim}
 use Rattle.std.proofs.Math.Bridge.{le_prop}
@@ -18,10 +18,6 @@ pub is_short : (name : List ℕ) → ∥ IsName name ∥₁ → length name ≤ 
 is_short name named = ∥∥₁_elim named le_prop (λ n. n.short)
 
 -- ---- names one after another
-
-pub joined-more : (names : List (List ℕ)) (i : ℕ) (d : List ℕ) → i < length names → joined (take (i + 1) names) ≡ joined (take i names) ++ get_or names i d
-joined-more names i d below =
-    rw (take_more names i d below, flat_map-append (λ name. name) (take i names) (get_or names i d ∷ []), append-nil) refl
 
 pub joined-fits : (names : List (List ℕ)) (i : ℕ) (d : List ℕ) → i < length names → length (joined (take i names)) + length (get_or names i d) ≤ length (joined names)
 joined-fits names i d below =
@@ -52,6 +48,3 @@ module _ (done : List (List ℕ)) (lens bytes : List ℕ) (i start : ℕ) (below
   part_holds P all =
       let here : P (get_or (done ++ part ∷ split (drop (i + 1) lens) (drop (start + get_or lens i 0) bytes)) (length done) []) = rw first (all (length done) [] (omega (arith, ap length first, length-append done (part ∷ split (drop (i + 1) lens) (drop (start + get_or lens i 0) bytes))))) in
       rw (get_or_at done part (split (drop (i + 1) lens) (drop (start + get_or lens i 0) bytes)) [] (length done) refl) at here
-
-  pub part_more : (done ++ part ∷ []) ++ split (drop (i + 1) lens) (drop (start + get_or lens i 0) bytes) ≡ split lens bytes
-  part_more = rw append_assoc first

@@ -9,10 +9,8 @@ use Rattle.line_tables.proofs.Entries.{is_some-key_of, key_of-put, without-with_
 use Rattle.line_tables.proofs.Found.{found_by_key}
 use Rattle.line_tables.proofs.References.{entry}
 use Rattle.line_tables.proofs.Known.{CountsMore}
+use Rattle.line_tables.proofs.Labels.{route_name}
 use Rattle.line_tables.proofs.add.enter_route.Goals as goal
-
-abbrev route_name : Linked Route → List ℕ
-route_name e = e.item.name
 
 -- what is known once the route is in the table
 module _ (before later : List (ℕ × Linked Route)) (x : Route) (new : is_named (named route_name) before x.name ≡ false) (key : ℕ) (refs : List ℕ) (put : later ≡ with_item (named route_name) before (key, entry x refs)) (table : IsTable route_name before) where

@@ -14,10 +14,8 @@ use Rattle.line_tables.proofs.Numbers.{number_at_key}
 use Rattle.line_tables.proofs.Found.{found_by_key}
 use Rattle.line_tables.proofs.Views.{item_named, number_of-map}
 use Rattle.line_tables.proofs.Meets.{under_passes, some_key, only_key}
+use Rattle.line_tables.proofs.Labels.{block_name}
 use Rattle.line_tables.proofs.path.untimed_hop.Goals as goal
-
-abbrev block_name : Block → List ℕ
-block_name b = b.name
 
 -- the one reference of a signal
 reference : (blocks : List (ℕ × Block)) (signals : List (ℕ × Linked Signal)) (key : ℕ) (e : Linked Signal) → IsLinked names_of_signal block_name signals blocks → under signals key ≡ Some e → key_of block_name blocks e.item.block ∷ [] ≡ map Some e.refs

@@ -10,10 +10,8 @@ use Rattle.line_tables.specs.Links.{IsKey}
 use Rattle.line_tables.specs.Hops.{hop_of}
 use Rattle.line_tables.proofs.Filed.{some_from_map}
 use Rattle.line_tables.proofs.Numbers.{at_keys_more}
+use Rattle.line_tables.proofs.Labels.{signal_name}
 use Rattle.line_tables.proofs.run_paths.hops_by_key.Goals as goal
-
-abbrev signal_name : Linked Signal → List ℕ
-signal_name e = e.item.name
 
 -- an item stands under the key of a number
 key_there : (signals : List (ℕ × Linked Signal)) (n key : ℕ) → IsTable signal_name signals → option_map (λ e. e.0) (slice_get signals n) ≡ Some key → IsKey signals key

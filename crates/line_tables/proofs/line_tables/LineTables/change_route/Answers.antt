@@ -2,7 +2,6 @@ use Rattle.std.proofs.Common.{◌≡◌, ◌==◌, ℕ, List, Bool, true, false,
 use Rattle.std.specs.Prelude.{is_some, if◌then◌else◌}
 use Rattle.std.specs.List.{list_all}
 use Rattle.rail_model.specs.declared.items.Block.{Block}
-use Rattle.rail_model.specs.declared.items.Signal.{Signal}
 use Rattle.rail_model.specs.declared.items.Route.{Route}
 use Rattle.rail_model.specs.declared.items.Item.TheVariants as item
 use Rattle.rail_model.specs.declared.edit.Rule.TheVariants.{Unknown, Twice, Count}
@@ -26,13 +25,8 @@ use Rattle.line_tables.proofs.Known.{refs_of_found, route_known_by}
 use Rattle.line_tables.proofs.Answered.{refuses, makes}
 use Rattle.line_tables.proofs.RulesOfChange.{refused_route, refused_unknown, refused_twice, refused_count}
 use Rattle.line_tables.proofs.JoinedRoutes.{routes_stay, route_change}
+use Rattle.line_tables.proofs.Labels.{signal_name, route_name}
 use Rattle.line_tables.proofs.line_tables.LineTables.change_route.Goals as goal
-
-abbrev signal_name : Linked Signal → List ℕ
-signal_name e = e.item.name
-
-abbrev route_name : Linked Route → List ℕ
-route_name e = e.item.name
 
 has_route_by : (t : Inside) (n : List ℕ) → has_route (tables_of t) n ≡ is_some (key_of route_name t.routes n)
 has_route_by t n =

@@ -26,13 +26,8 @@ use Rattle.line_tables.proofs.Known.{refs_of_found}
 use Rattle.line_tables.proofs.Answered.{refuses, makes}
 use Rattle.line_tables.proofs.RulesOfChange.{refused_signal, refused_block, refused_repeat}
 use Rattle.line_tables.proofs.JoinedSignals.{signal_change}
+use Rattle.line_tables.proofs.Labels.{block_name, signal_name}
 use Rattle.line_tables.proofs.line_tables.LineTables.change_signal.Goals as goal
-
-abbrev signal_name : Linked Signal → List ℕ
-signal_name e = e.item.name
-
-abbrev block_name : Block → List ℕ
-block_name b = b.name
 
 abbrev answer : Bool → Option Rule
 answer twice = if twice then Some Twice else None

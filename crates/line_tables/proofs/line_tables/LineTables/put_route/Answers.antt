@@ -1,9 +1,8 @@
-use Rattle.std.proofs.Common.{◌≡◌, ◌∙◌, ℕ, List, Bool, true, if◌then◌else◌, Option, Some, None, false, refl, sym, ap}
+use Rattle.std.proofs.Common.{◌≡◌, ◌∙◌, ℕ, Bool, true, if◌then◌else◌, Option, Some, None, false, refl, sym, ap}
 use Rattle.std.specs.Prelude.{is_some}
 use Rattle.std.specs.List.{list_all}
 use Rattle.rail_model.specs.declared.items.Item.TheVariants as item
 use Rattle.rail_model.specs.declared.items.Block.{Block}
-use Rattle.rail_model.specs.declared.items.Signal.{Signal}
 use Rattle.rail_model.specs.declared.items.Route.{Route}
 use Rattle.rail_model.specs.declared.edit.Rule.{Rule}
 use Rattle.rail_model.specs.declared.edit.Rule.TheVariants.{Unknown, Twice}
@@ -25,10 +24,8 @@ use Rattle.line_tables.proofs.Known.{route_known_by, refused_unknown, refused_tw
 use Rattle.line_tables.proofs.Answered.{refuses, makes}
 use Rattle.line_tables.proofs.RulesOfPut.{refused_then}
 use Rattle.line_tables.proofs.JoinedRoutes.{routes_stay, route_is_new, route_put}
+use Rattle.line_tables.proofs.Labels.{signal_name}
 use Rattle.line_tables.proofs.line_tables.LineTables.put_route.Goals as goal
-
-abbrev signal_name : Linked Signal → List ℕ
-signal_name e = e.item.name
 
 abbrev answer : Bool → Option Rule
 answer twice = if twice then Some Twice else None
