@@ -100,7 +100,7 @@ pub enum Item {
 }
 
 impl Item {
-    /// The kind of which it is.
+    /// The kind of the item.
     pub fn kind(&self) -> Kind
         ensures { result ≡ kind_of_item self.now }
     {
@@ -114,7 +114,7 @@ impl Item {
         }
     }
 
-    /// The name by which its kind knows it.
+    /// The name of the item.
     pub fn name(&self) -> &Name
         ensures { result.now ≡ name_of_item self.now }
     {
