@@ -20,7 +20,7 @@ use Rattle.plan_model.proofs.Greatest.{above_each, greatest_within, below_each, 
 
 -- ---- whole numbers
 
-abs_is : (z : ℤ) → pos 0 ≤ℤ z → pos (nat_abs z) ≡ z
+pub abs_is : (z : ℤ) → pos 0 ≤ℤ z → pos (nat_abs z) ≡ z
 abs_is (pos n) h = refl
 abs_is (negsuc n) h = absurd (omega (arith, ints, h))
 
@@ -32,7 +32,7 @@ starts_before s f e x t h l = omega (arith, ints)
 later : (s e x y m : ℤ) → m ≤ℤ (s -ℤ e +ℤ y) → (m -ℤ (s -ℤ e +ℤ x)) ≤ℤ (y -ℤ x)
 later s e x y m h = omega (arith, ints)
 
-not_negative : (a b : ℤ) → a ≤ℤ b → pos 0 ≤ℤ (b -ℤ a)
+pub not_negative : (a b : ℤ) → a ≤ℤ b → pos 0 ≤ℤ (b -ℤ a)
 not_negative a b h = omega (arith, ints)
 
 reached : (s e x m : ℤ) (k o : ℕ) → pos k ≡ (m -ℤ (s -ℤ e +ℤ x)) → k ≤ o → m ≤ℤ (s -ℤ e +ℤ (x +ℤ pos o))

@@ -8,7 +8,7 @@ use Rattle.plan_model.specs.Journal.{opening, planners, done_by, left_of, tasks_
 use Rattle.plan_model.specs.Legal.{KeepsToScript}
 use Rattle.plan_model.specs.JournalLaws.{NoneIsLeft}
 
-none_of : {X : Type 0} (xs : List X) → length xs ≤ 0 → xs ≡ []
+pub none_of : {X : Type 0} (xs : List X) → length xs ≤ 0 → xs ≡ []
 none_of [] few = refl
 none_of (x ∷ xs) few = absurd (omega (arith, few))
 

@@ -1,8 +1,10 @@
 -- The use of a place that a member uses: one of its uses, which in a sound cut takes some time.
-use Rattle.std.proofs.Common.{◌≡◌, ℕ, suc, ◌<◌, Bool, true, List, [], ◌∷◌, length, get_or, inl, inr, refl, subst, arith}
-use Rattle.std.specs.Prelude.{◌<ℤ◌, ◌==◌, Some, find, unwrap_or}
+use Rattle.std.proofs.Common.{◌≡◌, ℕ, suc, ◌<◌, Bool, true, List, [], ◌∷◌, length, get_or, inl, inr, refl, ap, subst, ◌∙◌, arith}
+use Rattle.std.specs.Prelude.{ℤ, ◌+ℤ◌, ◌-ℤ◌, ◌<ℤ◌, ◌==◌, Option, Some, find, unwrap_or}
+use Rattle.std.specs.Option.{is_some}
 use Rattle.std.specs.List.{list_any}
 use Rattle.std.proofs.lemmas.Bool.{cases_Bool, eqb-true}
+use Rattle.std.proofs.lemmas.Int.{ints}
 use Rattle.std.proofs.lemmas.List.Folds.{Any-from_list_any}
 use Rattle.plan_model.specs.Members.{place_count, member, member_count, no_member, uses_place, use_of, use_at, no_use}
 use Rattle.rail_model.specs.declared.stair.Use.{Use}
@@ -52,3 +54,20 @@ used row place h = at row.uses h where
         | inl e ↦ rw e refl
         | inr e ↦ rw e (at uses (rw e at h))
       ]
+
+-- ---- the use of a place, by what is found
+
+pub any_found : (test : Use → Bool) (uses : List Use) → list_any test uses ≡ is_some (find test uses)
+any_found test [] = refl
+any_found test (u ∷ uses) =
+    elim (cases_Bool (test u)) [ inl e ↦ rw e refl | inr e ↦ rw e (any_found test uses) ]
+
+pub is_used : (row : CutRow) (place : ℕ) (o : Option Use) → use_of row place ≡ o → uses_place row place ≡ is_some o
+is_used row place o e = any_found (λ (u : Use). u.block == place) row.uses ∙ ap is_some e
+
+pub its_use : (row : CutRow) (place : ℕ) (u : Use) → use_of row place ≡ Some u → use_at row place ≡ u
+its_use row place u e = ap (λ o. unwrap_or o no_use) e
+
+-- of two moments, moved with one entry, the earlier stays the earlier
+pub moved_time : (s f e y : ℤ) → s <ℤ f → (s -ℤ e +ℤ y) <ℤ (f -ℤ e +ℤ y)
+moved_time s f e y h = omega (arith, ints)

@@ -153,14 +153,30 @@ impl<'a> SoundCut<'a> {
         shift(self.used(i, place).end, self.row(i).entry, entry)
     }
 
-    // The use of a place that a member uses.
-    fn used(&self, i: u32, place: u32) -> Use
+    /// The use of a place by a member that uses it.
+    pub fn used(&self, i: u32, place: u32) -> Use
         requires there { i < members.member_count self.now }
         requires uses { IsTrue (members.uses_place (members.member self.now i) place) }
         ensures is { result ≡ members.use_at (members.member self.now i) place }
         ensures sound { IsSoundUse self.now result }
     {
         self.use_at(i, place).unwrap()
+    }
+
+    /// Whether one member precedes another at a place.
+    pub fn precedes(&self, i: u32, j: u32, place: u32) -> bool
+        requires one { i < members.member_count self.now }
+        requires other { j < members.member_count self.now }
+        ensures { result
+            ≡ members.precedes (members.member self.now i) (members.member self.now j) place }
+    {
+        match (self.use_at(i, place), self.use_at(j, place)) {
+            (Some(one), Some(other)) => {
+                let (first, second) = (&self.row(i).name, &self.row(j).name);
+                comes_before(one.start, first, other.start, second)
+            }
+            _ => false,
+        }
     }
 
     /// Whether a member and one of its places come before another pair of them, by name.
@@ -259,6 +275,14 @@ pub fn shift(time: i64, planned: i64, entry: i64) -> i64
     ensures { result ≡ time -ℤ planned +ℤ entry }
 {
     time - planned + entry
+}
+
+/// Whether the first of two moments, each with the name of a run, comes before the other: it is the
+/// earlier or, at one moment, has the lesser name. Seconds from the timetable's origin.
+pub fn comes_before(start: i64, name: &Name, other: i64, next: &Name) -> bool
+    ensures { result ≡ members.comes_before start name.now other next.now }
+{
+    start < other || start == other && name < next
 }
 
 // The first names and then the others, in one list.

@@ -42,7 +42,7 @@ mod shared_cut;
 pub use answer::{Answer, Disorder, Done, Link, Placed, Plan, Tie};
 pub use board::Board;
 pub use cut::{Cut, CutRow, least_start};
-pub use fit_cut::{FitCut, SoundCut, shift, use_of};
+pub use fit_cut::{FitCut, SoundCut, comes_before, shift, use_of};
 pub use journal::{Act, Entry, Reply};
 pub use journal_laws::{
     beginning_is_journal, beginning_is_legal, calls_end_in_one_way, calls_leave_journals,
