@@ -1,6 +1,6 @@
 -- The use of a place that a member uses: one of its uses, which in a sound cut takes some time.
 use Rattle.std.proofs.Common.{◌≡◌, ℕ, suc, ◌<◌, Bool, true, List, [], ◌∷◌, length, get_or, inl, inr, refl, ap, subst, ◌∙◌, arith}
-use Rattle.std.specs.Prelude.{ℤ, ◌+ℤ◌, ◌-ℤ◌, ◌<ℤ◌, ◌==◌, Option, Some, find, unwrap_or}
+use Rattle.std.specs.Prelude.{ℤ, ◌<ℤ◌, ◌==◌, Option, Some, find, unwrap_or}
 use Rattle.std.specs.Option.{is_some}
 use Rattle.std.specs.List.{list_any}
 use Rattle.std.proofs.lemmas.Bool.{cases_Bool, eqb-true}
@@ -11,6 +11,7 @@ use Rattle.rail_model.specs.declared.stair.Use.{Use}
 use Rattle.plan_model.specs.declared.cut.CutRow.{CutRow}
 use Rattle.plan_model.specs.declared.cut.Cut.{Cut}
 use Rattle.plan_model.specs.Cut.{IsSoundCut}
+use Rattle.plan_model.specs.Schedule.{start_at, end_at}
 
 -- what passes a test is found at some place
 found_there : {X : Type 0} (test : X → Bool) (xs : List X) (none : X) → list_any test xs ≡ true
@@ -32,6 +33,12 @@ takes_time cut sound i place l h =
     let row = member cut i in
     let at = found_there (λ (u : Use). u.block == place) row.uses no_use h in
     subst (λ (u : Use). u.start <ℤ u.«end») at.2 ((sound.each i no_member l).each at.0 no_use at.1).some_time
+
+-- so it does where it is moved with an entry
+pub takes_time_by : (cut : Cut) → IsSoundCut cut → (i place : ℕ) → i < member_count cut
+    → uses_place (member cut i) place ≡ true → (entry : ℤ)
+    → start_at (member cut i) entry place <ℤ end_at (member cut i) entry place
+takes_time_by cut sound i place l h entry = omega (arith, ints, takes_time cut sound i place l h)
 
 -- a place that a member uses is one of the cut's
 pub place_there : (cut : Cut) → IsSoundCut cut → (i place : ℕ) → i < member_count cut
@@ -67,7 +74,3 @@ is_used row place o e = any_found (λ (u : Use). u.block == place) row.uses ∙ 
 
 pub its_use : (row : CutRow) (place : ℕ) (u : Use) → use_of row place ≡ Some u → use_at row place ≡ u
 its_use row place u e = ap (λ o. unwrap_or o no_use) e
-
--- of two moments, moved with one entry, the earlier stays the earlier
-pub moved_time : (s f e y : ℤ) → s <ℤ f → (s -ℤ e +ℤ y) <ℤ (f -ℤ e +ℤ y)
-moved_time s f e y h = omega (arith, ints)
