@@ -11,22 +11,10 @@ use Rattle.plan_model.specs.declared.cut.CutRow.{CutRow}
 use Rattle.plan_model.specs.Members.{member, member_count, no_member, no_use, uses_place, use_of, use_at}
 use Rattle.plan_model.specs.Cut.{IsSoundCut, AreOfOtherPlaces}
 use Rattle.plan_model.proofs.UseFound.{differ_tail, not_found}
+use Rattle.plan_model.proofs.Uses.{any_found, is_used, its_use}
 use Rattle.train_order.specs.declared.visits.Visit.{Visit}
 use Rattle.train_order.specs.Visits.{visit_of, visit_at, visits_by, visits_upto, HasMore, AreVisits}
 use Rattle.train_order.proofs.Ranges.{passing_yes, passing_no}
-
--- ---- the use of a place, by what is found
-
-pub any_found : (test : Use → Bool) (uses : List Use) → list_any test uses ≡ is_some (find test uses)
-any_found test [] = refl
-any_found test (u ∷ uses) =
-    elim (cases_Bool (test u)) [ inl e ↦ rw e refl | inr e ↦ rw e (any_found test uses) ]
-
-pub is_used : (row : CutRow) (place : ℕ) (o : Option Use) → use_of row place ≡ o → uses_place row place ≡ is_some o
-is_used row place o e = any_found (λ (u : Use). u.block == place) row.uses ∙ ap is_some e
-
-pub its_use : (row : CutRow) (place : ℕ) (u : Use) → use_of row place ≡ Some u → use_at row place ≡ u
-its_use row place u e = ap (λ o. unwrap_or o no_use) e
 
 -- ---- one member more
 

@@ -12,12 +12,12 @@ use Rattle.plan_model.specs.Cut.{IsSoundCut, AreOfOtherPlaces}
 use Rattle.plan_model.specs.Disorder.{link_place}
 use Rattle.plan_model.proofs.FirstByName.{first_is}
 use Rattle.plan_model.proofs.UseFound.{differ_tail, not_found}
+use Rattle.plan_model.proofs.Uses.{any_found}
 use Rattle.train_order.specs.Taking.{is_among}
 use Rattle.train_order.specs.Starts.{start_of, starts_first, is_first_of, places_first}
 use Rattle.train_order.proofs.Among.{among_passing, passing_among}
 use Rattle.train_order.proofs.Before.{names, less_test}
 use Rattle.train_order.proofs.FirstPlace.{among_within}
-use Rattle.train_order.proofs.Gathered.{any_found}
 use Rattle.train_order.proofs.Find.{find_some}
 
 -- ---- the places of some uses

@@ -1,6 +1,7 @@
 use Rattle.std.proofs.Common.{◌+◌, ◌<◌, ◌∙◌, length, take, set, sym, ap, arith, length-set}
 use Rattle.plan_model.specs.Members.{member}
-use Rattle.train_order.proofs.Gathered.{gathered, without_visit, is_used}
+use Rattle.plan_model.proofs.Uses.{is_used}
+use Rattle.train_order.proofs.Gathered.{gathered, without_visit}
 use Rattle.train_order.proofs.visits.gather.Goals as goal
 use Rattle.train_order.proofs.visits.gather.Goals.{in-Some, in_default}
 
