@@ -1,24 +1,19 @@
 -- Where the visits of a place in the order of precedence follow one another in turn, the place is kept, and the other way
 -- round.
 use Rattle.std.proofs.Common.{◌≡◌, ℕ, zero, suc, ◌+◌, ◌<◌, List, length, get_or, inl, inr, ap, subst, arith}
-use Rattle.std.specs.Prelude.{ℤ, ◌+ℤ◌, ◌-ℤ◌, ◌≤ℤ◌, ◌<ℤ◌}
+use Rattle.std.specs.Prelude.{ℤ, ◌≤ℤ◌, ◌<ℤ◌}
 use Rattle.std.specs.Int.Signed.{<ℤ-≤ℤ_trans}
 use Rattle.std.proofs.lemmas.Bool.{cases_eq}
-use Rattle.std.proofs.lemmas.Int.{ints}
 use Rattle.rail_model.proofs.Numbers.{le_from_lt, lt_not_same, lt_through}
 use Rattle.plan_model.specs.declared.cut.Cut.{Cut}
 use Rattle.plan_model.specs.declared.answer.Placed.{Placed}
-use Rattle.plan_model.specs.Members.{member, use_at}
 use Rattle.plan_model.specs.Cut.{IsSoundCut}
 use Rattle.plan_model.specs.Schedule.{entry_at, start_by, end_by}
-use Rattle.plan_model.proofs.Uses.{takes_time}
+use Rattle.plan_model.proofs.Uses.{takes_time_by}
 use Rattle.train_order.specs.declared.visits.Visit.{Visit}
 use Rattle.train_order.specs.Visits.{no_visit, AreInTurn}
 use Rattle.train_order.proofs.InTurn.{is_visit, goes_first, in_order}
 use Rattle.critical_chain.specs.Parts.{tie_in, Follows, KeepsPlace, FollowInTurn}
-
-moved_time : (s f e y : ℤ) → s <ℤ f → (s -ℤ e +ℤ y) <ℤ (f -ℤ e +ℤ y)
-moved_time s f e y h = omega (arith, ints)
 
 module _ (cut : Cut) (entries : List ℤ) (placed : List Placed) (place : ℕ) (sound : IsSoundCut cut) (some : List Visit)
     (are : AreInTurn cut place some) where
@@ -44,8 +39,7 @@ module _ (cut : Cut) (entries : List ℤ) (placed : List Placed) (place : ℕ) (
     lasts : (k : ℕ) → k < length some → from k <ℤ until k
     lasts k l =
         let v = is_visit cut place some are k l in
-        moved_time (use_at (member cut (at k)) place).start (use_at (member cut (at k)) place).«end» (member cut (at k)).entry
-        (entry_at entries (at k)) (takes_time cut sound (at k) place v.there v.used)
+        takes_time_by cut sound (at k) place v.there v.used (entry_at entries (at k))
 
     next : (k l : ℕ) → k + 1 ≡ l → l < length some → until k ≤ℤ from l
     next k l e ll = subst (λ m. until k ≤ℤ from m) e (turn k (omega (arith, e, ll))).clear

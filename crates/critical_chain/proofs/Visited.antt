@@ -1,20 +1,18 @@
 -- What is moved with a train's entry, and the members that use a block, one after the other.
-use Rattle.std.proofs.Common.{◌≡◌, ℕ, ◌+◌, ◌<◌, length, get_or, false, ◌&&◌, List, [], ◌∷◌, ◌++◌, refl, sym, ap, subst, ◌∙◌, arith}
+use Rattle.std.proofs.Common.{◌≡◌, ℕ, ◌+◌, ◌<◌, length, get_or, List, [], ◌∷◌, ◌++◌, refl, sym, ap, subst, ◌∙◌, arith}
 use Rattle.std.specs.Prelude.{ℤ, ◌+ℤ◌, ◌-ℤ◌, ◌<ℤ◌, pos, nat_abs, Option, None, Some, fold, filter}
 use Rattle.std.specs.List.{range_with_len}
-use Rattle.std.specs.Ordering.{int_eq}
 use Rattle.std.proofs.lemmas.Int.{ints}
 use Rattle.rail_model.specs.declared.stair.Use.{Use}
 use Rattle.plan_model.specs.declared.cut.Cut.{Cut}
-use Rattle.plan_model.specs.Members.{member, uses_place, use_of, use_at, comes_before}
+use Rattle.plan_model.specs.Members.{member, uses_place, use_of, use_at}
 use Rattle.plan_model.specs.Cut.{IsSoundCut, IsMoment}
 use Rattle.plan_model.specs.declared.answer.Tie.{Tie}
 use Rattle.plan_model.specs.declared.answer.Placed.{Placed}
-use Rattle.plan_model.specs.Schedule.{entry_at, start_by, end_by, touches}
-use Rattle.plan_model.proofs.Uses.{takes_time}
+use Rattle.plan_model.specs.Schedule.{entry_at, start_by, end_by}
+use Rattle.plan_model.proofs.Uses.{takes_time, is_used, its_use}
 use Rattle.plan_model.proofs.Sound.{use_sound}
 use Rattle.train_order.specs.declared.visits.Visit.{Visit}
-use Rattle.train_order.proofs.Gathered.{is_used, its_use}
 use Rattle.train_order.specs.Visits.{no_visit, AreInTurn}
 use Rattle.train_order.proofs.InTurn.{IsVisit, is_visit}
 use Rattle.train_order.proofs.Ranges.{passing_yes, passing_no}
@@ -77,34 +75,6 @@ module _ (cut : Cut) (entries : List ℤ) (placed : List Placed) (place : ℕ) (
 
     pub may_back : MayFollowAt cut entries placed place some j → Follows cut until from v.member place tie
     may_back h = subst (λ T. T) (sym same) (subst at e h)
-
--- ---- two uses that are found
-
-pub touches_by : (cut : Cut) (entries : List ℤ) (i j place : ℕ) (u w : Use) → use_of (member cut i) place ≡ Some u
-    → use_of (member cut j) place ≡ Some w
-    → touches cut entries i j place
-    ≡ (comes_before u.start (member cut i).name w.start (member cut j).name
-    && int_eq (u.«end» -ℤ (member cut i).entry +ℤ entry_at entries i) (w.start -ℤ (member cut j).entry +ℤ entry_at entries j))
-touches_by cut entries i j place u w p q =
-    let one = is_used (member cut i) place (Some u) p in
-    let other = is_used (member cut j) place (Some w) q in
-    let its = use_at (member cut i) place in
-    let theirs = use_at (member cut j) place in
-    let whole : touches cut entries i j place
-    ≡ (comes_before its.start (member cut i).name theirs.start (member cut j).name
-    && int_eq (its.«end» -ℤ (member cut i).entry +ℤ entry_at entries i) (theirs.start -ℤ (member cut j).entry +ℤ entry_at entries j)) = rw (one, other) refl in
-    whole
-    ∙ ap (λ (x : Use). comes_before x.start (member cut i).name theirs.start (member cut j).name
-    && int_eq (x.«end» -ℤ (member cut i).entry +ℤ entry_at entries i) (theirs.start -ℤ (member cut j).entry +ℤ entry_at entries j))
-    (its_use (member cut i) place u p)
-    ∙ ap (λ (x : Use). comes_before u.start (member cut i).name x.start (member cut j).name
-    && int_eq (u.«end» -ℤ (member cut i).entry +ℤ entry_at entries i) (x.start -ℤ (member cut j).entry +ℤ entry_at entries j))
-    (its_use (member cut j) place w q)
-
--- one of them is not there
-pub not_touching : (cut : Cut) (entries : List ℤ) (i j place : ℕ)
-    → (uses_place (member cut i) place && uses_place (member cut j) place) ≡ false → touches cut entries i j place ≡ false
-not_touching cut entries i j place h = rw h refl
 
 -- ---- one member more
 

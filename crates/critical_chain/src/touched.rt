@@ -1,12 +1,11 @@
 //! Whether a train is touched as its tie says.
 ghost use Rattle.std.specs.Prelude.{◌≡◌, ◌<◌, ◌↔◌, All, IsTrue, length};
-ghost use Rattle.plan_model.specs.Members.{member, member_count, place_count, precedes, comes_before};
+ghost use Rattle.plan_model.specs.Members.{member_count};
 ghost use Rattle.plan_model.specs.Cut.{IsBounded};
 ghost use Rattle.plan_model.specs.Schedule.{touches};
 ghost use Rattle.critical_chain.specs.Parts as parts;
 
-use crate::moved::moved;
-use plan_model::{CutRow, FitCut, Tie};
+use plan_model::{FitCut, Tie};
 
 // Whether a member enters at the window's start, where its tie says so, or else is touched as it
 // says.
@@ -42,18 +41,7 @@ fn touches(cut: &FitCut, entries: &[i64], i: u32, j: u32, place: u32) -> bool
     ensures { result ≡ touches cut.now entries.now i j place }
 {
     let rows = cut.sound();
-    match (rows.use_at(i, place), rows.use_at(j, place)) {
-        (Some(one), Some(other)) => {
-            comes_before(rows.row(i), one.start, rows.row(j), other.start)
-                && moved(cut, entries, i, one.end) == moved(cut, entries, j, other.start)
-        }
-        _ => false,
-    }
-}
-
-// Whether one member starts before another or, at one moment, its name is the lesser.
-fn comes_before(row: &CutRow, start: i64, next: &CutRow, other: i64) -> bool
-    ensures { result ≡ comes_before start row.now.name other next.now.name }
-{
-    start < other || start == other && row.name < next.name
+    rows.precedes(i, j, place)
+        && rows.end_at(i, entries[i as usize], place)
+            == rows.start_at(j, entries[j as usize], place)
 }
