@@ -1,28 +1,18 @@
 -- Members whose spans have no moment in common are not opposite.
-use Rattle.std.proofs.Common.{◌≡◌, ℕ, true, false, ◌&&◌, List, inl, inr, arith}
-use Rattle.std.specs.Prelude.{ℤ, ◌≤ℤ◌, ◌<ℤ◌, int_lt, int_le, All}
-use Rattle.std.specs.Ordering.{int_eq}
+use Rattle.std.proofs.Common.{◌≡◌, ℕ, true, false, ◌&&◌, inl, inr, arith}
+use Rattle.std.specs.Prelude.{ℤ, ◌≤ℤ◌, ◌<ℤ◌, int_le, All}
 use Rattle.std.proofs.lemmas.Int.{ints}
-use Rattle.std.proofs.lemmas.Bool.{and_parts, and_cases, and_left, and_right, or_cases, false_from_ne_true}
-use Rattle.std.proofs.lemmas.Bool.Decides.{Decides-int_eq}
+use Rattle.std.proofs.lemmas.Bool.{and_parts, and_cases, and_left, and_right, false_from_ne_true}
 use Rattle.rail_model.specs.declared.stair.Use.{Use}
-use Rattle.rail_model.specs.Name.{is_before}
-use Rattle.rail_model.proofs.Numbers.{lt_from_test}
 use Rattle.plan_model.specs.declared.cut.Cut.{Cut}
 use Rattle.plan_model.specs.declared.cut.CutRow.{CutRow}
 use Rattle.plan_model.specs.Members.{place_count, member, uses_place, use_at, precedes, precedes_somewhere, comes_before}
 use Rattle.plan_model.specs.Disorder.{are_opposite}
+use Rattle.plan_model.proofs.Planned.{no_later}
 use Rattle.plan_model.proofs.Sound.{of_all}
 use Rattle.line_cutter.specs.declared.opposed.Span.{Span}
 use Rattle.line_cutter.specs.Opposed.{IsSpan}
 use Rattle.line_cutter.proofs.Whole.{some_below}
-
-le_from_before : (s t : ℤ) (a b : List ℕ) → comes_before s a t b ≡ true → s ≤ℤ t
-le_from_before s t a b h =
-    elim (or_cases (int_lt s t) (int_eq s t && is_before a b) h) [
-      | inl l ↦ let k = lt_from_test s t l in omega (arith, ints, k)
-      | inr e ↦ let k = (and_parts (int_eq s t) (is_before a b) e).0 in grind (arith, ints, Decides-int_eq)
-    ]
 
 -- what starts after all starts of another precedes it nowhere
 never : (i j : CutRow) (first last : ℤ) → All (λ u. first ≤ℤ u.start) i.uses → All (λ u. u.start ≤ℤ last) j.uses
@@ -32,7 +22,7 @@ never i j first last from to apart p h =
     let used = and_parts (uses_place i p) (uses_place j p) parts.0 in
     let low : first ≤ℤ (use_at i p).start = of_all (λ (u : Use). first ≤ℤ u.start) i.uses p from used.0 in
     let high : (use_at j p).start ≤ℤ last = of_all (λ (u : Use). u.start ≤ℤ last) j.uses p to used.1 in
-    let before = le_from_before (use_at i p).start (use_at j p).start i.name j.name parts.1 in
+    let before = no_later (use_at i p).start (use_at j p).start i.name j.name parts.1 in
     omega (arith, ints, low, high, before, apart)
 
 module _ (cut : Cut) (i j : ℕ) (one other : Span) (is_one : IsSpan (member cut i).uses one)

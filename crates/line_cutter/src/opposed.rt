@@ -5,7 +5,7 @@
 ghost use Rattle.std.specs.Prelude.{◌≡◌, ◌<◌, ◌≤◌, ◌&&◌, int_le, Some, IfOk, IfSome, Err};
 ghost use Rattle.std.specs.Int.{int_min, int_max};
 ghost use Rattle.plan_model.specs.Disorder.{are_opposite, opposite_pair};
-ghost use Rattle.plan_model.specs.Members.{member, member_count};
+ghost use Rattle.plan_model.specs.Members.{member_count};
 ghost use Rattle.plan_model.specs.Members as given;
 ghost use Rattle.train_order.specs.Ordering.{AreOpposed, IsOrdering};
 ghost use Rattle.line_cutter.specs.Opposed.{AreSpans, IsSpan, IsNextOpposite};
@@ -114,31 +114,11 @@ fn precedes_somewhere(cut: &SoundCut, i: u32, j: u32) -> bool
     ensures { result ≡ given.precedes_somewhere cut.now i j }
 {
     for place in 0..cut.place_count() {
-        if precedes(cut, i, j, place) {
+        if cut.precedes(i, j, place) {
             return true;
         }
     }
     false
-}
-
-// Whether one member precedes another at a place.
-fn precedes(cut: &SoundCut, i: u32, j: u32, place: u32) -> bool
-    requires one { i < member_count cut.now }
-    requires other { j < member_count cut.now }
-    ensures { result ≡ given.precedes (member cut.now i) (member cut.now j) place }
-{
-    match (cut.use_at(i, place), cut.use_at(j, place)) {
-        (Some(first), Some(second)) => { comes_before(cut.row(i), &first, cut.row(j), &second) }
-        _ => false,
-    }
-}
-
-// Whether one train starts before another or, at one moment, its name is the lesser.
-fn comes_before(row: &CutRow, first: &Use, next: &CutRow, second: &Use) -> bool
-    ensures { result
-        ≡ given.comes_before first.now.start row.now.name second.now.start next.now.name }
-{
-    first.start < second.start || first.start == second.start && row.name < next.name
 }
 
 // The span of each row.
