@@ -25,11 +25,15 @@ pub record IsVisitOf (cut : Cut) (place : ℕ) (v : Visit) : Type 0 where
 abbrev pub train_at : List Visit → ℕ → ℕ
 train_at visits k = (slice_index_or visits k no_visit).member
 
+-- one train precedes another on a place
+abbrev pub GoesBefore : Cut → ℕ → ℕ → ℕ → Type 0
+GoesBefore cut place i j = IsTrue (precedes (member cut i) (member cut j) place)
+
 -- visits of a place of which each one's train precedes the next one's
 pub record AreTurns (cut : Cut) (place : ℕ) (visits : List Visit) : Type 0 where
   pub each : All (IsVisitOf cut place) visits
   pub goes : (k : ℕ) → k + 1 < length visits
-      → IsTrue (precedes (member cut (train_at visits k)) (member cut (train_at visits (k + 1))) place)
+      → GoesBefore cut place (train_at visits k) (train_at visits (k + 1))
 
 -- entries keep the edge from one visit's train to the next one's
 abbrev pub KeepsTurn : Cut → ℕ → List Visit → ℕ → List ℤ → ℕ → Type 0
@@ -109,8 +113,8 @@ pub record AreEnds (cut : Cut) (place : ℕ) (some : List ℕ) (ends : Ends) : T
   pub last : IsStayOf cut place ends.last
   pub first_among : IsTrue (is_among some ends.first.train)
   pub last_among : IsTrue (is_among some ends.last.train)
-  pub none_before : (i : ℕ) → IsTrue (is_among some i) → IsTrue (precedes (member cut i) (member cut ends.first.train) place) → ⊥
-  pub none_after : (i : ℕ) → IsTrue (is_among some i) → IsTrue (precedes (member cut ends.last.train) (member cut i) place) → ⊥
+  pub none_before : (i : ℕ) → IsTrue (is_among some i) → GoesBefore cut place i ends.first.train → ⊥
+  pub none_after : (i : ℕ) → IsTrue (is_among some i) → GoesBefore cut place ends.last.train i → ⊥
 
 -- these are the ends, or none of the trains uses the place
 abbrev pub AreEndsIfAny : Cut → ℕ → List ℕ → Option Ends → Type 0
@@ -120,12 +124,13 @@ AreEndsIfAny cut place some (Some ends) = AreEnds cut place some ends
 -- entries keep the order of some trains on a place: who precedes another has left before the other starts, or as it starts
 abbrev pub KeepOrder : Cut → ℕ → List ℕ → List ℤ → Type 0
 KeepOrder cut place some entries =
-    (i j : ℕ) → IsTrue (is_among some i) → IsTrue (is_among some j)
-    → IsTrue (precedes (member cut i) (member cut j) place) → end_by cut entries i place ≤ℤ start_by cut entries j place
+    (i j : ℕ) → IsTrue (is_among some i) → IsTrue (is_among some j) → GoesBefore cut place i j
+    → end_by cut entries i place ≤ℤ start_by cut entries j place
 
 -- edges are enough for the order of some trains on a place, and the ends are known
 pub record AreEnoughFor (cut : Cut) (place : ℕ) (some : List ℕ) (edges : List Edge) (known : Option Ends) : Type 0 where
-  pub enough : (period : ℕ) (entries : List ℤ) → All (Keeps period entries) edges → KeepOrder cut place some entries
+  pub enough : (period : ℕ) (entries : List ℤ) → All (Keeps period entries) edges
+      → KeepOrder cut place some entries
   pub ends : AreEndsIfAny cut place some known
 
 -- the ends of a place, in a table of all places
@@ -136,7 +141,7 @@ ends_at ends place = slice_index_or ends place None
 pub record AreLaidOn (cut : Cut) (some : ℕ → List ℕ) (edges : List Edge) (ends : List (Option Ends)) : Type 0 where
   pub each : All (IsEdge cut) edges
   pub count : length ends ≡ place_count cut
-  pub places : (place : ℕ) → place < place_count cut → AreEnoughFor cut place (some place) edges (ends_at ends place)
+  pub places : (p : ℕ) → p < place_count cut → AreEnoughFor cut p (some p) edges (ends_at ends p)
 
 -- on all places for the same ones
 abbrev pub AreLaid : Cut → List ℕ → List Edge → List (Option Ends) → Type 0

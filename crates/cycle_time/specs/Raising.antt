@@ -45,7 +45,8 @@ pub record AreRaisedAlong (cut : Cut) (period : ℕ) (entries : List ℤ) (cause
     : Type 0 where
   pub count : length entries ≡ member_count cut
   pub causes_count : length causes ≡ member_count cut
-  pub each : (i : ℕ) → i < member_count cut → IsRaised cut period entries trails (cause_at causes i) i (trails i)
+  pub each : (i : ℕ) → i < member_count cut
+      → IsRaised cut period entries trails (cause_at causes i) i (trails i)
 
 abbrev pub AreRaised : Cut → ℕ → List ℤ → List (Option Edge) → Type 0
 AreRaised cut period entries causes = (trails : ℕ → List Edge) × AreRaisedAlong cut period entries causes trails
@@ -66,7 +67,7 @@ pub record IsEarly (x : ℤ) : Type 0 where
 abbrev pub AreEarly : List ℤ → Type 0
 AreEarly entries = All IsEarly entries
 
--- no entry lies above this one: that of an early train, raised along one edge more
+-- no entry lies above this one: that of an early train, raised along one more edge, of at most 200,000,000 s
 abbrev pub highest : ℤ
 highest = LATEST +ℤ pos 200000000
 
