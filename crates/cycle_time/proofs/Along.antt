@@ -1,6 +1,6 @@
 -- Edges that are laid along an order: who keeps them keeps each place for the trains so far.
 use Rattle.std.proofs.Common.{◌≡◌, ◌≢◌, ℕ, ◌+◌, ◌<◌, ◌≤◌, Bool, true, false, ◌==◌, ◌||◌, List, [], ◌∷◌, length, get_or, set, take, ◌⊎◌, inl, inr, refl, sym, ap, subst, ◌∙◌, arith, length-set}
-use Rattle.std.specs.Prelude.{ℤ, pos, ◌+ℤ◌, ◌-ℤ◌, ◌≤ℤ◌, ◌<ℤ◌, All, IsTrue, Option, None, Some, IfSome, if◌then◌else◌, replicate, unwrap_or}
+use Rattle.std.specs.Prelude.{ℤ, pos, ◌+ℤ◌, ◌-ℤ◌, ◌≤ℤ◌, All, IsTrue, Option, None, Some, IfSome, if◌then◌else◌, replicate, unwrap_or}
 use Rattle.std.specs.List.{list_any}
 use Rattle.std.proofs.lemmas.Bool.{cases_Bool, cases_eq, both_ways, eq-eqb, ne_eqb, or_left, or_right, or_from}
 use Rattle.std.proofs.lemmas.Int.{ints}
@@ -15,7 +15,7 @@ use Rattle.plan_model.specs.Schedule.{entry_at, start_by, end_by}
 use Rattle.plan_model.proofs.Order.{one_precedes}
 use Rattle.plan_model.proofs.Sound.{differ}
 use Rattle.plan_model.proofs.UseFound.{found_at}
-use Rattle.plan_model.proofs.Uses.{takes_time}
+use Rattle.plan_model.proofs.Uses.{takes_time_by}
 use Rattle.train_order.specs.Laws.{ComesNext}
 use Rattle.train_order.specs.Ordering.{IsOrder}
 use Rattle.train_order.proofs.Among.{among_first, first_among, among_more}
@@ -28,6 +28,7 @@ use Rattle.cycle_time.specs.declared.stay.Ends.{Ends}
 use Rattle.cycle_time.specs.Cycle.{IsStep, weight}
 use Rattle.cycle_time.specs.Edges.{step_on, IsSpan, IsLight, IsEdge, Keeps, AreEnough}
 use Rattle.cycle_time.specs.Laying.{stay_by, with_stay, edge_to, Cover, IsAdded, IsLedTo, IsLedOn, HaveSpans, IsStayOf, AreEnds, AreEndsIfAny, KeepOrder, AreEnoughFor, ends_at, AreLaidOn, AreLaid, with_uses, AreLaidAgain}
+use Rattle.cycle_time.proofs.Weights.{by_moments, by_moments_again}
 
 -- ---- at first
 
@@ -54,15 +55,6 @@ light until from u f = record {
   above = omega (arith, ints, u.above, f.below);
   below = omega (arith, ints, u.below, f.above);
 }
-
-keeps_is : (e s ei ej x y : ℤ) → (x +ℤ ((e -ℤ ei) -ℤ (s -ℤ ej))) ≤ℤ y → (e -ℤ ei +ℤ x) ≤ℤ (s -ℤ ej +ℤ y)
-keeps_is e s ei ej x y h = omega (arith, ints, h)
-
-again_is : (e s ei ej x y t : ℤ) → (x +ℤ ((e -ℤ ei) -ℤ (s -ℤ ej) -ℤ t)) ≤ℤ y → (e -ℤ ei +ℤ x) ≤ℤ (s -ℤ ej +ℤ y +ℤ t)
-again_is e s ei ej x y t h = omega (arith, ints, h)
-
-moved : (s f e y : ℤ) → s <ℤ f → (s -ℤ e +ℤ y) <ℤ (f -ℤ e +ℤ y)
-moved s f e y h = omega (arith, ints, h)
 
 module _ (cut : Cut) (place : ℕ) (one other : Stay) (first : IsStayOf cut place one) (second : IsStayOf cut place other) where
   abbrev i : ℕ
@@ -94,20 +86,14 @@ module _ (cut : Cut) (place : ℕ) (one other : Stay) (first : IsStayOf cut plac
 
     clear : Keeps period entries (edge_to one other place false) → end_by cut entries i place ≤ℤ start_by cut entries j place
     clear keep =
-        keeps_is (use_at (member cut i) place).«end» (use_at (member cut j) place).start (member cut i).entry
+        by_moments (use_at (member cut i) place).«end» (use_at (member cut j) place).start (member cut i).entry
         (member cut j).entry x y (subst (λ w. (x +ℤ w) ≤ℤ y) (weight_is false) keep)
 
     clear_again : Keeps period entries (edge_to one other place true)
         → end_by cut entries i place ≤ℤ (start_by cut entries j place +ℤ pos period)
     clear_again keep =
-        again_is (use_at (member cut i) place).«end» (use_at (member cut j) place).start (member cut i).entry
+        by_moments_again (use_at (member cut i) place).«end» (use_at (member cut j) place).start (member cut i).entry
         (member cut j).entry x y (pos period) (subst (λ w. (x +ℤ (w -ℤ pos period)) ≤ℤ y) (weight_is true) keep)
-
-takes : (cut : Cut) → IsSoundCut cut → (place i : ℕ) → i < member_count cut → IsTrue (uses_place (member cut i) place)
-    → (entries : List ℤ) → start_by cut entries i place <ℤ end_by cut entries i place
-takes cut sound place i l used entries =
-    moved (use_at (member cut i) place).start (use_at (member cut i) place).«end» (member cut i).entry (entry_at entries i)
-    (takes_time cut sound i place l used)
 
 -- all of some trains have left a place by when the last one leaves, and start there from when the first one starts on
 module _ (cut : Cut) (sound : IsSoundCut cut) (place : ℕ) (some : List ℕ) (ends : Ends) (are : AreEnds cut place some ends)
@@ -121,7 +107,7 @@ module _ (cut : Cut) (sound : IsSoundCut cut) (place : ℕ) (some : List ℕ) (e
         | inr ne ↦ elim (one_precedes cut sound i last place (user_there cut i place used) are.last.there ne used are.last.used) [
           | inl p ↦
               let off = keep i last among are.last_among p in
-              let lasts = takes cut sound place last are.last.there are.last.used entries in
+              let lasts = takes_time_by cut sound last place are.last.there are.last.used (entry_at entries last) in
               omega (arith, ints, off, lasts)
           | inr p ↦ absurd (are.none_after i among p)
         ]
@@ -136,7 +122,7 @@ module _ (cut : Cut) (sound : IsSoundCut cut) (place : ℕ) (some : List ℕ) (e
           | inl p ↦ absurd (are.none_before i among p)
           | inr p ↦
               let off = keep first i are.first_among among p in
-              let lasts = takes cut sound place first are.first.there are.first.used entries in
+              let lasts = takes_time_by cut sound first place are.first.there are.first.used (entry_at entries first) in
               omega (arith, ints, off, lasts)
         ]
       ]

@@ -1,8 +1,7 @@
 -- Entries that repeat keep all places, and the other way round.
 use Rattle.std.proofs.Common.{◌≡◌, ℕ, ◌+◌, ◌-◌, ◌<◌, false, List, length, inl, inr, get_or, sym, subst, arith, length-append}
-use Rattle.std.specs.Prelude.{ℤ, pos, ◌+ℤ◌, ◌-ℤ◌, ◌≤ℤ◌}
+use Rattle.std.specs.Prelude.{ℤ, pos, ◌≤ℤ◌}
 use Rattle.std.proofs.lemmas.Bool.{and_parts, cases_eq}
-use Rattle.std.proofs.lemmas.Int.{ints}
 use Rattle.std.proofs.lemmas.List.Elements.{All-get_or, All-from_get_or}
 use Rattle.plan_model.specs.declared.cut.Cut.{Cut}
 use Rattle.plan_model.specs.Members.{member, use_at}
@@ -16,6 +15,7 @@ use Rattle.cycle_time.specs.Edges.{edge_on, Keeps, KeepsPlace}
 use Rattle.cycle_time.specs.declared.edge.Edge.{Edge}
 use Rattle.cycle_time.specs.Laying.{IsVisitOf, train_at, AreTurns, KeepsTurn, KeepTurns, KeepsAgain}
 use Rattle.cycle_time.specs.Checking.{KeepAll}
+use Rattle.cycle_time.proofs.Weights.{by_weight, by_weight_again}
 
 -- ---- all places
 
@@ -45,12 +45,6 @@ module _ (cut : Cut) (period : ℕ) (entries : List ℤ) where
 
 -- ---- one place
 
-turn_is : (e s ei ej x y : ℤ) → (e -ℤ ei +ℤ x) ≤ℤ (s -ℤ ej +ℤ y) → (x +ℤ ((e -ℤ ei) -ℤ (s -ℤ ej))) ≤ℤ y
-turn_is e s ei ej x y h = omega (arith, ints)
-
-again_is : (e s ei ej x y t : ℤ) → (e -ℤ ei +ℤ x) ≤ℤ (s -ℤ ej +ℤ y +ℤ t) → (x +ℤ ((e -ℤ ei) -ℤ (s -ℤ ej) -ℤ t)) ≤ℤ y
-again_is e s ei ej x y t h = omega (arith, ints)
-
 module _ (cut : Cut) (period : ℕ) (entries : List ℤ) (place : ℕ) (some : List Visit) (turns : AreTurns cut place some)
     (keeps : KeepsPlace cut period entries place) where
   visit : (k : ℕ) → k < length some → IsVisitOf cut place (get_or some k no_visit)
@@ -61,7 +55,7 @@ module _ (cut : Cut) (period : ℕ) (entries : List ℤ) (place : ℕ) (some : L
   turns_kept k l =
       let i = train_at some k in
       let j = train_at some (k + 1) in
-      turn_is (use_at (member cut i) place).«end» (use_at (member cut j) place).start (member cut i).entry (member cut j).entry
+      by_weight (use_at (member cut i) place).«end» (use_at (member cut j) place).start (member cut i).entry (member cut j).entry
       (entry_at entries i) (entry_at entries j)
       (keeps.order i j (visit k (omega (arith, l))).there (visit (k + 1) l).there (turns.goes k l))
 
@@ -72,7 +66,7 @@ module _ (cut : Cut) (period : ℕ) (entries : List ℤ) (place : ℕ) (some : L
       let j = train_at some 0 in
       let v = visit (length some - 1) (omega (arith, l)) in
       let w = visit 0 l in
-      again_is (use_at (member cut i) place).«end» (use_at (member cut j) place).start (member cut i).entry (member cut j).entry
+      by_weight_again (use_at (member cut i) place).«end» (use_at (member cut j) place).start (member cut i).entry (member cut j).entry
       (entry_at entries i) (entry_at entries j) (pos period)
       (keeps.again block i j v.there w.there v.used w.used)
 

@@ -12,7 +12,7 @@ use Rattle.plan_model.specs.Members.{block_count, member, member_count, members,
 use Rattle.plan_model.specs.Cut.{IsSoundCut, IsMoment}
 use Rattle.plan_model.specs.Schedule.{entry_at, start_by, end_by}
 use Rattle.plan_model.proofs.MemberTests.{has-range, has-filter}
-use Rattle.plan_model.proofs.Uses.{takes_time}
+use Rattle.plan_model.proofs.Uses.{takes_time, takes_time_by}
 use Rattle.plan_model.proofs.Sound.{usable, use_sound}
 use Rattle.train_order.specs.declared.visits.Visit.{Visit}
 use Rattle.train_order.specs.Visits.{no_visit, visit_at, visits, AreInTurn}
@@ -20,6 +20,7 @@ use Rattle.train_order.proofs.Among.{stands_at}
 use Rattle.train_order.proofs.InTurn.{IsVisit, is_visit, goes_first, in_order}
 use Rattle.cycle_time.specs.Edges.{KeepsPlace}
 use Rattle.cycle_time.specs.Laying.{IsVisitOf, train_at, AreTurns, KeepTurns, KeepsAgain}
+use Rattle.cycle_time.proofs.Weights.{by_moments, by_moments_again}
 
 -- ---- a visit
 
@@ -77,29 +78,19 @@ module _ (cut : Cut) (sound : IsSoundCut cut) (place : ℕ) where
       abbrev until : ℕ → ℤ
       until k = end_by cut entries (at k) place
 
-      keeps_is : (e s ei ej x y : ℤ) → (x +ℤ ((e -ℤ ei) -ℤ (s -ℤ ej))) ≤ℤ y → (e -ℤ ei +ℤ x) ≤ℤ (s -ℤ ej +ℤ y)
-      keeps_is e s ei ej x y h = omega (arith, ints)
-
-      again_is : (e s ei ej x y t : ℤ) → (x +ℤ ((e -ℤ ei) -ℤ (s -ℤ ej) -ℤ t)) ≤ℤ y → (e -ℤ ei +ℤ x) ≤ℤ (s -ℤ ej +ℤ y +ℤ t)
-      again_is e s ei ej x y t h = omega (arith, ints)
-
       module _ (turns : KeepTurns cut place some (length some) period entries) (again : KeepsAgain cut place some period entries) where
         next : (k l : ℕ) → k + 1 ≡ l → l < length some → until k ≤ℤ from l
         next k l e ll =
             let i = member cut (at k) in
             let j = member cut (at (k + 1)) in
             subst (λ m. until k ≤ℤ from m) e
-            (keeps_is (use_at i place).«end» (use_at j place).start i.entry j.entry (entry_at entries (at k))
+            (by_moments (use_at i place).«end» (use_at j place).start i.entry j.entry (entry_at entries (at k))
             (entry_at entries (at (k + 1))) (turns k (omega (arith, e, ll))))
-
-        moved : (s f e y : ℤ) → s <ℤ f → (s -ℤ e +ℤ y) <ℤ (f -ℤ e +ℤ y)
-        moved s f e y h = omega (arith, ints)
 
         takes : (k : ℕ) → k < length some → from k <ℤ until k
         takes k l =
             let v = is_visit cut place some are k l in
-            moved (use_at (member cut (at k)) place).start (use_at (member cut (at k)) place).«end» (member cut (at k)).entry
-            (entry_at entries (at k)) (takes_time cut sound (at k) place v.there v.used)
+            takes_time_by cut sound (at k) place v.there v.used (entry_at entries (at k))
 
         -- one that comes later starts after the end
         clear : (k l : ℕ) → k < l → l < length some → until k ≤ℤ from l
@@ -136,7 +127,7 @@ module _ (cut : Cut) (sound : IsSoundCut cut) (place : ℕ) where
         goes_on block l =
             let i = member cut (at (length some - 1)) in
             let j = member cut (at 0) in
-            again_is (use_at i place).«end» (use_at j place).start i.entry j.entry (entry_at entries (at (length some - 1)))
+            by_moments_again (use_at i place).«end» (use_at j place).start i.entry j.entry (entry_at entries (at (length some - 1)))
             (entry_at entries (at 0)) (pos period) (again block l)
 
         pub place_kept : KeepsPlace cut period entries place

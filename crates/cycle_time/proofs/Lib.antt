@@ -1,3 +1,4 @@
+pub mod Weights
 pub mod Refused
 pub mod Raised
 pub mod Laid

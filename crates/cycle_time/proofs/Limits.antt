@@ -1,6 +1,6 @@
 -- The search for the least period.
 use Rattle.std.proofs.Common.{◌≡◌, ℕ, ◌<◌, ◌≤◌, ◌==◌, true, List, get_or, inl, inr, refl, ap, subst, ◌∙◌, arith}
-use Rattle.std.specs.Prelude.{ℤ, pos, ◌+ℤ◌, ◌-ℤ◌, ◌*ℤ◌, ◌≤ℤ◌, ◌<ℤ◌, ◌⊎◌, All}
+use Rattle.std.specs.Prelude.{ℤ, pos, ◌-ℤ◌, ◌*ℤ◌, ◌≤ℤ◌, ◌<ℤ◌, ◌⊎◌, All}
 use Rattle.std.specs.List.{list_any}
 use Rattle.std.proofs.lemmas.Bool.{or_left, eq-eqb, ltb-true}
 use Rattle.std.proofs.lemmas.Int.{ints}
@@ -8,10 +8,10 @@ use Rattle.std.proofs.lemmas.List.Elements.{filter_passes}
 use Rattle.std.proofs.lemmas.List.Folds.{list_any-append, list_any_at}
 use Rattle.rail_model.specs.declared.stair.Use.{Use}
 use Rattle.plan_model.specs.declared.cut.Cut.{Cut}
-use Rattle.plan_model.specs.Members.{block_count, member, member_count, no_member, no_use, uses_place, use_at}
+use Rattle.plan_model.specs.Members.{block_count, member, member_count, no_member, no_use, uses_place}
 use Rattle.plan_model.specs.Cut.{IsSoundCut, is_block, block_uses, connection_uses}
 use Rattle.plan_model.specs.Schedule.{entry_at}
-use Rattle.plan_model.proofs.Uses.{takes_time}
+use Rattle.plan_model.proofs.Uses.{takes_time_by}
 use Rattle.cycle_time.specs.declared.edge.Edge.{Edge}
 use Rattle.cycle_time.specs.Cycle.{IsRepeating, IsLeastRepeating}
 use Rattle.cycle_time.specs.Edges.{IsLight}
@@ -20,9 +20,6 @@ use Rattle.cycle_time.proofs.Allowed.{greater}
 use Rattle.cycle_time.specs.Rings.{weights, laps, IsRefusal, IsLimit, IsFound}
 
 -- a train doesn't repeat at once
-stays : (s f e y : ℤ) → s <ℤ f → (f -ℤ e +ℤ y) ≤ℤ (s -ℤ e +ℤ y +ℤ pos 0) → ⊥
-stays s f e y a b = absurd (omega (arith, ints, a, b))
-
 pub not_at_once : (cut : Cut) → IsSoundCut cut → 0 < member_count cut → (entries : List ℤ) → IsRepeating cut 0 entries → ⊥
 not_at_once cut sound l entries repeats =
     let row = member cut 0 in
@@ -35,8 +32,7 @@ not_at_once cut sound l entries repeats =
     ap (list_any test) sound_row.blocks_first ∙ list_any-append test (block_uses cut row) (connection_uses cut row)
     ∙ or_left (list_any test (block_uses cut row)) (list_any test (connection_uses cut row))
     (list_any_at test (block_uses cut row) 0 no_use sound_row.some_block (eq-eqb u.block u.block refl)) in
-    stays (use_at row u.block).start (use_at row u.block).«end» row.entry (entry_at entries 0)
-    (takes_time cut sound 0 u.block l used) (repeats.again 0 0 u.block l l block used used)
+    absurd (omega (arith, ints, takes_time_by cut sound 0 u.block l used (entry_at entries 0), repeats.again 0 0 u.block l l block used used))
 
 -- the period that is tried: 0 at first, and then one that a ring allows
 pub record IsSearched (cut : Cut) (period : ℕ) (ring : List Edge) : Type 0 where

@@ -10,16 +10,11 @@ use Rattle.plan_model.specs.Schedule.{entry_at}
 use Rattle.cycle_time.specs.declared.found.Step.{Step}
 use Rattle.cycle_time.specs.Cycle.{IsRepeating, IsStep, weight, total, patterns, Leads, first_train}
 use Rattle.cycle_time.specs.Laws.{NoLesserPeriod, ShorterIsRefused}
+use Rattle.cycle_time.proofs.Weights.{by_weight, by_weight_again}
 
 -- how much a step asks for in a period
 abbrev pub step_asks : Cut → ℕ → Step → ℤ
 step_asks cut period s = if s.next then weight cut s -ℤ pos period else weight cut s
-
-by_order : (e s ei ej x y : ℤ) → (e -ℤ ei +ℤ x) ≤ℤ (s -ℤ ej +ℤ y) → (x +ℤ ((e -ℤ ei) -ℤ (s -ℤ ej))) ≤ℤ y
-by_order e s ei ej x y h = omega (arith, ints)
-
-by_again : (e s ei ej x y t : ℤ) → (e -ℤ ei +ℤ x) ≤ℤ (s -ℤ ej +ℤ y +ℤ t) → (x +ℤ ((e -ℤ ei) -ℤ (s -ℤ ej) -ℤ t)) ≤ℤ y
-by_again e s ei ej x y t h = omega (arith, ints)
 
 pub nat_times : (m n : ℕ) → pos m *ℤ pos n ≡ pos (m * n)
 nat_times m n = refl
@@ -43,11 +38,11 @@ module _ (cut : Cut) (period : ℕ) (entries : List ℤ) (repeats : IsRepeating 
       elim (cases_Bool s.next) [
         | inl e ↦
             let users = step.next e in
-            rw e (by_again (use_at i s.block).«end» (use_at j s.block).start i.entry j.entry (entry_at entries s.from)
+            rw e (by_weight_again (use_at i s.block).«end» (use_at j s.block).start i.entry j.entry (entry_at entries s.from)
             (entry_at entries s.to) (pos period)
             (repeats.again s.from s.to s.block step.one_there step.other_there users.block_there users.one users.other))
         | inr e ↦
-            rw e (by_order (use_at i s.block).«end» (use_at j s.block).start i.entry j.entry (entry_at entries s.from)
+            rw e (by_weight (use_at i s.block).«end» (use_at j s.block).start i.entry j.entry (entry_at entries s.from)
             (entry_at entries s.to)
             (repeats.schedule.order s.from s.to s.block step.one_there step.other_there (step.same e)))
       ]

@@ -1,6 +1,6 @@
 use Rattle.std.proofs.Common.{sym, ◌∙◌}
 use Rattle.plan_model.specs.Members.{member}
-use Rattle.train_order.proofs.Gathered.{is_used}
+use Rattle.plan_model.proofs.Uses.{is_used}
 use Rattle.cycle_time.proofs.steps.uses.Goals as goal
 
 pub returns : goal.returns
