@@ -1,14 +1,13 @@
 -- The visits of a place, member by member.
-use Rattle.std.proofs.Common.{◌≡◌, ℕ, suc, ◌+◌, ◌<◌, Bool, true, false, ◌==◌, List, [], ◌∷◌, ◌++◌, length, map, take, set, inl, inr, refl, sym, ap, ◌∙◌, arith}
-use Rattle.std.specs.Prelude.{Option, Some, find, unwrap_or}
+use Rattle.std.proofs.Common.{◌≡◌, ℕ, suc, ◌+◌, ◌<◌, true, false, ◌==◌, List, [], ◌∷◌, ◌++◌, length, map, take, set, inl, inr, refl, sym, ap, ◌∙◌, arith}
+use Rattle.std.specs.Prelude.{Some, find, unwrap_or}
 use Rattle.std.specs.Option.{is_some}
 use Rattle.std.specs.List.{list_any}
 use Rattle.std.proofs.lemmas.Bool.{cases_Bool, or_parts, eqb-true}
 use Rattle.std.proofs.lemmas.List.{append-nil, map-append, take_more_set}
 use Rattle.rail_model.specs.declared.stair.Use.{Use}
 use Rattle.plan_model.specs.declared.cut.Cut.{Cut}
-use Rattle.plan_model.specs.declared.cut.CutRow.{CutRow}
-use Rattle.plan_model.specs.Members.{member, member_count, no_member, no_use, uses_place, use_of, use_at}
+use Rattle.plan_model.specs.Members.{member, member_count, no_member, no_use, uses_place, use_of}
 use Rattle.plan_model.specs.Cut.{IsSoundCut, AreOfOtherPlaces}
 use Rattle.plan_model.proofs.UseFound.{differ_tail, not_found}
 use Rattle.plan_model.proofs.Uses.{any_found, is_used, its_use}
