@@ -1,6 +1,6 @@
 -- How much later a train enters than its floor.
-use Rattle.std.proofs.Common.{◌≡◌, ℕ, ◌<◌, ◌≤◌, List, length, refl, inl, inr, arith}
-use Rattle.std.specs.Prelude.{ℤ, pos, negsuc, ◌+ℤ◌, ◌-ℤ◌, ◌≤ℤ◌, ◌^◌, nat_abs, All}
+use Rattle.std.proofs.Common.{◌≡◌, ℕ, ◌<◌, ◌≤◌, List, length, inl, inr, arith}
+use Rattle.std.specs.Prelude.{ℤ, pos, ◌+ℤ◌, ◌-ℤ◌, ◌≤ℤ◌, ◌^◌, All}
 use Rattle.std.proofs.lemmas.Bool.{cases_lt}
 use Rattle.std.proofs.lemmas.Int.{ints}
 use Rattle.std.proofs.lemmas.List.{get_or_past, get_or-map}
@@ -10,21 +10,15 @@ use Rattle.plan_model.specs.Members.{member, member_count, no_member}
 use Rattle.plan_model.specs.Cut.{IsBounded, IsMoment}
 use Rattle.plan_model.specs.Schedule.{entry_at, IsScheduleFrom}
 use Rattle.plan_model.specs.Planned.{planned_entries}
+use Rattle.plan_model.proofs.Closing.{abs_is, not_negative}
 use Rattle.delay_spread.specs.declared.spreading.TheConstants.{GREATEST_DELAY_S}
 use Rattle.delay_spread.specs.Spreading.{delay_at, delayed_floor, later_by}
 use Rattle.delay_spread.specs.Laws.{NoneIsKnockedOn, EntersByItsKnockOn}
 
-abs_is : (z : ℤ) → pos 0 ≤ℤ z → pos (nat_abs z) ≡ z
-abs_is (pos n) h = refl
-abs_is (negsuc n) h = absurd (omega (arith, ints, h))
-
-above : (entry planned : ℤ) (delay : ℕ) → (planned +ℤ pos delay) ≤ℤ entry → pos 0 ≤ℤ (entry -ℤ (planned +ℤ pos delay))
-above entry planned delay h = omega (arith, ints, h)
-
 -- by a delayed schedule it enters at its floor and so much later
 pub later_is : (entry planned : ℤ) (delay : ℕ) → (planned +ℤ pos delay) ≤ℤ entry
     → pos (later_by planned delay entry) ≡ entry -ℤ (planned +ℤ pos delay)
-later_is entry planned delay h = abs_is (entry -ℤ (planned +ℤ pos delay)) (above entry planned delay h)
+later_is entry planned delay h = abs_is (entry -ℤ (planned +ℤ pos delay)) (not_negative (planned +ℤ pos delay) entry h)
 
 pub small : (entry planned : ℤ) (delay : ℕ) → IsBounded entry → IsMoment planned → delay ≤ GREATEST_DELAY_S
     → (planned +ℤ pos delay) ≤ℤ entry → later_by planned delay entry ≤ 2 ^ 51
