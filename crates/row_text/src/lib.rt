@@ -48,7 +48,7 @@ mod written;
 
 pub use fields::{Fields, Row};
 pub use laws::limits;
-pub use line::{Line, read_line, read_row, read_row_in};
+pub use line::{Line, read_row, read_row_in};
 pub use line_row::{has_times_in, spell, spell_in};
 pub use parts::rows_by_threads;
 pub use read_field::{HOUR_DIGITS, NUMBER_DIGITS, number};
@@ -56,5 +56,6 @@ pub use row_list::{RowList, rows};
 pub use sheet::Sheet;
 pub use text::Text;
 pub use time_text::GREATEST_CLOCK_S;
+pub use word::{Word, word_of};
 pub use write_field::Field;
 pub use written::Written;

@@ -27,7 +27,7 @@ pub enum Line {
 pub fn read_row(alloc: Global, fields: &Fields) -> Result<Result<Line, Form>, OutOfMemory>
     ensures { IfOk result (λ found. found ≡ lines.read_in 1 fields.now) }
 {
-    read_line(alloc, 1, &fields.row())
+    read_row_in(alloc, 1, fields)
 }
 
 /// The line that a row spells in a version of the rows, 1 or 2, or its first form fault. Any other
@@ -42,8 +42,8 @@ pub fn read_row_in(
     read_line(alloc, version, &fields.row())
 }
 
-/// Reads a row as `read_row_in` does, where it lies, without a copy of its fields.
-pub fn read_line(
+// The line that a row spells in a version of the rows, where it lies, or its first form fault.
+pub(crate) fn read_line(
     alloc: Global,
     version: u32,
     row: &Row<'_>,

@@ -5,13 +5,18 @@ ghost use Rattle.row_text.specs.Words as words;
 
 use rail_model::{Kind, PATH_HOPS};
 
-// What the first field of a row says that the row does.
+/// What the first field of a row says that the row does.
 #[derive(Clone, Copy)]
-pub(crate) enum Word {
+pub enum Word {
+    /// Puts an item of a kind.
     Put(Kind),
+    /// Changes one.
     Change(Kind),
+    /// Drops one.
     Drop(Kind),
+    /// Asks for the answer of a section.
     Ask,
+    /// Starts a planner's script.
     Planner,
 }
 
@@ -71,8 +76,8 @@ fn kind_allows(kind: Kind, fields: usize) -> bool
     }
 }
 
-// The word that a field is, if it is one.
-pub(crate) fn word_of(field: &[u8]) -> Option<Word>
+/// The word that a field is, if it is one.
+pub fn word_of(field: &[u8]) -> Option<Word>
     ensures { result ≡ words.word_of field.now }
 {
     if let Some(kind) = field.strip_prefix(b"change-".as_slice()) {
