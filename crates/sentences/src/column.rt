@@ -1,10 +1,10 @@
 //! The fields of each kind of row: what stands where, and within which limits.
 use crate::column::Column::{Name, NameOf, Number, Rate, Time};
-use crate::row_at::{First, Verb};
 use rail_model::{
     GREATEST_LENGTH_M, GREATEST_RATE, GREATEST_START_S, GREATEST_TIME_S, GREATEST_WINDOW_END_S,
     Kind,
 };
+use row_text::Word;
 
 // What a field is to be. A number, a rate and a time are called so, and have these limits.
 #[derive(Clone, Copy)]
@@ -92,24 +92,23 @@ fn columns_of(kind: Kind) -> &'static [Column] {
     }
 }
 
-// What the field at a position of a row that begins so is to be.
-pub(crate) fn column_of(first: First, at: usize) -> Column {
-    match first {
-        First::Item(_, kind) => column_at(kind, at),
-        First::Ask => Name,
-        First::Version | First::Planner | First::Other => Number("", 0, u32::MAX),
+// What the field at a position of a row of a word is to be. A row of no word says the version.
+pub(crate) fn column_of(word: Option<Word>, at: usize) -> Column {
+    match word {
+        Some(Word::Put(kind) | Word::Change(kind) | Word::Drop(kind)) => column_at(kind, at),
+        Some(Word::Ask) => Name,
+        Some(Word::Planner) | None => Number("", 0, u32::MAX),
     }
 }
 
-// What the fields of a row that begins so are, with a gap for its word, and one for the greatest n.
-pub(crate) fn fields_of(first: First, version: u32) -> &'static str {
-    match first {
-        First::Version => "the first row's fields are version,1 or version,2; ",
-        First::Ask => "the fields are ask,SECTION; ",
-        First::Planner => "the fields are planner,N; ",
-        First::Item(Verb::Drop, _) => "the fields are @,NAME; ",
-        First::Item(_, kind) => item_fields(kind, version),
-        First::Other => "",
+// What the fields of such a row are, with a gap for its first, and one for the greatest n.
+pub(crate) fn fields_of(word: Option<Word>, version: u32) -> &'static str {
+    match word {
+        None => "the first row's fields are version,1 or version,2; ",
+        Some(Word::Ask) => "the fields are ask,SECTION; ",
+        Some(Word::Planner) => "the fields are planner,N; ",
+        Some(Word::Drop(_)) => "the fields are @,NAME; ",
+        Some(Word::Put(kind) | Word::Change(kind)) => item_fields(kind, version),
     }
 }
 

@@ -2,8 +2,9 @@
 use crate::column::{Column, START, column_of, fields_of};
 use crate::piece::Piece::{Clock, Field, Number, Text};
 use crate::piece::{Written, place, tell};
-use crate::row_at::{RowAt, item_of};
+use crate::row_at::RowAt;
 use rail_model::{Form, PATH_HOPS};
+use row_text::{Word, word_of};
 use std::str;
 
 pub(crate) fn form_sentence(text: &mut String, row: &RowAt<'_>, form: Form) -> Written {
@@ -93,7 +94,11 @@ const NO_WORD: &str =
 
 // Whether a field is the first of a row that every command takes.
 fn is_word(field: &[u8]) -> bool {
-    item_of(field).is_some() || field == b"version".as_slice()
+    match word_of(field) {
+        Some(Word::Put(_) | Word::Change(_) | Word::Drop(_)) => true,
+        Some(Word::Ask | Word::Planner) => false,
+        None => field == b"version".as_slice(),
+    }
 }
 
 fn is_word_in_any_case(field: &[u8]) -> bool {
@@ -111,7 +116,7 @@ fn is_word_in_any_case(field: &[u8]) -> bool {
 // Why the number of fields is wrong.
 fn fields_sentence(text: &mut String, row: &RowAt<'_>) -> Written {
     let word = str::from_utf8(row.field(0)).unwrap_or("");
-    let fields = fields_of(row.first(), row.version);
+    let fields = fields_of(row.word(), row.version);
     tell(text, fields, &[Text(word), Number(PATH_HOPS as u64)])?;
     let empty = empty_at_end(row);
     let count = match empty {
@@ -138,7 +143,7 @@ fn empty_at_end(row: &RowAt<'_>) -> u64 {
 // Which field isn't what it is to be: the first.
 fn sort_sentence(text: &mut String, row: &RowAt<'_>) -> Written {
     for at in 1..row.len() {
-        let column = column_of(row.first(), at);
+        let column = column_of(row.word(), at);
         if !row.fits_in(row.version, at, column) {
             let pieces = [
                 place(at),

@@ -1,8 +1,8 @@
-//! A row among the rows of its input, and what its first field says.
+//! A row among the rows of its input.
 use crate::column::Column;
 use crate::said::Said;
 use rail_model::{Kind, Name, Tables};
-use row_text::{RowList, number};
+use row_text::{RowList, Word, number, word_of};
 
 // A refused row among the rows of its input, with what was read of it for the sentence.
 #[derive(Clone, Copy)]
@@ -53,22 +53,9 @@ impl<'a> RowAt<'a> {
         }
     }
 
-    // What the row's first field says.
-    pub(crate) fn first(&self) -> First {
-        let word = self.field(0);
-        if self.place < self.rows.first_line() {
-            return First::Version;
-        }
-        if word == b"ask".as_slice() {
-            return First::Ask;
-        }
-        if word == b"planner".as_slice() {
-            return First::Planner;
-        }
-        match item_of(word) {
-            Some((verb, kind)) => First::Item(verb, kind),
-            None => First::Other,
-        }
+    // What the row's first field says, if it is a word: `version` is none.
+    pub(crate) fn word(&self) -> Option<Word> {
+        word_of(self.field(0))
     }
 }
 
@@ -94,59 +81,6 @@ pub(crate) fn field_at<'a>(rows: &'a RowList<'_>, place: usize, at: usize) -> &'
 pub(crate) fn is_planner_row(rows: &RowList<'_>, place: usize) -> bool {
     field_at(rows, place, 0) == b"planner".as_slice()
 }
-
-// What the first field of a row says that the row does.
-#[derive(Clone, Copy)]
-pub(crate) enum First {
-    Version,
-    Ask,
-    Planner,
-    Item(Verb, Kind),
-    Other,
-}
-
-#[derive(Clone, Copy, PartialEq, Eq)]
-pub(crate) enum Verb {
-    Put,
-    Change,
-    Drop,
-}
-
-// What a field says that its row does with which kind of item, if it is such a word.
-pub(crate) fn item_of(field: &[u8]) -> Option<(Verb, Kind)> {
-    for (verb, text) in &VERBS {
-        if let Some(word) = field.strip_prefix(text.as_bytes()) {
-            if let Some(kind) = kind_of(word) {
-                return Some((*verb, kind));
-            }
-        }
-    }
-    None
-}
-
-const VERBS: [(Verb, &str); 3] = [
-    (Verb::Put, ""),
-    (Verb::Change, "change-"),
-    (Verb::Drop, "drop-"),
-];
-
-fn kind_of(word: &[u8]) -> Option<Kind> {
-    for (kind, text) in &KINDS {
-        if word == text.as_bytes() {
-            return Some(*kind);
-        }
-    }
-    None
-}
-
-const KINDS: [(Kind, &str); 6] = [
-    (Kind::Block, "block"),
-    (Kind::Signal, "signal"),
-    (Kind::Route, "route"),
-    (Kind::Run, "run"),
-    (Kind::Section, "section"),
-    (Kind::Connection, "connect"),
-];
 
 // The word of a kind in sentences.
 pub(crate) fn noun(kind: Kind) -> &'static str {
@@ -186,8 +120,8 @@ pub(crate) fn row_below(row: &RowAt<'_>, kind: Kind, name: &[u8]) -> u64 {
 }
 
 fn is_row_of(rows: &RowList<'_>, i: usize, kind: Kind, name: &[u8]) -> bool {
-    match item_of(field_at(rows, i, 0)) {
-        Some((Verb::Drop, _)) | None => false,
-        Some((_, of)) => of == kind && field_at(rows, i, 1) == name,
+    match word_of(field_at(rows, i, 0)) {
+        Some(Word::Put(of) | Word::Change(of)) => of == kind && field_at(rows, i, 1) == name,
+        _ => false,
     }
 }

@@ -2,20 +2,23 @@
 use crate::column::{Column, START, column_at};
 use crate::piece::Piece::{Field, Limit, Many, Number, Text};
 use crate::piece::{Written, place, tell};
-use crate::row_at::{First, RowAt, Verb, noun, row_below, row_of};
+use crate::row_at::{RowAt, noun, row_below, row_of};
 use crate::standing::{route_of, run_off, stands, user};
 use crate::twice_sentence::twice_sentence;
 use rail_model::{BLOCKS, CONNECTIONS, Kind, ROUTES, RUNS, Rule, SECTIONS, SIGNALS};
+use row_text::Word;
 
 pub(crate) fn rule_sentence(text: &mut String, row: &RowAt<'_>, rule: Rule) -> Written {
-    let First::Item(verb, kind) = row.first() else {
-        return tell(text, "a rule refuses this row", &[]);
+    let (is_put, kind) = match row.word() {
+        Some(Word::Put(kind)) => (true, kind),
+        Some(Word::Change(kind) | Word::Drop(kind)) => (false, kind),
+        _ => return tell(text, "a rule refuses this row", &[]),
     };
     match rule {
         Rule::Range => range_sentence(text, row, kind),
         Rule::Limit => limit_sentence(text, kind),
-        Rule::Twice => twice_sentence(text, row, verb, kind),
-        Rule::Unknown => unknown_sentence(text, row, verb, kind),
+        Rule::Twice => twice_sentence(text, row, is_put, kind),
+        Rule::Unknown => unknown_sentence(text, row, is_put, kind),
         Rule::Count if kind == Kind::Route => changed_count(text, row),
         Rule::Count => count_sentence(text, row),
         Rule::InUse => in_use_sentence(text, row, kind),
@@ -99,8 +102,8 @@ fn limit_sentence(text: &mut String, kind: Kind) -> Written {
 }
 
 // Which name isn't there: the first.
-fn unknown_sentence(text: &mut String, row: &RowAt<'_>, verb: Verb, kind: Kind) -> Written {
-    if verb != Verb::Put && !stands(row.tables, kind, row.field(1)) {
+fn unknown_sentence(text: &mut String, row: &RowAt<'_>, is_put: bool, kind: Kind) -> Written {
+    if !is_put && !stands(row.tables, kind, row.field(1)) {
         return no_item(text, row, kind, 1);
     }
     for at in 2..row.len() {

@@ -1,7 +1,8 @@
 //! Why a row may not stand at its place, in a sentence.
 use crate::piece::Piece::{Field, Many, Number};
 use crate::piece::{Written, tell};
-use crate::row_at::{First, RowAt, is_planner_row};
+use crate::row_at::{RowAt, is_planner_row};
+use row_text::Word;
 
 // For a command that takes the scripts of so many planners, with so many tasks in all.
 pub(crate) fn script_sentence(
@@ -12,10 +13,10 @@ pub(crate) fn script_sentence(
 ) -> Written {
     let above = planner_rows_above(row);
     let next = Number((above as u64).saturating_add(1));
-    let (why, piece) = match row.first() {
+    let (why, piece) = match row.word() {
         _ if planners == 0 => (NO_SCRIPTS, next),
-        First::Planner if above >= planners => (TOO_MANY, Many(planners, "planner")),
-        First::Planner => (NOT_NEXT, Field(row.field(1))),
+        Some(Word::Planner) if above >= planners => (TOO_MANY, Many(planners, "planner")),
+        Some(Word::Planner) => (NOT_NEXT, Field(row.field(1))),
         _ if above == 0 => (NO_PLANNER, next),
         _ => (MORE_TASKS, Number(tasks as u64)),
     };

@@ -2,17 +2,17 @@
 use crate::column::FIRST_BLOCK;
 use crate::piece::Piece::{Field, Number, Text};
 use crate::piece::{Written, place, tell};
-use crate::row_at::{RowAt, Verb, noun, row_of};
+use crate::row_at::{RowAt, noun, row_of};
 use crate::standing::{block_of, lists, stands};
 use rail_model::{Kind, Route, Tables};
 
 pub(crate) fn twice_sentence(
     text: &mut String,
     row: &RowAt<'_>,
-    verb: Verb,
+    is_put: bool,
     kind: Kind,
 ) -> Written {
-    if verb == Verb::Put {
+    if is_put {
         if let Some(holder) = holder(row, kind) {
             return taken_sentence(text, row, kind, holder);
         }
