@@ -1,6 +1,8 @@
 -- Rows that calls and loops add to a sheet, all of them or a prefix.
-use Rattle.std.proofs.Common.{◌≡◌, ℕ, ◌+◌, ◌<◌, ◌≤◌, List, [], ◌∷◌, ◌++◌, length, take, drop, get_or, Result, Ok, Err, OnOk, OnErr, sym, ap, ◌∙◌, append_assoc, append-nil, arith}
-use Rattle.std.proofs.lemmas.List.{take_more, take_all, take-append-drop}
+use Rattle.std.proofs.Common.{◌≡◌, ℕ, ◌+◌, ◌<◌, ◌≤◌, List, [], ◌∷◌, ◌++◌, length, map, take, drop, get_or, Result, Ok, Err, OnOk, OnErr, sym, ap, ◌∙◌, append_assoc, append-nil, zero-add, arith}
+use Rattle.std.specs.List.{range_with_len}
+use Rattle.std.proofs.lemmas.List.{take_more, take_all, take-append-drop, map-append}
+use Rattle.std.proofs.lemmas.List.FromFn.{length-range_with_len, get_or-range_with_len}
 use Rattle.row_text.specs.SheetRows.{Row, SheetRows, with_row}
 use Rattle.row_text.specs.Adds.{AddsAll, AddsFirst, Adds}
 use Rattle.row_text.proofs.Adds.{first_added, then_added}
@@ -81,3 +83,23 @@ module _ {X : Type 0} (rows_of : List X → List Row) (joins : (xs ys : List X) 
   -- those of all
   pub items_all : {before after : SheetRows} → length items ≤ i → AddsAll before after (rows_of (take i items)) → AddsAll before after (rows_of items)
   items_all {before} {after} all so_far = rw (take_all i items all) at so_far
+
+-- the rows of the numbers below n, one of each
+module _ (row : ℕ → Row) (n k : ℕ) where
+  next_row : k < n → row k ∷ [] ≡ map row (get_or (range_with_len 0 n) k 0 ∷ [])
+  next_row l = ap (λ m. row m ∷ []) (sym (get_or-range_with_len 0 n k 0 l ∙ zero-add k))
+
+  there : k < n → k < length (range_with_len 0 n)
+  there l = omega (arith, l, length-range_with_len 0 n)
+
+  pub numbers_more : {before later after : SheetRows} → k < n → AddsAll before later (map row (take k (range_with_len 0 n)))
+      → AddsAll later after (row k ∷ []) → AddsAll before after (map row (take (k + 1) (range_with_len 0 n)))
+  numbers_more l = items_more (map row) (map-append row) (range_with_len 0 n) k 0 (there l) (next_row l)
+
+  pub numbers_within : {before later after : SheetRows} → k < n → AddsAll before later (map row (take k (range_with_len 0 n)))
+      → AddsFirst later after (row k ∷ []) → AddsFirst before after (map row (range_with_len 0 n))
+  numbers_within l = items_within (map row) (map-append row) (range_with_len 0 n) k 0 (there l) (next_row l)
+
+  pub numbers_all : {before after : SheetRows} → n ≤ k → AddsAll before after (map row (take k (range_with_len 0 n)))
+      → AddsAll before after (map row (range_with_len 0 n))
+  numbers_all l = items_all (map row) (map-append row) (range_with_len 0 n) k (omega (arith, l, length-range_with_len 0 n))
