@@ -1,9 +1,8 @@
 -- Edges to a train from those who stand nearest before it at its places.
-use Rattle.std.proofs.Common.{◌≡◌, ℕ, ◌<◌, true, List, length, get_or, refl, sym, ap, subst, ◌∙◌, arith}
-use Rattle.std.specs.Prelude.{ℤ, ◌-ℤ◌, ◌≤ℤ◌, ◌==◌, Any, Option, None, Some, IfSome, slice_index_or, unwrap_or}
+use Rattle.std.proofs.Common.{◌≡◌, ℕ, ◌<◌, true, List, length, get_or, refl, sym, ap, subst, ◌∙◌}
+use Rattle.std.specs.Prelude.{◌-ℤ◌, ◌==◌, Any, Option, None, Some, IfSome, slice_index_or, unwrap_or}
 use Rattle.std.specs.Option.{option_map}
 use Rattle.std.proofs.lemmas.Bool.{eq-eqb, eqb-true}
-use Rattle.std.proofs.lemmas.Int.{ints}
 use Rattle.std.proofs.lemmas.List.{get_or_default}
 use Rattle.std.proofs.lemmas.List.Folds.{list_any_at, Any-from_list_any}
 use Rattle.rail_model.specs.declared.stair.Use.{Use}
@@ -20,9 +19,7 @@ use Rattle.train_net.specs.declared.edge.Edge.{Edge}
 use Rattle.train_net.specs.declared.near.Near.{Near}
 use Rattle.train_net.specs.Net.{IsEdge, Covers}
 use Rattle.train_net.specs.Gathered.{edge_of, IsAhead, AreCovered}
-
-same_no_more : (a b : ℤ) → a ≡ b → a ≤ℤ b
-same_no_more a b e = omega (arith, ints)
+use Rattle.train_net.proofs.Spanned.{same_no_later}
 
 module _ (cut : Cut) (sound : IsSoundCut cut) (j : ℕ) (lj : j < member_count cut) where
   abbrev uses : List Use
@@ -63,7 +60,7 @@ module _ (cut : Cut) (sound : IsSoundCut cut) (j : ℕ) (lj : j < member_count c
     pub covers : Covers cut near.train j place (edge_of cut j u near)
     covers = record {
       from = refl;
-      tight = same_no_more _ _ (sym weight_is);
+      tight = same_no_later _ _ (sym weight_is);
       first = λ e. rw block (is_before-itself (place_name cut place));
     }
 

@@ -39,6 +39,18 @@ all_below n = All-from_get_or (λ p. p < n) (range_with_len 0 n) 0 (λ k l.
     let lk : k < n = omega (arith, l, length-range_with_len 0 n) in
     omega (arith, lk, get_or-range_with_len 0 n k 0 lk))
 
+-- ---- an order from its end
+
+pub back_at : (order : List ℕ) (k : ℕ) → k < length order → slice_index (reverse order) (length order - 1 - k) ≡ slice_index order k
+back_at order k l =
+    get_or-reverse order (length order - 1 - k) 0 (omega (arith, l))
+    ∙ ap (λ i. slice_index order i) (let e : length order - 1 - (length order - 1 - k) ≡ k = omega (arith, l) in e)
+
+pub all_back : (n : ℕ) (order : List ℕ) → All (λ i. i < n) order → All (λ i. i < n) (reverse order)
+all_back n order all k d l =
+    let lk : k < length order = omega (arith, l, length-reverse order) in
+    subst (λ i. i < n) (sym (get_or-reverse order k d lk)) (all (length order - 1 - k) d (omega (arith, lk)))
+
 -- ---- who is found
 
 module _ (cut : Cut) (order : List ℕ) (there : All (λ i. i < member_count cut) order) (at : ℕ) (within : at ≤ length order) where
@@ -88,15 +100,10 @@ module _ (cut : Cut) (order : List ℕ) (entries : List ℤ) (place : ℕ) where
 
   -- ---- how long a place is kept
 
-  back_at : (k : ℕ) → k < length order → slice_index (reverse order) (length order - 1 - k) ≡ slice_index order k
-  back_at k l =
-      get_or-reverse order (length order - 1 - k) 0 (omega (arith, l))
-      ∙ ap (λ i. slice_index order i) (let e : length order - 1 - (length order - 1 - k) ≡ k = omega (arith, l) in e)
-
   pub span_along : (first last : Option Near) → IsNear cut (reverse order) (length order) place first
       → IsNear cut order (length order) place last → IsSpanAlong cut order entries place (span_by cut entries first last)
   span_along None last none is = λ k l.
-      subst (λ i. uses_place (member cut i) place ≡ false) (back_at k l)
+      subst (λ i. uses_place (member cut i) place ≡ false) (back_at order k l)
       (none (length order - 1 - k) (omega arith) (omega (arith, l)))
   span_along (Some first) None is none = λ k l. none k (omega arith) l
   span_along (Some first) (Some last) begins ends =
@@ -113,7 +120,7 @@ module _ (cut : Cut) (order : List ℕ) (entries : List ℤ) (place : ℕ) where
         last_uses = ends.nearest.uses;
         none_before = λ k l.
             let lk : k < n = omega (arith, l, lp) in
-            subst (λ i. uses_place (member cut i) place ≡ false) (back_at k lk)
+            subst (λ i. uses_place (member cut i) place ≡ false) (back_at order k lk)
             (begins.nearest.none (n - 1 - k) (omega (arith, l, lp)) (omega (arith, lk)));
         none_after = ends.nearest.none;
         start =
@@ -145,11 +152,6 @@ module _ (cut : Cut) (sound : IsSoundCut cut) (order : List ℕ) (edges : List (
   members_there : All (λ i. i < member_count cut) order
   members_there = below cut order net.in_order.each_once
 
-  pub back_there : All (λ i. i < member_count cut) (reverse order)
-  back_there k d l =
-      let lk : k < length order = omega (arith, l, length-reverse order) in
-      subst (λ i. i < member_count cut) (sym (get_or-reverse order k d lk)) (members_there (length order - 1 - k) d (omega (arith, lk)))
-
   pub spans_are : (first last : List (Option Near)) (spans : List (Option Span))
       → AreNear cut (reverse order) (length (reverse order)) (range_with_len 0 (place_count cut)) first
       → AreNear cut order (length order) (range_with_len 0 (place_count cut)) last → length spans ≡ block_count cut
@@ -164,5 +166,5 @@ module _ (cut : Cut) (sound : IsSoundCut cut) (order : List ℕ) (edges : List (
       subst (IsSpanAlong cut order entries block) (sym (each block l))
       (span_along cut order entries block (slice_index_or first block None) (slice_index_or last block None)
       (subst (λ n. IsNear cut (reverse order) n block (slice_index_or first block None)) long
-      (at_place cut (reverse order) back_there (length (reverse order)) (omega arith) first firsts block there))
+      (at_place cut (reverse order) (all_back (member_count cut) order members_there) (length (reverse order)) (omega arith) first firsts block there))
       (at_place cut order members_there (length order) (omega arith) last lasts block there)))

@@ -4,7 +4,7 @@ use Rattle.std.specs.Prelude.{ℤ, slice_index}
 use Rattle.std.specs.List.Sorted.{IsPermutation}
 use Rattle.std.proofs.lemmas.Bool.{and_parts, both_ways, cases_eq, false_from_ne_true}
 use Rattle.plan_model.specs.declared.cut.Cut.{Cut}
-use Rattle.plan_model.specs.Members.{member_count, members, uses_place, use_at, precedes}
+use Rattle.plan_model.specs.Members.{members, uses_place, use_at, precedes}
 use Rattle.plan_model.specs.Cut.{IsSoundCut}
 use Rattle.train_order.specs.Visits.{is_earlier}
 use Rattle.train_order.specs.EntryOrder.{AreInOrder}
@@ -25,14 +25,12 @@ module _ (cut : Cut) (sound : IsSoundCut cut) (order : List ℕ) (once : IsPermu
   abbrev key : ℕ → ℕ → ℤ × ℕ
   key place k = (start_at place k, slice_index order k)
 
-  at_there : (k : ℕ) → k < length order → slice_index order k < member_count cut
-  at_there k l = below cut order once k 0 l
-
   -- one precedes another by their starts and positions
   earlier : (place k l : ℕ) → k < length order → l < length order
       → precedes (standing cut order k) (standing cut order l) place ≡ true → is_earlier (key place k) (key place l) ≡ true
   earlier place k l lk ll h =
-      sym (earlier_is cut sound (start_at place k) (start_at place l) (slice_index order k) (slice_index order l) (at_there k lk) (at_there l ll))
+      sym (earlier_is cut sound (start_at place k) (start_at place l) (slice_index order k) (slice_index order l)
+      (below cut order once k 0 lk) (below cut order once l 0 ll))
       ∙ (and_parts _ _ h).1
 
   never_back : (place gap near at : ℕ) → at ≤ near + gap → near < at → at < length order

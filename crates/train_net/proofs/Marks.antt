@@ -1,6 +1,6 @@
 -- Members that are marked since a fresh one stands nearest before them.
-use Rattle.std.proofs.Common.{◌≡◌, ℕ, ◌+◌, ◌-◌, ◌<◌, ◌≤◌, Bool, true, false, List, length, reverse, get_or, inl, inr, refl, sym, ap, subst, ◌∙◌, arith}
-use Rattle.std.specs.Prelude.{Option, None, Some, All, IfSome, slice_index, slice_index_or}
+use Rattle.std.proofs.Common.{◌≡◌, ℕ, ◌+◌, ◌-◌, ◌<◌, ◌≤◌, Bool, true, false, List, length, reverse, get_or, inl, inr, refl, sym, subst, ◌∙◌, arith}
+use Rattle.std.specs.Prelude.{Option, None, Some, All, IfSome, slice_index_or}
 use Rattle.std.proofs.lemmas.Bool.{cases_eq}
 use Rattle.std.proofs.lemmas.List.{length-reverse, get_or-reverse}
 use Rattle.std.proofs.lemmas.List.Elements.{All-from_get_or}
@@ -14,6 +14,7 @@ use Rattle.train_net.specs.Mended.{stood, IsNearestAfter, is_marked, AreMarked}
 use Rattle.train_net.specs.Mending.{KeepMarks, IsMarkedAt}
 use Rattle.train_net.proofs.Walking.{found_nearest}
 use Rattle.train_net.proofs.Used.{at_used}
+use Rattle.train_net.proofs.Ended.{back_at}
 
 -- whoever is found is marked
 abbrev pub IsFoundMarked : List Bool → Option Near → Type 0
@@ -71,18 +72,6 @@ module _ (cut : Cut) (origin : List (Option ℕ)) (order : List ℕ) (at : ℕ) 
 -- ---- all, from the order's end
 
 module _ (cut : Cut) (order : List ℕ) where
-  back_at : (k : ℕ) → k < length order → slice_index (reverse order) (length order - 1 - k) ≡ slice_index order k
-  back_at k l =
-      get_or-reverse order (length order - 1 - k) 0 (omega (arith, l))
-      ∙ ap (λ i. slice_index order i) (let e : length order - 1 - (length order - 1 - k) ≡ k = omega (arith, l) in e)
-
-  pub back_there : (n : ℕ) → All (λ i. i < n) order → (back : List ℕ) → back ≡ reverse order → All (λ i. i < n) back
-  back_there n all back is =
-      subst (All (λ i. i < n)) (sym is)
-      (All-from_get_or (λ i. i < n) (reverse order) 0 (λ k l.
-      let lk : k < length order = omega (arith, l, length-reverse order) in
-      omega (arith, get_or-reverse order k 0 lk, all (length order - 1 - k) 0 (omega (arith, lk)))))
-
   -- the nearest after a position is the nearest before it, from the order's end
   nearest_back : (place at next : ℕ) → IsNearestAfter cut order place at next
       → IsNearest cut (reverse order) place (length order - 1 - next) (length order - 1 - at)
@@ -92,7 +81,7 @@ module _ (cut : Cut) (order : List ℕ) where
       let lt : at < next = is.later in
       record {
         before = omega (arith, ln, lt);
-        uses = subst (λ i. uses_place (member cut i) place ≡ true) (sym (back_at next ln)) is.uses;
+        uses = subst (λ i. uses_place (member cut i) place ≡ true) (sym (back_at order next ln)) is.uses;
         none = λ k after before.
             let lk : k < n = omega (arith, before, lt, ln) in
             subst (λ i. uses_place (member cut i) place ≡ false) (sym (get_or-reverse order k 0 lk))
@@ -104,8 +93,8 @@ module _ (cut : Cut) (order : List ℕ) where
   are_marked origin marks back is each place at next within fresh used nearest =
       let n = length order in
       let all = subst (λ (os : List ℕ). (k : ℕ) → k < length os → IsMarkedAt cut origin os marks k) is each in
-      subst (λ i. is_marked marks i ≡ true) (back_at next nearest.within)
+      subst (λ i. is_marked marks i ≡ true) (back_at order next nearest.within)
       (all (n - 1 - at) (omega (arith, within, length-reverse order))
-      (subst (λ i. stood origin i ≡ None) (sym (back_at at within)) fresh) place (n - 1 - next)
-      (subst (λ i. uses_place (member cut i) place ≡ true) (sym (back_at at within)) used)
+      (subst (λ i. stood origin i ≡ None) (sym (back_at order at within)) fresh) place (n - 1 - next)
+      (subst (λ i. uses_place (member cut i) place ≡ true) (sym (back_at order at within)) used)
       (nearest_back place at next nearest))

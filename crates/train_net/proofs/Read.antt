@@ -13,6 +13,7 @@ use Rattle.plan_model.specs.Members.{place_name, place_count, comes_first, is_am
 use Rattle.plan_model.specs.Cut.{IsSoundCut}
 use Rattle.plan_model.specs.Schedule.{entry_at, start_by, end_by, touches}
 use Rattle.plan_model.proofs.Sound.{use_sound, usable}
+use Rattle.train_order.proofs.Apart.{below}
 use Rattle.train_order.proofs.Users.{user_there, users, somewhere}
 use Rattle.train_order.proofs.Among.{stands_at, among_at}
 use Rattle.train_placing.specs.declared.last.Last.{Last}
@@ -22,7 +23,7 @@ use Rattle.train_net.specs.Net.{standing, IsEdge, edges_to, IsNet}
 use Rattle.train_net.specs.Read.{by_edge, AreSolved, IsFirstTight, IsTieBy, IsLeftAlong}
 use Rattle.train_net.specs.Laws.{ReadArePlaced}
 use Rattle.train_net.proofs.Standing.{stands, one_standing, edge_to}
-use Rattle.train_net.proofs.Solved.{at_there, apart, keeps_order, touches_by}
+use Rattle.train_net.proofs.Solved.{apart, keeps_order, touches_by}
 use Rattle.train_net.proofs.Touched.{touch_edge}
 
 -- a floor, and what an edge allows, are within the limits
@@ -123,10 +124,10 @@ module _ (cut : Cut) (order : List ℕ) (edges : List (List Edge)) (entries : Li
 
   entry_latest : ((j : ℕ) → j < member_count cut → IsFloor (floor j)) → (most at : ℕ) → at < most → at < length order
       → entry_at entries (slice_index order at) ≤ℤ latest (at + 1)
-  entry_latest floors zero at below within = absurd (omega (arith, below))
-  entry_latest floors (suc most) at below within =
+  entry_latest floors zero at few within = absurd (omega (arith, few))
+  entry_latest floors (suc most) at few within =
       let j = slice_index order at in
-      let lj = at_there cut order edges entries floor sound net solved at within in
+      let lj = below cut order net.in_order.each_once at 0 within in
       elim ((solved j lj).tied) [
         | inl e ↦ floor_within at (floor j) (entry_at entries j) (floors j lj) e
         | inr (k, e, l, is, enters) ↦
@@ -136,7 +137,7 @@ module _ (cut : Cut) (order : List ℕ) (edges : List (List Edge)) (entries : Li
             let stand = net.in_order.before i j edge.there lj (somewhere cut i j e.place edge.place_there edge.precedes) in
             let same = one_standing cut order net.in_order.each_once stand.next at stand.within within stand.other in
             let lt : stand.at < at = omega (arith, stand.before, same) in
-            let before = entry_latest floors most stand.at (omega (arith, lt, below)) (omega (arith, lt, within)) in
+            let before = entry_latest floors most stand.at (omega (arith, lt, few)) (omega (arith, lt, within)) in
             let a = member cut i in
             let b = member cut j in
             allowed_within (use_at a e.place).«end» a.entry (use_at b e.place).start b.entry (entry_at entries i) e.weight (entry_at entries j)
@@ -153,7 +154,7 @@ read_are_placed cut floor order edges entries ties last sound net read =
     let solved = read.solved in
     let among : (i : ℕ) → is_among order i ≡ true → i < member_count cut =
     λ i h. let s = stands_at order i h in
-    subst (λ k. k < member_count cut) s.is (at_there cut order edges entries floor sound net solved s.at s.within) in
+    subst (λ k. k < member_count cut) s.is (below cut order net.in_order.each_once s.at 0 s.within) in
     record {
       entries_count = read.entries_count;
       ties_count = read.ties_count;

@@ -50,9 +50,6 @@ at_some_place cut test place there h =
 module _ (cut : Cut) (order : List ℕ) (edges : List (List Edge)) (entries : List ℤ) (floor : ℕ → ℤ) (sound : IsSoundCut cut)
     (net : IsNet cut order edges)
     (solved : AreSolved cut floor edges entries) where
-  pub at_there : (k : ℕ) → k < length order → slice_index order k < member_count cut
-  at_there k l = below cut order net.in_order.each_once k 0 l
-
   -- the nearest before a train has left as it starts
   pub nearest_clear : (place near at : ℕ) → at < length order → IsNearest cut order place near at
       → uses_place (standing cut order at) place ≡ true
@@ -63,7 +60,7 @@ module _ (cut : Cut) (order : List ℕ) (edges : List (List Edge)) (entries : Li
       let covered = (net.each at within).all place near nearest uses in
       let e = covered.1 in
       let covers = covered.4 in
-      let any = (solved j (at_there at within)).after covered.0 e covered.2 in
+      let any = (solved j (below cut order net.in_order.each_once at 0 within)).after covered.0 e covered.2 in
       let after : by_edge entries e ≤ℤ entry_at entries j = subst (λ f. by_edge entries f ≤ℤ entry_at entries j) covered.3 any in
       let from : (entry_at entries i +ℤ e.weight) ≤ℤ entry_at entries j =
       subst (λ k. (entry_at entries k +ℤ e.weight) ≤ℤ entry_at entries j) covers.from after in
@@ -89,7 +86,7 @@ module _ (cut : Cut) (order : List ℕ) (edges : List (List Edge)) (entries : Li
             let row = member cut c in
             clear_through _ (use_at row place).start (use_at row place).«end» row.entry (entry_at entries c) _
             (apart place gap near m (omega (arith, close, nearest.before)) further there first nearest.uses)
-            (takes_time cut sound c place (at_there m there) nearest.uses) last
+            (takes_time cut sound c place (below cut order net.in_order.each_once m 0 there) nearest.uses) last
       ]
 
   pub keeps_order : (i j place : ℕ) → i < member_count cut → j < member_count cut

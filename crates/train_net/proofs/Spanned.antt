@@ -1,6 +1,6 @@
 -- How long a block is kept, by the first and the last in an order who use it.
 use Rattle.std.proofs.Common.{◌≡◌, ℕ, ◌<◌, true, false, List, length, Option, None, Some, inl, inr, refl, sym, ap, ◌∙◌, subst, arith}
-use Rattle.std.specs.Prelude.{ℤ, ◌+ℤ◌, ◌-ℤ◌, ◌≤ℤ◌, ◌<ℤ◌, slice_index, slice_index_or}
+use Rattle.std.specs.Prelude.{All, ℤ, ◌+ℤ◌, ◌-ℤ◌, ◌≤ℤ◌, ◌<ℤ◌, slice_index, slice_index_or}
 use Rattle.std.proofs.lemmas.Bool.{both_ways, cases_order, false_from_ne_true}
 use Rattle.std.proofs.lemmas.Int.{ints}
 use Rattle.rail_model.proofs.Numbers.{le_both_ways}
@@ -15,13 +15,14 @@ use Rattle.plan_model.proofs.Uses.{takes_time}
 use Rattle.plan_model.proofs.Greatest.{above_each, greatest_within, below_each, least_within}
 use Rattle.occupancy_rate.specs.declared.spans.Span.{Span}
 use Rattle.occupancy_rate.specs.Spans.{is_used, span_of}
+use Rattle.train_order.proofs.Apart.{below}
 use Rattle.train_order.proofs.Find.{find_some}
 use Rattle.train_net.specs.declared.edge.Edge.{Edge}
 use Rattle.train_net.specs.Net.{standing, IsNet}
 use Rattle.train_net.specs.Read.{AreSolved, IsSpannedAlong, IsSpanAlong}
 use Rattle.train_net.specs.Laws.{AlongAreSpans}
 use Rattle.train_net.proofs.Standing.{stands}
-use Rattle.train_net.proofs.Solved.{at_there, apart}
+use Rattle.train_net.proofs.Solved.{apart}
 
 -- ---- moments
 
@@ -31,17 +32,17 @@ starts_no_later start stop a x then time after = omega (arith, ints)
 ends_no_earlier : (first start stop a x : ℤ) → first ≤ℤ (start -ℤ a +ℤ x) → start <ℤ stop → first ≤ℤ (stop -ℤ a +ℤ x)
 ends_no_earlier first start stop a x before time = omega (arith, ints)
 
-same_no_later : (a b : ℤ) → a ≡ b → a ≤ℤ b
+pub same_no_later : (a b : ℤ) → a ≡ b → a ≤ℤ b
 same_no_later a b e = omega (arith, ints)
 
 module _ (cut : Cut) (order : List ℕ) (edges : List (List Edge)) (entries : List ℤ) (floor : ℕ → ℤ) (sound : IsSoundCut cut)
     (net : IsNet cut order edges) (solved : AreSolved cut floor edges entries) (block : ℕ) where
-  there : (k : ℕ) → k < length order → slice_index order k < member_count cut
-  there k l = at_there cut order edges entries floor sound net solved k l
+  there : All (λ i. i < member_count cut) order
+  there = below cut order net.in_order.each_once
 
   time : (k : ℕ) → k < length order → uses_place (standing cut order k) block ≡ true
       → (use_at (standing cut order k) block).start <ℤ (use_at (standing cut order k) block).«end»
-  time k l uses = takes_time cut sound (slice_index order k) block (there k l) uses
+  time k l uses = takes_time cut sound (slice_index order k) block (there k 0 l) uses
 
   module _ (span : Span) (along : IsSpannedAlong cut order entries block span) where
     abbrev first : ℕ
@@ -51,10 +52,10 @@ module _ (cut : Cut) (order : List ℕ) (edges : List (List Edge)) (entries : Li
     last = slice_index order along.last
 
     first_user : has (users cut block) first ≡ true
-    first_user = is_user cut first block (there along.first along.first_within) along.first_uses
+    first_user = is_user cut first block (there along.first 0 along.first_within) along.first_uses
 
     last_user : has (users cut block) last ≡ true
-    last_user = is_user cut last block (there along.last along.last_within) along.last_uses
+    last_user = is_user cut last block (there along.last 0 along.last_within) along.last_uses
 
     from_first : (i : ℕ) → has (users cut block) i ≡ true → start_by cut entries first block ≤ℤ start_by cut entries i block
     from_first i h =
@@ -111,7 +112,7 @@ module _ (cut : Cut) (order : List ℕ) (edges : List (List Edge)) (entries : Li
     used : is_used cut block ≡ true
     used =
         has_any (λ k. uses_place (member cut k) block) (members cut) first
-        (has-range (member_count cut) first (there along.first along.first_within)) along.first_uses
+        (has-range (member_count cut) first (there along.first 0 along.first_within)) along.first_uses
 
   span_is : (span : Option Span) → IsSpanAlong cut order entries block span → span ≡ span_of cut entries block
   span_is None none =

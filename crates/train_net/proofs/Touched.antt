@@ -10,12 +10,13 @@ use Rattle.plan_model.specs.Members.{place_name, member, member_count, uses_plac
 use Rattle.plan_model.specs.Cut.{IsSoundCut}
 use Rattle.plan_model.specs.Schedule.{entry_at, start_by, end_by, touches}
 use Rattle.plan_model.proofs.Uses.{takes_time, place_there}
+use Rattle.train_order.proofs.Apart.{below}
 use Rattle.train_order.proofs.Users.{users, somewhere}
 use Rattle.train_net.specs.declared.edge.Edge.{Edge}
 use Rattle.train_net.specs.Net.{standing, Covers, edges_to, IsNet}
 use Rattle.train_net.specs.Read.{by_edge, AreSolved}
 use Rattle.train_net.proofs.Nearest.{nearest_after}
-use Rattle.train_net.proofs.Solved.{at_there, nearest_clear, apart}
+use Rattle.train_net.proofs.Solved.{nearest_clear, apart}
 
 -- ---- moments
 
@@ -98,6 +99,6 @@ module _ (cut : Cut) (order : List ℕ) (edges : List (List Edge)) (entries : Li
             absurd (not_through (end_by cut entries i place) (use_at row place).start (use_at row place).«end» row.entry
             (entry_at entries c) (start_by cut entries j place) touch
             (subst (λ k. end_by cut entries k place ≤ℤ start_by cut entries c place) stand.one before)
-            (takes_time cut sound c place (at_there cut order edges entries floor sound net solved m lm) found.2.uses)
+            (takes_time cut sound c place (below cut order net.in_order.each_once m 0 lm) found.2.uses)
             (subst (λ k. end_by cut entries c place ≤ℤ start_by cut entries k place) stand.other after))
       ]

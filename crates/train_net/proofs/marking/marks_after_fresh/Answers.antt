@@ -1,14 +1,16 @@
-use Rattle.std.proofs.Common.{rules, ◌≡◌, ◌++◌, length, take, drop, sym, subst, ◌∙◌, arith}
+use Rattle.std.proofs.Common.{rules, ◌≡◌, ◌++◌, length, take, drop, sym, subst, ◌∙◌, ◌<◌, arith}
+use Rattle.std.specs.Prelude.{All}
 use Rattle.std.proofs.lemmas.List.{take_at}
 use Rattle.plan_model.specs.Members.{member_count}
 use Rattle.train_net.specs.Mended.{AreMarked}
-use Rattle.train_net.proofs.Marks.{back_there, are_marked}
+use Rattle.train_net.proofs.Ended.{all_back}
+use Rattle.train_net.proofs.Marks.{are_marked}
 use Rattle.train_net.proofs.marking.marks_after_fresh.Goals as goal
 
 pub mark_before_fresh-requires-clause-there : goal.mark_before_fresh-requires-clause-there
 mark_before_fresh-requires-clause-there c =
-    back_there c.args.cut.now c.args.order.now (member_count c.args.cut.now) c.requires c.deref.result.now
-    (c.deref.ensures.value ∙ c.in_ok-back.ensures)
+    subst (All (λ i. i < member_count c.args.cut.now)) (sym (c.deref.ensures.value ∙ c.in_ok-back.ensures))
+    (all_back (member_count c.args.cut.now) c.args.order.now c.requires)
 
 pub returns-clause-marked : goal.returns-clause-marked
 returns-clause-marked c =

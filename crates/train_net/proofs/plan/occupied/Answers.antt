@@ -10,7 +10,7 @@ use Rattle.train_order.proofs.Apart.{below}
 use Rattle.train_net.specs.declared.near.Near.{Near}
 use Rattle.train_net.specs.Near.{AreNear}
 use Rattle.train_net.specs.Reading.{IsReal, span_by}
-use Rattle.train_net.proofs.Ended.{all_real, back_there, spans_are}
+use Rattle.train_net.proofs.Ended.{all_real, all_back, spans_are}
 use Rattle.train_net.proofs.plan.occupied.Goals as goal
 
 pub last_users-requires : goal.last_users-requires
@@ -22,7 +22,7 @@ last_users-requires c =
       there =
           subst (λ (os : List ℕ). All (λ i. i < member_count c.sound-sound.result.now) os) (sym back)
           (subst (λ (k : Cut). All (λ i. i < member_count k) (reverse order)) (sym c.sound-sound.ensures.cut)
-          (back_there cut c.sound-sound.ensures.sound order c.args.net.now.edges c.requires.net.net c.args.entries.now c.requires.solved));
+          (all_back (member_count cut) order (below cut order c.requires.net.net.in_order.each_once)));
     }
 
 pub spans-requires-clause-first : goal.spans-requires-clause-first
@@ -39,7 +39,7 @@ spans-requires-clause-first c =
     subst (λ (ns : List (Option Near)). All (λ n. IfSome n (IsReal c.sound-sound.result.now)) ns) (sym c.deref-2.ensures.value)
     (subst (λ (k : Cut). All (λ n. IfSome n (IsReal k)) first) (sym shown)
     (all_real cut (reverse order)
-    (back_there cut c.sound-sound.ensures.sound order c.args.net.now.edges c.requires.net.net c.args.entries.now c.requires.solved)
+    (all_back (member_count cut) order (below cut order c.requires.net.net.in_order.each_once))
     (length (reverse order)) (omega arith) c.sound-sound.ensures.sound first (c.in_ok-first.ensures.places ∙ ap place_count shown) near))
 
 pub spans-requires-clause-last : goal.spans-requires-clause-last
