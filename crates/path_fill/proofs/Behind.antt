@@ -19,7 +19,7 @@ use Rattle.plan_model.proofs.Users.{is_user, user, is_used}
 use Rattle.plan_model.proofs.Greatest.{above_each, greatest_within, below_each, least_within, longest_above, longest_within}
 use Rattle.path_fill.specs.Filling.{with_copies}
 use Rattle.path_fill.specs.Search.{kept_to, IsGreatest}
-use Rattle.path_fill.proofs.FirstCopy.{IsFirstCopy}
+use Rattle.path_fill.proofs.FirstCopy.{IsFirstCopy, ends_later}
 use Rattle.path_fill.proofs.Least.{IsOwnHeadway, copy_entry, copy_entries, at}
 
 -- ---- moments
@@ -39,9 +39,6 @@ end_later f e y a b l = omega (arith, ints, l)
 before_copy : (first s f e x y : ℤ) → first ≤ℤ (s -ℤ e +ℤ x) → s <ℤ f → (f -ℤ e +ℤ x) ≤ℤ (s -ℤ e +ℤ y)
     → first ≤ℤ (s -ℤ e +ℤ y)
 before_copy first s f e x y a t b = omega (arith, ints, a, t, b)
-
-ends_before : (end s f e y : ℤ) → end ≤ℤ (s -ℤ e +ℤ y) → s <ℤ f → end ≤ℤ (f -ℤ e +ℤ y)
-ends_before end s f e y a t = omega (arith, ints, a, t)
 
 not_negative : (first s f e y : ℤ) → first ≤ℤ (s -ℤ e +ℤ y) → s <ℤ f → pos 0 ≤ℤ ((f -ℤ e +ℤ y) -ℤ first)
 not_negative first s f e y a t = omega (arith, ints, a, t)
@@ -216,7 +213,7 @@ module _ (cut : Cut) (sound : IsSoundCut cut) (r : ℕ) (there : r < member_coun
   ends_first : (b i : ℕ) → b < block_count cut → i < n → uses_place (member cut i) b ≡ true
       → uses_place (member cut r) b ≡ true → end_by cut entries i b ≤ℤ end_at (member cut r) entry b
   ends_first b i lb li ui ur =
-      ends_before (end_by cut entries i b) (use_at (member cut r) b).start (use_at (member cut r) b).«end»
+      ends_later (end_by cut entries i b) (use_at (member cut r) b).start (use_at (member cut r) b).«end»
       (member cut r).entry entry (first.after_all i b li lb ui ur) (takes_time cut sound r b there ur)
 
   last_with : (b : ℕ) → b < block_count cut → uses_place (member cut r) b ≡ true

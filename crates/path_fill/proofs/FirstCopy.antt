@@ -26,13 +26,13 @@ pub record IsFirstCopy (cut : Cut) (r : ℕ) (entries : List ℤ) (entry : ℤ) 
 -- ---- moments
 
 -- what ends before another that is asked for starts by then
-starts_after : (end until start e y : ℤ) → end ≤ℤ until → (until -ℤ (start -ℤ e)) ≤ℤ y → end ≤ℤ (start -ℤ e +ℤ y)
+pub starts_after : (end until start e y : ℤ) → end ≤ℤ until → (until -ℤ (start -ℤ e)) ≤ℤ y → end ≤ℤ (start -ℤ e +ℤ y)
 starts_after end until start e y h a = omega (arith, ints)
 
-asked_by : (until start e y : ℤ) → until ≤ℤ (start -ℤ e +ℤ y) → (until -ℤ (start -ℤ e)) ≤ℤ y
+pub asked_by : (until start e y : ℤ) → until ≤ℤ (start -ℤ e +ℤ y) → (until -ℤ (start -ℤ e)) ≤ℤ y
 asked_by until start e y h = omega (arith, ints)
 
-ends_later : (end s f e y : ℤ) → end ≤ℤ (s -ℤ e +ℤ y) → s <ℤ f → end ≤ℤ (f -ℤ e +ℤ y)
+pub ends_later : (end s f e y : ℤ) → end ≤ℤ (s -ℤ e +ℤ y) → s <ℤ f → end ≤ℤ (f -ℤ e +ℤ y)
 ends_later end s f e y h l = omega (arith, ints)
 
 module _ (cut : Cut) (order : List ℕ) (entries : List ℤ) (ties : List Tie) (last : List (Option Last))

@@ -13,7 +13,7 @@ use Rattle.path_fill.specs.Laws.{FilledOccupancyIsThere}
 use Rattle.path_fill.specs.Search.{where_used, greater, time_at, kept_to, filled_time, IsGreatest}
 use Rattle.path_fill.proofs.Best.{none_yet, one_more}
 use Rattle.path_fill.proofs.Behind.{abs_is}
-use Rattle.path_fill.proofs.FirstCopy.{IsFirstCopy}
+use Rattle.path_fill.proofs.FirstCopy.{IsFirstCopy, starts_after, asked_by}
 use Rattle.path_fill.proofs.Filled.{own_is, filled_is}
 
 -- some places have a greatest number
@@ -33,18 +33,10 @@ some_number test f n =
     let some = some_greatest test f (pos 0) n in
     (nat_abs some.0, subst (IsGreatest test f n (pos 0)) (sym (abs_is some.0 some.1.above)) some.1)
 
--- ---- moments
-
-starts_after : (end until s e y : ℤ) → end ≤ℤ until → (until -ℤ (s -ℤ e)) ≤ℤ y → end ≤ℤ (s -ℤ e +ℤ y)
-starts_after end until s e y a b = omega (arith, ints, a, b)
+-- ---- the first copy
 
 from_start : (until s e w y : ℤ) → until ≡ s -ℤ e +ℤ w → w ≤ℤ y → (until -ℤ (s -ℤ e)) ≤ℤ y
 from_start until s e w y a b = omega (arith, ints, a, b)
-
-asked_by : (until s e y : ℤ) → until ≤ℤ (s -ℤ e +ℤ y) → (until -ℤ (s -ℤ e)) ≤ℤ y
-asked_by until s e y a = omega (arith, ints, a)
-
--- ---- the first copy
 
 module _ (cut : Cut) (r : ℕ) (entries : List ℤ) where
   -- until when members use a block, and no earlier than a copy that enters at the window's start comes there
