@@ -7,17 +7,16 @@ use Rattle.rail_model.specs.declared.tables.Tables.{Tables}
 use Rattle.plan_model.specs.declared.scripts.Task.{Task}
 use Rattle.plan_model.specs.declared.journal.Entry.{Entry}
 use Rattle.plan_model.specs.Journal.{opening, issued}
-use Rattle.plan_model.specs.Legal.{IsLegal, IsJournal}
+use Rattle.plan_model.specs.Legal.{IsJournal}
 use Rattle.plan_model.specs.Session.{opened, entered, IsSession}
 use Rattle.turn_desk.specs.Journal.{GoesOn}
-use Rattle.turn_desk.specs.Entering.{EntersAll, EntersNone}
-use Rattle.turn_desk.specs.Known.{Known, TableId, IsReady, new_pass, new_passes}
+use Rattle.turn_desk.specs.Known.{Known, TableId, IsReady, new_passes}
 use Rattle.turn_desk.proofs.Drawing.{same_desk}
 use Rattle.session_run.specs.declared.actor.Actor.{Actor}
 use Rattle.session_run.specs.Actors.{IsLeaving}
 use Rattle.session_run.specs.Acting.{IsWorking, WorksOn, AllWorkOn, AreNewPasses, IsActorOf, AreActors}
 use Rattle.session_run.proofs.Entered.{pass_of, issues_none}
-use Rattle.session_run.proofs.Starting.{HasEntered, not_full, has_entered, all_by_main}
+use Rattle.session_run.proofs.Starting.{HasEntered, all_by_main}
 use Rattle.session_run.proofs.Leaving.{none_left, closes}
 use Rattle.session_run.proofs.Seating.{IsSeating, IsEmptying}
 
@@ -31,28 +30,12 @@ module _ (tables : Tables) (at : ℕ) (scripts : List (List Task)) (book : List 
   started_by_main =
       rw is (All-cons (λ e. e.pass ≡ 0) (opened tables at scripts) [] refl (All-nil (λ e. e.pass ≡ 0)))
 
--- ---- what entering gives
-
-module _ (tables : Tables) (at : ℕ) (scripts : List (List Task)) (book : List Entry) (desk : TableId) (old new : Known Entry) (count : ℕ)
-    (legal : IsJournal new.seen) (is : book ≡ opened tables at scripts ∷ []) (old_is : old ≡ new_pass desk 0 book) where
-  old_now : old ≡ new_pass desk 0 (opened tables at scripts ∷ [])
-  old_now = old_is ∙ ap (new_pass desk 0) is
-
-  pub never_full : count ≤ 32 → EntersNone pass_of issued old new count → ⊥
-  never_full few h =
-      not_full tables at scripts desk new count legal.legal few (subst (λ k. EntersNone pass_of issued k new count) old_now h)
-
-  pub enters : (given : List (Known Entry)) → EntersAll pass_of issued old new count given
-      → HasEntered tables at scripts desk new count legal.legal given
-  enters given h =
-      has_entered tables at scripts desk new count legal.legal given (subst (λ k. EntersAll pass_of issued k new count given) old_now h)
-
 -- ---- passes and seats
 
 pub entered_passes : (tables : Tables) (at : ℕ) (scripts : List (List Task)) (desk : TableId) (new : Known Entry) (planners workers : ℕ)
-    (legal : IsLegal new.seen) (given : List (Known Entry)) → planners ≡ length scripts → IsJournal new.seen
-    → HasEntered tables at scripts desk new (planners + workers) legal given → AreNewPasses desk planners workers given
-entered_passes tables at scripts desk new planners workers legal given count journal h = record {
+    (given : List (Known Entry)) → planners ≡ length scripts → IsJournal new.seen
+    → HasEntered tables at scripts desk new (planners + workers) given → AreNewPasses desk planners workers given
+entered_passes tables at scripts desk new planners workers given count journal h = record {
   seen = new.seen;
   opened = record {
     is_journal = journal;
@@ -134,12 +117,12 @@ all_gone desk planners workers gone first main actors h all =
 -- ---- the close
 
 pub session_closes : (tables : Tables) (at : ℕ) (scripts : List (List Task)) (planners workers : ℕ) (desk : TableId) (new main : Known Entry)
-    (legal : IsLegal new.seen) (given : List (Known Entry)) (log : List Entry) → 1 ≤ workers → planners ≡ length scripts
-    → HasEntered tables at scripts desk new (planners + workers) legal given
+    (given : List (Known Entry)) (log : List Entry) → 1 ≤ workers → planners ≡ length scripts
+    → HasEntered tables at scripts desk new (planners + workers) given
     → IsLeaving planners workers new.seen main (planners + workers)
     → GoesOn pass_of main.numbers main.seen log → IsJournal log → IsSession tables at scripts workers log
-session_closes tables at scripts planners zero desk new main legal given log some is h left g journal = absurd (omega (arith, some))
-session_closes tables at scripts planners (suc workers) desk new main legal given log some is h left g journal =
+session_closes tables at scripts planners zero desk new main given log some is h left g journal = absurd (omega (arith, some))
+session_closes tables at scripts planners (suc workers) desk new main given log some is h left g journal =
     let first = opened tables at scripts ∷ entered (length scripts + suc workers) in
     let seen : new.seen ≡ first = h.seen ∙ ap (λ n. opened tables at scripts ∷ entered (n + suc workers)) is in
     let count : issued first ≡ length scripts + suc workers + 1 = ap issued (sym seen) ∙ h.issued_now ∙ ap (λ n. n + suc workers + 1) is in

@@ -18,12 +18,21 @@ use Rattle.turn_desk.specs.Known.{Known, TableId, new_pass, new_passes}
 use Rattle.session_run.specs.Actors.{Role, IsAble, IsAtWork}
 use Rattle.session_run.proofs.Entered.{pass_of, issues_none, entering, nothing_between, all_enter}
 
-module _ (tables : Tables) (at : ℕ) (scripts : List (List Task)) (desk : TableId) (new : Known Entry) (count : ℕ) (legal : IsLegal new.seen) where
+-- all passes are drawn
+pub record HasEntered (tables : Tables) (at : ℕ) (scripts : List (List Task)) (desk : TableId) (new : Known Entry) (count : ℕ) (given : List (Known Entry)) : Type 0 where
+  pub seen : new.seen ≡ opened tables at scripts ∷ entered count
+  pub issued_now : issued new.seen ≡ count + 1
+  pub passes : given ≡ new_passes desk new.seen 1 count
+
+-- ---- what entering gives
+
+module _ (tables : Tables) (at : ℕ) (scripts : List (List Task)) (book : List Entry) (desk : TableId) (old new : Known Entry) (count : ℕ)
+    (legal : IsLegal new.seen) (is : book ≡ opened tables at scripts ∷ []) (old_is : old ≡ new_pass desk 0 book) where
   abbrev o : Entry
   o = opened tables at scripts
 
-  abbrev old : Known Entry
-  old = new_pass desk 0 (o ∷ [])
+  old_now : old ≡ new_pass desk 0 (o ∷ [])
+  old_now = old_is ∙ ap (new_pass desk 0) is
 
   first_issued : issued (o ∷ []) ≡ 1
   first_issued = issues_none o refl
@@ -35,18 +44,15 @@ module _ (tables : Tables) (at : ℕ) (scripts : List (List Task)) (desk : Table
 
   -- room is left for few passes
   pub not_full : count ≤ 32 → EntersNone pass_of issued old new count → ⊥
-  not_full few h =
+  not_full few none =
+      let h = subst (λ k. EntersNone pass_of issued k new count) old_now none in
       let same : new.seen ≡ o ∷ [] = nothing_between o new.seen first_issued legal h.goes_on in
       omega (arith, h.full, ap issued same, first_issued, few)
 
-  -- all passes are drawn
-  pub record HasEntered (given : List (Known Entry)) : Type 0 where
-    pub seen : new.seen ≡ o ∷ entered count
-    pub issued_now : issued new.seen ≡ count + 1
-    pub passes : given ≡ new_passes desk new.seen 1 count
-
-  pub has_entered : (given : List (Known Entry)) → EntersAll pass_of issued old new count given → HasEntered given
-  has_entered given h =
+  pub has_entered : (given : List (Known Entry)) → EntersAll pass_of issued old new count given
+      → HasEntered tables at scripts desk new count given
+  has_entered given all =
+      let h = subst (λ k. EntersAll pass_of issued k new count given) old_now all in
       let found = h.call.found in
       let own = h.call.adds_own.own in
       let is : found ≡ o ∷ [] = found_is found own h.call.goes_on h.call.adds_own.is in

@@ -7,7 +7,8 @@ use Rattle.session_run.specs.Acting.{IsWorking, AllWorkOn, AreActors}
 use Rattle.plan_model.specs.Journal.{opening, issued}
 use Rattle.turn_desk.specs.Entering.{EntersAll, EntersNone}
 use Rattle.session_run.proofs.Entered.{pass_of}
-use Rattle.session_run.proofs.Running.{one_issued, started_by_main, never_full, enters, entered_passes, all_working, still_actors, written_back, session_closes}
+use Rattle.session_run.proofs.Starting.{not_full, has_entered}
+use Rattle.session_run.proofs.Running.{one_issued, started_by_main, entered_passes, all_working, still_actors, written_back, session_closes}
 use Rattle.session_run.proofs.threads.session.Goals as goal
 
 pub start-requires-2-clause-alone : goal.start-requires-2-clause-alone
@@ -22,8 +23,8 @@ enter-requires g c = rw c.in_ok-desk.ensures (record { desk_is = refl; idle = re
 pub unreachable-requires : goal.unreachable-requires
 unreachable-requires g c =
     let count = c.planners-planners.ensures ∙ ap (λ j. length (opening j).scripts) c.in_ok-book.ensures in
-    never_full c.args.tables c.args.at c.args.scripts c.in_ok-book.book c.in_ok-desk.desk c.in_ok-desk.main c.enter.new.pass
-    (c.planners-planners.result + c.args.workers) c.enter.ensures.legal c.in_ok-book.ensures c.in_ok-desk.ensures
+    not_full c.args.tables c.args.at c.args.scripts c.in_ok-book.book c.in_ok-desk.desk c.in_ok-desk.main c.enter.new.pass
+    (c.planners-planners.result + c.args.workers) c.enter.ensures.legal.legal c.in_ok-book.ensures c.in_ok-desk.ensures
     (omega (arith, count, c.requires.planners, c.requires.most))
     (subst (λ r. OnErr r (EntersNone pass_of issued c.in_ok-desk.main c.enter.new.pass (c.planners-planners.result + c.args.workers))) c.in_default.is
     c.in_ok-passes.ensures.full)
@@ -33,8 +34,8 @@ seated-requires-clause-passes g c =
     let count = c.planners-planners.ensures ∙ ap (λ j. length (opening j).scripts) c.in_ok-book.ensures in
     let many = c.planners-planners.result + c.args.workers in
     entered_passes c.args.tables c.args.at c.args.scripts c.in_ok-desk.desk c.enter.new.pass c.planners-planners.result c.args.workers
-    c.enter.ensures.legal.legal c.in-Ok.passes count c.enter.ensures.legal
-    (enters c.args.tables c.args.at c.args.scripts c.in_ok-book.book c.in_ok-desk.desk c.in_ok-desk.main c.enter.new.pass many c.enter.ensures.legal
+    c.in-Ok.passes count c.enter.ensures.legal
+    (has_entered c.args.tables c.args.at c.args.scripts c.in_ok-book.book c.in_ok-desk.desk c.in_ok-desk.main c.enter.new.pass many c.enter.ensures.legal.legal
     c.in_ok-book.ensures c.in_ok-desk.ensures c.in-Ok.passes
     (subst (λ r. IfOk r (EntersAll pass_of issued c.in_ok-desk.main c.enter.new.pass many)) c.in-Ok.is c.in_ok-passes.ensures.ok))
 
@@ -80,8 +81,8 @@ returns g c =
     let count = c.planners-planners.ensures ∙ ap (λ j. length (opening j).scripts) c.in_ok-book.ensures in
     let many = c.planners-planners.result + c.args.workers in
     session_closes c.args.tables c.args.at c.args.scripts c.planners-planners.result c.args.workers c.in_ok-desk.desk c.enter.new.pass c.leave_all.new.main
-    c.enter.ensures.legal.legal c.in-Ok.passes c.close.result c.requires.some count
-    (enters c.args.tables c.args.at c.args.scripts c.in_ok-book.book c.in_ok-desk.desk c.in_ok-desk.main c.enter.new.pass many c.enter.ensures.legal
+    c.in-Ok.passes c.close.result c.requires.some count
+    (has_entered c.args.tables c.args.at c.args.scripts c.in_ok-book.book c.in_ok-desk.desk c.in_ok-desk.main c.enter.new.pass many c.enter.ensures.legal.legal
     c.in_ok-book.ensures c.in_ok-desk.ensures c.in-Ok.passes
     (subst (λ r. IfOk r (EntersAll pass_of issued c.in_ok-desk.main c.enter.new.pass many)) c.in-Ok.is c.in_ok-passes.ensures.ok))
     c.in_ok-leave_all.ensures.left c.close.ensures.goes_on c.close.ensures.legal
