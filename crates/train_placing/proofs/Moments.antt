@@ -30,13 +30,15 @@ asked_latest : (n : ℕ) (end e y u s planned x : ℤ) → u ≡ (end -ℤ e +�
 asked_latest n end e y u s planned x h a b c d l q = omega
     (arith, ints, h, a.before, b.after, c.after, d.before, l, q)
 
+-- the last use of a place
+pub left_as : {cut : Cut} {floor : ℕ → ℤ} {some : List ℕ} {entries : List ℤ} {ties : List Tie} {last : List (Option Last)}
+    → ArePlaced cut floor some entries ties last → (p : ℕ) (o : Option Last) → p < place_count cut → slice_index_or last p None ≡ o
+    → IsLeft cut entries some p o
+left_as {cut} {some = some} {entries = entries} placed p o l e = subst (IsLeft cut entries some p) e (placed.left p l)
+
 module _ (cut : Cut) (floor : ℕ → ℤ) (some : List ℕ) (entries : List ℤ) (ties : List Tie) (last : List (Option Last))
     (j : ℕ) (sound : IsSoundCut cut) (placed : ArePlaced cut floor some entries ties last) (lj : j < member_count cut)
     (floor_j : IsFloor (floor j)) where
-  left_as : (p : ℕ) (o : Option Last) → p < place_count cut → slice_index_or last p None ≡ o
-      → IsLeft cut entries some p o
-  left_as p o l e = subst (IsLeft cut entries some p) e (placed.left p l)
-
   pub entry_latest : next_entry cut j (floor j) last ≤ℤ latest (length some + 1)
   entry_latest =
       let row = member cut j in
@@ -44,7 +46,7 @@ module _ (cut : Cut) (floor : ℕ → ℤ) (some : List ℕ) (entries : List ℤ
         | inl e ↦ floor_latest (length some) (floor j) (next_entry cut j (floor j) last) floor_j e
         | inr a ↦
             let left : IsLast cut entries some a.place a.last_use =
-            left_as a.place (Some a.last_use) (place_there cut sound j a.place lj a.used) a.is in
+            left_as placed a.place (Some a.last_use) (place_there cut sound j a.place lj a.used) a.is in
             let t = a.last_use.train in
             let lt = placed.there t left.there in
             asked_latest (length some) (use_at (member cut t) a.place).«end» (member cut t).entry (entry_at entries t)

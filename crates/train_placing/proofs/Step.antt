@@ -26,7 +26,7 @@ use Rattle.train_placing.specs.Touch.{tie, tie_of, touch_of, first_touch}
 use Rattle.train_placing.specs.Placing.{IsFloor, next_entry, IsNextPlaced, IsLast, IsLeft, IsFirstTouch, IsTie, latest, ArePlaced}
 use Rattle.train_placing.proofs.Row.{at, row_step, from_below, each_below, reached, block_found}
 use Rattle.train_placing.proofs.FirstTouch.{touch_at, IsBest, IsFirstOf, first_of, no_less, no_less_name}
-use Rattle.train_placing.proofs.Moments.{later_still, entry_latest}
+use Rattle.train_placing.proofs.Moments.{later_still, left_as, entry_latest}
 
 -- ---- moments
 
@@ -90,10 +90,6 @@ module _ (cut : Cut) (floor : ℕ → ℤ) (some : List ℕ) (j : ℕ) (entries 
   end_j : (p : ℕ) → end_by cut entries' j p ≡ end_at row x p
   end_j p = ap (λ t. end_at row t p) at_j
 
-  left_as : (p : ℕ) (o : Option Last) → p < place_count cut → slice_index_or last p None ≡ o
-      → IsLeft cut entries some p o
-  left_as p o l e = subst (IsLeft cut entries some p) e (placed.left p l)
-
   -- ---- who used a place has left it
 
   -- what the last user of a place asks for
@@ -127,7 +123,7 @@ module _ (cut : Cut) (floor : ℕ → ℤ) (some : List ℕ) (j : ℕ) (entries 
       → end_by cut entries' i p ≤ℤ start_by cut entries' j p
   clear i p used h user =
       let l = place_there cut sound j p next.there used in
-      let c = clear_by i p (slice_index_or last p None) refl (left_as p _ l refl) used h user in
+      let c = clear_by i p (slice_index_or last p None) refl (left_as placed p _ l refl) used h user in
       subst (λ t. t ≤ℤ start_by cut entries' j p) (sym (same_end i p h))
       (subst (λ t. end_by cut entries i p ≤ℤ t) (sym (start_j p)) c)
 
@@ -226,7 +222,7 @@ module _ (cut : Cut) (floor : ℕ → ℤ) (some : List ℕ) (j : ℕ) (entries 
       let e = (Decides-int_eq (end_by cut entries' k p) (start_by cut entries' j p)).0 parts.1 in
       let l = place_there cut sound j p next.there u.1 in (
         u.1,
-        touched_by k p (slice_index_or last p None) refl (left_as p _ l refl) u.1 h u.0
+        touched_by k p (slice_index_or last p None) refl (left_as placed p _ l refl) u.1 h u.0
             (sym (same_end k p h) ∙ e ∙ start_j p),
       )
 
@@ -265,7 +261,7 @@ module _ (cut : Cut) (floor : ℕ → ℤ) (some : List ℕ) (j : ℕ) (entries 
   touching : (p : ℕ) (t : Touch) → uses_place row p ≡ true → touch_of_j p ≡ Some t
       → (touches cut entries' t.train j p ≡ true) × (t.train < member_count cut)
   touching p t used e =
-      touching_by p t (slice_index_or last p None) (left_as p _
+      touching_by p t (slice_index_or last p None) (left_as placed p _
       (place_there cut sound j p next.there used) refl) used e
 
   -- ---- the tie
