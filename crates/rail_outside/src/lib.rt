@@ -52,4 +52,4 @@ pub use std_streams::{StdSink, StdSource};
 pub use std_words::StdWords;
 pub use take::{Taken, take_all};
 pub use to_writer::ToWriter;
-pub use words::{NotText, Words};
+pub use words::{NoWords, Words};

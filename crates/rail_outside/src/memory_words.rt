@@ -1,10 +1,10 @@
 //! Words in memory.
-ghost use Rattle.std.specs.Prelude.{◌≡◌, ◌↔◌, Some, IfOk, OnErr, IsTrue, IsFalse, All};
+ghost use Rattle.std.specs.Prelude.{◌≡◌, ◌↔◌, Some, map, IfOk, IsTrue, IsFalse, All};
 ghost use Rattle.std.specs.String.{string_bytes};
 ghost use Rattle.std.specs.Str.{IsUtf8};
 ghost use Rattle.rail_outside.specs.InCall.{HasNoText};
 
-use crate::{NotText, Words};
+use crate::{NoWords, Words};
 use rail_model::{List, OutOfMemory};
 use std::alloc::Global;
 
@@ -33,24 +33,18 @@ impl Words for MemoryWords {
 
     ghost not_text = { λ w. HasNoText (memory_words w) };
 
-    fn take(&self, alloc: Global) -> Result<Result<Vec<String>, NotText>, OutOfMemory> {
-        if has_no_text(self.words.slice()) {
-            return Ok(Err(NotText));
+    fn take(&self, alloc: Global) -> Result<Vec<String>, NoWords> {
+        let words = self.words.slice();
+        if has_no_text(words) {
+            return Err(NoWords::NotText);
         }
-        let mut words = Vec::new(alloc);
-        for word in self.words.slice() {
-            match text_of(alloc, word.slice())? {
-                Ok(word) => words.push(word)?,
-                Err(error) => return Ok(Err(error)),
-            }
-        }
-        Ok(Ok(words))
+        Ok(texts_of(alloc, words)?)
     }
 }
 
 // Whether one of the words isn't UTF-8.
 fn has_no_text(words: &[List<u8>]) -> bool
-    ensures no_text { IsTrue result → HasNoText words.now }
+    ensures no_text { IsTrue result ↔ HasNoText words.now }
     ensures texts { IsFalse result → All IsUtf8 words.now }
 {
     for word in words {
@@ -67,13 +61,15 @@ fn is_text(bytes: &[u8]) -> bool
     str::from_utf8(bytes).is_ok()
 }
 
-// The text that bytes are, if they are one.
-fn text_of(alloc: Global, bytes: &[u8]) -> Result<Result<String, NotText>, OutOfMemory>
-    ensures text { IfOk result (λ read. IfOk read (λ text. string_bytes text ≡ bytes.now)) }
-    ensures not_text { IfOk result (λ read. OnErr read (¬ (IsUtf8 bytes.now))) }
+// The texts that words are.
+fn texts_of(alloc: Global, words: &[List<u8>]) -> Result<Vec<String>, OutOfMemory>
+    requires { All IsUtf8 words.now }
+    ensures { IfOk result (λ texts. map string_bytes texts.items ≡ words.now) }
 {
-    match str::from_utf8(bytes) {
-        Ok(text) => Ok(Ok(String::from_str(alloc, text)?)),
-        Err(_) => Ok(Err(NotText)),
+    let mut texts = Vec::new(alloc);
+    for word in words {
+        let text = str::from_utf8(word.slice()).unwrap();
+        texts.push(String::from_str(alloc, text)?)?;
     }
+    Ok(texts)
 }

@@ -1,12 +1,13 @@
 //! The process's words.
-ghost use Rattle.std.specs.Prelude.{◌≡◌, ◌≢◌, map, drop, IfOk, IfErr, IsOk, IsErr, IsOkAnd};
+ghost use Rattle.std.specs.Prelude.{◌≡◌, ◌≢◌, map, drop, IfOk, IfErr, IsErrOf};
 ghost use Rattle.std.specs.String.{string_bytes};
 ghost use Rattle.std.specs.Vec.Iter.{into_iter_items, into_iter_len};
 ghost use Rattle.std.specs.IoError.{error_kind};
 ghost use Rattle.std.specs.declared.io.ErrorKind.TheVariants as kind;
 ghost use Rattle.rail_outside.specs.StdWords.{AreAllOf};
+ghost use Rattle.rail_outside.specs.declared.words.NoWords.TheVariants as no_words;
 
-use crate::{NotText, Words};
+use crate::{NoWords, Words};
 use rail_model::OutOfMemory;
 use std::alloc::Global;
 use std::env::Args;
@@ -18,33 +19,28 @@ use std::io::{Error, ErrorKind};
 #[derive(Drop)]
 pub struct StdWords {
     // The program's name is the first.
-    words: Result<Result<Vec<String>, NotText>, OutOfMemory>,
+    words: Result<Vec<String>, NoWords>,
 }
 
 impl StdWords {
     /// The words that the process was given, `env::args(&rt)`, of which the first names the program.
     pub fn of(alloc: Global, given: io::Result<Args>) -> Self
-        ensures all { IfOk given (λ args. IfOk result.words (λ read. IfOk read (λ words.
-            AreAllOf into_iter_items into_iter_len args words.items))) }
-        ensures some { IfOk given (λ _. IfOk result.words IsOk) }
+        ensures all { IfOk given (λ args. IfOk result.words (λ words.
+            AreAllOf into_iter_items into_iter_len args words.items)) }
+        ensures some { IfOk given (λ _. ¬ (IsErrOf result.words no_words.NotText)) }
         ensures not_text { IfErr given (λ error.
-            error_kind error ≢ kind.OutOfMemory → IsOkAnd result.words IsErr) }
+            error_kind error ≢ kind.OutOfMemory → IsErrOf result.words no_words.NotText) }
         ensures no_memory { IfErr given (λ error.
-            error_kind error ≡ kind.OutOfMemory → IsErr result.words) }
+            error_kind error ≡ kind.OutOfMemory → IsErrOf result.words no_words.OutOfMemory) }
     {
-        match given {
+        let words = match given {
             Ok(args) => match all_of(alloc, args) {
-                Ok(words) => StdWords {
-                    words: Ok(Ok(words)),
-                },
-                Err(OutOfMemory) => StdWords {
-                    words: Err(OutOfMemory),
-                },
+                Ok(words) => Ok(words),
+                Err(OutOfMemory) => Err(NoWords::OutOfMemory),
             },
-            Err(error) => StdWords {
-                words: why_not(&error).map(Err),
-            },
-        }
+            Err(error) => Err(why_not(&error)),
+        };
+        StdWords { words }
     }
 }
 
@@ -55,11 +51,10 @@ impl Words for StdWords {
 
     ghost not_text = { λ w. AreRefused w };
 
-    fn take(&self, alloc: Global) -> Result<Result<Vec<String>, NotText>, OutOfMemory> {
+    fn take(&self, alloc: Global) -> Result<Vec<String>, NoWords> {
         match &self.words {
-            Ok(Ok(words)) => Ok(Ok(after_name(alloc, words)?)),
-            Ok(Err(NotText)) => Ok(Err(NotText)),
-            Err(OutOfMemory) => Err(OutOfMemory),
+            Ok(words) => Ok(after_name(alloc, words)?),
+            Err(why) => Err(*why),
         }
     }
 }
@@ -77,14 +72,14 @@ fn all_of(alloc: Global, args: Args) -> Result<Vec<String>, OutOfMemory>
 }
 
 // Why there are no words.
-fn why_not(error: &Error) -> Result<NotText, OutOfMemory>
-    ensures no_memory { error_kind error.now ≡ kind.OutOfMemory → IsErr result }
-    ensures not_text { error_kind error.now ≢ kind.OutOfMemory → IsOk result }
+fn why_not(error: &Error) -> NoWords
+    ensures no_memory { error_kind error.now ≡ kind.OutOfMemory → result ≡ no_words.OutOfMemory }
+    ensures not_text { error_kind error.now ≢ kind.OutOfMemory → result ≡ no_words.NotText }
 {
     if error.kind() == ErrorKind::OutOfMemory {
-        Err(OutOfMemory)
+        NoWords::OutOfMemory
     } else {
-        Ok(NotText)
+        NoWords::NotText
     }
 }
 

@@ -1,14 +1,28 @@
 //! The words of a call.
-ghost use Rattle.std.specs.Prelude.{◌≡◌, ◌↔◌, ℕ, List, Option, map, IsSome, IsOk, IsErr, IfOk, OnOk, OnErr};
+ghost use Rattle.std.specs.Prelude.{◌≡◌, ◌↔◌, ℕ, List, Option, map, IsSome, IfOk, OnOk, IsErrOf};
 ghost use Rattle.std.specs.String.{string_bytes};
 ghost use Rattle.rail_outside.specs.InCall.{AreWords, AreNotText};
+ghost use Rattle.rail_outside.specs.declared.words.NoWords.TheVariants as no_words;
 
 use rail_model::OutOfMemory;
 use std::alloc::Global;
 
-/// A word isn't UTF-8.
+/// Why there are no words.
 #[derive(Clone, Copy, Debug, PartialEq, Eq)]
-pub struct NotText;
+pub enum NoWords {
+    /// One of them isn't UTF-8.
+    NotText,
+    /// There was no memory for them.
+    OutOfMemory,
+}
+
+impl From<OutOfMemory> for NoWords {
+    ghost from_gives = { λ _ result. result ≡ no_words.OutOfMemory };
+
+    fn from(_: OutOfMemory) -> Self {
+        NoWords::OutOfMemory
+    }
+}
 
 /// The words of a call, without the program's name.
 pub trait Words {
@@ -20,11 +34,10 @@ pub trait Words {
 
     /// All words, in their order, where they are told. `NotText`: one of them isn't UTF-8. That is
     /// told also where memory is short.
-    fn take(&self, alloc: Global) -> Result<Result<Vec<String>, NotText>, OutOfMemory>
-        ensures all { IfOk result (λ taken. IfOk taken (λ words.
-            AreWords (told self.now) (map string_bytes words.items))) }
-        ensures known { IfOk result (λ taken. OnOk taken (IsSome (told self.now))) }
-        ensures not_text { IfOk result (λ taken. OnErr taken (AreNotText (told self.now))) }
-        ensures refused { IfOk result (λ taken. IsErr taken ↔ not_text self.now) }
-        ensures at_once { not_text self.now → IsOk result };
+    fn take(&self, alloc: Global) -> Result<Vec<String>, NoWords>
+        ensures all { IfOk result (λ words.
+            AreWords (told self.now) (map string_bytes words.items)) }
+        ensures known { OnOk result (IsSome (told self.now)) }
+        ensures not_text { IsErrOf result no_words.NotText → AreNotText (told self.now) }
+        ensures refused { IsErrOf result no_words.NotText ↔ not_text self.now };
 }

@@ -1,7 +1,0 @@
--- The words so far.
-use Rattle.std.proofs.Common.{◌≡◌, map, take}
-use Rattle.std.specs.String.{string_bytes}
-use Rattle.rail_outside.proofs.memory_words.MemoryWordsWords.take.Given as goal
-
-abbrev pub invariant-loop-word : goal.invariant-loop-word
-invariant-loop-word l = map string_bytes l.words.items ≡ take l.word-index l.word-items
