@@ -5,7 +5,7 @@ ghost use Rattle.capacity.specs.Call.{IsCall, EndsAsCall};
 
 use crate::sentence::explain;
 use capacity_cmd::{Status, Told, alone, run_alone_telling, run_telling};
-use rail_outside::{OpenGate, Sink, Source, Words};
+use rail_outside::{NoWords, OpenGate, Sink, Source, Words};
 use std::process::{ExitCode, Termination};
 use std::sync::Wait;
 use std::thread::Threads;
@@ -66,9 +66,9 @@ fn call<R: AllocGlobal + Threads + Wait + Sync, W: Words, S: Source, K: Sink>(
         (sink_call K.taken K.written K.flushed K.faults sink.old sink.new) }
 {
     match words.take(rt.alloc()) {
-        Ok(Ok(words)) if alone(&words) => run_alone_telling(rt, &words, source, sink, told),
-        Ok(Ok(words)) => run_telling(rt, &words, source, sink, &OpenGate, told),
-        Ok(Err(_)) => Status::BadWords,
-        Err(_) => Status::OutOfMemory,
+        Ok(words) if alone(&words) => run_alone_telling(rt, &words, source, sink, told),
+        Ok(words) => run_telling(rt, &words, source, sink, &OpenGate, told),
+        Err(NoWords::NotText) => Status::BadWords,
+        Err(NoWords::OutOfMemory) => Status::OutOfMemory,
     }
 }

@@ -20,7 +20,7 @@ use capacity_cmd::{Cause, Status, alone};
 use made_line::made_input;
 use rail_model::{List, OutOfMemory};
 use rail_outside::{
-    Failed, FromReader, MemorySource, MemoryWords, NotText, Sink, Source, Taken, ToWriter, Words,
+    Failed, FromReader, MemorySource, MemoryWords, NoWords, Sink, Source, Taken, ToWriter, Words,
     send_all, take_all,
 };
 use small_lines::{Text, parts_of, small_number, word};
@@ -135,9 +135,10 @@ fn write_alone(alloc: Global, text: &mut Text, line: &[u8]) {
 }
 
 fn write_words(alloc: Global, text: &mut Text, line: &[u8]) -> Result<(), OutOfMemory> {
-    match two_words(alloc, line)?.take(alloc)? {
+    match two_words(alloc, line)?.take(alloc) {
         Ok(words) => put_words(text, &words),
-        Err(NotText) => text.put(b"not text"),
+        Err(NoWords::NotText) => text.put(b"not text"),
+        Err(NoWords::OutOfMemory) => return Err(OutOfMemory),
     }
     Ok(())
 }
