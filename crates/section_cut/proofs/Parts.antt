@@ -10,7 +10,7 @@ use Rattle.std.proofs.lemmas.Option.{get_or_from_slice_get}
 use Rattle.rail_model.specs.declared.stair.Use.{Use}
 use Rattle.rail_model.proofs.Places.{filter_none}
 use Rattle.section_cut.specs.declared.spans.BlockLists.{BlockLists}
-use Rattle.section_cut.specs.declared.spans.Span.{Span}
+use Rattle.section_cut.specs.declared.spans.BlockRange.{BlockRange}
 use Rattle.section_cut.specs.Positions.{with_position, uses_in}
 use Rattle.section_cut.specs.Spans.{AreListSpans, AreOver, AreSpans, IsOver, IsSpan, KeepsLists, blocks_of, part_of}
 
@@ -54,12 +54,12 @@ over_more all uses old new number keeps grown over before =
 -- ---- the spans
 
 -- one of a list more
-pub list_spans_more : (positions : List ℕ) (blocks : ℕ) (lists : List (List ℕ)) (spans new : List Span) (span : Span) (n : ℕ) → new ≡ spans ++ span ∷ []
+pub list_spans_more : (positions : List ℕ) (blocks : ℕ) (lists : List (List ℕ)) (spans new : List BlockRange) (span : BlockRange) (n : ℕ) → new ≡ spans ++ span ∷ []
     → IsSpan positions blocks (get_or lists n []) span → length spans ≡ n
-    → ((k : ℕ) (d : Span) → k < n → IsSpan positions blocks (get_or lists k []) (get_or spans k d))
-    → (k : ℕ) (d : Span) → k < n + 1 → IsSpan positions blocks (get_or lists k []) (get_or new k d)
+    → ((k : ℕ) (d : BlockRange) → k < n → IsSpan positions blocks (get_or lists k []) (get_or spans k d))
+    → (k : ℕ) (d : BlockRange) → k < n + 1 → IsSpan positions blocks (get_or lists k []) (get_or new k d)
 list_spans_more positions blocks lists spans new span n grown one count each k d below =
-    let Here : ℕ → Span → Type 0 = λ j s. IsSpan positions blocks (get_or lists j []) s in
+    let Here : ℕ → BlockRange → Type 0 = λ j s. IsSpan positions blocks (get_or lists j []) s in
     subst (λ ss. Here k (get_or ss k d)) (sym grown)
     (elim (cases_lt k n) [
       | inl lt ↦ subst (Here k) (sym (get_or-append spans (span ∷ []) d k (omega (arith, lt, count)))) (each k d lt)
@@ -69,8 +69,8 @@ list_spans_more positions blocks lists spans new span n grown one count each k d
     ])
 
 -- those of the lists are those of the stairways over them
-module _ (positions : List ℕ) (blocks : ℕ) (lists : List (List ℕ)) (by_list : List Span) (are : AreListSpans positions blocks lists by_list) where
-  by_span : (uses : List Use) (k : ℕ) → IsOver lists uses k → (o : Option Span) → o ≡ slice_get by_list k → IfSome o (IsSpan positions blocks (blocks_of uses))
+module _ (positions : List ℕ) (blocks : ℕ) (lists : List (List ℕ)) (by_list : List BlockRange) (are : AreListSpans positions blocks lists by_list) where
+  by_span : (uses : List Use) (k : ℕ) → IsOver lists uses k → (o : Option BlockRange) → o ≡ slice_get by_list k → IfSome o (IsSpan positions blocks (blocks_of uses))
   by_span uses k over None e = tt
   by_span uses k over (Some span) e =
       subst (IsSpan positions blocks (blocks_of uses)) (get_or_from_slice_get by_list k span span (sym e))
@@ -81,7 +81,7 @@ module _ (positions : List ℕ) (blocks : ℕ) (lists : List (List ℕ)) (by_lis
   by_number uses None over = tt
   by_number uses (Some k) over = by_span uses k over (slice_get by_list k) refl
 
-  pub spans_are : (all : List (List Use)) (over : BlockLists) → over.lists.items ≡ lists → AreOver all over → (spans : List (Option Span))
+  pub spans_are : (all : List (List Use)) (over : BlockLists) → over.lists.items ≡ lists → AreOver all over → (spans : List (Option BlockRange))
       → spans ≡ map (option_and_then (slice_get by_list)) over.numbers.items → AreSpans positions blocks all spans
   spans_are all over own listed spans is n below =
       let test = option_and_then (slice_get by_list) in
@@ -107,7 +107,7 @@ module _ (positions : List ℕ) (blocks : ℕ) where
       (All-map (λ (u : Use). inside u ≡ false) (with_position positions) uses
       (λ k d l. le-ltb (get_or positions (get_or uses k d).block 0) blocks (out k d l)))
 
-  module _ (span : Span) (uses : List Use) (is : IsSpan positions blocks (blocks_of uses) span) where
+  module _ (span : BlockRange) (uses : List Use) (is : IsSpan positions blocks (blocks_of uses) span) where
     abbrev to : ℕ
     to = min span.to (length uses)
 
@@ -146,12 +146,12 @@ module _ (positions : List ℕ) (blocks : ℕ) where
         ∙ uses_in_append (take from uses) (middle ++ rest)
         ∙ rw (front, uses_in_append middle rest, back) (append-nil (uses_in positions blocks middle)))
 
-  pub part_in : (span : Option Span) (uses : List Use) → IfSome span (IsSpan positions blocks (blocks_of uses))
+  pub part_in : (span : Option BlockRange) (uses : List Use) → IfSome span (IsSpan positions blocks (blocks_of uses))
       → uses_in positions blocks (part_of span uses) ≡ uses_in positions blocks uses
   part_in None uses is = refl
   part_in (Some span) uses is = one_part span uses is
 
-pub part_all : (P : Use → Type 0) (span : Option Span) (uses : List Use) → All P uses → All P (part_of span uses)
+pub part_all : (P : Use → Type 0) (span : Option BlockRange) (uses : List Use) → All P uses → All P (part_of span uses)
 part_all P None uses each = each
 part_all P (Some span) uses each =
     let to = min span.to (length uses) in

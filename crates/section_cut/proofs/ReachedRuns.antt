@@ -33,7 +33,7 @@ use Rattle.section_cut.specs.RowsAfter.{AreBeside, AllStay, IsKept, AreRowsAfter
 use Rattle.section_cut.specs.Stamps.{AreBefore, IsReached, IsStamped, IsStampedBy}
 use Rattle.section_cut.specs.ReachedRuns.{IsStairIfReached, AreReachedRuns, IsOwnRow, IsRowAfter, row_after, uses_if_there}
 use Rattle.section_cut.specs.Spans.{AreSpans, IsLookedAt, IsSpan, blocks_of, part_of}
-use Rattle.section_cut.specs.declared.spans.Span.{Span}
+use Rattle.section_cut.specs.declared.spans.BlockRange.{BlockRange}
 use Rattle.section_cut.proofs.BindsBy.{use_by, entry_same}
 use Rattle.section_cut.proofs.MemberRows.{uses_by_table}
 use Rattle.section_cut.proofs.OldRows.{row_if, row_at_name, old_row}
@@ -156,7 +156,7 @@ module _ {earlier later : Tables} {stairs : List (Option Stair)} {s : Section} {
         (reached_uses earlier later beside.later_sound n below stair reached_is)
 
     -- the uses that are looked at
-    pub uses_looked_at : (spans : List (Option Span)) → AreSpans positions (length s.blocks) (map uses_if_there stairs) spans → (uses : List Use)
+    pub uses_looked_at : (spans : List (Option BlockRange)) → AreSpans positions (length s.blocks) (map uses_if_there stairs) spans → (uses : List Use)
         → uses ≡ part_of (get_or spans n None) (uses_if_there (get_or stairs n None)) → IfSome stair (IsLookedAt positions (length s.blocks) uses)
     uses_looked_at spans are uses is =
         by_stair stair stair_uses (its ∙ get_or_default stairs n stair None (omega (arith, below, beside.reached.count)))

@@ -4,7 +4,7 @@ use Rattle.rail_model.specs.declared.stair.Use.{Use}
 use Rattle.rail_model.specs.declared.stair.Stair.{Stair}
 use Rattle.section_cut.specs.declared.all_stairways.Starts.{Starts}
 use Rattle.section_cut.specs.declared.spans.BlockLists.{BlockLists}
-use Rattle.section_cut.specs.declared.spans.Span.{Span}
+use Rattle.section_cut.specs.declared.spans.BlockRange.{BlockRange}
 use Rattle.section_cut.specs.Positions.{uses_in}
 use Rattle.section_cut.specs.Starts.{AreStartsOf}
 
@@ -31,22 +31,22 @@ abbrev pub IsWithNext : BlockLists → List Use → BlockLists → Type 0
 IsWithNext old uses new = (all : List (List Use)) → AreOver all old → AreOver (all ++ uses ∷ []) new
 
 -- the places in a list of blocks at which one is in a section of so many blocks, by the table of positions, are all in a span
-abbrev pub IsSpan : List ℕ → ℕ → List ℕ → Span → Type 0
+abbrev pub IsSpan : List ℕ → ℕ → List ℕ → BlockRange → Type 0
 IsSpan positions blocks list span =
     (k : ℕ) → k < length list → slice_index positions (slice_index list k) < blocks → (span.from ≤ k) × (k < span.to)
 
 -- each list has its span
-abbrev pub AreListSpans : List ℕ → ℕ → List (List ℕ) → List Span → Type 0
+abbrev pub AreListSpans : List ℕ → ℕ → List (List ℕ) → List BlockRange → Type 0
 AreListSpans positions blocks lists spans =
-    (k : ℕ) (d : Span) → k < length lists → IsSpan positions blocks (slice_index_or lists k []) (slice_index_or spans k d)
+    (k : ℕ) (d : BlockRange) → k < length lists → IsSpan positions blocks (slice_index_or lists k []) (slice_index_or spans k d)
 
 -- each stairway has a span of its blocks, or none
-abbrev pub AreSpans : List ℕ → ℕ → List (List Use) → List (Option Span) → Type 0
+abbrev pub AreSpans : List ℕ → ℕ → List (List Use) → List (Option BlockRange) → Type 0
 AreSpans positions blocks all spans =
     (n : ℕ) → n < length all → IfSome (slice_index_or spans n None) (IsSpan positions blocks (blocks_of (slice_index_or all n [])))
 
 -- these are the spans of any stairways that are over the lists
-abbrev pub TellSpans : List ℕ → ℕ → BlockLists → List (Option Span) → Type 0
+abbrev pub TellSpans : List ℕ → ℕ → BlockLists → List (Option BlockRange) → Type 0
 TellSpans positions blocks over spans = (all : List (List Use)) → AreOver all over → AreSpans positions blocks all spans
 
 -- the stairways with the moments of each, and the lists of blocks that they are over
@@ -55,7 +55,7 @@ pub record AreLookedAt (stairs : List Stair) (starts : List Starts) (over : Bloc
   pub listed : AreOver (map (λ s. s.uses) stairs) over
 
 -- the uses at the places of a span, or all where there is none
-abbrev pub part_of : Option Span → List Use → List Use
+abbrev pub part_of : Option BlockRange → List Use → List Use
 part_of None uses = uses
 part_of (Some span) uses =
     let to = min span.to (length uses) in take (to - min span.from to) (drop (min span.from to) uses)

@@ -6,7 +6,7 @@ ghost use Rattle.rail_model.specs.Conflict.{timetable, stair_at};
 ghost use Rattle.section_cut.specs.Spans.{AreSpans};
 ghost use Rattle.section_cut.specs.Starts.{StartsBetween, StartsOutside};
 
-use crate::spans::{BlockLists, Span};
+use crate::spans::{BlockLists, BlockRange};
 use blocking_time::stairs;
 use line_tables::{LineTables, Paths};
 use rail_model::{List, OutOfMemory, Section, Stair, Use};
@@ -126,14 +126,14 @@ impl AllStairways {
         })
     }
 
-    /// How many stairways there are.
+    // How many stairways there are.
     pub(crate) fn len(&self) -> usize
         ensures { result ≡ length self.now }
     {
         self.stairs.len()
     }
 
-    /// The stairway at a place.
+    // The stairway at a place.
     pub(crate) fn stair(&self, n: usize) -> &Stair
         requires { n < length self.now }
         ensures { result.now ≡ stair_at self.now n }
@@ -141,8 +141,8 @@ impl AllStairways {
         &self.stairs.slice()[n]
     }
 
-    /// Whether all uses of the stairway at a place start before a section's window, or all at its
-    /// end or later: `true` says so, and `false` says nothing.
+    // Whether all uses of the stairway at a place start before a section's window, or all at its
+    // end or later: `true` says so, and `false` says nothing.
     pub(crate) fn passes_by(&self, n: usize, section: &Section) -> bool
         requires { n < length self.now }
         ensures { result ≡ true → StartsOutside section.now (stair_at self.now n).uses }
@@ -156,7 +156,7 @@ impl AllStairways {
         alloc: Global,
         positions: &[u32],
         blocks: usize,
-    ) -> Result<Vec<Option<Span>>, OutOfMemory>
+    ) -> Result<Vec<Option<BlockRange>>, OutOfMemory>
         ensures { IfOk result
             (λ spans. AreSpans positions.now blocks (map (λ s. s.uses) self.now) spans.items) }
     {

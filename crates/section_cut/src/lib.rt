@@ -61,4 +61,3 @@ pub use all_stairways::{AllStairways, stairways, stairways_in_parts};
 pub use cut_changes::{CutChange, CutChanges, cut_change};
 pub use cuts::{cut_among, cut_of};
 pub use laws::made_cuts_have_their_value;
-pub use same_value::{same_cut, same_row};

@@ -5,7 +5,7 @@ ghost use Rattle.rail_model.specs.Tables.{section_at};
 ghost use Rattle.rail_model.specs.declared.limits.TheConstants.{PATH_HOPS};
 ghost use Rattle.section_cut.specs.Positions.{IsPositions, AreSameTo, AreSameFirst, IsUsePlaced, ArePlaced, with_position, uses_in};
 
-use crate::spans::Span;
+use crate::spans::BlockRange;
 use line_tables::LineTables;
 use rail_model::{List, OutOfMemory, Section, Use};
 use std::alloc::Global;
@@ -16,7 +16,7 @@ use std::alloc::Global;
 pub(crate) struct SectionTable<'a> {
     pub(crate) section: &'a Section,
     pub(crate) positions: &'a [u32],
-    pub(crate) spans: &'a [Option<Span>],
+    pub(crate) spans: &'a [Option<BlockRange>],
     ghost most: { length section.now.blocks ≤ PATH_HOPS },
 }
 

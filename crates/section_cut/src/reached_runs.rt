@@ -23,7 +23,7 @@ use crate::cut_changes::{BothTables, CutChange, StoredCut, stored_made_anew};
 use crate::positions::{SectionTable, positions};
 use crate::reached_rows::{row_anew, row_stays};
 use crate::same_value::same_name;
-use crate::spans::{BlockLists, Span, part};
+use crate::spans::{BlockLists, BlockRange, part};
 use crate::stamps::next_row;
 use crate::timed_stair::TimedStair;
 use blocking_time::stairs;
@@ -83,7 +83,11 @@ pub(crate) fn lists_over(
 }
 
 // Of the uses of the stair at a place, if it is there, those that may be in a section, by the spans.
-fn looked_at<'a>(stairs: &'a [Option<TimedStair>], spans: &[Option<Span>], n: usize) -> &'a [Use]
+fn looked_at<'a>(
+    stairs: &'a [Option<TimedStair>],
+    spans: &[Option<BlockRange>],
+    n: usize,
+) -> &'a [Use]
     requires { n < length stairs.now }
     ensures { result.now ≡ part_of (slice_index_or spans.now n None)
         (uses_if_there (slice_index_or stairs.now n None)) }

@@ -6,8 +6,8 @@ ghost use Rattle.section_cut.specs.Change.{HasSameRows};
 use plan_model::{Cut, CutRow};
 use rail_model::{Name, Section, Use};
 
-/// Whether two cuts are equal but for their stamps.
-pub fn same_cut(a: &Cut, b: &Cut) -> bool
+// Whether two cuts are equal but for their stamps.
+pub(crate) fn same_cut(a: &Cut, b: &Cut) -> bool
     ensures { IsTrue result ↔ IsSameCut a.now b.now }
 {
     same_section(&a.section, &b.section)
@@ -15,8 +15,8 @@ pub fn same_cut(a: &Cut, b: &Cut) -> bool
         && same_rows(a.rows.slice(), b.rows.slice())
 }
 
-/// Whether two rows are equal but for their stamps.
-pub fn same_row(a: &CutRow, b: &CutRow) -> bool
+// Whether two rows are equal but for their stamps.
+pub(crate) fn same_row(a: &CutRow, b: &CutRow) -> bool
     ensures { IsTrue result ↔ (stamped_row 0 a.now ≡ stamped_row 0 b.now) }
 {
     a.name == b.name && a.entry == b.entry && same_uses(a.uses.slice(), b.uses.slice())

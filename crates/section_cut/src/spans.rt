@@ -20,7 +20,7 @@ pub(crate) struct BlockLists {
 
 // From a place of a stairway up to another.
 #[derive(Clone, Copy)]
-pub(crate) struct Span {
+pub(crate) struct BlockRange {
     from: usize,
     to: usize,
 }
@@ -52,7 +52,7 @@ impl BlockLists {
         alloc: Global,
         positions: &[u32],
         blocks: usize,
-    ) -> Result<Vec<Option<Span>>, OutOfMemory>
+    ) -> Result<Vec<Option<BlockRange>>, OutOfMemory>
         ensures { IfOk result (λ spans. TellSpans positions.now blocks self.now spans.items) }
     {
         let by_list = list_spans(alloc, &self.lists, positions, blocks)?;
@@ -129,7 +129,7 @@ fn list_spans(
     lists: &[List<u32>],
     positions: &[u32],
     blocks: usize,
-) -> Result<Vec<Span>, OutOfMemory>
+) -> Result<Vec<BlockRange>, OutOfMemory>
     ensures { IfOk result (λ spans. AreListSpans positions.now blocks lists.now spans.items) }
 {
     let mut spans = Vec::with_capacity(alloc, lists.len())?;
@@ -140,10 +140,10 @@ fn list_spans(
 }
 
 // The span of a list: from the first of its blocks that is in the section to the last.
-fn span_of(list: &[u32], positions: &[u32], blocks: usize) -> Span
+fn span_of(list: &[u32], positions: &[u32], blocks: usize) -> BlockRange
     ensures { IsSpan positions.now blocks list.now result }
 {
-    let mut span = Span {
+    let mut span = BlockRange {
         from: usize::MAX,
         to: 0,
     };
@@ -166,25 +166,25 @@ fn position_of(positions: &[u32], block: u32) -> usize
 }
 
 // A span with a place that isn't before it.
-fn with_place(span: Span, place: usize) -> Span
+fn with_place(span: BlockRange, place: usize) -> BlockRange
     requires { place < 18446744073709551615 }
     ensures { (result.from ≡ min span.from place) × (result.to ≡ place + 1) }
 {
-    Span {
+    BlockRange {
         from: span.from.min(place),
         to: place + 1,
     }
 }
 
 // The span of a number, if there is one.
-fn span_by(spans: &[Span], number: Option<usize>) -> Option<Span>
+fn span_by(spans: &[BlockRange], number: Option<usize>) -> Option<BlockRange>
     ensures { result ≡ option_and_then (slice_get spans.now) number }
 {
     spans.get(number?).copied()
 }
 
 // The part of a stairway's uses that a span at a place of these has, or all where there is none.
-pub(crate) fn part<'a>(uses: &'a [Use], spans: &[Option<Span>], n: usize) -> &'a [Use]
+pub(crate) fn part<'a>(uses: &'a [Use], spans: &[Option<BlockRange>], n: usize) -> &'a [Use]
     ensures { result.now ≡ part_of (slice_index_or spans.now n None) uses.now }
 {
     let Some(span) = span_at(spans, n) else {
@@ -195,7 +195,7 @@ pub(crate) fn part<'a>(uses: &'a [Use], spans: &[Option<Span>], n: usize) -> &'a
 }
 
 // The span at a place, if there is one.
-fn span_at(spans: &[Option<Span>], n: usize) -> Option<Span>
+fn span_at(spans: &[Option<BlockRange>], n: usize) -> Option<BlockRange>
     ensures { result ≡ slice_index_or spans.now n None }
 {
     match spans.get(n) {
