@@ -10,7 +10,9 @@ use Rattle.plan_model.specs.declared.cut.CutRow.{CutRow}
 use Rattle.plan_model.specs.declared.cut.Cut.{Cut}
 use Rattle.plan_model.specs.Cut.{stamped_row, stamped, is_member, row_of, section_cut, cut_of}
 use Rattle.section_cut.specs.declared.cut_changes.CutChange.{CutChange}
+use Rattle.section_cut.specs.declared.cut_changes.StoredCut.{StoredCut}
 use Rattle.section_cut.specs.Change.{IsChange}
+use Rattle.section_cut.specs.Stored.{IsStored, IsChangeOfStored}
 
 -- of two stamps the later stays
 stamped_twice : (first later : ℕ) (cut : Cut) → stamped later (stamped first cut) ≡ stamped later cut
@@ -48,10 +50,12 @@ value_of tables name stamp cut is =
     sym (ap (option_map (stamped 0)) is ∙ twice stamp (cut_of tables name) ∙ bare tables name)
 
 -- what an edit makes of a cut, by the cut after it that is made anew
-pub change_is : (earlier later : Tables) (name : List ℕ) (number : ℕ) (cut anew : Option Cut) (change : CutChange)
-    → cut_of earlier name ≡ option_map (stamped 0) cut → anew ≡ option_map (stamped number) (cut_of later name)
-    → IsChange (option_map (stamped 0) cut) (option_map (stamped 0) anew) number cut change
-    → IsChange (cut_of earlier name) (cut_of later name) number cut change
-change_is earlier later name number cut anew change was is it =
-    subst (λ v. IsChange v (cut_of later name) number cut change) (sym was)
-    (subst (λ v. IsChange (option_map (stamped 0) cut) v number cut change) (sym (value_of later name number anew is)) it)
+pub change_is : {stored : StoredCut} → IsStored stored → (anew : Option Cut) (change : CutChange)
+    → anew ≡ option_map (stamped stored.number) (cut_of stored.both.after.now stored.section.now)
+    → IsChange (Some (stamped 0 stored.cut.now)) (option_map (stamped 0) anew) stored.number (Some stored.cut.now) change
+    → IsChangeOfStored stored change
+change_is {stored} was anew change is it =
+    let later = stored.both.after.now in
+    let old = stored.cut.now in
+    subst (λ v. IsChange v (cut_of later stored.section.now) stored.number (Some old) change) (sym was.is)
+    (subst (λ v. IsChange (Some (stamped 0 old)) v stored.number (Some old) change) (sym (value_of later stored.section.now stored.number anew is)) it)

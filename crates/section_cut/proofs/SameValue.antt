@@ -1,6 +1,6 @@
 -- Cuts of one value: what holds of one holds of the other.
 use Rattle.std.proofs.Common.{◌≡◌, ℕ, ◌<◌, List, length, map, get_or, Option, Some, None, refl, sym, ap, ◌∙◌, subst, inl, arith}
-use Rattle.std.specs.Prelude.{find, option_map, IfSome}
+use Rattle.std.specs.Prelude.{find, option_map}
 use Rattle.std.proofs.lemmas.List.{length-map, get_or-map}
 use Rattle.std.proofs.lemmas.List.Folds.{fold-map}
 use Rattle.line_tables.proofs.Found.{find_some}
@@ -93,10 +93,6 @@ module _ (tables : Tables) (sound : IsSound tables) (name : List ℕ) where
   pub sound_cut_of : (cut : Cut) → cut_of tables name ≡ Some (stamped 0 cut) → IsSoundCut cut
   sound_cut_of cut is =
       sound_bare 0 cut (sound_found (stamped 0 cut) (find (λ s. is_same s.name name) tables.sections) refl is)
-
-  pub sound_if_there : (cut : Option Cut) → cut_of tables name ≡ option_map (stamped 0) cut → IfSome cut IsSoundCut
-  sound_if_there None is = tt
-  sound_if_there (Some cut) is = sound_cut_of cut is
 
   -- an untouched cut is the cut after the edit
   pub untouched_is : (number : ℕ) (cut : Option Cut) → cut_of tables name ≡ option_map (stamped 0) cut

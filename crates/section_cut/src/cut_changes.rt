@@ -92,7 +92,9 @@ impl<'a> CutChanges<'a> {
     /// What the edit, which has this number, makes of the cut of the section of a name. The section
     /// is touched exactly where its cuts before and after the edit differ, and a cut that isn't
     /// there differs from each that is. In the cut after it each row that is new, or whose value
-    /// changed, has the edit's number as its stamp, and each other row keeps its stamp.
+    /// changed, has the edit's number as its stamp, and each other row keeps its stamp. Whether a
+    /// cut in which one row changed comes as `Row` or as `Touched`, no clause says: a caller does
+    /// right with either.
     pub fn cut_after(
         &self,
         alloc: Global,
@@ -104,26 +106,37 @@ impl<'a> CutChanges<'a> {
         ensures { IfOk result (IsChange (cut_of self.now.before section.now)
             (cut_of self.now.after section.now) number (option_copied cut.entry)) }
     {
+        let Some(cut) = cut else {
+            return cut_of_new_section(alloc, self.both.after, section, number);
+        };
+        self.both.before.learn_sound();
+        self.both.after.learn_sound();
+        let stored = StoredCut {
+            both: self.both,
+            cut,
+            section,
+            number,
+        };
         match &self.reach {
-            Reach::All(stairs) => { cut_after_all(alloc, self.both, stairs, cut, section, number) }
-            Reach::Section(name) => {
-                cut_after_section(alloc, self.both, name, cut, section, number)
-            }
-            Reach::Rows(reach) => match cut {
-                Some(cut) => {
-                    self.both.before.learn_sound();
-                    self.both.after.learn_sound();
-                    let stored = StoredCut {
-                        both: self.both,
-                        cut,
-                        section,
-                        number,
-                    };
-                    cut_after_rows(alloc, stored, reach)
-                }
-                None => Ok(CutChange::Untouched),
-            },
+            Reach::All(stairs) => cut_after_all(alloc, stored, stairs),
+            Reach::Section(name) => cut_after_section(alloc, stored, name),
+            Reach::Rows(reach) => cut_after_rows(alloc, stored, reach),
         }
+    }
+}
+
+// What the edit of a number makes of the cut of a section that isn't there before it.
+fn cut_of_new_section(
+    alloc: Global,
+    after: &LineTables,
+    section: &Name,
+    number: u64,
+) -> Result<CutChange, OutOfMemory>
+    ensures { IfOk result (IsChange None (cut_of after.now section.now) number None) }
+{
+    match cut_of(alloc, after, section, number)? {
+        Some(cut) => Ok(CutChange::Touched(Some(cut))),
+        None => Ok(CutChange::Untouched),
     }
 }
 
@@ -146,56 +159,43 @@ fn cut_after_rows(
     }
 }
 
-// What the edit of a number makes of the cut of the section of a name, by all stairways after it.
+// What the edit makes of a stored cut, by all stairways after it.
 fn cut_after_all(
     alloc: Global,
-    both: BothTables<'_>,
+    stored: StoredCut<'_>,
     stairs: &AllStairways,
-    cut: Option<&Cut>,
-    section: &Name,
-    number: u64,
 ) -> Result<CutChange, OutOfMemory>
-    requires stairs { stairs.now ≡ timetable both.after.now }
-    requires cut { cut_of both.before.now section.now ≡ option_map (stamped 0) (option_copied cut) }
-    ensures { IfOk result (IsChange (cut_of both.entry.before.now section.now)
-        (cut_of both.entry.after.now section.now) number (option_copied cut.entry)) }
+    requires stored { IsStored stored }
+    requires stairs { stairs.now ≡ timetable stored.both.after.now }
+    ensures { IfOk result (IsChangeOfStored stored.entry) }
 {
-    both.before.learn_sound();
-    let later = cut_anew(alloc, both.after, stairs, section, number)?;
-    Ok(changed(cut, later, number))
+    let later = cut_anew(
+        alloc,
+        stored.both.after,
+        stairs,
+        stored.section,
+        stored.number,
+    )?;
+    Ok(changed(stored.cut, later, stored.number))
 }
 
-// What the edit of a section makes of the cut of the section of a name.
+// What the edit of the section of a name makes of a stored cut.
 fn cut_after_section(
     alloc: Global,
-    both: BothTables<'_>,
+    stored: StoredCut<'_>,
     edited: &Name,
-    cut: Option<&Cut>,
-    section: &Name,
-    number: u64,
 ) -> Result<CutChange, OutOfMemory>
-    requires one { IsOneSection both.before.now both.after.now edited.now }
-    requires cut { cut_of both.before.now section.now ≡ option_map (stamped 0) (option_copied cut) }
-    ensures { IfOk result (IsChange (cut_of both.entry.before.now section.now)
-        (cut_of both.entry.after.now section.now) number (option_copied cut.entry)) }
+    requires stored { IsStored stored }
+    requires one { IsOneSection stored.both.before.now stored.both.after.now edited.now }
+    ensures { IfOk result (IsChangeOfStored stored.entry) }
 {
-    if !same_name(edited, section) {
+    if !same_name(edited, stored.section) {
         return Ok(CutChange::Untouched);
     }
-    if let Some(cut) = cut {
-        both.before.learn_sound();
-        both.after.learn_sound();
-        let stored = StoredCut {
-            both,
-            cut,
-            section,
-            number,
-        };
-        if let Some(change) = cut_of_same_rows(alloc, stored)? {
-            return Ok(change);
-        }
+    if let Some(change) = cut_of_same_rows(alloc, stored)? {
+        return Ok(change);
     }
-    cut_made_anew(alloc, both, cut, section, number)
+    stored_made_anew(alloc, stored)
 }
 
 // What the edit makes of the cut of the section that it changes, where the section's window and its
@@ -235,49 +235,20 @@ pub(crate) fn stored_made_anew(
     requires { IsStored stored }
     ensures { IfOk result (IsChangeOfStored stored.entry) }
 {
-    cut_made_anew(
-        alloc,
-        stored.both,
-        Some(stored.cut),
-        stored.section,
-        stored.number,
-    )
+    let later = cut_of(alloc, stored.both.after, stored.section, stored.number)?;
+    Ok(changed(stored.cut, later, stored.number))
 }
 
-// What the edit of a number makes of the cut of the section of a name, where that is made anew.
-fn cut_made_anew(
-    alloc: Global,
-    both: BothTables<'_>,
-    cut: Option<&Cut>,
-    section: &Name,
-    number: u64,
-) -> Result<CutChange, OutOfMemory>
-    requires { cut_of both.before.now section.now ≡ option_map (stamped 0) (option_copied cut) }
-    ensures { IfOk result (IsChange (cut_of both.entry.before.now section.now)
-        (cut_of both.entry.after.now section.now) number (option_copied cut.entry)) }
-{
-    both.before.learn_sound();
-    let later = cut_of(alloc, both.after, section, number)?;
-    Ok(changed(cut, later, number))
-}
-
-// What an edit makes of a cut, where all rows of the cut after it have the edit's number.
-fn changed(cut: Option<&Cut>, later: Option<Cut>, number: u64) -> CutChange
-    requires old_sound { IfSome (option_copied cut) IsSoundCut }
+// What the edit of a number makes of a cut, by the cut of its section after it, if that is there.
+fn changed(old: &Cut, later: Option<Cut>, number: u64) -> CutChange
+    requires old_sound { IsSoundCut old.now }
     requires sound { IfSome later IsSoundCut }
-    requires stamps { IfSome later (λ c. All (λ r. r.stamp ≡ number) c.rows) }
-    ensures { IsChange (option_map (stamped 0) (option_copied cut.entry))
-        (option_map (stamped 0) later) number (option_copied cut.entry) result }
+    ensures { IsChange (Some (stamped 0 old.now))
+        (option_map (stamped 0) later) number (Some old.now) result }
 {
-    let Some(later) = later else {
-        if cut.is_none() {
-            return CutChange::Untouched;
-        }
-        return CutChange::Touched(None);
-    };
-    match cut {
-        Some(old) => compared(old, later, number),
-        None => CutChange::Touched(Some(later)),
+    match later {
+        Some(later) => compared(old, later, number),
+        None => CutChange::Touched(None),
     }
 }
 

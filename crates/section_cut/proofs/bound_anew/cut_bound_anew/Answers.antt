@@ -29,6 +29,4 @@ compared-requires-clause-sound c =
 
 pub returns : goal.returns
 returns c =
-    let stored = c.args.stored in
-    change_is stored.both.before.now stored.both.after.now stored.section.now stored.number (Some stored.cut.now) (Some c.in_ok-later.later) c.compared.result
-    c.requires.stored.is (made (goal.at.returns c).In_ok-later) c.compared.ensures
+    change_is c.requires.stored (Some c.in_ok-later.later) c.compared.result (made (goal.at.returns c).In_ok-later) c.compared.ensures

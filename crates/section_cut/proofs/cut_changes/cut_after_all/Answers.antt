@@ -1,18 +1,9 @@
-use Rattle.std.specs.Option.{option_copied}
-use Rattle.plan_model.specs.Cut.{cut_of}
-use Rattle.section_cut.proofs.Anew.{stamps_are, change_is}
-use Rattle.section_cut.proofs.SameValue.{sound_if_there}
+use Rattle.section_cut.proofs.Anew.{change_is}
+use Rattle.section_cut.proofs.Stored.{sound_stored}
 use Rattle.section_cut.proofs.cut_changes.cut_after_all.Goals as goal
 
 pub changed-requires-clause-old_sound : goal.changed-requires-clause-old_sound
-changed-requires-clause-old_sound c =
-    sound_if_there c.args.both.before.now c.learn_sound.ensures c.args.section.now (option_copied c.args.cut) c.requires.cut
-
-pub changed-requires-clause-stamps : goal.changed-requires-clause-stamps
-changed-requires-clause-stamps c =
-    stamps_are c.args.number (cut_of c.args.both.after.now c.args.section.now) c.in_ok-later.later c.in_ok-later.ensures.same
+changed-requires-clause-old_sound c = sound_stored c.requires.stored
 
 pub returns : goal.returns
-returns c =
-    change_is c.args.both.before.now c.args.both.after.now c.args.section.now c.args.number (option_copied c.args.cut) c.in_ok-later.later c.changed.result
-    c.requires.cut c.in_ok-later.ensures.same c.changed.ensures
+returns c = change_is c.requires.stored c.in_ok-later.later c.changed.result c.in_ok-later.ensures.same c.changed.ensures
