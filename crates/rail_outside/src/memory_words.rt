@@ -48,17 +48,11 @@ fn has_no_text(words: &[List<u8>]) -> bool
     ensures texts { IsFalse result → All IsUtf8 words.now }
 {
     for word in words {
-        if !is_text(word.slice()) {
+        if str::from_utf8(word.slice()).is_err() {
             return true;
         }
     }
     false
-}
-
-fn is_text(bytes: &[u8]) -> bool
-    ensures { IsTrue result ↔ IsUtf8 bytes.now }
-{
-    str::from_utf8(bytes).is_ok()
 }
 
 // The texts that words are.

@@ -7,7 +7,7 @@ use Rattle.rail_outside.proofs.memory_words.has_no_text.Goals as goal
 
 pub loop-word-preserved : goal.loop-word-preserved
 loop-word-preserved c =
-    let text : IsUtf8 c.slice.result.now = c.is_text.ensures.0 (search rules) in
+    let text : IsUtf8 c.slice.result.now = search rules in
     All-more IsUtf8 c.args.words.now c.loop-word.word-index c.word-item.result c.loop-word-test.true c.loop-word.invariant
     (subst IsUtf8 (c.slice.ensures ∙ c.word-item.is) text)
 
