@@ -24,9 +24,9 @@ pass_of e = e.pass
 -- ---- what the call finds
 
 -- a pass that is issued by what was seen is issued by what is found
-pub issued_then : (who : ℕ) (numbers : List ℕ) (seen found : List Entry) → desk.GoesOn pass_of numbers seen found
-    → who < issued seen → who < issued found
-issued_then who numbers seen found g is = omega (arith, is, longer_issues_no_fewer seen g.more, ap issued g.is)
+pub issued_then : {who : ℕ} {numbers : List ℕ} {seen start found : List Entry} → desk.GoesOn pass_of numbers seen found
+    → start ≡ found → who < issued seen → who < issued start
+issued_then {seen = seen} g starts is = omega (arith, is, longer_issues_no_fewer seen g.more, ap issued g.is, ap issued starts)
 
 -- what was the answer of a section at an edit is so
 pub done_then : (done : Done) (numbers : List ℕ) (seen found : List Entry) → desk.GoesOn pass_of numbers seen found
@@ -44,11 +44,10 @@ done_then done numbers seen found g h is =
 -- ---- what the call leaves
 
 -- what the book adds may be given back with the turn
-pub own_then : (who : ℕ) (k taken : Known Entry) (start found after : List Entry) → who ≡ k.number
-    → IsSamePass k taken
+pub own_then : {who : ℕ} {k taken : Known Entry} {start found after : List Entry} → who ≡ k.number → IsSamePass k taken
     → taken.seen ≡ found → start ≡ found → AddsOwn who start after
     → desk.AddsOwn pass_of taken.number taken.seen after
-own_then who k taken start found after is same seen starts a = record {
+own_then is same seen starts a = record {
   own = a.own;
   is = a.is ∙ ap (λ j. j ++ a.own) (starts ∙ sym seen);
   made = subst (λ n. All (λ e. e.pass ≡ n) a.own) (is ∙ sym same.number) a.made;
@@ -63,27 +62,29 @@ has_access s who is own below h = record {
   own = subst (Contains s.pass.numbers) is own;
 }
 
-module _ (Does : ℕ → List Entry → List Entry → Type 0) (s later : Seated) (taken : Known Entry) (who left : ℕ)
-    (start found after : List Entry) where
-  -- the one call of the book is the call of the seat
-  pub seat_call : who ≡ s.pass.number → Contains s.pass.numbers who → who < issued s.pass.seen → IsJournal s.pass.seen
-      → IsSamePass s.pass taken → desk.GoesOn pass_of s.pass.numbers s.pass.seen found → IsJournal found
-      → start ≡ found → Does who start after → later.pass ≡ without_turn taken after
-      → left ≡ later.pass.number → Contains later.pass.numbers left → left < issued later.pass.seen
-      → IsJournal later.pass.seen
-      → IsCall (Does s.pass.number) (access_of s) (access_of later)
-  seat_call is own below h same g legal starts does given is_left own_left below_left h_left = record {
-    before = has_access s who is own below h;
-    found = found;
-    goes_on = record { more = g.more; is = g.is; others = g.others };
-    is_journal = legal;
-    does = subst (λ j. Does s.pass.number found j) (sym (ap (λ k. k.seen) given))
-        (subst (λ j. Does s.pass.number j after) starts (subst (λ n. Does n start after) is does));
-    after = has_access later left is_left own_left below_left h_left;
-    same_journal = ap numbers_of (ap (λ k. k.desk) given ∙ same.desk);
-    same_pass = ap (λ k. k.number) given ∙ same.number;
-    same_numbers = ap (λ k. k.numbers) given ∙ same.numbers;
-  }
+-- the one call of the book is the call of the seat
+pub seat_call : (Does : ℕ → List Entry → List Entry → Type 0) (s later seat : Seated) → s ≡ seat → {taken : Known Entry} {who left : ℕ}
+    {start found after : List Entry}
+    → who ≡ s.pass.number → Contains s.pass.numbers who → who < issued s.pass.seen → IsJournal s.pass.seen
+    → IsSamePass s.pass taken → desk.GoesOn pass_of s.pass.numbers s.pass.seen found → IsJournal found
+    → start ≡ found → Does who start after → later.pass ≡ without_turn taken after
+    → left ≡ later.pass.number → Contains later.pass.numbers left → left < issued later.pass.seen
+    → IsJournal later.pass.seen
+    → IsCall (Does seat.pass.number) (access_of seat) (access_of later)
+seat_call Does s later seat view {who = who} {left = left} {start = start} {found = found} {after = after} is own below h same g legal
+    starts does given is_left own_left below_left h_left =
+    subst (λ x. IsCall (Does x.pass.number) (access_of x) (access_of later)) view record {
+      before = has_access s who is own below h;
+      found = found;
+      goes_on = record { more = g.more; is = g.is; others = g.others };
+      is_journal = legal;
+      does = subst (λ j. Does s.pass.number found j) (sym (ap (λ k. k.seen) given))
+          (subst (λ j. Does s.pass.number j after) starts (subst (λ n. Does n start after) is does));
+      after = has_access later left is_left own_left below_left h_left;
+      same_journal = ap numbers_of (ap (λ k. k.desk) given ∙ same.desk);
+      same_pass = ap (λ k. k.number) given ∙ same.number;
+      same_numbers = ap (λ k. k.numbers) given ∙ same.numbers;
+    }
 
 -- ---- counts
 
