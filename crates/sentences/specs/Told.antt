@@ -1,7 +1,7 @@
 -- Lines for people: what holds of them, whatever they say.
-use Rattle.std.specs.Prelude.{◌≡◌, ℕ, Bool, ◌||◌, ◌==◌, ◌⊎◌, List, [], ◌∷◌, ◌++◌, Option, None, Some, codes, decimal}
-use Rattle.std.specs.List.{list_all}
-use Rattle.rail_model.specs.Name.{is_name_byte}
+use Rattle.std.specs.Prelude.{◌≡◌, ℕ, Bool, ◌||◌, ◌==◌, if◌then◌else◌, ◌⊎◌, List, [], ◌∷◌, ◌++◌, map, Option, None, Some, codes, decimal}
+use Rattle.std.specs.List.{list_all, list_any}
+use Rattle.rail_model.specs.Name.{is_same, is_name_byte}
 
 -- the bytes of a text, if there is one
 abbrev pub bytes_of : {X : Type 0} → (X → List ℕ) → Option X → List ℕ
@@ -35,8 +35,14 @@ abbrev pub IsOfSection : {X : Type 0} → Option X → List ℕ → Type 0
 IsOfSection None told = BeginsWith (codes "the word of a section is no name") told
 IsOfSection (Some section) told = BeginsWith (codes "no section is named ") told
 
+-- the words of the commands
+abbrev pub is_command : List ℕ → Bool
+is_command word =
+    list_any (is_same word) (map codes ("stairs" ∷ "check" ∷ "report" ∷ "compress" ∷ "headways" ∷ "cut" ∷ "cycle" ∷ "delays"
+    ∷ "fill" ∷ "session" ∷ "made" ∷ []))
+
 -- nothing is told, or a text about the first of some words: that there is none, that no command has it, or what its
 -- command wants
 abbrev pub IsOfWords : List (List ℕ) → List ℕ → Type 0
 IsOfWords [] told = BeginsWith (codes "no command is given") told
-IsOfWords (word ∷ more) told = BeginsWith (codes "no such command: ") told ⊎ BeginsWith (word ++ codes " wants ") told
+IsOfWords (word ∷ more) told = BeginsWith (if is_command word then word ++ codes " wants " else codes "no such command: ") told

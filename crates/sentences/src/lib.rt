@@ -43,4 +43,4 @@ pub use notes::told_of_cut;
 pub use row_sentence::{Fault, told_of_row};
 pub use section_sentence::told_of_section;
 pub use told::Told;
-pub use words_sentence::told_of_words;
+pub use words_sentence::{USAGE, told_of_words};

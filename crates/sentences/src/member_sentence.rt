@@ -10,7 +10,8 @@ use plan_model::Cut;
 use rail_model::{Name, OutOfMemory};
 use std::alloc::Global;
 
-/// The sentence about a run that is no train of a cut, or about a word that is no name of one.
+/// The sentence about a run that is no train of a cut, or about a word that is no name of one. No
+/// clause says which run is named, nor that anything is told: without memory nothing is.
 pub fn told_of_run(alloc: Global, cut: &Cut, run: Option<Name>) -> Told
     ensures { IsOfRun run result }
 {

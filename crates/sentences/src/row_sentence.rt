@@ -25,7 +25,8 @@ pub enum Fault {
     Script { planners: usize, tasks: usize },
 }
 
-/// The sentence about the row of a number, counted from 1, at which an input is refused.
+/// The sentence about the row of a number, counted from 1, at which an input is refused. No clause
+/// says what follows the number, nor that anything is told: without memory nothing is.
 pub fn told_of_row(
     alloc: Global,
     input: &[u8],

@@ -7,4 +7,4 @@ pub returns : goal.returns
 returns c =
     let word = string_bytes c.args.word.now in
     let wanted = c.args.wanted.now in
-    inr (inr (wanted, c.in_ok-format.ensures.ok ∙ sym (append_assoc word (codes " wants ") wanted)))
+    rw c.requires (inr (wanted, c.in_ok-format.ensures.ok ∙ sym (append_assoc word (codes " wants ") wanted)))
