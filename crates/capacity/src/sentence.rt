@@ -1,22 +1,8 @@
 //! The lines on standard error: why a call isn't done, or what is to be known of one that is.
-use capacity_cmd::{Cause, Status};
+use capacity_cmd::{Cause, Status, USAGE};
 use std::io;
 
-const USAGE: &str = "\
-usage: capacity COMMAND < LINE.csv, or capacity made N
-
-  stairs                         the blocking times of each run
-  check                          the conflicts of the timetable
-  report                         each section in short, and a total
-  compress SECTION               the compressed timetable and the capacity consumption
-  headways SECTION               the least headways between the section's trains
-  cut SECTION                    the fewest orderly pieces
-  cycle SECTION                  the least time after which its trains can come again
-  delays SECTION RUN SECONDS ..  what delays of 1 to 64 trains do to the others
-  fill SECTION RUN               how many copies of a train there is room for
-  session W                      planners' edits, with W workers beside them, 0 to 16
-  made N                         a line made from N, of one to nine digits; reads no line";
-
+// Writes what there is to say, to standard error. No clause says what that is.
 pub(crate) fn explain(rt: &impl Eprint, status: Status, told: &str) -> io::Result<()> {
     match status {
         Status::Done if told.is_empty() => Ok(()),

@@ -10,7 +10,6 @@ pub mod GivenDelays
 pub mod Reports
 pub mod SideBySide
 pub mod LastAnswers
-pub mod Pieces
 pub mod Counted
 pub mod MadeOne
 pub mod SessionCalls

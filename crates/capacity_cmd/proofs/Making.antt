@@ -24,8 +24,10 @@ use Rattle.capacity_cmd.specs.declared.refusal.Refusal.{Refusal}
 use Rattle.capacity_cmd.specs.declared.accepted.Accepted.{Accepted}
 use Rattle.capacity_cmd.specs.declared.input.BaseSoFar.{BaseSoFar}
 use Rattle.capacity_cmd.specs.declared.input.InputSoFar.{InputSoFar}
-use Rattle.capacity_cmd.specs.Input.{Spelling, nothing, takes_planner, takes_task, where_it_stands, with_one_task, with_line, refused, unless_refused, tables_from, content_in}
-use Rattle.capacity_cmd.specs.InputSoFar.{accepted_in, IsWithin, or_refused, tables_so_far, by_rule, after_one_more, TakesIf, IsNothing, Holds, accepted_so_far, TakesLine, TakesRow, TakesEach, said_by, goes_on, HasTaken}
+use Rattle.capacity_cmd.specs.Input.{Content, Spelling, nothing, takes_planner, takes_task, where_it_stands, with_one_task, with_line, refused, unless_refused, tables_from, content_in}
+use Rattle.capacity_cmd.specs.declared.stopped.Stopped.{Stopped}
+use Rattle.capacity_cmd.specs.Stopped.{Gives}
+use Rattle.capacity_cmd.specs.InputSoFar.{accepted_in, IsWithin, or_refused, tables_so_far, by_rule, after_one_more, TakesIf, IsNothing, Holds, accepted_so_far, TakesLine, TakesRow, TakesAll, said_by, goes_on, HasTaken}
 
 -- ---- one edit more
 
@@ -307,17 +309,21 @@ given_within planners rows made given None is few edits tasks =
     }
 given_within planners rows made given (Some refusal) is few edits tasks = absurd (cc)
 
-pub all_within : (planners rows : ℕ) (made : InputSoFar) (result : Result Accepted Refusal) → result ≡ accepted_so_far made
+pub all_within : (planners rows : ℕ) (made : InputSoFar) (result : Result Accepted (Stopped Refusal)) → Gives (accepted_so_far made) result
     → length made.scripts ≤ planners → made.base.edits ≤ rows → IfOk result (λ given. sum_by length given.scripts ≤ TASKS)
     → IfOk result (IsWithin planners rows)
 all_within planners rows made (Ok given) is few edits tasks =
     given_within planners rows (record { tables = made.base.tables; at = made.base.edits; scripts = made.scripts }) given
-    made.base.refused (sym is) few edits tasks
-all_within planners rows made (Err refusal) is few edits tasks = tt
+    made.base.refused is few edits tasks
+all_within planners rows made (Err why) is few edits tasks = tt
+
+pub all_given : (whole : Result Content Refusal) (made : InputSoFar) (result : Result Accepted (Stopped Refusal))
+    → accepted_in whole ≡ accepted_so_far made → Gives (accepted_so_far made) result → Gives (accepted_in whole) result
+all_given whole made result is gives = subst (λ (all : Result Accepted Refusal). Gives all result) (sym is) gives
 
 pub taken_all : (planners version i : ℕ) (rows : List Row) (made : InputSoFar) → length rows ≤ i
     → HasTaken planners version rows made i
-    → TakesEach planners (length rows) (content_in planners (Ok version) rows) made None
+    → TakesAll planners (length rows) (content_in planners (Ok version) rows) made
 unfolding goes_on said_by
 taken_all planners version i rows made end so_far =
     let first = first_line rows + 1 in

@@ -10,9 +10,11 @@ use Rattle.row_text.specs.Lines.{read_in, has_version_row, first_line}
 use Rattle.capacity_cmd.specs.declared.status.Cause.{Cause}
 use Rattle.capacity_cmd.specs.declared.input.InputSoFar.{InputSoFar}
 use Rattle.capacity_cmd.specs.declared.refusal.Refusal.{Refusal}
+use Rattle.capacity_cmd.specs.declared.stopped.Stopped.{Stopped}
+use Rattle.capacity_cmd.specs.declared.stopped.Stopped.TheVariants.{Refused, OutOfMemory}
 use Rattle.capacity_cmd.specs.Input.{content_in}
 use Rattle.capacity_cmd.specs.InputSoFar.{TakesRow, TakesRows, HasTaken}
-use Rattle.capacity_cmd.specs.ReadAhead.{AreRead, TakesLines}
+use Rattle.capacity_cmd.specs.ReadAhead.{AreRead, TakenTo, TakesLines}
 use Rattle.capacity_cmd.proofs.Making.{taken_more, not_taken, taken_all}
 
 at_most_one : (one : Bool) (n : ℕ) → 1 ≤ n → (if one then 1 else 0) ≤ n
@@ -82,7 +84,7 @@ takes_more planners i row all before found rest made mid more is number so_far t
 pub takes_not : (planners i row : ℕ) (all before : List (Result Line Form)) (found : Result Line Form) (rest : List (Result Line Form))
     (made mid more : InputSoFar) (why : Cause) → all ≡ before ++ found ∷ rest → row ≡ i + length before + 1
     → TakesSome planners i all before made mid → TakesRow planners row found mid more (Some why)
-    → TakesLines planners i all made (Err (record { row = row; cause = why }))
+    → TakesLines planners i all made (Err (Refused (record { row = row; cause = why })))
 takes_not planners i row all before found rest made mid more why is number so_far takes = λ version rows taken read.
     let next = next_read version i rows all before found rest read is in
     not_taken planners version (i + length before) rows mid more found why next.0 (so_far version rows taken read) next.1
@@ -94,10 +96,16 @@ pub takes_all : (planners i : ℕ) (all before : List (Result Line Form)) (made 
 takes_all planners i all before made more is so_far = λ version rows taken read.
     subst (λ (xs : List (Result Line Form)). HasTaken planners version rows more (i + length xs)) (sym is) (so_far version rows taken read)
 
+pub not_taken_whole : (planners version i : ℕ) (rows : List Row) (why : Stopped Refusal) → TakenTo planners version rows i (Err why)
+    → TakesRows planners (length rows) (content_in planners (Ok version) rows) (Err why)
+not_taken_whole planners version i rows (Refused refusal) is = is
+not_taken_whole planners version i rows OutOfMemory is = tt
+
 -- the last rows are taken
-pub taken_whole : (planners version i : ℕ) (rows : List Row) (lines : List (Result Line Form)) (made : InputSoFar) (taken : Result InputSoFar Refusal)
+pub taken_whole : (planners version i : ℕ) (rows : List Row) (lines : List (Result Line Form)) (made : InputSoFar) (taken : Result InputSoFar (Stopped Refusal))
     → i + length lines ≡ length rows → HasTaken planners version rows made i → AreRead version rows i lines
     → TakesLines planners i lines made taken → TakesRows planners (length rows) (content_in planners (Ok version) rows) taken
 taken_whole planners version i rows lines made (Ok more) all so_far read takes =
     taken_all planners version (i + length lines) rows more (omega (arith, all)) (takes version rows so_far read)
-taken_whole planners version i rows lines made (Err refusal) all so_far read takes = takes version rows so_far read
+taken_whole planners version i rows lines made (Err why) all so_far read takes =
+    not_taken_whole planners version (i + length lines) rows why (takes version rows so_far read)

@@ -11,7 +11,7 @@ use Rattle.rail_model.proofs.Collected.{collected}
 use Rattle.row_text.specs.SheetRows.{Row}
 use Rattle.plan_model.specs.declared.answer.Answer.{Answer}
 use Rattle.capacity_report.specs.Answers.{Total, total_of, with_answer, joined, is_ordered, is_within_capacity, is_over_capacity, is_disordered, is_crowded}
-use Rattle.capacity_cmd.specs.declared.heads.Head.{Head}
+use Rattle.capacity_cmd.specs.declared.section_heads.Head.{Head}
 use Rattle.capacity_cmd.specs.Heads.{IsHead, AreHeads, AddsHead}
 
 nothing_more : (n : ℕ) → 0 + n ≡ n

@@ -11,8 +11,9 @@ use Rattle.row_text.specs.SheetRows.{Row}
 use Rattle.row_text.specs.Lines.{◌>>=◌, first_line}
 use Rattle.plan_model.specs.declared.scripts.Task.{Task}
 use Rattle.plan_book.specs.declared.book.TheConstants.{TASKS}
-use Rattle.capacity_cmd.specs.Types.{Cause, Refusal, Accepted, BaseSoFar, InputSoFar}
+use Rattle.capacity_cmd.specs.Types.{Cause, Refusal, Accepted, BaseSoFar, InputSoFar, Stopped}
 use Rattle.capacity_cmd.specs.declared.status.Cause.TheVariants as cause
+use Rattle.capacity_cmd.specs.declared.stopped.Stopped.TheVariants.{Refused, OutOfMemory}
 use Rattle.capacity_cmd.specs.Input.{Spelling, with_line, Content, accepted_of, refused, spelling_from, tables_from, content_in}
 
 -- what an input gives to a command, or its refusal
@@ -91,13 +92,15 @@ pub record TakesAll (planners rows : ℕ) (whole : Result Content Refusal) (made
   pub scripts : length made.scripts ≤ planners
   pub edits : made.base.edits ≤ rows
 
-abbrev pub TakesEach : ℕ → ℕ → Result Content Refusal → InputSoFar → Option Refusal → Type 0
-TakesEach planners rows whole made None = TakesAll planners rows whole made
-TakesEach planners rows whole made (Some refusal) = whole ≡ Err refusal
-
-abbrev pub TakesRows : ℕ → ℕ → Result Content Refusal → Result InputSoFar Refusal → Type 0
+abbrev pub TakesRows : ℕ → ℕ → Result Content Refusal → Result InputSoFar (Stopped Refusal) → Type 0
 TakesRows planners rows whole (Ok made) = TakesAll planners rows whole made
-TakesRows planners rows whole (Err refusal) = whole ≡ Err refusal
+TakesRows planners rows whole (Err (Refused refusal)) = whole ≡ Err refusal
+TakesRows planners rows whole (Err OutOfMemory) = Unit {0}
+
+-- the same of rows whose lines are taken in place
+abbrev pub TakesEach : {U : Type 0} → ℕ → ℕ → Result Content Refusal → InputSoFar → Result U (Stopped Refusal) → Type 0
+TakesEach planners rows whole made (Ok done) = TakesRows planners rows whole (Ok made)
+TakesEach planners rows whole made (Err why) = TakesRows planners rows whole (Err why)
 
 -- ---- the rows before a place
 

@@ -7,6 +7,7 @@ pub mod Published
 pub mod Counted
 pub mod MadeOne
 pub mod Ends
+pub mod Stopped
 pub mod OneOutcome
 pub mod InputSoFar
 pub mod ReadAhead

@@ -4,7 +4,8 @@ use Rattle.rail_model.specs.declared.form.Form.{Form}
 use Rattle.row_text.specs.declared.line.Line.{Line}
 use Rattle.row_text.specs.SheetRows.{Row}
 use Rattle.row_text.specs.Lines.{read_in}
-use Rattle.capacity_cmd.specs.Types.{Refusal, InputSoFar}
+use Rattle.capacity_cmd.specs.Types.{Refusal, InputSoFar, Stopped}
+use Rattle.capacity_cmd.specs.declared.stopped.Stopped.TheVariants.{Refused, OutOfMemory}
 use Rattle.capacity_cmd.specs.Input.{content_in}
 use Rattle.capacity_cmd.specs.InputSoFar.{HasTaken}
 
@@ -20,13 +21,14 @@ pub record IsBatch (version : ℕ) (rows : List Row) (from : ℕ) (lines : List 
   pub read : AreRead version rows from lines
   pub some : from < length rows → 0 < length lines
 
--- the rows before a place are taken, or the input is refused for one of them
-abbrev pub TakenTo : ℕ → ℕ → List Row → ℕ → Result InputSoFar Refusal → Type 0
+-- the rows before a place are taken, or the input is refused for one of them, or no memory
+abbrev pub TakenTo : ℕ → ℕ → List Row → ℕ → Result InputSoFar (Stopped Refusal) → Type 0
 TakenTo planners version rows i (Ok made) = HasTaken planners version rows made i
-TakenTo planners version rows i (Err refusal) = content_in planners (Ok version) rows ≡ Err refusal
+TakenTo planners version rows i (Err (Refused refusal)) = content_in planners (Ok version) rows ≡ Err refusal
+TakenTo planners version rows i (Err OutOfMemory) = Unit {0}
 
 -- what was read is taken after the rows before it, or one of its rows has a fault
-abbrev pub TakesLines : ℕ → ℕ → List (Result Line Form) → InputSoFar → Result InputSoFar Refusal → Type 0
+abbrev pub TakesLines : ℕ → ℕ → List (Result Line Form) → InputSoFar → Result InputSoFar (Stopped Refusal) → Type 0
 TakesLines planners i lines made taken =
     (version : ℕ) (rows : List Row) → HasTaken planners version rows made i → AreRead version rows i lines
     → TakenTo planners version rows (i + length lines) taken

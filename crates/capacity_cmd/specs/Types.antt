@@ -2,10 +2,11 @@
 pub use Rattle.capacity_cmd.specs.declared.accepted.Accepted.{Accepted}
 pub use Rattle.capacity_cmd.specs.declared.command.Command.{Command}
 pub use Rattle.capacity_cmd.specs.declared.given_delay.GivenDelay.{GivenDelay}
-pub use Rattle.capacity_cmd.specs.declared.heads.Head.{Head}
+pub use Rattle.capacity_cmd.specs.declared.section_heads.Head.{Head}
 pub use Rattle.capacity_cmd.specs.declared.input.BaseSoFar.{BaseSoFar}
 pub use Rattle.capacity_cmd.specs.declared.input.InputSoFar.{InputSoFar}
 pub use Rattle.capacity_cmd.specs.declared.refusal.Refusal.{Refusal}
 pub use Rattle.capacity_cmd.specs.declared.reply.Reply.{Reply}
 pub use Rattle.capacity_cmd.specs.declared.status.Cause.{Cause}
 pub use Rattle.capacity_cmd.specs.declared.status.Status.{Status}
+pub use Rattle.capacity_cmd.specs.declared.stopped.Stopped.{Stopped}

@@ -142,7 +142,7 @@ pub fn run_alone<R: AllocGlobal + Threads + Sync, S: Source, K: Sink>(
     run_alone_telling(rt, words, source, sink, &mut Told::nothing())
 }
 
-/// Runs a command as `run_alone` does, and tells people what `run_telling` does.
+/// Runs a command as `run_alone` does, and tells people the same things as `run_telling`.
 pub fn run_alone_telling<R: AllocGlobal + Threads + Sync, S: Source, K: Sink>(
     rt: &R,
     words: &[String],

@@ -6,7 +6,7 @@ use capacity_report::{conflict_rows, stairways};
 use conflict_finder::conflicts;
 use line_tables::LineTables;
 use rail_model::OutOfMemory;
-use row_text::Sheet;
+use row_text::{Sheet, Text};
 use std::alloc::Global;
 use std::thread::Threads;
 
@@ -15,12 +15,12 @@ pub(crate) fn check_text(
     rt: &(impl Threads + Sync),
     alloc: Global,
     tables: &LineTables,
-) -> Result<Vec<u8>, OutOfMemory>
-    ensures { IfOk result (λ text. IsCheckText tables.now text.items) }
+) -> Result<Text, OutOfMemory>
+    ensures { IfOk result (IsCheckText tables.now) }
 {
     let stairs = stairways(rt, alloc, tables)?;
     let found = conflicts(rt, alloc, &stairs)?;
     let mut sheet = Sheet::new(alloc);
     conflict_rows(&mut sheet, tables, &found)?;
-    Ok(sheet.into_text())
+    Text::of(sheet.into_text())
 }

@@ -1,19 +1,21 @@
 //! The command `compress`.
-ghost use Rattle.std.specs.Prelude.{◌≡◌, IfOk, MatchResult};
+ghost use Rattle.std.specs.Prelude.{IfOk};
 ghost use Rattle.plan_model.specs.Cut.{IsSoundCut};
 ghost use Rattle.plan_model.specs.Answer.{IsAnswer};
-ghost use Rattle.capacity_cmd.specs.Outcome.{Writes, Refuses};
 ghost use Rattle.capacity_cmd.specs.Ends.{cut_named, EndsOnNamed, IsCompressText};
+ghost use Rattle.capacity_cmd.specs.Stopped.{Makes};
 
 use crate::named::cut_named;
+use crate::no_plan::is_crowded;
+use crate::stopped::Stopped;
 use crate::{Cause, Told};
 use capacity_report::{Detail, answer_rows};
 use compression::answer_of_cut;
 use line_tables::LineTables;
-use plan_model::{Answer, Cut, MEMBERS};
+use plan_model::{Answer, Cut};
 use rail_model::{Name, OutOfMemory};
 use rayon::current_num_threads;
-use row_text::Sheet;
+use row_text::{Sheet, Text};
 use sentences::told_of_cut;
 use std::alloc::Global;
 use std::thread::{Threads, join};
@@ -28,18 +30,12 @@ pub(crate) fn compress_text(
     tables: &LineTables,
     section: Option<Name>,
     told: &mut Told,
-) -> Result<Result<Vec<u8>, Cause>, OutOfMemory>
-    ensures { IfOk result (λ made.
-        let Ends = EndsOnNamed IsCompressText (cut_named tables.now section) in
-        MatchResult made (λ text. Ends (Writes text.items)) (λ why. Ends (Refuses 0 why))) }
+) -> Result<Text, Stopped<Cause>>
+    ensures { Makes (EndsOnNamed IsCompressText (cut_named tables.now section)) result }
 {
-    match cut_named(alloc, tables, section)? {
-        Ok(cut) => {
-            let answer = answer_telling(rt, alloc, tables, &cut, told)?;
-            Ok(Ok(answer_text(alloc, &cut, &answer)?))
-        }
-        Err(why) => Ok(Err(why)),
-    }
+    let cut = cut_named(alloc, tables, section, told)?;
+    let answer = answer_telling(rt, alloc, tables, &cut, told)?;
+    Ok(answer_text(alloc, &cut, &answer)?)
 }
 
 // The answer of a cut, and what is told of it: side by side where both take some time.
@@ -73,7 +69,7 @@ fn has_many_uses(cut: &Cut) -> bool {
     for row in cut.rows.slice() {
         uses = uses.saturating_add(row.uses.len());
     }
-    cut.rows.len() <= MEMBERS && uses >= LEAST_USES
+    !is_crowded(cut) && uses >= LEAST_USES
 }
 
 // The answer of a cut.
@@ -81,7 +77,7 @@ pub(crate) fn answer_of(alloc: Global, cut: &Cut) -> Result<Answer, OutOfMemory>
     requires { IsSoundCut cut.now }
     ensures { IfOk result (IsAnswer cut.now) }
 {
-    if cut.rows.len() > MEMBERS {
+    if is_crowded(cut) {
         return Ok(Answer::Crowded {
             count: cut.rows.len() as u32,
         });
@@ -90,12 +86,12 @@ pub(crate) fn answer_of(alloc: Global, cut: &Cut) -> Result<Answer, OutOfMemory>
 }
 
 // The text of a cut's answer in full.
-fn answer_text(alloc: Global, cut: &Cut, answer: &Answer) -> Result<Vec<u8>, OutOfMemory>
+fn answer_text(alloc: Global, cut: &Cut, answer: &Answer) -> Result<Text, OutOfMemory>
     requires sound { IsSoundCut cut.now }
     requires answer { IsAnswer cut.now answer.now }
-    ensures { IfOk result (λ text. IsCompressText cut.now text.items) }
+    ensures { IfOk result (IsCompressText cut.now) }
 {
     let mut sheet = Sheet::new(alloc);
     answer_rows(alloc, &mut sheet, &cut.section.name, answer, Detail::Full)?;
-    Ok(sheet.into_text())
+    Text::of(sheet.into_text())
 }

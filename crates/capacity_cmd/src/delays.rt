@@ -1,23 +1,24 @@
 //! The command `delays`.
-ghost use Rattle.std.specs.Prelude.{◌≡◌, ◌≤◌, length, replicate, true, Some, All, IfOk, MatchResult};
+ghost use Rattle.std.specs.Prelude.{◌≡◌, ◌≤◌, length, replicate, true, Some, All, IfOk};
 ghost use Rattle.delay_spread.specs.declared.spreading.TheConstants.{GREATEST_DELAY_S};
 ghost use Rattle.plan_model.specs.declared.limits.TheConstants.{MEMBERS};
 ghost use Rattle.plan_model.specs.Cut.{IsSoundCut};
 ghost use Rattle.plan_model.specs.Members.{member_count};
 ghost use Rattle.delay_spread.specs.Spreading.{IsSpread};
 ghost use Rattle.path_fill.specs.Filling.{IsOrdered};
-ghost use Rattle.capacity_cmd.specs.Outcome.{Writes, Refuses};
 ghost use Rattle.capacity_cmd.specs.Ends.{EndsOnNamed, delays_in, are_members, delayed_named, with_delays, IsDelaysText, IsSpreadText, SetsDelay};
+ghost use Rattle.capacity_cmd.specs.Stopped.{Makes};
 
 use crate::given_delay::GivenDelay;
-use crate::head::{crowded_text, head_text, is_crowded};
 use crate::named::{cut_named, row_named};
+use crate::no_plan::{crowded_text, head_text, is_crowded};
+use crate::stopped::Stopped;
 use crate::{Cause, Told};
 use delay_spread::{Spread, spread, spread_rows};
 use line_tables::LineTables;
 use plan_model::Cut;
 use rail_model::{List, Name, OutOfMemory};
-use row_text::Sheet;
+use row_text::{Sheet, Text};
 use sentences::told_of_run;
 use std::alloc::Global;
 
@@ -28,15 +29,12 @@ pub(crate) fn delays_text(
     section: Option<Name>,
     given: &Option<List<GivenDelay>>,
     told: &mut Told,
-) -> Result<Result<Vec<u8>, Cause>, OutOfMemory>
-    ensures { IfOk result (λ made.
-        let Ends = EndsOnNamed IsDelaysText (delayed_named tables.now section given.now) in
-        MatchResult made (λ text. Ends (Writes text.items)) (λ why. Ends (Refuses 0 why))) }
+) -> Result<Text, Stopped<Cause>>
+    ensures { Makes
+        (EndsOnNamed IsDelaysText (delayed_named tables.now section given.now)) result }
 {
-    match cut_named(alloc, tables, section)? {
-        Ok(cut) => text_on_cut(alloc, &cut, given, told),
-        Err(why) => Ok(Err(why)),
-    }
+    let cut = cut_named(alloc, tables, section, told)?;
+    text_on_cut(alloc, &cut, given, told)
 }
 
 // The rows for the cut of the section, or the refusal of delays of which one is given to a word that
@@ -46,17 +44,15 @@ fn text_on_cut(
     cut: &Cut,
     given: &Option<List<GivenDelay>>,
     told: &mut Told,
-) -> Result<Result<Vec<u8>, Cause>, OutOfMemory>
+) -> Result<Text, Stopped<Cause>>
     requires { IsSoundCut cut.now }
-    ensures { IfOk result (λ made.
-        let Ends = EndsOnNamed IsDelaysText (with_delays given.now cut.now) in
-        MatchResult made (λ text. Ends (Writes text.items)) (λ why. Ends (Refuses 0 why))) }
+    ensures { Makes (EndsOnNamed IsDelaysText (with_delays given.now cut.now)) result }
 {
     match given {
         Some(given) => text_of_given(alloc, cut, given.slice(), told),
         None => {
             *told = told_of_run(alloc, cut, None);
-            Ok(Err(Cause::NoMember))
+            Err(Stopped::Refused(Cause::NoMember))
         }
     }
 }
@@ -68,18 +64,16 @@ fn text_of_given(
     cut: &Cut,
     given: &[GivenDelay],
     told: &mut Told,
-) -> Result<Result<Vec<u8>, Cause>, OutOfMemory>
+) -> Result<Text, Stopped<Cause>>
     requires { IsSoundCut cut.now }
-    ensures { IfOk result (λ made.
-        let Ends = EndsOnNamed IsDelaysText (with_delays (Some given.now) cut.now) in
-        MatchResult made (λ text. Ends (Writes text.items)) (λ why. Ends (Refuses 0 why))) }
+    ensures { Makes (EndsOnNamed IsDelaysText (with_delays (Some given.now) cut.now)) result }
 {
     let mut delays = vec![in alloc; 0u32; cut.rows.len()]?;
     if set_delays(&mut delays, cut, given) {
-        return Ok(Ok(delayed_text(alloc, cut, &delays)?));
+        return Ok(delayed_text(alloc, cut, &delays)?);
     }
     *told = told_of_no_member(alloc, cut, given);
-    Ok(Err(Cause::NoMember))
+    Err(Stopped::Refused(Cause::NoMember))
 }
 
 // Sets the delay of each member to which one is given, and stops at the first that is given to no
@@ -115,11 +109,11 @@ fn set_delay(delays: &mut [u32], cut: &Cut, one: &GivenDelay) -> bool
 }
 
 // The text of a cut with the delays of its members.
-fn delayed_text(alloc: Global, cut: &Cut, delays: &[u32]) -> Result<Vec<u8>, OutOfMemory>
+fn delayed_text(alloc: Global, cut: &Cut, delays: &[u32]) -> Result<Text, OutOfMemory>
     requires sound { IsSoundCut cut.now }
     requires count { length delays.now ≡ member_count cut.now }
     requires limit { All (λ d. d ≤ GREATEST_DELAY_S) delays.now }
-    ensures { IfOk result (λ text. IsDelaysText (cut.now, delays.now) text.items) }
+    ensures { IfOk result (IsDelaysText (cut.now, delays.now)) }
 {
     if is_crowded(cut) {
         return crowded_text(alloc, cut);
@@ -136,15 +130,15 @@ fn spread_text(
     cut: &Cut,
     _delays: &[u32],
     spread: &Spread,
-) -> Result<Vec<u8>, OutOfMemory>
+) -> Result<Text, OutOfMemory>
     requires sound { IsSoundCut cut.now }
     requires ordered { IsOrdered cut.now }
     requires spread { IsSpread cut.now _delays.now spread.now }
-    ensures { IfOk result (λ text. IsSpreadText cut.now _delays.now text.items) }
+    ensures { IfOk result (IsSpreadText cut.now _delays.now) }
 {
     let mut sheet = Sheet::new(alloc);
     spread_rows(&mut sheet, cut, spread)?;
-    Ok(sheet.into_text())
+    Text::of(sheet.into_text())
 }
 
 // The sentence about the first run to which a delay is given and that is no train of a cut.

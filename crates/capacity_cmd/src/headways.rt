@@ -1,19 +1,18 @@
 //! The command `headways`.
-ghost use Rattle.std.specs.Prelude.{◌≡◌, ◌<◌, IfOk, MatchResult};
-ghost use Rattle.plan_model.specs.declared.limits.TheConstants.{MEMBERS};
+ghost use Rattle.std.specs.Prelude.{IfOk};
 ghost use Rattle.plan_model.specs.Cut.{IsSoundCut};
-ghost use Rattle.plan_model.specs.Members.{member_count};
-ghost use Rattle.capacity_cmd.specs.Outcome.{Writes, Refuses};
 ghost use Rattle.capacity_cmd.specs.Ends.{cut_named, EndsOnNamed, IsHeadwaysText};
+ghost use Rattle.capacity_cmd.specs.Stopped.{Makes};
 
-use crate::Cause;
 use crate::named::cut_named;
-use capacity_report::crowded_row;
+use crate::no_plan::{crowded_text, is_crowded};
+use crate::stopped::Stopped;
+use crate::{Cause, Told};
 use headway_table::matrix;
 use line_tables::LineTables;
-use plan_model::{Cut, MEMBERS};
+use plan_model::Cut;
 use rail_model::{Name, OutOfMemory};
-use row_text::{Sheet, Text};
+use row_text::Text;
 use std::alloc::Global;
 use std::thread::Threads;
 
@@ -23,37 +22,22 @@ pub(crate) fn headways_text(
     alloc: Global,
     tables: &LineTables,
     section: Option<Name>,
-) -> Result<Result<Text, Cause>, OutOfMemory>
-    ensures { IfOk result (λ made.
-        let Ends = EndsOnNamed IsHeadwaysText (cut_named tables.now section) in
-        MatchResult made (λ text. Ends (Writes text)) (λ why. Ends (Refuses 0 why))) }
+    told: &mut Told,
+) -> Result<Text, Stopped<Cause>>
+    ensures { Makes (EndsOnNamed IsHeadwaysText (cut_named tables.now section)) result }
 {
-    match cut_named(alloc, tables, section)? {
-        Ok(cut) => Ok(Ok(cut_text(rt, alloc, &cut)?)),
-        Err(why) => Ok(Err(why)),
-    }
+    let cut = cut_named(alloc, tables, section, told)?;
+    Ok(text_of_cut(rt, alloc, &cut)?)
 }
 
-// The text of a cut's headways. Of one with more members than are compressed only their number is
-// told.
-fn cut_text(rt: &(impl Threads + Sync), alloc: Global, cut: &Cut) -> Result<Text, OutOfMemory>
+// The rows of the headways; of a crowded cut only how many members it has.
+fn text_of_cut(rt: &(impl Threads + Sync), alloc: Global, cut: &Cut) -> Result<Text, OutOfMemory>
     requires { IsSoundCut cut.now }
     ensures { IfOk result (IsHeadwaysText cut.now) }
 {
-    if cut.rows.len() > MEMBERS {
-        return count_text(alloc, cut);
+    if is_crowded(cut) {
+        return crowded_text(alloc, cut);
     }
     let table = matrix(rt, alloc, cut)?;
     capacity_report::headways_text(rt, alloc, cut, &table)
-}
-
-// The text of a crowded cut: how many members it has.
-fn count_text(alloc: Global, cut: &Cut) -> Result<Text, OutOfMemory>
-    requires sound { IsSoundCut cut.now }
-    requires many { MEMBERS < member_count cut.now }
-    ensures { IfOk result (IsHeadwaysText cut.now) }
-{
-    let mut sheet = Sheet::new(alloc);
-    crowded_row(&mut sheet, &cut.section.name, cut.rows.len() as u32)?;
-    Text::of(sheet.into_text())
 }

@@ -8,12 +8,14 @@ ghost use Rattle.capacity_cmd.specs.InputSoFar.{accepted_in, tables_so_far, acce
 ghost use Rattle.capacity_cmd.specs.InputSoFar.{after_one_more, IsWithin, IsNothing};
 ghost use Rattle.capacity_cmd.specs.InputSoFar.{TakesLine, TakesRow, TakesEach, TakesRows};
 ghost use Rattle.capacity_cmd.specs.ReadAhead.{IsBatch, TakesLines};
+ghost use Rattle.capacity_cmd.specs.Stopped.{Gives};
 
 use crate::Cause;
 use crate::accepted::Accepted;
 use crate::lines::{are_many, lines_from};
 use crate::refusal::Refusal;
 use crate::script_rows::ScriptRows;
+use crate::stopped::Stopped;
 use line_tables::LineTables;
 use plan_model::Task;
 use rail_model::{Edit, Form, OutOfMemory};
@@ -29,13 +31,13 @@ pub(crate) fn accepted_of_rows(
     alloc: Global,
     planners: usize,
     rows: &RowList<'_>,
-) -> Result<Result<Accepted, Refusal>, OutOfMemory>
-    ensures same { IfOk result (λ made. made ≡ accepted_in (content_of_rows planners rows.now)) }
-    ensures within { IfOk result (λ made. IfOk made (IsWithin planners (length rows.now))) }
+) -> Result<Accepted, Stopped<Refusal>>
+    ensures same { Gives (accepted_in (content_of_rows planners rows.now)) result }
+    ensures within { IfOk result (IsWithin planners (length rows.now)) }
 {
     let version = match rows.version() {
         Ok(version) => version,
-        Err(form) => return Ok(Err(Refusal {
+        Err(form) => return Err(Stopped::Refused(Refusal {
             row: 1,
             cause: Cause::Form(form),
         })),
@@ -48,10 +50,8 @@ pub(crate) fn accepted_of_rows(
         },
         scripts: ScriptRows::new(alloc),
     };
-    match so_far.take_rows(rt, alloc, planners, rows, version)? {
-        Ok(all) => Ok(all.end()),
-        Err(refusal) => Ok(Err(refusal)),
-    }
+    let all = so_far.take_rows(rt, alloc, planners, rows, version)?;
+    all.end()
 }
 
 // The tables after the base edits of some rows, how many these are, and the first of the rows whose
@@ -103,18 +103,16 @@ impl InputSoFar {
         planners: usize,
         rows: &RowList<'_>,
         version: u32,
-    ) -> Result<Result<InputSoFar, Refusal>, OutOfMemory>
+    ) -> Result<InputSoFar, Stopped<Refusal>>
         requires { IsNothing self }
-        ensures { IfOk result (TakesRows
-            planners (length rows.now) (content_in planners (Ok version) rows.now)) }
+        ensures { TakesRows
+            planners (length rows.now) (content_in planners (Ok version) rows.now) result }
     {
         if are_many(rows) && current_num_threads(rt) > 1 {
             return self.take_while_reading(rt, alloc, planners, rows, version);
         }
-        match self.take_each(alloc, planners, rows, version)? {
-            Some(refusal) => Ok(Err(refusal)),
-            None => Ok(Ok(self)),
-        }
+        self.take_each(alloc, planners, rows, version)?;
+        Ok(self)
     }
 
     // Takes all rows, each as soon as it is read.
@@ -124,20 +122,20 @@ impl InputSoFar {
         planners: usize,
         rows: &RowList<'_>,
         version: u32,
-    ) -> Result<Option<Refusal>, OutOfMemory>
+    ) -> Result<(), Stopped<Refusal>>
         requires { IsNothing self.old }
-        ensures { IfOk result (TakesEach
-            planners (length rows.now) (content_in planners (Ok version) rows.now) self.new) }
+        ensures { TakesEach
+            planners (length rows.now) (content_in planners (Ok version) rows.now) self.new result }
     {
         for i in rows.first_line()..rows.len() {
             if let Some(cause) = self.take_row(alloc, planners, rows, version, i)? {
-                return Ok(Some(Refusal {
+                return Err(Stopped::Refused(Refusal {
                     row: i as u64 + 1,
                     cause,
                 }));
             }
         }
-        Ok(None)
+        Ok(())
     }
 
     // Takes all rows, some at a time, while other threads read the next.
@@ -148,10 +146,10 @@ impl InputSoFar {
         planners: usize,
         rows: &RowList<'_>,
         version: u32,
-    ) -> Result<Result<InputSoFar, Refusal>, OutOfMemory>
+    ) -> Result<InputSoFar, Stopped<Refusal>>
         requires { IsNothing self }
-        ensures { IfOk result (TakesRows
-            planners (length rows.now) (content_in planners (Ok version) rows.now)) }
+        ensures { TakesRows
+            planners (length rows.now) (content_in planners (Ok version) rows.now) result }
     {
         let mut so_far = self;
         let mut at = rows.first_line();
@@ -165,19 +163,19 @@ impl InputSoFar {
                 requires { (next ≤ length rows.now) × (length rows.now < 2 ^ 64) }
                 ensures { IfOk result (λ lines. IsBatch version rows.entry.now next lines.items) }
             { lines_from(rt, alloc, rows, version, next) };
-            let take = move || -> Result<Result<InputSoFar, Refusal>, OutOfMemory>
+            let take = move || -> Result<InputSoFar, Stopped<Refusal>>
                 requires { (so_far.base.edits ≤ at) × (at + length lines.items < 2 ^ 64) }
-                ensures { IfOk result (TakesLines planners at lines.items so_far) }
+                ensures { TakesLines planners at lines.items so_far result }
             { so_far.take_lines(planners, at, lines) };
             let (read, taken) = join(rt, read, take);
-            match taken? {
+            match taken {
                 Ok(more) => so_far = more,
-                Err(refusal) => return Ok(Err(refusal)),
+                Err(why) => return Err(why),
             }
             lines = read?;
             at = next;
         }
-        Ok(Ok(so_far))
+        Ok(so_far)
     }
 
     // Takes the lines of rows that were read, the first of them that at a place, up to the first
@@ -187,19 +185,19 @@ impl InputSoFar {
         planners: usize,
         at: usize,
         lines: Vec<Result<Line, Form>>,
-    ) -> Result<Result<InputSoFar, Refusal>, OutOfMemory>
+    ) -> Result<InputSoFar, Stopped<Refusal>>
         requires few { self.base.edits ≤ at }
         requires counted { at + length lines.items < 2 ^ 64 }
-        ensures { IfOk result (TakesLines planners at lines.items self) }
+        ensures { TakesLines planners at lines.items self result }
     {
         let mut row = at as u64;
         for found in lines {
             row += 1;
             if let Some(cause) = self.take_read(planners, row, found)? {
-                return Ok(Err(Refusal { row, cause }));
+                return Err(Stopped::Refused(Refusal { row, cause }));
             }
         }
-        Ok(Ok(self))
+        Ok(self)
     }
 
     // Takes the row at a place, unless it has a fault.
@@ -264,8 +262,8 @@ impl InputSoFar {
         }
     }
 
-    fn end(self) -> Result<Accepted, Refusal>
-        ensures same { result ≡ accepted_so_far self }
+    fn end(self) -> Result<Accepted, Stopped<Refusal>>
+        ensures same { Gives (accepted_so_far self) result }
         ensures tasks { IfOk result (λ given. sum_by length given.scripts ≤ TASKS) }
     {
         let BaseSoFar {
@@ -275,7 +273,7 @@ impl InputSoFar {
         } = self.base;
         let scripts = self.scripts.end();
         match refused {
-            Some(refusal) => Err(refusal),
+            Some(refusal) => Err(Stopped::Refused(refusal)),
             None => Ok(Accepted {
                 tables,
                 at: edits,

@@ -1,28 +1,53 @@
 //! What a command names.
-ghost use Rattle.std.specs.Prelude.{◌≡◌, ◌<◌, length, position, IfOk, IfSome, option_and_then};
+ghost use Rattle.std.specs.Prelude.{◌≡◌, ◌<◌, ◌⊎◌, length, position, IfOk, IfSome, option_and_then};
 ghost use Rattle.rail_model.specs.Name.{is_same, NamesRise};
 ghost use Rattle.plan_model.specs.Members.{member_count};
 ghost use Rattle.plan_model.specs.Cut.{IsSoundCut};
 ghost use Rattle.plan_model.specs.Cut as section_cut;
+ghost use Rattle.sentences.specs.Told.{IsOfSection};
 ghost use Rattle.capacity_cmd.specs.Ends.{cut_named, row_named};
+ghost use Rattle.capacity_cmd.specs.Stopped.{Gives};
+ghost use Rattle.capacity_cmd.specs.declared.status.Cause.TheVariants as causes;
+ghost use Rattle.capacity_cmd.specs.declared.stopped.Stopped.TheVariants as stopped;
 
-use crate::Cause;
+use crate::stopped::Stopped;
+use crate::{Cause, Told};
 use line_tables::LineTables;
 use plan_model::{Cut, CutRow};
 use rail_model::{Name, OutOfMemory};
 use section_cut::cut_of;
+use sentences::told_of_section;
 use std::alloc::Global;
 
-// The cut of the section that is named, or that no section has that name.
+// The cut of the section that is named. Where no section has that name, people are told so.
 pub(crate) fn cut_named(
     alloc: Global,
     tables: &LineTables,
     section: Option<Name>,
-) -> Result<Result<Cut, Cause>, OutOfMemory>
-    ensures same { IfOk result (λ found. found ≡ cut_named tables.now section) }
-    ensures sound { IfOk result (λ found. IfOk found IsSoundCut) }
+    told: &mut Told,
+) -> Result<Cut, Stopped<Cause>>
+    ensures finds { Gives (cut_named tables.now section) result }
+    ensures sound { IfOk result IsSoundCut }
+    ensures told { (told.new ≡ told.old) ⊎ IsOfSection section told.new }
 {
-    Ok(cut_of_word(alloc, tables, section)?.ok_or(Cause::NoSection))
+    match cut_of_word(alloc, tables, section)? {
+        Some(cut) => Ok(cut),
+        None => Err(no_section(alloc, tables, &section, told)),
+    }
+}
+
+// Tells people of a section that isn't there.
+fn no_section(
+    alloc: Global,
+    tables: &LineTables,
+    section: &Option<Name>,
+    told: &mut Told,
+) -> Stopped<Cause>
+    ensures why { result ≡ stopped.Refused causes.NoSection }
+    ensures told { IsOfSection section.now told.new }
+{
+    *told = told_of_section(alloc, tables, *section);
+    Stopped::Refused(Cause::NoSection)
 }
 
 // The cut of the section that a word names, if it names one.

@@ -19,15 +19,15 @@ use crate::limit::INPUT_BYTES;
 use crate::made::made_text;
 use crate::refusal::Refusal;
 use crate::session::text_on_threads;
+use crate::stopped::Stopped;
 use crate::texts::text_of;
 use crate::{Cause, Command, Status, Told};
 use capacity_report::rule_text;
-use line_tables::LineTables;
 use plan_book::TASKS;
 use rail_model::{Form, OutOfMemory};
 use rail_outside::Gate;
 use row_text::{RowList, Sheet, Text, rows_by_threads};
-use sentences::{Fault, told_of_row, told_of_section};
+use sentences::{Fault, told_of_row};
 use std::alloc::Global;
 use std::sync::Wait;
 use std::thread::Threads;
@@ -50,16 +50,14 @@ pub(crate) fn given_or_reply(
     ensures { IfOk result (GivesOrRefuses command.now (EndsOn command.now input.now)) }
 {
     let rows = rows_by_threads(rt, alloc, input)?;
-    match accepted_of_rows(rt, alloc, command.planners(), &rows)? {
+    let planners = command.planners();
+    match accepted_of_rows(rt, alloc, planners, &rows) {
         Ok(given) => Ok(Ok(given)),
-        Err(refused) => Ok(Err(refusal_told(
-            alloc,
-            input,
-            &rows,
-            command.planners(),
-            refused,
-            told,
-        )?)),
+        Err(Stopped::Refused(refused)) => {
+            let reply = refusal_told(alloc, input, &rows, planners, refused, told)?;
+            Ok(Err(reply))
+        }
+        Err(Stopped::OutOfMemory) => Err(OutOfMemory),
     }
 }
 
@@ -107,26 +105,13 @@ pub(crate) fn reply_alone(
     requires alone { workers_of command.now ≡ 0 }
     ensures { IfOk result (IsReply (EndsOnAccepted command.now given)) }
 {
-    tell_of_section(alloc, &given.tables, command, told);
-    match text_of(rt, alloc, command, given, told)? {
+    match text_of(rt, alloc, command, given, told) {
         Ok(text) => Ok(Reply {
             text,
             status: Status::Done,
         }),
-        Err(cause) => refusal(alloc, 0, cause),
-    }
-}
-
-// Tells people of the section that a command names, if it isn't there.
-fn tell_of_section(alloc: Global, tables: &LineTables, command: &Command, told: &mut Told) {
-    match command {
-        Command::Compress(section) | Command::Headways(section) | Command::Cut(section) => {
-            *told = told_of_section(alloc, tables, *section);
-        }
-        Command::Cycle(section) | Command::Delays(section, _) | Command::Fill(section, _) => {
-            *told = told_of_section(alloc, tables, *section);
-        }
-        Command::Stairs | Command::Check | Command::Report | Command::Session(_) => {}
+        Err(Stopped::Refused(cause)) => refusal(alloc, 0, cause),
+        Err(Stopped::OutOfMemory) => Err(OutOfMemory),
     }
 }
 

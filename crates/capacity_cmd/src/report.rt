@@ -10,12 +10,12 @@ ghost use Rattle.capacity_cmd.specs.Heads.{AddsReport, HasHeads, AddsHead, AreHe
 ghost use Rattle.capacity_cmd.specs.Published.{HaveAnswers};
 
 use crate::compress::answer_of;
-use crate::heads::{Head, heads_of, join_heads};
+use crate::section_heads::{Head, heads_of, join_heads};
 use capacity_report::{Detail, Tally, answer_rows, total_row};
 use line_tables::LineTables;
 use plan_model::Answer;
 use rail_model::OutOfMemory;
-use row_text::Sheet;
+use row_text::{Sheet, Text};
 use section_cut::{AllStairways, cut_among, stairways_in_parts};
 use std::alloc::Global;
 use std::thread::Threads;
@@ -25,8 +25,8 @@ pub(crate) fn report_text(
     rt: &(impl Threads + Sync),
     alloc: Global,
     tables: &LineTables,
-) -> Result<Vec<u8>, OutOfMemory>
-    ensures { IfOk result (λ text. IsReportText tables.now text.items) }
+) -> Result<Text, OutOfMemory>
+    ensures { IfOk result (IsReportText tables.now) }
 {
     let stairs = AllStairways::of(alloc, stairways_in_parts(rt, alloc, tables)?)?;
     let heads = heads_of(rt, alloc, tables, &stairs)?;
@@ -34,15 +34,15 @@ pub(crate) fn report_text(
 }
 
 // The text of the heads and their total.
-fn text_of_heads(alloc: Global, tables: &LineTables, heads: &[Head]) -> Result<Vec<u8>, OutOfMemory>
+fn text_of_heads(alloc: Global, tables: &LineTables, heads: &[Head]) -> Result<Text, OutOfMemory>
     requires { AreHeads tables.now heads.now }
-    ensures { IfOk result (λ text. IsReportText tables.now text.items) }
+    ensures { IfOk result (IsReportText tables.now) }
 {
     let mut sheet = Sheet::new(alloc);
     let mut tally = Tally::new();
     join_heads(&mut sheet, &mut tally, tables, heads)?;
     total_row(&mut sheet, &tally)?;
-    Ok(sheet.into_text())
+    Text::of(sheet.into_text())
 }
 
 // Adds the heads of the answers of all sections, which are there, and their total to a sheet.

@@ -17,6 +17,6 @@ returns-then-set_delays c =
     let long : made.len ≡ length cut.rows = search rules in
     let count : length c.set_delays.new.delays ≡ made.len = ap length all ∙ length-map cut.rows _ ∙ sym long in
     let same : delays ≡ c.set_delays.new.delays = c.deref.ensures.value ∙ written c.set_delays.new.delays made.items made.len count in
-    writes_for_named IsDelaysText (with_delays (Some given) cut) (cut, delays) c.in_ok-delayed_text.field-0.items
+    writes_for_named IsDelaysText (with_delays (Some given) cut) (cut, delays) c.in_ok-delayed_text.field-0
     (given_to_members cut given delays (sym c.set_delays.ensures.members ∙ done) (same ∙ all))
     c.in_ok-delayed_text.ensures

@@ -1,13 +1,20 @@
-use Rattle.std.proofs.Common.{Ok, length, subst}
-use Rattle.capacity_cmd.specs.Input.{content_in}
-use Rattle.capacity_cmd.specs.InputSoFar.{TakesRows}
-use Rattle.capacity_cmd.proofs.Making.{all_within}
+use Rattle.std.proofs.Common.{ℕ, Result, length, sym, ap, ◌∙◌}
+use Rattle.rail_model.specs.declared.form.Form.{Form}
+use Rattle.capacity_cmd.specs.Input.{content_of_rows, content_in}
+use Rattle.capacity_cmd.specs.InputSoFar.{accepted_in}
+use Rattle.capacity_cmd.proofs.Making.{all_given, all_within}
 use Rattle.capacity_cmd.proofs.input.accepted_of_rows.Goals as goal
 
-pub returns-in-Ok-2-clause-within : goal.returns-in-Ok-2-clause-within
-returns-in-Ok-2-clause-within g c =
+pub returns-clause-same : goal.returns-clause-same
+returns-clause-same g c =
     let rows = c.args.rows.now in
-    let made = c.in-Ok-2.all in
-    let whole = content_in c.args.planners (Ok c.in-Ok.version) rows in
-    let took = subst (TakesRows c.args.planners (length rows) whole) c.in-Ok-2.is c.in_ok-all.ensures in
-    all_within c.args.planners (length rows) made c.end.result c.end.ensures.same took.scripts took.edits c.end.ensures.tasks
+    all_given (content_of_rows c.args.planners rows) c.in_ok-all.all c.end.result
+    (ap (λ (version : Result ℕ Form). accepted_in (content_in c.args.planners version rows)) (sym c.version.ensures ∙ c.in-Ok.is)
+    ∙ c.in_ok-all.ensures.is)
+    c.end.ensures.same
+
+pub returns-clause-within : goal.returns-clause-within
+returns-clause-within g c =
+    let took = c.in_ok-all.ensures in
+    all_within c.args.planners (length c.args.rows.now) c.in_ok-all.all c.end.result c.end.ensures.same took.scripts took.edits
+    c.end.ensures.tasks

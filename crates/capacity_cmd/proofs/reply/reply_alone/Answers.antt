@@ -1,4 +1,4 @@
-use Rattle.std.proofs.Common.{refl}
+use Rattle.std.proofs.Common.{Err, refl, ap, ◌∙◌}
 use Rattle.std.proofs.lemmas.Result.{IfOk-weaker}
 use Rattle.capacity_cmd.specs.Outcome.{Writes, Refuses}
 use Rattle.capacity_cmd.specs.Ends.{EndsOnAccepted}
@@ -8,13 +8,14 @@ use Rattle.capacity_cmd.proofs.reply.reply_alone.Goals as goal
 pub returns-in-Ok : goal.returns-in-Ok
 returns-in-Ok g c = record {
   outcome = Writes c.in-Ok.text;
-  ends = rw c.in-Ok.is at c.in_ok-text.ensures;
+  ends = rw c.in-Ok.is at c.text_of.ensures;
   said = record { text = refl; status = refl };
 }
 
-pub returns-in-Err : goal.returns-in-Err
-returns-in-Err g c =
-    let without = rw c.in-Err.is at c.in_ok-text.ensures in
-    IfOk-weaker c.refusal.result (Says (Refuses 0 c.in-Err.cause)) (IsReply (EndsOnAccepted c.args.command.now c.args.given))
-    (λ reply said. record { outcome = Refuses 0 c.in-Err.cause; ends = without; said = said })
+pub returns-in-Err-Refused : goal.returns-in-Err-Refused
+returns-in-Err-Refused g c =
+    let arm = c.in-Err-Refused in
+    let without = rw (arm.is ∙ ap Err arm.field-0-is) at c.text_of.ensures in
+    IfOk-weaker c.refusal.result (Says (Refuses 0 arm.cause)) (IsReply (EndsOnAccepted c.args.command.now c.args.given))
+    (λ reply said. record { outcome = Refuses 0 arm.cause; ends = without; said = said })
     c.refusal.ensures

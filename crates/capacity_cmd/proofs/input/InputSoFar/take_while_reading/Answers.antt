@@ -1,11 +1,9 @@
 use Rattle.std.proofs.Common.{◌≡◌, ℕ, ◌+◌, length, Ok, ap, ◌∙◌, sym, subst, arith, rules}
 use Rattle.std.specs.Prelude.{IfOk}
-use Rattle.std.proofs.lemmas.Result.{IfOk-weaker}
-use Rattle.capacity_cmd.specs.Input.{content_in}
-use Rattle.capacity_cmd.specs.InputSoFar.{HasTaken, TakesRows}
+use Rattle.capacity_cmd.specs.InputSoFar.{HasTaken}
 use Rattle.capacity_cmd.specs.ReadAhead.{IsBatch, TakesLines}
 use Rattle.capacity_cmd.proofs.Making.{taken_none, taken_all}
-use Rattle.capacity_cmd.proofs.ReadingAhead.{first_within, taken_whole}
+use Rattle.capacity_cmd.proofs.ReadingAhead.{first_within, not_taken_whole, taken_whole}
 use Rattle.capacity_cmd.proofs.input.InputSoFar.take_while_reading.Goals as goal
 
 pub lines_from-requires : goal.lines_from-requires
@@ -28,8 +26,7 @@ loop-at-preserved g c =
     let lines = c.loop-at.lines.items in
     let next = c.loop-at.at + c.len-in-loop-at.result in
     let count : c.len-in-loop-at.result ≡ length lines = search rules in
-    let took = subst (λ taken. IfOk taken (TakesLines c.args.planners c.loop-at.at lines c.loop-at.so_far))
-    (c.in_ok-more.was ∙ ap Ok c.in-Ok.is) c.join-read.ensures.second in (
+    let took = subst (TakesLines c.args.planners c.loop-at.at lines c.loop-at.so_far) c.in-Ok.is c.join-read.ensures.second in (
       subst (λ (n : ℕ). HasTaken c.args.planners c.args.version rows c.in-Ok.more (c.loop-at.at + n)) (sym count)
           (took c.args.version rows so_far.0 so_far.1.read),
       subst (λ read. IfOk read (λ found. IsBatch c.args.version rows next found.items)) c.in_ok-lines-2.was c.join-read.ensures.first,
@@ -38,9 +35,10 @@ loop-at-preserved g c =
 pub returns-in-Err : goal.returns-in-Err
 returns-in-Err g c =
     let so_far = c.loop-at.invariant in
-    let took = subst (λ taken. IfOk taken (TakesLines c.args.planners c.loop-at.at c.loop-at.lines.items c.loop-at.so_far))
-    (c.in_ok-more.was ∙ ap Ok c.in-Err.is) c.join-read.ensures.second in
-    took c.args.version c.args.rows.now so_far.0 so_far.1.read
+    let lines = c.loop-at.lines.items in
+    let took = subst (TakesLines c.args.planners c.loop-at.at lines c.loop-at.so_far) c.in-Err.is c.join-read.ensures.second in
+    not_taken_whole c.args.planners c.args.version (c.loop-at.at + length lines) c.args.rows.now c.in-Err.why
+    (took c.args.version c.args.rows.now so_far.0 so_far.1.read)
 
 pub returns : goal.returns
 returns g c =
@@ -54,7 +52,5 @@ returns-then-next-len g c =
     let lines = c.loop-at.lines.items in
     let count : c.len-in-loop-at.result ≡ length lines = search rules in
     let all : c.loop-at.at + length lines ≡ length rows = omega (arith, count, c.if-next-len.true, c.len-in-loop-at-2.ensures) in
-    IfOk-weaker c.take_lines.result (TakesLines c.args.planners c.loop-at.at lines c.loop-at.so_far)
-    (TakesRows c.args.planners (length rows) (content_in c.args.planners (Ok c.args.version) rows))
-    (λ taken takes. taken_whole c.args.planners c.args.version c.loop-at.at rows lines c.loop-at.so_far taken all so_far.0 so_far.1.read takes)
+    taken_whole c.args.planners c.args.version c.loop-at.at rows lines c.loop-at.so_far c.take_lines.result all so_far.0 so_far.1.read
     c.take_lines.ensures

@@ -4,7 +4,7 @@ use Rattle.capacity_report.specs.Answers.{Total}
 use Rattle.capacity_cmd.specs.Heads.{IsHead}
 use Rattle.capacity_cmd.proofs.Reports.{heads_added, sections_counted}
 use Rattle.capacity_cmd.proofs.SideBySide.{head_joined}
-use Rattle.capacity_cmd.proofs.heads.join_heads.Goals as goal
+use Rattle.capacity_cmd.proofs.section_heads.join_heads.Goals as goal
 
 pub loop-number-init : goal.loop-number-init
 loop-number-init c = record { answers = []; are = tt; written = sym (append-nil c.args.sheet.now.rows); counted = c.requires.tally }

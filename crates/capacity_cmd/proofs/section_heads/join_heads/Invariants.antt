@@ -1,5 +1,5 @@
 use Rattle.capacity_cmd.specs.Heads.{HasHeads}
-use Rattle.capacity_cmd.proofs.heads.join_heads.Given as goal
+use Rattle.capacity_cmd.proofs.section_heads.join_heads.Given as goal
 
 -- the heads of the sections so far
 abbrev pub invariant-loop-number : goal.invariant-loop-number

@@ -4,7 +4,7 @@ use Rattle.rail_model.specs.Conflict.{timetable}
 use Rattle.rayon.specs.Numbers.{nat_range}
 use Rattle.rayon.proofs.ToStd.{nat_range-All}
 use Rattle.capacity_cmd.proofs.SideBySide.{heads_collected}
-use Rattle.capacity_cmd.proofs.heads.heads_of.Goals as goal
+use Rattle.capacity_cmd.proofs.section_heads.heads_of.Goals as goal
 
 pub collect-requires-clause-ready : goal.collect-requires-clause-ready
 collect-requires-clause-ready g c κs within =
