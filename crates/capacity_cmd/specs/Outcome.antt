@@ -1,6 +1,5 @@
 -- How a call may end: in a text, or in a refusal.
 use Rattle.std.specs.Prelude.{◌≡◌, ℕ, List, [], ◌∷◌, codes, decimal}
-use Rattle.rail_model.specs.declared.form.Form.{Form}
 use Rattle.rail_model.specs.declared.form.Form.TheVariants as form
 use Rattle.row_text.specs.SheetRows.{text_of_row}
 use Rattle.capacity_report.specs.Rows.{rule_text}

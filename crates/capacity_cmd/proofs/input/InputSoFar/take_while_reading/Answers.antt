@@ -1,4 +1,4 @@
-use Rattle.std.proofs.Common.{◌≡◌, ℕ, ◌+◌, length, Ok, ap, ◌∙◌, sym, subst, arith, rules}
+use Rattle.std.proofs.Common.{◌≡◌, ℕ, ◌+◌, length, sym, subst, arith, rules}
 use Rattle.std.specs.Prelude.{IfOk}
 use Rattle.capacity_cmd.specs.InputSoFar.{HasTaken}
 use Rattle.capacity_cmd.specs.ReadAhead.{IsBatch, TakesLines}
