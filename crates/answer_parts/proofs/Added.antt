@@ -5,7 +5,8 @@ use Rattle.std.proofs.lemmas.List.{take_more, take_all, take-append-drop, map-ap
 use Rattle.std.proofs.lemmas.List.FromFn.{length-range_with_len, get_or-range_with_len}
 use Rattle.row_text.specs.SheetRows.{Row, SheetRows, with_row}
 use Rattle.row_text.specs.Adds.{AddsAll, AddsFirst, Adds}
-use Rattle.row_text.proofs.Adds.{first_added, then_added}
+use Rattle.row_text.proofs.Adds.{adds_none, first_added, then_added}
+use Rattle.answer_parts.specs.Adding.{AddsRow}
 
 -- where the rows stayed, none was added
 pub all_none : (before after : SheetRows) → after.rows ≡ before.rows → after.row ≡ [] → AddsAll before after []
@@ -14,6 +15,10 @@ all_none before after same closed = record { rows = same ∙ sym (append-nil bef
 -- one row
 pub all_one : {before after : SheetRows} {row : Row} → after ≡ with_row before row → AddsAll before after (row ∷ [])
 all_one is = record { rows = ap (λ (s : SheetRows). s.rows) is; closed = ap (λ (s : SheetRows). s.row) is }
+
+pub adds_row : {T E : Type 0} (before after : SheetRows) (row : Row) (result : Result T E) → AddsRow result before after row → Adds result before after (row ∷ [])
+adds_row before after row (Ok x) is = all_one is
+adds_row before after row (Err e) same = adds_none (row ∷ []) same
 
 -- all of the rows are a prefix of them
 pub first_all : {before after : SheetRows} {added : List Row} → AddsAll before after added → AddsFirst before after added

@@ -1,7 +1,7 @@
 //! The rows of a section that is not compressed.
-ghost use Rattle.std.specs.Prelude.{◌≡◌, [], ◌∷◌, length, OnOk, OnErr};
-ghost use Rattle.row_text.specs.SheetRows.{with_row};
+ghost use Rattle.std.specs.Prelude.{[], ◌∷◌};
 ghost use Rattle.row_text.specs.Adds.{Adds};
+ghost use Rattle.answer_parts.specs.Adding.{AddsRow};
 ghost use Rattle.answer_parts.specs.Rows as rows;
 
 use crate::links::link_rows;
@@ -20,9 +20,8 @@ pub fn opposite_row<'a>(
     block1: &'a Name,
     block2: &'a Name,
 ) -> Result<(), OutOfMemory>
-    ensures ok { OnOk result (sheet.new ≡ with_row sheet.old
-        (rows.opposite_row section.now first.now second.now block1.now block2.now)) }
-    ensures err { OnErr result (sheet.new.rows ≡ sheet.old.rows) }
+    ensures { AddsRow result sheet.old sheet.new
+        (rows.opposite_row section.now first.now second.now block1.now block2.now) }
 {
     sheet.write(&[
         Field::Text(b"opposite"),
@@ -58,9 +57,7 @@ fn ring_row(sheet: &mut Sheet, section: &Name, links: u64) -> Result<(), OutOfMe
 /// Adds the row of a section with more members than are compressed: `crowded,SECTION,COUNT`. A row
 /// that is open is dropped first. It takes memory; where that runs out, no row is added.
 pub fn crowded_row(sheet: &mut Sheet, section: &Name, count: u32) -> Result<(), OutOfMemory>
-    ensures ok { OnOk result (sheet.new
-        ≡ with_row sheet.old (rows.crowded_row section.now count)) }
-    ensures err { OnErr result (sheet.new.rows ≡ sheet.old.rows) }
+    ensures { AddsRow result sheet.old sheet.new (rows.crowded_row section.now count) }
 {
     sheet.write(&[
         Field::Text(b"crowded"),

@@ -1,7 +1,8 @@
 //! Rates, as fields of a row and as a row of their own.
 ghost use Rattle.std.specs.Prelude.{◌≡◌, ◌<◌, ◌^◌, ◌++◌, codes, decimal, string_bytes};
 ghost use Rattle.std.specs.Prelude.{OnOk, OnErr, IfOk};
-ghost use Rattle.row_text.specs.SheetRows.{with_row, with_field, with_fields};
+ghost use Rattle.row_text.specs.SheetRows.{with_field};
+ghost use Rattle.answer_parts.specs.Adding.{AddsFields, AddsRow};
 ghost use Rattle.answer_parts.specs.Rows as rows;
 
 use occupancy_rate::Fraction;
@@ -21,9 +22,8 @@ pub fn rate_row(
 ) -> Result<(), OutOfMemory>
     requires rate { rate.now.num < 2 ^ 100 }
     requires consumption { consumption.now.num < 2 ^ 100 }
-    ensures ok { OnOk result (sheet.new ≡ with_row sheet.old
-        (rows.rate_row section.now rate.now consumption.now)) }
-    ensures err { OnErr result (sheet.new.rows ≡ sheet.old.rows) }
+    ensures { AddsRow result sheet.old sheet.new
+        (rows.rate_row section.now rate.now consumption.now) }
 {
     sheet.drop_row();
     sheet.push_field(b"rate")?;
@@ -42,9 +42,7 @@ pub fn push_consumption(
     consumption: &Fraction,
 ) -> Result<(), OutOfMemory>
     requires { consumption.now.num < 2 ^ 100 }
-    ensures ok { OnOk result (sheet.new
-        ≡ with_fields sheet.old (rows.consumption_fields consumption.now)) }
-    ensures err { OnErr result (sheet.new.rows ≡ sheet.old.rows) }
+    ensures { AddsFields result sheet.old sheet.new (rows.consumption_fields consumption.now) }
 {
     push_rate(alloc, sheet, consumption)?;
     push_verdict(sheet, consumption)
@@ -54,8 +52,7 @@ pub fn push_consumption(
 /// `NUM/DEN,PERCENT`. It takes memory; where that runs out, the row that is open is unknown.
 pub fn push_rate(alloc: Global, sheet: &mut Sheet, rate: &Fraction) -> Result<(), OutOfMemory>
     requires { rate.now.num < 2 ^ 100 }
-    ensures ok { OnOk result (sheet.new ≡ with_fields sheet.old (rows.rate_fields rate.now)) }
-    ensures err { OnErr result (sheet.new.rows ≡ sheet.old.rows) }
+    ensures { AddsFields result sheet.old sheet.new (rows.rate_fields rate.now) }
 {
     let fraction = fraction_text(alloc, rate.num(), rate.den())?;
     sheet.push_field(fraction.as_bytes())?;

@@ -2,8 +2,8 @@
 ghost use Rattle.std.specs.Prelude.{◌≡◌, ◌<◌, ◌++◌, ◌∷◌, [], List, length, map, All, OnOk, OnErr};
 ghost use Rattle.rail_model.specs.Conflict.{Conflict as Whole, AreConflicts, timetable};
 ghost use Rattle.conflict_finder.specs.Found.{IsFound};
-ghost use Rattle.row_text.specs.SheetRows.{with_row};
 ghost use Rattle.row_text.specs.Adds.{Adds, AddsFirst};
+ghost use Rattle.answer_parts.specs.Adding.{AddsRow};
 ghost use Rattle.capacity_report.specs.Rows as rows;
 
 use conflict_finder::{Conflict, Conflicts};
@@ -62,9 +62,7 @@ fn conflict_row<'a>(
     conflict: &'a Conflict,
 ) -> Result<(), OutOfMemory>
     requires { conflict.now.block < length tables.now.blocks }
-    ensures ok { OnOk result (sheet.new
-        ≡ with_row sheet.old (rows.conflict_row tables.now conflict.now)) }
-    ensures err { OnErr result (sheet.new.rows ≡ sheet.old.rows) }
+    ensures { AddsRow result sheet.old sheet.new (rows.conflict_row tables.now conflict.now) }
 {
     sheet.write(&[
         Field::Text(b"conflict"),
@@ -78,8 +76,7 @@ fn conflict_row<'a>(
 
 // Adds the row of the two counts, `conflicts,LISTED,MORE`.
 fn count_row(sheet: &mut Sheet, listed: u64, more: u64) -> Result<(), OutOfMemory>
-    ensures ok { OnOk result (sheet.new ≡ with_row sheet.old (rows.count_row listed more)) }
-    ensures err { OnErr result (sheet.new.rows ≡ sheet.old.rows) }
+    ensures { AddsRow result sheet.old sheet.new (rows.count_row listed more) }
 {
     sheet.write(&[
         Field::Text(b"conflicts"),

@@ -1,8 +1,8 @@
 //! The rows of a compressed timetable.
-ghost use Rattle.std.specs.Prelude.{◌≡◌, ◌<◌, ◌++◌, ◌∷◌, [], length, OnOk, OnErr, Some};
+ghost use Rattle.std.specs.Prelude.{◌≡◌, ◌<◌, ◌++◌, ◌∷◌, [], length, Some};
 ghost use Rattle.row_text.specs.FieldText.{text_of};
-ghost use Rattle.row_text.specs.SheetRows.{with_row, with_fields};
 ghost use Rattle.row_text.specs.Adds.{Adds};
+ghost use Rattle.answer_parts.specs.Adding.{AddsFields, AddsRow};
 ghost use Rattle.critical_chain.specs.Chain.{IsPlan};
 ghost use Rattle.capacity_report.specs.Answers as rows;
 ghost use Rattle.capacity_report.specs.Shown.{IsShown, IsTrainOf, IsTieOf};
@@ -83,9 +83,7 @@ fn rows_with_chain(
 // Adds the row `ordered,SECTION,MEMBERS,OCCUPANCY,BUSIEST`.
 fn ordered_row<'a>(sheet: &mut Sheet, section: &'a Name, plan: &'a Plan) -> Result<(), OutOfMemory>
     requires { IsShown plan.now }
-    ensures ok { OnOk result (sheet.new
-        ≡ with_row sheet.old (rows.ordered_row section.now plan.now)) }
-    ensures err { OnErr result (sheet.new.rows ≡ sheet.old.rows) }
+    ensures { AddsRow result sheet.old sheet.new (rows.ordered_row section.now plan.now) }
 {
     sheet.write(&[
         Field::Text(b"ordered"),
@@ -123,9 +121,7 @@ fn train_rows(sheet: &mut Sheet, plan: &Plan) -> Result<(), OutOfMemory>
 // Where memory runs out, no row is added.
 fn train_row(sheet: &mut Sheet, plan: &Plan, placed: &Placed) -> Result<(), OutOfMemory>
     requires { IsTrainOf plan.now placed.now }
-    ensures ok { OnOk result (sheet.new
-        ≡ with_row sheet.old (rows.train_row plan.now placed.now)) }
-    ensures err { OnErr result (sheet.new.rows ≡ sheet.old.rows) }
+    ensures { AddsRow result sheet.old sheet.new (rows.train_row plan.now placed.now) }
 {
     sheet.drop_row();
     sheet.push_field(b"train")?;
@@ -139,9 +135,7 @@ fn train_row(sheet: &mut Sheet, plan: &Plan, placed: &Placed) -> Result<(), OutO
 // Adds the fields of a tie to a row: `start`, or `after,TRAIN,PLACE`.
 fn push_tie(sheet: &mut Sheet, plan: &Plan, tie: Tie) -> Result<(), OutOfMemory>
     requires { IsTieOf plan.now tie }
-    ensures ok { OnOk result (sheet.new
-        ≡ with_fields sheet.old (rows.tie_fields plan.now tie)) }
-    ensures err { OnErr result (sheet.new.rows ≡ sheet.old.rows) }
+    ensures { AddsFields result sheet.old sheet.new (rows.tie_fields plan.now tie) }
 {
     match tie {
         Tie::Start => push_start(sheet),
@@ -179,8 +173,7 @@ fn chain_rows(alloc: Global, sheet: &mut Sheet, plan: &Plan, train: u32) -> Resu
 
 // Adds the row `critical,TRAIN,LINKS`.
 fn critical_row(sheet: &mut Sheet, train: &Name, links: u64) -> Result<(), OutOfMemory>
-    ensures ok { OnOk result (sheet.new ≡ with_row sheet.old (rows.critical_row train.now links)) }
-    ensures err { OnErr result (sheet.new.rows ≡ sheet.old.rows) }
+    ensures { AddsRow result sheet.old sheet.new (rows.critical_row train.now links) }
 {
     sheet.write(&[
         Field::Text(b"critical"),

@@ -3,8 +3,9 @@ ghost use Rattle.std.specs.Prelude.{◌≡◌, ◌<◌, ◌≤◌, ◌++◌, ◌
 ghost use Rattle.plan_model.specs.Cut.{IsSoundCut};
 ghost use Rattle.plan_model.specs.Members.{member_count};
 ghost use Rattle.headway_table.specs.Table.{table_of};
-ghost use Rattle.row_text.specs.SheetRows.{with_row, text_of_rows};
+ghost use Rattle.row_text.specs.SheetRows.{text_of_rows};
 ghost use Rattle.row_text.specs.Adds.{Adds};
+ghost use Rattle.answer_parts.specs.Adding.{AddsRow};
 ghost use Rattle.capacity_report.specs.Rows as rows;
 ghost use Rattle.capacity_report.specs.Pairs as pairs;
 ghost use Rattle.capacity_report.specs.Parts.{text_between};
@@ -154,9 +155,7 @@ fn headway_row(
     seconds: i64,
 ) -> Result<(), OutOfMemory>
     requires { sheet.old.row ≡ [] }
-    ensures ok { OnOk result (sheet.new
-        ≡ with_row sheet.old (pairs.row_to head.now second.now seconds)) }
-    ensures err { OnErr result (sheet.new.rows ≡ sheet.old.rows) }
+    ensures { AddsRow result sheet.old sheet.new (pairs.row_to head.now second.now seconds) }
 {
     sheet.push_written(head)?;
     sheet.push_written(second)?;

@@ -2,9 +2,9 @@
 ghost use Rattle.std.specs.Prelude.{◌≡◌, ◌++◌, ◌∷◌, [], length, map, All, codes, decimal};
 ghost use Rattle.std.specs.Prelude.{OnOk, OnErr};
 ghost use Rattle.plan_model.specs.Legal.{IsLegal};
-ghost use Rattle.row_text.specs.SheetRows.{with_row, with_fields};
 ghost use Rattle.row_text.specs.Adds.{Adds, AddsFirst};
 ghost use Rattle.row_text.specs.Lines.{edit_row};
+ghost use Rattle.answer_parts.specs.Adding.{AddsFields, AddsRow};
 ghost use Rattle.capacity_report.specs.Rows as rows;
 ghost use Rattle.capacity_report.specs.Published.{PublishesAnswer};
 ghost use Rattle.capacity_report.specs.Answers.{IsAnswerOfSome};
@@ -113,9 +113,7 @@ fn edited_row(
     at: u64,
     edit: &Edit,
 ) -> Result<(), OutOfMemory>
-    ensures ok { OnOk result (sheet.new
-        ≡ with_row sheet.old (rows.edited_row planner at edit.now)) }
-    ensures err { OnErr result (sheet.new.rows ≡ sheet.old.rows) }
+    ensures { AddsRow result sheet.old sheet.new (rows.edited_row planner at edit.now) }
 {
     sheet.drop_row();
     sheet.push_field(b"edited")?;
@@ -133,9 +131,7 @@ fn rejected_row(
     rule: Rule,
     edit: &Edit,
 ) -> Result<(), OutOfMemory>
-    ensures ok { OnOk result (sheet.new
-        ≡ with_row sheet.old (rows.rejected_row planner rule edit.now)) }
-    ensures err { OnErr result (sheet.new.rows ≡ sheet.old.rows) }
+    ensures { AddsRow result sheet.old sheet.new (rows.rejected_row planner rule edit.now) }
 {
     sheet.drop_row();
     sheet.push_field(b"rejected")?;
@@ -147,8 +143,7 @@ fn rejected_row(
 
 // Adds the fields that spell an edit.
 fn push_edit(alloc: Global, sheet: &mut Sheet, edit: &Edit) -> Result<(), OutOfMemory>
-    ensures ok { OnOk result (sheet.new ≡ with_fields sheet.old (edit_row 1 edit.now)) }
-    ensures err { OnErr result (sheet.new.rows ≡ sheet.old.rows) }
+    ensures { AddsFields result sheet.old sheet.new (edit_row 1 edit.now) }
 {
     let row = spell(alloc, &Line::Edit(edit.copy(alloc)?))?;
     push_fields(sheet, &row)
@@ -156,8 +151,7 @@ fn push_edit(alloc: Global, sheet: &mut Sheet, edit: &Edit) -> Result<(), OutOfM
 
 // Adds fields to a row.
 fn push_fields(sheet: &mut Sheet, fields: &Fields) -> Result<(), OutOfMemory>
-    ensures ok { OnOk result (sheet.new ≡ with_fields sheet.old fields.now) }
-    ensures err { OnErr result (sheet.new.rows ≡ sheet.old.rows) }
+    ensures { AddsFields result sheet.old sheet.new fields.now }
 {
     for i in 0..fields.len() {
         sheet.push_field(fields.get(i))?;
@@ -172,9 +166,7 @@ fn asked_row(
     section: &Name,
     reply: Reply,
 ) -> Result<(), OutOfMemory>
-    ensures ok { OnOk result (sheet.new
-        ≡ with_row sheet.old (rows.asked_row planner section.now reply)) }
-    ensures err { OnErr result (sheet.new.rows ≡ sheet.old.rows) }
+    ensures { AddsRow result sheet.old sheet.new (rows.asked_row planner section.now reply) }
 {
     sheet.drop_row();
     sheet.push_field(b"asked")?;
@@ -186,8 +178,7 @@ fn asked_row(
 
 // Adds the fields of a reply to a row: `ready,AT`, `stale,AT,BY`, `not-yet` or `unknown`.
 fn push_reply(sheet: &mut Sheet, reply: Reply) -> Result<(), OutOfMemory>
-    ensures ok { OnOk result (sheet.new ≡ with_fields sheet.old (rows.reply_fields reply)) }
-    ensures err { OnErr result (sheet.new.rows ≡ sheet.old.rows) }
+    ensures { AddsFields result sheet.old sheet.new (rows.reply_fields reply) }
 {
     match reply {
         Reply::Ready { at } => {
@@ -221,8 +212,7 @@ fn published_rows(
 
 // Adds the row `published,SECTION,AT`.
 fn published_row(sheet: &mut Sheet, section: &Name, at: u64) -> Result<(), OutOfMemory>
-    ensures ok { OnOk result (sheet.new ≡ with_row sheet.old (rows.published_row section.now at)) }
-    ensures err { OnErr result (sheet.new.rows ≡ sheet.old.rows) }
+    ensures { AddsRow result sheet.old sheet.new (rows.published_row section.now at) }
 {
     sheet.write(&[
         Field::Text(b"published"),

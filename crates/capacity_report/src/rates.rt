@@ -1,6 +1,6 @@
 //! The rates of a compressed timetable.
-ghost use Rattle.std.specs.Prelude.{◌≡◌, ◌<◌, ◌^◌, OnOk, OnErr};
-ghost use Rattle.row_text.specs.SheetRows.{with_row};
+ghost use Rattle.std.specs.Prelude.{◌≡◌, ◌<◌, ◌^◌};
+ghost use Rattle.answer_parts.specs.Adding.{AddsRow};
 ghost use Rattle.plan_model.specs.Answer as rates;
 ghost use Rattle.capacity_report.specs.Answers as rows;
 
@@ -18,8 +18,7 @@ pub(crate) fn rate_row(
     plan: &Plan,
 ) -> Result<(), OutOfMemory>
     requires { plan.now.from_s < plan.now.to_s }
-    ensures ok { OnOk result (sheet.new ≡ with_row sheet.old (rows.rate_row section.now plan.now)) }
-    ensures err { OnErr result (sheet.new.rows ≡ sheet.old.rows) }
+    ensures { AddsRow result sheet.old sheet.new (rows.rate_row section.now plan.now) }
 {
     answer_parts::rate_row(alloc, sheet, section, &rate_of(plan), &consumption_of(plan))
 }

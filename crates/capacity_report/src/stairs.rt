@@ -1,10 +1,11 @@
 //! The text of `stairs`.
 ghost use Rattle.std.specs.Prelude.{◌≡◌, ◌<◌, ◌≤◌, ◌∷◌, [], length, map, All, codes};
-ghost use Rattle.std.specs.Prelude.{OnOk, OnErr, IfOk};
+ghost use Rattle.std.specs.Prelude.{IfOk};
 ghost use Rattle.std.specs.List.{flat_map, range_with_len};
 ghost use Rattle.rail_model.specs.Blocking.{Fits};
-ghost use Rattle.row_text.specs.SheetRows.{with_row, text_of_rows};
+ghost use Rattle.row_text.specs.SheetRows.{text_of_rows};
 ghost use Rattle.row_text.specs.Adds.{Adds};
+ghost use Rattle.answer_parts.specs.Adding.{AddsRow};
 ghost use Rattle.capacity_report.specs.Rows as rows;
 ghost use Rattle.capacity_report.specs.Blockings.{blocking_row, named_row, rows_by_names, rows_at, names_of, AreNamed};
 ghost use Rattle.capacity_report.specs.Parts.{text_between};
@@ -141,9 +142,7 @@ fn blocking_row(
     block: &Written,
     blocking: &Blocking,
 ) -> Result<(), OutOfMemory>
-    ensures ok { OnOk result (sheet.new
-        ≡ with_row sheet.old (blocking_row head.now block.now blocking.now)) }
-    ensures err { OnErr result (sheet.new.rows ≡ sheet.old.rows) }
+    ensures { AddsRow result sheet.old sheet.new (blocking_row head.now block.now blocking.now) }
 {
     sheet.drop_row();
     sheet.push_written(head)?;

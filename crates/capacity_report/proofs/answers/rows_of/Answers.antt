@@ -1,5 +1,5 @@
 use Rattle.std.proofs.Common.{subst}
-use Rattle.row_text.proofs.Adds.{adds_one}
+use Rattle.answer_parts.proofs.Added.{adds_row}
 use Rattle.capacity_report.specs.Answers.{opposite_row, crowded_row, IsAnswerOfSome}
 use Rattle.capacity_report.proofs.Plans.{shown_in}
 use Rattle.capacity_report.proofs.answers.rows_of.Goals as goal
@@ -10,8 +10,8 @@ plan_rows-requires-clause-shown c = shown_in c.in-Ordered.plan (subst IsAnswerOf
 pub returns-in-Opposite : goal.returns-in-Opposite
 returns-in-Opposite c =
     let o = c.in-Opposite in
-    rw o.is (adds_one c.args.sheet.now c.opposite_row.new.sheet (opposite_row c.args.section.now o.first o.second o.block1 o.block2) c.opposite_row.result c.opposite_row.ensures.ok c.opposite_row.ensures.err)
+    rw o.is (adds_row c.args.sheet.now c.opposite_row.new.sheet (opposite_row c.args.section.now o.first o.second o.block1 o.block2) c.opposite_row.result c.opposite_row.ensures)
 
 pub returns-in-Crowded : goal.returns-in-Crowded
 returns-in-Crowded c =
-    rw c.in-Crowded.is (adds_one c.args.sheet.now c.crowded_row.new.sheet (crowded_row c.args.section.now c.in-Crowded.count) c.crowded_row.result c.crowded_row.ensures.ok c.crowded_row.ensures.err)
+    rw c.in-Crowded.is (adds_row c.args.sheet.now c.crowded_row.new.sheet (crowded_row c.args.section.now c.in-Crowded.count) c.crowded_row.result c.crowded_row.ensures)

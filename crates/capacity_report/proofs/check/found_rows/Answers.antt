@@ -1,6 +1,6 @@
 use Rattle.std.proofs.Common.{[], ◌∷◌, length}
-use Rattle.row_text.proofs.Adds.{adds_one, adds_stopped, first_added}
-use Rattle.answer_parts.proofs.Added.{then_adds}
+use Rattle.row_text.proofs.Adds.{adds_stopped, first_added}
+use Rattle.answer_parts.proofs.Added.{adds_row, then_adds}
 use Rattle.capacity_report.specs.Rows.{count_row}
 use Rattle.capacity_report.proofs.check.found_rows.Goals as goal
 
@@ -14,5 +14,5 @@ pub returns : goal.returns
 returns c =
     let found = c.args.found.now in
     let row = count_row c.len.result found.more in
-    let last = adds_one c.listed_rows.new.sheet c.count_row.new.sheet row c.count_row.result c.count_row.ensures.ok c.count_row.ensures.err in
+    let last = adds_row c.listed_rows.new.sheet c.count_row.new.sheet row c.count_row.result c.count_row.ensures in
     rw (← c.len.ensures.count) (then_adds c.count_row.new.sheet (row ∷ []) c.count_row.result (rw c.slice.ensures at c.in_ok-listed_rows.ensures) last)

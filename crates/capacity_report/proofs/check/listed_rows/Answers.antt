@@ -12,12 +12,12 @@ pub returns-in_err-conflict_row : goal.returns-in_err-conflict_row
 returns-in_err-conflict_row c =
     adds_stopped _ c.from_residual.result c.from_residual.ensures.1
     (items_within (map (conflict_row c.args.tables.now)) (map-append (conflict_row c.args.tables.now)) c.args.listed.now c.loop-conflict.conflict-index c.conflict-item.result c.loop-conflict-test.true
-    (ap (λ x. conflict_row c.args.tables.now x ∷ []) c.conflict-item.is) c.loop-conflict.invariant (adds_none _ c.in_err-conflict_row.ensures.err))
+    (ap (λ x. conflict_row c.args.tables.now x ∷ []) c.conflict-item.is) c.loop-conflict.invariant (adds_none _ c.in_err-conflict_row.ensures))
 
 pub loop-conflict-preserved : goal.loop-conflict-preserved
 loop-conflict-preserved c =
     items_more (map (conflict_row c.args.tables.now)) (map-append (conflict_row c.args.tables.now)) c.args.listed.now c.loop-conflict.conflict-index c.conflict-item.result c.loop-conflict-test.true
-    (ap (λ x. conflict_row c.args.tables.now x ∷ []) c.conflict-item.is) c.loop-conflict.invariant (all_one c.in_ok-conflict_row.ensures.ok)
+    (ap (λ x. conflict_row c.args.tables.now x ∷ []) c.conflict-item.is) c.loop-conflict.invariant (all_one c.in_ok-conflict_row.ensures)
 
 pub returns : goal.returns
 returns c = items_all (map (conflict_row c.args.tables.now)) (map-append (conflict_row c.args.tables.now)) c.args.listed.now c.loop-conflict.conflict-index c.loop-conflict-test.false c.loop-conflict.invariant

@@ -14,7 +14,7 @@ returns-in_err-links c = adds_stopped _ c.from_residual.result c.from_residual.e
 
 pub returns-in_err-critical_row : goal.returns-in_err-critical_row
 returns-in_err-critical_row c =
-    adds_stopped _ c.from_residual-in_err-critical_row.result c.from_residual-in_err-critical_row.ensures.1 (adds_none _ c.in_err-critical_row.ensures.err)
+    adds_stopped _ c.from_residual-in_err-critical_row.result c.from_residual-in_err-critical_row.ensures.1 (adds_none _ c.in_err-critical_row.ensures)
 
 pub returns : goal.returns
 returns c =
@@ -26,6 +26,6 @@ returns c =
     ap (λ (p : Placed). p.train) (read c.slice.result.now plan.placed c.args.train d no_train c.slice.ensures c.requires.there) in
     let count : c.len.result ≡ length all = c.len.ensures.count ∙ ap length c.in_ok-links.ensures.same in
     let row : critical_row read_there.train c.len.result ≡ critical_row (train_at plan c.args.train).train (length all) = rw (name, count) refl in
-    let one : AddsAll c.args.sheet.now c.critical_row.new.sheet (critical_row read_there.train c.len.result ∷ []) = all_one {before = c.args.sheet.now} c.in_ok-critical_row.ensures.ok in
+    let one : AddsAll c.args.sheet.now c.critical_row.new.sheet (critical_row read_there.train c.len.result ∷ []) = all_one {before = c.args.sheet.now} c.in_ok-critical_row.ensures in
     let first = rw row at one in
     then_adds c.link_rows.new.sheet (map link_row all) c.link_rows.result first (rw (c.slice-2.ensures, c.in_ok-links.ensures.same) at c.link_rows.ensures)

@@ -13,5 +13,5 @@ returns c =
     let after = c.answer_rows.new.sheet in
     let added = answer_rows c.args.section.now c.args.answer.now detail.Trains in
     adds_then c.args.sheet.now later after (published_row c.args.section.now c.args.at ∷ []) added c.answer_rows.result
-    (ap (λ (s : SheetRows). s.rows) c.in_ok-published_row.ensures.ok)
+    (ap (λ (s : SheetRows). s.rows) c.in_ok-published_row.ensures)
     (adds_from later after added c.answer_rows.result c.answer_rows.ensures.ok c.answer_rows.ensures.closed c.answer_rows.ensures.err)

@@ -11,7 +11,7 @@ returns-in_err-blocking_row c =
     let so_far = c.loop-blocking.invariant in
     adds_stopped _ c.from_residual.result c.from_residual.ensures.1
     (first_kept (items_first (map row_of) (map-append row_of) c.args.all.now c.loop-blocking.blocking-index (record { rows = so_far.rows; closed = so_far.closed }))
-    c.in_err-blocking_row.ensures.err)
+    c.in_err-blocking_row.ensures)
 
 pub returns : goal.returns
 returns c =
