@@ -1,7 +1,7 @@
 //! The rows of a section that is filled.
-ghost use Rattle.std.specs.Prelude.{◌≡◌, ◌<◌, [], ◌∷◌, OnOk, OnErr, IfOk, codes, decimal, string_bytes};
-ghost use Rattle.row_text.specs.SheetRows.{with_row};
+ghost use Rattle.std.specs.Prelude.{◌≡◌, ◌<◌, [], ◌∷◌, IfOk, codes, decimal, string_bytes};
 ghost use Rattle.row_text.specs.Adds.{Adds};
+ghost use Rattle.answer_parts.specs.Adding.{AddsRow};
 ghost use Rattle.path_fill.specs.Filling as rows;
 
 use crate::found::Fill;
@@ -49,9 +49,8 @@ fn fill_row<'a>(
     run: &'a Name,
     copies: u64,
 ) -> Result<(), OutOfMemory>
-    ensures ok { OnOk result (sheet.new
-        ≡ with_row sheet.old (rows.fill_row section.now run.now (decimal copies))) }
-    ensures err { OnErr result (sheet.new.rows ≡ sheet.old.rows) }
+    ensures { AddsRow result sheet.old sheet.new
+        (rows.fill_row section.now run.now (decimal copies)) }
 {
     sheet.write(&[
         Field::Text(b"fill"),
@@ -62,9 +61,8 @@ fn fill_row<'a>(
 }
 
 fn none_row<'a>(sheet: &mut Sheet, section: &'a Section, run: &'a Name) -> Result<(), OutOfMemory>
-    ensures ok { OnOk result (sheet.new
-        ≡ with_row sheet.old (rows.fill_row section.now run.now (codes "none"))) }
-    ensures err { OnErr result (sheet.new.rows ≡ sheet.old.rows) }
+    ensures { AddsRow result sheet.old sheet.new
+        (rows.fill_row section.now run.now (codes "none")) }
 {
     sheet.write(&[
         Field::Text(b"fill"),
@@ -84,9 +82,7 @@ fn at_row(
     time: u64,
 ) -> Result<(), OutOfMemory>
     requires { section.now.from_s < section.now.to_s }
-    ensures ok { OnOk result (sheet.new
-        ≡ with_row sheet.old (rows.at_row section.now copies time)) }
-    ensures err { OnErr result (sheet.new.rows ≡ sheet.old.rows) }
+    ensures { AddsRow result sheet.old sheet.new (rows.at_row section.now copies time) }
 {
     let rate = consumption(time, section.add_percent, section.to_s - section.from_s);
     let count = count_text(alloc, copies)?;

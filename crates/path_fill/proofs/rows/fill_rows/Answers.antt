@@ -1,7 +1,6 @@
 use Rattle.std.proofs.Common.{◌+◌, [], ◌∷◌, sym, subst}
 use Rattle.row_text.specs.Adds.{AddsAll, Adds}
-use Rattle.row_text.proofs.Adds.{adds_one}
-use Rattle.answer_parts.proofs.Added.{all_one, all_then, then_adds}
+use Rattle.answer_parts.proofs.Added.{adds_row, all_one, all_then, then_adds}
 use Rattle.path_fill.specs.declared.found.Fill.{Fill}
 use Rattle.path_fill.specs.Filling.{at_row, fill_rows}
 use Rattle.path_fill.proofs.rows.fill_rows.Goals as goal
@@ -15,12 +14,11 @@ returns-in_ok-at_row-in-Fits c =
     let after = c.at_row-in-Fits-2.new.sheet in
     let last = c.at_row-in-Fits-2.result in
     let first : AddsAll then later (at_row section c.from.result c.in-Fits.occupancy ∷ []) =
-    all_one c.in_ok-at_row-in-Fits.ensures.ok in
+    all_one c.in_ok-at_row-in-Fits.ensures in
     let second =
-    adds_one later after (at_row section (c.from-in-Fits.result + 1) c.in-Fits.next) last c.at_row-in-Fits-2.ensures.ok
-    c.at_row-in-Fits-2.ensures.err in
+    adds_row later after (at_row section (c.from-in-Fits.result + 1) c.in-Fits.next) last c.at_row-in-Fits-2.ensures in
     subst (λ (f : Fill). Adds last before after (fill_rows section c.args.run.now f)) (sym c.in-Fits.is)
     (then_adds after (at_row section (c.in-Fits.copies + 1) c.in-Fits.next ∷ []) last
-    (all_then (all_one c.in_ok-fill_row-in-Fits.ensures.ok)
+    (all_then (all_one c.in_ok-fill_row-in-Fits.ensures)
     (subst (λ n. AddsAll then later (at_row section n c.in-Fits.occupancy ∷ [])) c.from.ensures first))
     (subst (λ n. Adds last later after (at_row section (n + 1) c.in-Fits.next ∷ [])) c.from-in-Fits.ensures second))
