@@ -1,9 +1,9 @@
 //! The rows of delays that are spread.
-ghost use Rattle.std.specs.Prelude.{◌≡◌, ◌<◌, [], ◌∷◌, length, map, OnOk, OnErr};
+ghost use Rattle.std.specs.Prelude.{◌≡◌, ◌<◌, [], ◌∷◌, length, map};
 ghost use Rattle.plan_model.specs.Cut.{IsSoundCut};
 ghost use Rattle.plan_model.specs.Members.{member_count};
-ghost use Rattle.row_text.specs.SheetRows.{with_row, with_fields};
 ghost use Rattle.row_text.specs.Adds.{Adds};
+ghost use Rattle.answer_parts.specs.Adding.{AddsFields, AddsRow};
 ghost use Rattle.delay_spread.specs.Spreading.{IsSpreadOf, AreHeld, IsTieOf};
 ghost use Rattle.delay_spread.specs.Spreading as rows;
 
@@ -43,8 +43,7 @@ fn held_rows(sheet: &mut Sheet, cut: &SoundCut, held: &[Held]) -> Result<(), Out
 fn held_row(sheet: &mut Sheet, cut: &SoundCut, held: &[Held], i: u32) -> Result<(), OutOfMemory>
     requires there { i < member_count cut.now }
     requires held { AreHeld cut.now held.now }
-    ensures ok { OnOk result (sheet.new ≡ with_row sheet.old (rows.held_row cut.now held.now i)) }
-    ensures err { OnErr result (sheet.new.rows ≡ sheet.old.rows) }
+    ensures { AddsRow result sheet.old sheet.new (rows.held_row cut.now held.now i) }
 {
     let one = &held[i as usize];
     let later = later_by(cut.row(i).entry, one.delay, one.entry);
@@ -61,8 +60,7 @@ fn held_row(sheet: &mut Sheet, cut: &SoundCut, held: &[Held], i: u32) -> Result<
 // Adds the fields of a tie to a row.
 fn push_tie(sheet: &mut Sheet, cut: &SoundCut, tie: Tie) -> Result<(), OutOfMemory>
     requires { IsTieOf cut.now tie }
-    ensures ok { OnOk result (sheet.new ≡ with_fields sheet.old (rows.tie_fields cut.now tie)) }
-    ensures err { OnErr result (sheet.new.rows ≡ sheet.old.rows) }
+    ensures { AddsFields result sheet.old sheet.new (rows.tie_fields cut.now tie) }
 {
     match tie {
         Tie::Start => push_start(sheet),

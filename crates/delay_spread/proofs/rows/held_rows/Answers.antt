@@ -12,12 +12,12 @@ pub returns-in_err-held_row : goal.returns-in_err-held_row
 returns-in_err-held_row c =
     adds_stopped _ c.from_residual.result c.from_residual.ensures.1
     (numbers_within (held_row c.args.cut.now c.args.held.now) (member_count c.args.cut.now) c.loop-i.i
-    (omega (arith, c.loop-i-test.true, c.member_count-i-end.ensures.count)) c.loop-i.invariant (adds_none _ c.in_err-held_row.ensures.err))
+    (omega (arith, c.loop-i-test.true, c.member_count-i-end.ensures.count)) c.loop-i.invariant (adds_none _ c.in_err-held_row.ensures))
 
 pub loop-i-preserved : goal.loop-i-preserved
 loop-i-preserved c =
     numbers_more (held_row c.args.cut.now c.args.held.now) (member_count c.args.cut.now) c.loop-i.i
-    (omega (arith, c.loop-i-test.true, c.member_count-i-end.ensures.count)) c.loop-i.invariant (all_one c.in_ok-held_row.ensures.ok)
+    (omega (arith, c.loop-i-test.true, c.member_count-i-end.ensures.count)) c.loop-i.invariant (all_one c.in_ok-held_row.ensures)
 
 pub returns : goal.returns
 returns c =
