@@ -7,7 +7,7 @@ abbrev pub AddsRow : {T E : Type 0} → Result T E → SheetRows → SheetRows �
 AddsRow (Ok done) before after row = after ≡ with_row before row
 AddsRow (Err want) before after row = after.rows ≡ before.rows
 
--- fields are added to the row that is open; where memory runs out, that row is unknown
+-- fields are added to the row that is open; where memory runs out, that row is unknown, and the rows before it stay
 abbrev pub AddsFields : {T E : Type 0} → Result T E → SheetRows → SheetRows → Row → Type 0
 AddsFields (Ok done) before after fields = after ≡ with_fields before fields
 AddsFields (Err want) before after fields = after.rows ≡ before.rows
