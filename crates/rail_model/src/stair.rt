@@ -4,7 +4,7 @@ use crate::{List, Name};
 /// A run's blocking of one block, which is Pachl's blocking time, or in a cut its use of a
 /// connection: the half-open interval from `start` to `end`, in seconds from the timetable's
 /// origin.
-#[derive(Clone, Copy)]
+#[derive(Clone, Copy, PartialEq, Eq)]
 pub struct Use {
     /// In a stairway the block's number; in a cut a place among its places: the section's blocks,
     /// then connections.

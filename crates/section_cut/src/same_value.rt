@@ -41,22 +41,7 @@ fn same_rows(a: &[CutRow], b: &[CutRow]) -> bool
 fn same_uses(a: &[Use], b: &[Use]) -> bool
     ensures { IsTrue result ↔ (a.now ≡ b.now) }
 {
-    if a.len() != b.len() {
-        return false;
-    }
-    for i in 0..a.len() {
-        if !same_use(a[i], b[i]) {
-            return false;
-        }
-    }
-    true
-}
-
-// Whether two uses are equal.
-fn same_use(a: Use, b: Use) -> bool
-    ensures { IsTrue result ↔ (a ≡ b) }
-{
-    a.block == b.block && a.start == b.start && a.end == b.end
+    a == b
 }
 
 // Whether two sections are equal.
