@@ -1,4 +1,3 @@
-pub mod NoStair
 pub mod Lists
 pub mod Ranks
 pub mod Laid

@@ -1,4 +1,3 @@
-pub mod NoStair
 pub mod Lists
 pub mod ByPlaces
 pub mod Counts
