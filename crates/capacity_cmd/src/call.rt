@@ -125,7 +125,8 @@ fn run_made<R: AllocGlobal + Threads + Wait + Sync, K: Sink, G: Gate>(
 }
 
 /// Runs a command that waits for nobody: it takes memory and may start threads, but no handle to
-/// wait. The words are those after the program's name.
+/// wait. The words are those after the program's name. The program itself calls
+/// `run_alone_telling`; this is for tests and other programs.
 pub fn run_alone<R: AllocGlobal + Threads + Sync, S: Source, K: Sink>(
     rt: &R,
     words: &[String],

@@ -23,7 +23,8 @@ pub enum Line {
     Planner(u32),
 }
 
-/// The line that a row spells in version 1 of the rows, or its first form fault.
+/// The line that a row spells in version 1 of the rows, or its first form fault. The program reads
+/// the rows of a text by `RowList::line`; this is for tests and other programs.
 pub fn read_row(alloc: Global, fields: &Fields) -> Result<Result<Line, Form>, OutOfMemory>
     ensures { IfOk result (λ found. found ≡ lines.read_in 1 fields.now) }
 {

@@ -27,7 +27,8 @@ pub fn spell(alloc: Global, line: &Line) -> Result<Fields, OutOfMemory>
 
 /// The row that spells a line in a version of the rows, 1 or 2. In version 2 the times of runs and
 /// sections are times of day, none above 359,999,999 s: `has_times_in` is the test. Where any row
-/// spells the line, reading this one gives it again.
+/// spells the line, reading this one gives it again. The program calls `spell`, which
+/// writes version 1; version 2 is for tests and other programs.
 pub fn spell_in(alloc: Global, version: u32, line: &Line) -> Result<Fields, OutOfMemory>
     requires { IsTrue (lines.has_times_in version line.now) }
     ensures row { IfOk result (λ row. row ≡ lines.row_in version line.now) }
