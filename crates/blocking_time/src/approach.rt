@@ -9,7 +9,7 @@ use crate::motion::{self, GREATEST_REACH_S, Mark};
 use rail_model::{Hop, Path};
 
 // Stands where the train has not stopped yet.
-pub fn no_stop_yet() -> Mark
+pub(crate) fn no_stop_yet() -> Mark
     ensures { result ≡ no_stop }
 {
     Mark {
@@ -21,14 +21,14 @@ pub fn no_stop_yet() -> Mark
 // The last stop once a block is passed: its end, which has this mark, where the train stops there,
 // and else the stop before.
 #[inline]
-pub fn stop_after(stop: Mark, mark: Mark, hop: &Hop) -> Mark
+pub(crate) fn stop_after(stop: Mark, mark: Mark, hop: &Hop) -> Mark
     ensures { result ≡ (if nat_lt 0 hop.now.dwell_s then mark else stop) }
 {
     if hop.dwell_s > 0 { mark } else { stop }
 }
 
 // The mark of the last stop among the ends of the first k blocks.
-pub fn last_stop(path: &Path, k: usize) -> Mark
+fn last_stop(path: &Path, k: usize) -> Mark
     requires fits { Fits path.now }
     requires on_path { k ≤ hop_count path.now }
     ensures mark { result ≡ stop_mark path.now k }
@@ -46,7 +46,7 @@ pub fn last_stop(path: &Path, k: usize) -> Mark
 // The later of the moment at which the head comes to a point and, where the last stop isn't before
 // the point, the departure from that stop: seconds from the timetable's origin.
 #[inline]
-pub fn after_stop(reached_s: u64, point_m: u64, stop: Mark) -> u64
+pub(crate) fn after_stop(reached_s: u64, point_m: u64, stop: Mark) -> u64
     ensures { result
         ≡ (if nat_le point_m stop.place_m then max reached_s stop.departure_s else reached_s) }
 {
@@ -74,7 +74,7 @@ pub fn approach_moment(path: &Path, k: u32) -> i64
 }
 
 // `approach_moment` as a number without a sign.
-pub fn approach_seconds(path: &Path, k: usize) -> u64
+pub(crate) fn approach_seconds(path: &Path, k: usize) -> u64
     requires fits { Fits path.now }
     requires some { 1 ≤ k }
     requires on_path { k ≤ hop_count path.now }

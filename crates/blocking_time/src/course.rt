@@ -12,7 +12,7 @@ use rail_model::{Hop, OutOfMemory, Path};
 use std::alloc::Global;
 
 // The marks of a path's start and of the ends of all its blocks, in order.
-pub fn marks(alloc: Global, path: &Path) -> Result<Vec<Mark>, OutOfMemory>
+pub(crate) fn marks(alloc: Global, path: &Path) -> Result<Vec<Mark>, OutOfMemory>
     requires { Fits path.now }
     ensures { IfOk result (λ marks. marks.items ≡ marks_of path.now) }
 {
@@ -28,7 +28,7 @@ pub fn marks(alloc: Global, path: &Path) -> Result<Vec<Mark>, OutOfMemory>
 
 // The mark of the end of the k-th block; for k = 0 that of the path's start.
 #[inline]
-pub fn mark_in(path: &Path, marks: &[Mark], k: usize) -> Mark
+fn mark_in(path: &Path, marks: &[Mark], k: usize) -> Mark
     requires fits { Fits path.now }
     requires table { marks.now ≡ marks_of path.now }
     requires on_path { k ≤ hop_count path.now }
@@ -39,7 +39,7 @@ pub fn mark_in(path: &Path, marks: &[Mark], k: usize) -> Mark
 }
 
 // How many blocks end before a place, by binary search between two counts.
-pub fn blocks_before(path: &Path, marks: &[Mark], first: usize, last: usize, metres: u64) -> usize
+fn blocks_before(path: &Path, marks: &[Mark], first: usize, last: usize, metres: u64) -> usize
     requires fits { Fits path.now }
     requires table { marks.now ≡ marks_of path.now }
     requires counts { (first ≤ last) × (last < hop_count path.now) }
@@ -148,7 +148,7 @@ fn seconds_down_at(path: &Path, marks: &[Mark], k: usize, metres: u64) -> u64
 
 // The approach moment of the k-th block, from 1, by the last stop before it.
 #[inline]
-pub fn approach_seconds(path: &Path, marks: &[Mark], k: usize, hop: &Hop, stop: Mark) -> u64
+fn approach_seconds(path: &Path, marks: &[Mark], k: usize, hop: &Hop, stop: Mark) -> u64
     requires fits { Fits path.now }
     requires table { marks.now ≡ marks_of path.now }
     requires some { 1 ≤ k }
@@ -166,7 +166,7 @@ pub fn approach_seconds(path: &Path, marks: &[Mark], k: usize, hop: &Hop, stop: 
 
 // The clearing moment of the k-th block, from 1.
 #[inline]
-pub fn clearing_seconds(path: &Path, marks: &[Mark], k: usize, hop: &Hop) -> u64
+fn clearing_seconds(path: &Path, marks: &[Mark], k: usize, hop: &Hop) -> u64
     requires fits { Fits path.now }
     requires table { marks.now ≡ marks_of path.now }
     requires some { 1 ≤ k }
@@ -187,7 +187,7 @@ pub fn clearing_seconds(path: &Path, marks: &[Mark], k: usize, hop: &Hop) -> u64
 
 // The moments of the run at the k-th block, from 1, by the last stop before it.
 #[inline]
-pub fn moments_in(path: &Path, marks: &[Mark], k: usize, hop: &Hop, stop: Mark) -> Moments
+pub(crate) fn moments_in(path: &Path, marks: &[Mark], k: usize, hop: &Hop, stop: Mark) -> Moments
     requires fits { Fits path.now }
     requires table { marks.now ≡ marks_of path.now }
     requires some { 1 ≤ k }
@@ -207,7 +207,7 @@ pub fn moments_in(path: &Path, marks: &[Mark], k: usize, hop: &Hop, stop: Mark) 
 
 // The last stop among the ends of the first k blocks, by that of one block less.
 #[inline]
-pub fn next_stop(path: &Path, marks: &[Mark], k: usize, hop: &Hop, stop: Mark) -> Mark
+pub(crate) fn next_stop(path: &Path, marks: &[Mark], k: usize, hop: &Hop, stop: Mark) -> Mark
     requires fits { Fits path.now }
     requires table { marks.now ≡ marks_of path.now }
     requires some { 1 ≤ k }

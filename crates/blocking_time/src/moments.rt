@@ -11,20 +11,20 @@ use rail_model::{Hop, Path, Use};
 
 // The moments of a run at one block: seconds from the timetable's origin.
 #[derive(Clone, Copy)]
-pub struct Moments {
+pub(crate) struct Moments {
     // When the head comes to the approach point or, later, leaves its last stop beyond it.
-    pub approach_s: u64,
+    pub(crate) approach_s: u64,
     // When the head passes the block's signal.
-    pub entry_s: u64,
+    pub(crate) entry_s: u64,
     // When the head leaves the block's end, after the dwell.
-    pub exit_s: u64,
+    pub(crate) exit_s: u64,
     // When the rear has cleared the block and its overlap.
-    pub clearing_s: u64,
+    pub(crate) clearing_s: u64,
 }
 
 // The use of a block, from the forming of its route to its release.
 #[inline]
-pub fn use_at(moments: Moments, hop: &Hop) -> Use
+pub(crate) fn use_at(moments: Moments, hop: &Hop) -> Use
     requires bounded { AreBounded moments }
     requires within { IsHopWithin hop.now }
     ensures { result ≡ use_by moments hop.now }
@@ -38,7 +38,7 @@ pub fn use_at(moments: Moments, hop: &Hop) -> Use
 
 // The six parts of the use of a block, in seconds: form, watch, approach, running, clearing,
 // release.
-pub fn parts_at(moments: Moments, hop: &Hop) -> [i64; 6]
+pub(crate) fn parts_at(moments: Moments, hop: &Hop) -> [i64; 6]
     requires bounded { AreBounded moments }
     requires within { IsHopWithin hop.now }
     ensures { result ≡ parts_by moments hop.now }
@@ -60,7 +60,7 @@ pub fn parts_at(moments: Moments, hop: &Hop) -> [i64; 6]
 // Where the head stands when the rear has cleared a block and its overlap: metres from the path's
 // start.
 #[inline]
-pub fn clearing_place(mark: Mark, hop: &Hop, length_m: u32) -> u64
+pub(crate) fn clearing_place(mark: Mark, hop: &Hop, length_m: u32) -> u64
     requires { IsMarkWithin mark }
     ensures { result ≡ mark.place_m + hop.now.overlap_m + length_m }
 {
@@ -70,7 +70,7 @@ pub fn clearing_place(mark: Mark, hop: &Hop, length_m: u32) -> u64
 // When the end of the path is clear: the tail after the last arrival, since the run ends without a
 // dwell.
 #[inline]
-pub fn tail_end(path: &Path, last: Mark) -> u64
+pub(crate) fn tail_end(path: &Path, last: Mark) -> u64
     requires bounded { IsMarkWithin last }
     requires fits { Fits path.now }
     ensures moment { result ≡ last.departure_s + path.now.tail_s }
@@ -81,7 +81,7 @@ pub fn tail_end(path: &Path, last: Mark) -> u64
 
 // The clearing moment of the k-th block, from 1: when the head comes to the clearing place,
 // rounded up or, where the path ends before it, the tail after the last arrival.
-pub fn clearing_seconds(path: &Path, k: usize) -> u64
+fn clearing_seconds(path: &Path, k: usize) -> u64
     requires fits { Fits path.now }
     requires some { 1 ≤ k }
     requires on_path { k ≤ hop_count path.now }
@@ -100,7 +100,7 @@ pub fn clearing_seconds(path: &Path, k: usize) -> u64
 }
 
 // The moments of the run at the k-th block, from 1.
-pub fn moments_at(path: &Path, k: usize) -> Moments
+fn moments_at(path: &Path, k: usize) -> Moments
     requires fits { Fits path.now }
     requires some { 1 ≤ k }
     requires on_path { k ≤ hop_count path.now }

@@ -10,27 +10,27 @@ ghost use Rattle.blocking_time.specs.Law.{HasConstantSpeed};
 use rail_model::{Hop, Path};
 
 // Metres: no place of a path is further, since a path has at most 256 blocks.
-pub const GREATEST_PLACE_M: u64 = 256_000_000;
+pub(crate) const GREATEST_PLACE_M: u64 = 256_000_000;
 
 // Seconds: no departure is later, since a path has at most 256 running times and dwells.
 pub const GREATEST_DEPARTURE_S: u64 = 44_841_600;
 
 // Seconds: no moment at a place of a path is later, the clearing of its end included.
-pub const GREATEST_REACH_S: u64 = 44_928_000;
+pub(crate) const GREATEST_REACH_S: u64 = 44_928_000;
 
 // A mark of a path: the end of a block, or the start of the path, and when the head leaves from
 // there.
 #[derive(Clone, Copy)]
-pub struct Mark {
+pub(crate) struct Mark {
     // Metres from the path's start.
-    pub place_m: u64,
+    pub(crate) place_m: u64,
     // When the head leaves from there, after the dwell: seconds from the timetable's origin.
-    pub departure_s: u64,
+    pub(crate) departure_s: u64,
 }
 
 // The k-th hop of a path, from 1.
 #[inline]
-pub fn hop_at(path: &Path, k: usize) -> &Hop
+pub(crate) fn hop_at(path: &Path, k: usize) -> &Hop
     requires fits { Fits path.now }
     requires some { 1 ≤ k }
     requires on_path { k ≤ hop_count path.now }
@@ -41,7 +41,7 @@ pub fn hop_at(path: &Path, k: usize) -> &Hop
 }
 
 // The mark of the path's start.
-pub fn first_mark(path: &Path) -> Mark
+pub(crate) fn first_mark(path: &Path) -> Mark
     ensures { result ≡ mark_of path.now 0 }
 {
     Mark {
@@ -52,7 +52,7 @@ pub fn first_mark(path: &Path) -> Mark
 
 // The mark of the end of the block beyond this mark.
 #[inline]
-pub fn next_mark(mark: Mark, hop: &Hop) -> Mark
+pub(crate) fn next_mark(mark: Mark, hop: &Hop) -> Mark
     requires { IsMarkWithin mark }
     ensures place { result.place_m ≡ mark.place_m + hop.now.block_m }
     ensures departure { result.departure_s ≡ mark.departure_s + (hop.now.running_s + hop.now.dwell_s) }
@@ -64,7 +64,7 @@ pub fn next_mark(mark: Mark, hop: &Hop) -> Mark
 }
 
 // The mark of the end of the k-th block.
-pub fn mark_at(path: &Path, k: usize) -> Mark
+pub(crate) fn mark_at(path: &Path, k: usize) -> Mark
     requires fits { Fits path.now }
     requires on_path { k ≤ hop_count path.now }
     ensures mark { result ≡ mark_of path.now k }
@@ -78,7 +78,7 @@ pub fn mark_at(path: &Path, k: usize) -> Mark
 }
 
 // How many blocks end before a place.
-pub fn blocks_before(path: &Path, metres: u64) -> usize
+fn blocks_before(path: &Path, metres: u64) -> usize
     requires fits { Fits path.now }
     requires on_path { metres ≤ place path.now (hop_count path.now) }
     ensures count { result ≡ count_before path.now metres }
@@ -99,7 +99,7 @@ pub fn blocks_before(path: &Path, metres: u64) -> usize
 // When the head reaches a place of the block beyond a mark: seconds from the timetable's origin,
 // rounded up.
 #[inline]
-pub fn moment_in(mark: Mark, hop: &Hop, metres: u64) -> u64
+pub(crate) fn moment_in(mark: Mark, hop: &Hop, metres: u64) -> u64
     requires within { IsHopWithin hop.now }
     requires beyond { mark.place_m ≤ metres }
     requires inside { metres ≤ mark.place_m + hop.now.block_m }
@@ -115,7 +115,7 @@ pub fn moment_in(mark: Mark, hop: &Hop, metres: u64) -> u64
 // When the head reaches a place of the block beyond a mark: seconds from the timetable's origin,
 // rounded down.
 #[inline]
-pub fn moment_down_in(mark: Mark, hop: &Hop, metres: u64) -> u64
+pub(crate) fn moment_down_in(mark: Mark, hop: &Hop, metres: u64) -> u64
     requires within { IsHopWithin hop.now }
     requires beyond { mark.place_m ≤ metres }
     requires inside { metres ≤ mark.place_m + hop.now.block_m }
@@ -157,7 +157,7 @@ pub fn reach_down(path: &Path, metres: u64) -> i64
 }
 
 // `reach` as a number without a sign.
-pub fn seconds_at(path: &Path, metres: u64) -> u64
+pub(crate) fn seconds_at(path: &Path, metres: u64) -> u64
     requires fits { Fits path.now }
     requires on_path { metres ≤ place path.now (hop_count path.now) }
     ensures moment { result ≡ moment_of path.now metres }
@@ -169,7 +169,7 @@ pub fn seconds_at(path: &Path, metres: u64) -> u64
 }
 
 // `reach_down` as a number without a sign.
-pub fn seconds_down_at(path: &Path, metres: u64) -> u64
+pub(crate) fn seconds_down_at(path: &Path, metres: u64) -> u64
     requires fits { Fits path.now }
     requires on_path { metres ≤ place path.now (hop_count path.now) }
     ensures moment { result ≡ moment_down_of path.now metres }
