@@ -12,12 +12,12 @@ use Rattle.rail_model.specs.declared.limits.TheConstants.{RUNS, PATH_HOPS}
 use Rattle.rail_model.proofs.Collected.{collected}
 use Rattle.rail_model.proofs.Lists.{flat_map-range_more}
 use Rattle.conflict_finder.specs.declared.ranked.Ranked.{Ranked}
-use Rattle.conflict_finder.specs.declared.visits.Visit.{Visit}
+use Rattle.conflict_finder.specs.declared.run_uses.RunUse.{RunUse}
 use Rattle.conflict_finder.specs.declared.found.Conflicts.{Conflicts}
 use Rattle.conflict_finder.specs.declared.found.TheConstants.{LISTED}
 use Rattle.conflict_finder.specs.Found.{IsListed, as_listed, count_of}
 use Rattle.conflict_finder.specs.ByBlock.{one_after_another, AreByBlock}
-use Rattle.conflict_finder.specs.Sweep.{IsSwept, meets, conflict_of, no_visit, conflicts_at, conflicts_upto, all_conflicts, found_in_turn, AreReady, AreFoundInParts}
+use Rattle.conflict_finder.specs.Sweep.{IsSwept, meets, conflict_of, no_run_use, conflicts_at, conflicts_upto, all_conflicts, found_in_turn, AreReady, AreFoundInParts}
 use Rattle.conflict_finder.proofs.Laid.{next_block}
 use Rattle.conflict_finder.proofs.Room.{take_both, listed_rest, met_within}
 use Rattle.conflict_finder.proofs.BlockByBlock.{found_more}
@@ -33,27 +33,27 @@ module _ {X : Type 0} (P : X → Type 0) (xs ys : List X) (h : All P (xs ++ ys))
       get_or-append_right xs ys n (n + k) d refl (omega arith) ∙ ap (λ j. get_or ys j d) (let e : (n + k) - n ≡ k = omega arith in e) in
       subst P from (h (n + k) d (omega (arith, l, length-append xs ys)))
 
-abbrev ReadyOne : List Ranked → Vec Visit Global → Type 0
-ReadyOne runs s = IsSwept s.items × All (λ (b : Visit). b.run < length runs) s.items
+abbrev ReadyOne : List Ranked → Vec RunUse Global → Type 0
+ReadyOne runs s = IsSwept s.items × All (λ (b : RunUse). b.run < length runs) s.items
 
--- parts of lists that are ready are ready, and have no more visits
-pub parts_ready : (runs : List Ranked) (n : ℕ) (parts : List (List (Vec Visit Global))) → length (one_after_another (flat_map (λ p. p) parts)) ≤ n → AreReady runs (flat_map (λ p. p) parts)
+-- parts of lists that are ready are ready, and have no more uses
+pub parts_ready : (runs : List Ranked) (n : ℕ) (parts : List (List (Vec RunUse Global))) → length (one_after_another (flat_map (λ p. p) parts)) ≤ n → AreReady runs (flat_map (λ p. p) parts)
     → All (λ part. (length (one_after_another part) ≤ n) × AreReady runs part) parts
 parts_ready runs n [] few h = All-nil (λ part. (length (one_after_another part) ≤ n) × AreReady runs part)
 parts_ready runs n (p ∷ ps) few h =
     let rest = flat_map (λ q. q) ps in
-    let long = ap length (flat_map-append (λ (s : Vec Visit Global). s.items) p rest) ∙ length-append (one_after_another p) (one_after_another rest) in
+    let long = ap length (flat_map-append (λ (s : Vec RunUse Global). s.items) p rest) ∙ length-append (one_after_another p) (one_after_another rest) in
     All-cons (λ part. (length (one_after_another part) ≤ n) × AreReady runs part) p ps
     (omega (arith, long, few), all_left (ReadyOne runs) p rest h)
     (parts_ready runs n ps (omega (arith, long, few)) (all_right (ReadyOne runs) p rest h))
 
 -- what is found in all lists is what is found in one part after the other
-found_by_parts : (runs : List Ranked) (parts : List (List (Vec Visit Global))) → found_in_turn runs (flat_map (λ p. p) parts) ≡ flat_map (found_in_turn runs) parts
+found_by_parts : (runs : List Ranked) (parts : List (List (Vec RunUse Global))) → found_in_turn runs (flat_map (λ p. p) parts) ≡ flat_map (found_in_turn runs) parts
 found_by_parts runs [] = refl
 found_by_parts runs (p ∷ ps) =
     flat_map-append (λ s. all_conflicts runs s.items) p (flat_map (λ q. q) ps) ∙ ap (λ v. found_in_turn runs p ++ v) (found_by_parts runs ps)
 
-found_upto : (runs : List Ranked) (xs : List (Vec Visit Global)) (d : Vec Visit Global) → AreByBlock xs → (i : ℕ) → i ≤ length xs → all_conflicts runs (one_after_another (take i xs)) ≡ found_in_turn runs (take i xs)
+found_upto : (runs : List Ranked) (xs : List (Vec RunUse Global)) (d : Vec RunUse Global) → AreByBlock xs → (i : ℕ) → i ≤ length xs → all_conflicts runs (one_after_another (take i xs)) ≡ found_in_turn runs (take i xs)
 found_upto runs xs d by zero l = refl
 found_upto runs xs d by (suc i) l =
     let here : i < length xs = omega (arith, l) in
@@ -63,26 +63,26 @@ found_upto runs xs d by (suc i) l =
     ∙ sym (next_block (λ s. all_conflicts runs s.items) xs i d here))
 
 -- the sweep over all lists finds what the sweeps over one list after the other find
-found_one_by_one : (runs : List Ranked) (xs : List (Vec Visit Global)) → AreByBlock xs → all_conflicts runs (one_after_another xs) ≡ found_in_turn runs xs
+found_one_by_one : (runs : List Ranked) (xs : List (Vec RunUse Global)) → AreByBlock xs → all_conflicts runs (one_after_another xs) ≡ found_in_turn runs xs
 found_one_by_one runs [] by = refl
 found_one_by_one runs (x ∷ xs) by =
     subst (λ v. all_conflicts runs (one_after_another v) ≡ found_in_turn runs v) (take_all (length (x ∷ xs)) (x ∷ xs) (omega arith))
     (found_upto runs (x ∷ xs) x by (length (x ∷ xs)) (omega arith))
 
-upto_most : (runs : List Ranked) (visits : List Visit) → length visits ≤ RUNS * PATH_HOPS → (n : ℕ) → length (conflicts_upto runs visits n) ≤ n * (RUNS * PATH_HOPS)
-upto_most runs visits few zero = omega arith
-upto_most runs visits few (suc n) =
-    let one = get_or visits n no_visit in
-    let met = conflicts_at runs visits n in
+upto_most : (runs : List Ranked) (run_uses : List RunUse) → length run_uses ≤ RUNS * PATH_HOPS → (n : ℕ) → length (conflicts_upto runs run_uses n) ≤ n * (RUNS * PATH_HOPS)
+upto_most runs run_uses few zero = omega arith
+upto_most runs run_uses few (suc n) =
+    let one = get_or run_uses n no_run_use in
+    let met = conflicts_at runs run_uses n in
     let e : n + 1 ≡ suc n = omega arith in
-    let more = ap length (flat_map-range_more (conflicts_at runs visits) n) ∙ length-append (conflicts_upto runs visits n) met in
-    let some : length met ≤ length visits = subst (λ k. k ≤ length visits) (sym (length-map _ (conflict_of runs one))) (met_within (meets one) visits n) in
-    let all : length (conflicts_upto runs visits (n + 1)) ≤ suc n * (RUNS * PATH_HOPS) = omega (arith, more, some, few, upto_most runs visits few n) in
-    subst (λ m. length (conflicts_upto runs visits m) ≤ suc n * (RUNS * PATH_HOPS)) e all
+    let more = ap length (flat_map-range_more (conflicts_at runs run_uses) n) ∙ length-append (conflicts_upto runs run_uses n) met in
+    let some : length met ≤ length run_uses = subst (λ k. k ≤ length run_uses) (sym (length-map _ (conflict_of runs one))) (met_within (meets one) run_uses n) in
+    let all : length (conflicts_upto runs run_uses (n + 1)) ≤ suc n * (RUNS * PATH_HOPS) = omega (arith, more, some, few, upto_most runs run_uses few n) in
+    subst (λ m. length (conflicts_upto runs run_uses m) ≤ suc n * (RUNS * PATH_HOPS)) e all
 
 -- so many conflicts there may be
-pub found_most : (runs : List Ranked) (visits : List Visit) → length visits ≤ RUNS * PATH_HOPS → length (all_conflicts runs visits) ≤ length visits * (RUNS * PATH_HOPS)
-found_most runs visits few = upto_most runs visits few (length visits)
+pub found_most : (runs : List Ranked) (run_uses : List RunUse) → length run_uses ≤ RUNS * PATH_HOPS → length (all_conflicts runs run_uses) ≤ length run_uses * (RUNS * PATH_HOPS)
+found_most runs run_uses few = upto_most runs run_uses few (length run_uses)
 
 none_taken : {X : Type 0} (r : ℕ) → take {A = X} r [] ≡ []
 none_taken zero = refl
@@ -115,7 +115,7 @@ module _ {P : Type 0} (g : P → List whole.Conflict) where
       omega (arith, sum_by-cons count_of f fs, listed_count ps fs h.1, count, h.0.1, length-append (g p) (flat_map g ps))
 
 -- what was found of each part, where each was swept
-pub gathered : {E : Type 0} (runs : List Ranked) (parts : List (List (Vec Visit Global))) (by_block : List (Vec Visit Global)) (results : List (Result Conflicts E)) (all : Result (Vec Conflicts Global) E) (Q : E → Type 0)
+pub gathered : {E : Type 0} (runs : List Ranked) (parts : List (List (Vec RunUse Global))) (by_block : List (Vec RunUse Global)) (results : List (Result Conflicts E)) (all : Result (Vec Conflicts Global) E) (Q : E → Type 0)
     → flat_map (λ p. p) parts ≡ by_block
     → AllZip (λ p (r : Result Conflicts E). IfOk r (IsListed (found_in_turn runs p))) parts results
     → MatchResult all (λ v. (found : List Conflicts) × (results ≡ map Ok found) × (v.items ≡ found)) Q
@@ -125,7 +125,7 @@ gathered runs parts by_block results (Ok v) Q whole each h =
 gathered runs parts by_block results (Err e) Q whole each h = tt
 
 -- what is found in parts is what the sweep over all lists finds
-module _ (runs : List Ranked) (by_block : List (Vec Visit Global)) (found : List Conflicts) (by : AreByBlock by_block) (h : AreFoundInParts runs by_block found) where
+module _ (runs : List Ranked) (by_block : List (Vec RunUse Global)) (found : List Conflicts) (by : AreByBlock by_block) (h : AreFoundInParts runs by_block found) where
   in_all : flat_map (found_in_turn runs) h.0 ≡ all_conflicts runs (one_after_another by_block)
   in_all = sym (found_by_parts runs h.0) ∙ ap (found_in_turn runs) h.1 ∙ sym (found_one_by_one runs by_block by)
 

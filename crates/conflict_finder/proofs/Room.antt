@@ -6,7 +6,7 @@ use Rattle.std.proofs.lemmas.Simd.{map-map}
 use Rattle.std.proofs.lemmas.List.Folds.{length-prefix_len}
 use Rattle.std.proofs.lemmas.List.Sums.{prefix_len-le-length, prefix_len_is}
 use Rattle.rail_model.specs.Conflict as whole
-use Rattle.conflict_finder.specs.declared.visits.Visit.{Visit}
+use Rattle.conflict_finder.specs.declared.run_uses.RunUse.{RunUse}
 use Rattle.conflict_finder.specs.declared.found.Conflict.{Conflict}
 use Rattle.conflict_finder.specs.declared.found.TheConstants.{LISTED}
 use Rattle.conflict_finder.specs.Found.{as_listed}
@@ -35,7 +35,7 @@ pub listed_more : (all more : List whole.Conflict) → map as_listed (take LISTE
 listed_more all more = rw (listed_count all).2 (listed_rest LISTED all more)
 
 -- the same of those that one meets, beside what was listed before
-pub met_more : (old : List Conflict) (all : List whole.Conflict) (f : Visit → whole.Conflict) (met : List Visit) → (old ++ map as_listed (take (LISTED - length old) all)) ++ map (λ y. as_listed (f y)) (take (LISTED - length (old ++ map as_listed (take (LISTED - length old) all))) met) ≡ old ++ map as_listed (take (LISTED - length old) (all ++ map f met))
+pub met_more : (old : List Conflict) (all : List whole.Conflict) (f : RunUse → whole.Conflict) (met : List RunUse) → (old ++ map as_listed (take (LISTED - length old) all)) ++ map (λ y. as_listed (f y)) (take (LISTED - length (old ++ map as_listed (take (LISTED - length old) all))) met) ≡ old ++ map as_listed (take (LISTED - length old) (all ++ map f met))
 met_more old all f met =
     let r = LISTED - length old in
     let some = map as_listed (take r all) in
@@ -66,7 +66,7 @@ pub none_met : {X : Type 0} (p : X → Bool) (xs : List X) (d : X) → (0 < leng
 none_met p xs d h = ap (λ n. take n xs) (prefix_len_is p xs 0 d (omega arith) (λ k lt. absurd (omega arith)) h)
 
 -- no more meet one than there are
-pub met_within : (p : Visit → Bool) (visits : List Visit) (i : ℕ) → length (take_while p (drop (i + 1) visits)) ≤ length visits
-met_within p visits i =
-    let rest = drop (i + 1) visits in
-    omega (arith, length-prefix_len p rest, prefix_len-le-length p rest, length-drop (i + 1) visits)
+pub met_within : (p : RunUse → Bool) (run_uses : List RunUse) (i : ℕ) → length (take_while p (drop (i + 1) run_uses)) ≤ length run_uses
+met_within p run_uses i =
+    let rest = drop (i + 1) run_uses in
+    omega (arith, length-prefix_len p rest, prefix_len-le-length p rest, length-drop (i + 1) run_uses)

@@ -17,9 +17,9 @@ use Rattle.rail_model.specs.Conflict.{IsConflict, IsListedBefore, AreConflicts, 
 use Rattle.rail_model.proofs.NoStair.{no_stair}
 use Rattle.rail_model.proofs.NameOrder.{never_before_itself, IsBefore-trans}
 use Rattle.conflict_finder.specs.declared.ranked.Ranked.{Ranked}
-use Rattle.conflict_finder.specs.declared.visits.Visit.{Visit}
-use Rattle.conflict_finder.specs.Runs.{no_ranked, ranked_at, visit_of, uses_of, all_visits, key_of, key_cmp}
-use Rattle.conflict_finder.specs.Sweep.{ComesBefore, IsSwept, meets, conflict_of, no_visit, conflicts_at, all_conflicts}
+use Rattle.conflict_finder.specs.declared.run_uses.RunUse.{RunUse}
+use Rattle.conflict_finder.specs.Runs.{no_ranked, ranked_at, run_use_of, uses_of, all_run_uses, key_of, key_cmp}
+use Rattle.conflict_finder.specs.Sweep.{IsSweptBefore, IsSwept, meets, conflict_of, no_run_use, conflicts_at, all_conflicts}
 use Rattle.rail_model.proofs.Lists.{AllPairs-map}
 use Rattle.conflict_finder.proofs.Lists.{upto, upto_is, from_upto, in_upto, AllPairs-upto, in_map, from_map, before_stop}
 use Rattle.conflict_finder.proofs.Ranks.{AreRanked}
@@ -27,16 +27,16 @@ use Rattle.conflict_finder.proofs.Order.{stairway_of, made_by, makes}
 
 -- ---- who meets whom
 
-met_parts : (a b : Visit) → meets a b ≡ true → (a.block ≡ b.block) × (b.start <ℤ a.«end»)
+met_parts : (a b : RunUse) → meets a b ≡ true → (a.block ≡ b.block) × (b.start <ℤ a.«end»)
 met_parts a b h =
     let parts = and_parts (eqb a.block b.block) (int_lt b.start a.«end») h in
     (eqb-true a.block b.block parts.0, (let lt : int_lt b.start a.«end» ≡ true = parts.1 in grind (arith, ints)))
 
-meets_from : (a b : Visit) → a.block ≡ b.block → b.start <ℤ a.«end» → meets a b ≡ true
+meets_from : (a b : RunUse) → a.block ≡ b.block → b.start <ℤ a.«end» → meets a b ≡ true
 meets_from a b e lt = and_from (eqb a.block b.block) (int_lt b.start a.«end») (eq-eqb a.block b.block e) (grind (arith, ints))
 
 -- the order without the names: not of an earlier block and, on one block, not of an earlier start
-in_order : (a b : Visit) → ComesBefore a b → (a.block ≤ b.block) × (a.block ≡ b.block → a.start ≤ℤ b.start)
+in_order : (a b : RunUse) → IsSweptBefore a b → (a.block ≤ b.block) × (a.block ≡ b.block → a.start ≤ℤ b.start)
 in_order a b h =
     elim h [
       | inl lt ↦ (omega arith, λ e. absurd (omega arith))
@@ -44,7 +44,7 @@ in_order a b h =
     ]
 
 -- who comes between two that meet meets the first too
-meets_between : (a b c : Visit) → ComesBefore a b → ((b ≡ c) ⊎ ComesBefore b c) → meets a c ≡ true → meets a b ≡ true
+meets_between : (a b c : RunUse) → IsSweptBefore a b → ((b ≡ c) ⊎ IsSweptBefore b c) → meets a c ≡ true → meets a b ≡ true
 meets_between a b c ab bc h =
     elim bc [
       | inl e ↦ rw e h
@@ -58,66 +58,66 @@ meets_between a b c ab bc h =
           meets_from a b same (omega (arith, ints))
     ]
 
-module _ (visits : List Visit) (swept : IsSwept visits) where
-  pub at : ℕ → Visit
-  at i = get_or visits i no_visit
+module _ (run_uses : List RunUse) (swept : IsSwept run_uses) where
+  pub at : ℕ → RunUse
+  at i = get_or run_uses i no_run_use
 
   -- those after i in their order, up to the first that doesn't meet it
-  pub met : ℕ → List Visit
-  met i = take_while (meets (get_or visits i no_visit)) (drop (i + 1) visits)
+  pub met : ℕ → List RunUse
+  met i = take_while (meets (get_or run_uses i no_run_use)) (drop (i + 1) run_uses)
 
-  at_is : (i : ℕ) (d : Visit) → i < length visits → get_or visits i d ≡ at i
+  at_is : (i : ℕ) (d : RunUse) → i < length run_uses → get_or run_uses i d ≡ at i
   unfolding at
-  at_is i d l = get_or_default visits i d no_visit l
+  at_is i d l = get_or_default run_uses i d no_run_use l
 
-  order_at : (i j : ℕ) → i < j → j < length visits → ComesBefore (at i) (at j)
+  order_at : (i j : ℕ) → i < j → j < length run_uses → IsSweptBefore (at i) (at j)
   unfolding at
-  order_at i j lt l = swept i j no_visit lt l
+  order_at i j lt l = swept i j no_run_use lt l
 
-  pub partitioned : (i : ℕ) → i < length visits → IsPartitionedBy (meets (get_or visits i no_visit)) (drop (i + 1) visits)
+  pub partitioned : (i : ℕ) → i < length run_uses → IsPartitionedBy (meets (get_or run_uses i no_run_use)) (drop (i + 1) run_uses)
   unfolding at
   partitioned i l m n d le ln h =
-      let long = length-drop (i + 1) visits in
-      rw (get_or-drop (i + 1) visits m d) (let passes : meets (at i) (get_or visits ((i + 1) + n) d) ≡ true = rw (get_or-drop (i + 1) visits n d) at h in
-      meets_between (at i) (get_or visits ((i + 1) + m) d) (get_or visits ((i + 1) + n) d)
+      let long = length-drop (i + 1) run_uses in
+      rw (get_or-drop (i + 1) run_uses m d) (let passes : meets (at i) (get_or run_uses ((i + 1) + n) d) ≡ true = rw (get_or-drop (i + 1) run_uses n d) at h in
+      meets_between (at i) (get_or run_uses ((i + 1) + m) d) (get_or run_uses ((i + 1) + n) d)
       (rw (at_is ((i + 1) + m) d (omega arith)) (order_at i ((i + 1) + m) (omega arith) (omega arith)))
       (elim (cases_lt m n) [
         | inl lt ↦ inr (swept ((i + 1) + m) ((i + 1) + n) d (omega arith) (omega arith))
-        | inr ge ↦ let e : m ≡ n = omega arith in inl (ap (λ k. get_or visits ((i + 1) + k) d) e)
+        | inr ge ↦ let e : m ≡ n = omega arith in inl (ap (λ k. get_or run_uses ((i + 1) + k) d) e)
       ])
       passes)
 
-  pub from_met : (i : ℕ) (y : Visit) → i < length visits → Contains (met i) y → (j : ℕ) × (i < j) × (j < length visits) × (y ≡ at j) × (meets (at i) (at j) ≡ true)
+  pub from_met : (i : ℕ) (y : RunUse) → i < length run_uses → Contains (met i) y → (j : ℕ) × (i < j) × (j < length run_uses) × (y ≡ at j) × (meets (at i) (at j) ≡ true)
   unfolding at met
   from_met i y l h =
       let p = meets (at i) in
-      let rest = drop (i + 1) visits in
+      let rest = drop (i + 1) run_uses in
       let k = h.0 in
       let inside : k < prefix_len p rest = omega (arith, h.1, length-prefix_len p rest) in
-      let long = length-drop (i + 1) visits in
-      let within : (i + 1) + k < length visits = omega (arith, prefix_len-le-length p rest) in
-      let is : y ≡ at ((i + 1) + k) = sym h.2 ∙ get_or-take (prefix_len p rest) rest k y inside ∙ get_or-drop (i + 1) visits k y ∙ at_is ((i + 1) + k) y within in
-      let passes : p (get_or rest k no_visit) ≡ true = prefix_len_passes p rest k no_visit inside in
-      ((i + 1) + k, omega arith, within, is, rw (get_or-drop (i + 1) visits k no_visit) at passes)
+      let long = length-drop (i + 1) run_uses in
+      let within : (i + 1) + k < length run_uses = omega (arith, prefix_len-le-length p rest) in
+      let is : y ≡ at ((i + 1) + k) = sym h.2 ∙ get_or-take (prefix_len p rest) rest k y inside ∙ get_or-drop (i + 1) run_uses k y ∙ at_is ((i + 1) + k) y within in
+      let passes : p (get_or rest k no_run_use) ≡ true = prefix_len_passes p rest k no_run_use inside in
+      ((i + 1) + k, omega arith, within, is, rw (get_or-drop (i + 1) run_uses k no_run_use) at passes)
 
-  pub in_met : (i j : ℕ) → i < j → j < length visits → meets (at i) (at j) ≡ true → Contains (met i) (at j)
+  pub in_met : (i j : ℕ) → i < j → j < length run_uses → meets (at i) (at j) ≡ true → Contains (met i) (at j)
   unfolding at met
   in_met i j lt l h =
       let p = meets (at i) in
-      let rest = drop (i + 1) visits in
+      let rest = drop (i + 1) run_uses in
       let k = j - (i + 1) in
       let e : (i + 1) + k ≡ j = omega arith in
-      let long = length-drop (i + 1) visits in
-      let here : get_or rest k no_visit ≡ at j = get_or-drop (i + 1) visits k no_visit ∙ ap at e in
-      let inside : k < prefix_len p rest = before_stop p rest k no_visit (omega arith) (λ m le. partitioned i (omega arith) m k no_visit le (omega arith) (ap p here ∙ h)) in (
+      let long = length-drop (i + 1) run_uses in
+      let here : get_or rest k no_run_use ≡ at j = get_or-drop (i + 1) run_uses k no_run_use ∙ ap at e in
+      let inside : k < prefix_len p rest = before_stop p rest k no_run_use (omega arith) (λ m le. partitioned i (omega arith) m k no_run_use le (omega arith) (ap p here ∙ h)) in (
         k,
         omega (arith, inside, length-prefix_len p rest),
-        get_or-take (prefix_len p rest) rest k (at j) inside ∙ get_or_default rest k (at j) no_visit (omega arith) ∙ here,
+        get_or-take (prefix_len p rest) rest k (at j) inside ∙ get_or_default rest k (at j) no_run_use (omega arith) ∙ here,
       )
 
 -- ---- from what is found to the timetable, and back
 
-module _ (stairs : List Stair) (runs : List Ranked) (t : IsTimetable stairs) (ranked : AreRanked stairs runs) (visits : List Visit) (same : IsPermutation (all_visits stairs runs) visits) (order : IsSortedByKey key_of key_cmp visits) (swept : IsSwept visits) where
+module _ (stairs : List Stair) (runs : List Ranked) (t : IsTimetable stairs) (ranked : AreRanked stairs runs) (run_uses : List RunUse) (same : IsPermutation (all_run_uses stairs runs) run_uses) (order : IsSortedByKey key_of key_cmp run_uses) (swept : IsSwept run_uses) where
   pub stair_of : ℕ → Stair
   stair_of k = get_or stairs (get_or runs k no_ranked).stair no_stair
 
@@ -136,19 +136,19 @@ module _ (stairs : List Stair) (runs : List Ranked) (t : IsTimetable stairs) (ra
   unfolding stair_of
   in_timetable k l = Contains-get_or stairs (get_or runs k no_ranked).stair no_stair (ranked.there k no_ranked l)
 
-  -- a visit with the run and the use that make it
-  pub record IsOf (b : Visit) : Type 0 where
+  -- a use with the run and the use that make it
+  pub record IsOf (b : RunUse) : Type 0 where
     pub k : ℕ
     pub within : k < length runs
     pub u : Use
     pub used : Contains (stair_of k).uses u
-    pub is : b ≡ visit_of k u
+    pub is : b ≡ run_use_of k u
 
-  made : (i : ℕ) → i < length visits → IsOf (at visits swept i)
+  made : (i : ℕ) → i < length run_uses → IsOf (at run_uses swept i)
   unfolding at stair_of
   made i l =
       let none : Use = record { block = 0; start = pos 0; «end» = pos 0 } in
-      let m = made_by stairs runs t ranked visits same order (get_or visits i no_visit) (Contains-get_or visits i no_visit l) in
+      let m = made_by stairs runs t ranked run_uses same order (get_or run_uses i no_run_use) (Contains-get_or run_uses i no_run_use l) in
       record {
         k = m.0;
         within = m.1;
@@ -157,18 +157,18 @@ module _ (stairs : List Stair) (runs : List Ranked) (t : IsTimetable stairs) (ra
         is = m.2.2 none;
       }
 
-  not_empty : (b : Visit) → (m : IsOf b) → m.u.start <ℤ m.u.«end»
+  not_empty : (b : RunUse) → (m : IsOf b) → m.u.start <ℤ m.u.«end»
   unfolding stair_of
   not_empty b m =
       let some = (stairway_of stairs runs t ranked m.k m.within).not_empty m.used.0 m.u m.used.1 in
       subst (λ (u : Use). u.start <ℤ u.«end») m.used.2 some
 
-  -- two visits in order make the conflict that is found
-  makes_conflict : (k q : ℕ) (u v : Use) → k < length runs → q < length runs → v.start <ℤ v.«end» → ComesBefore (visit_of k u) (visit_of q v) → meets (visit_of k u) (visit_of q v) ≡ true → Makes (stair_of k) u (stair_of q) v (conflict_of runs (visit_of k u) (visit_of q v))
+  -- two uses in order make the conflict that is found
+  makes_conflict : (k q : ℕ) (u v : Use) → k < length runs → q < length runs → v.start <ℤ v.«end» → IsSweptBefore (run_use_of k u) (run_use_of q v) → meets (run_use_of k u) (run_use_of q v) ≡ true → Makes (stair_of k) u (stair_of q) v (conflict_of runs (run_use_of k u) (run_use_of q v))
   unfolding name_of
   makes_conflict k q u v lk lq some before h =
-      let parts = met_parts (visit_of k u) (visit_of q v) h in
-      let not_later = (in_order (visit_of k u) (visit_of q v) before).1 parts.0 in
+      let parts = met_parts (run_use_of k u) (run_use_of q v) h in
+      let not_later = (in_order (run_use_of k u) (run_use_of q v) before).1 parts.0 in
       record {
         overlap = record { block = parts.0; first = omega (arith, ints); second = parts.1 };
         precedes = (
@@ -189,11 +189,11 @@ module _ (stairs : List Stair) (runs : List Ranked) (t : IsTimetable stairs) (ra
         to = refl;
       }
 
-  from_pair : (a b : Visit) → IsOf a → IsOf b → ComesBefore a b → meets a b ≡ true → IsConflict stairs (conflict_of runs a b)
+  from_pair : (a b : RunUse) → IsOf a → IsOf b → IsSweptBefore a b → meets a b ≡ true → IsConflict stairs (conflict_of runs a b)
   from_pair a b m n before h =
-      let x = visit_of m.k m.u in
-      let c : ComesBefore x (visit_of n.k n.u) = subst (λ y. ComesBefore x y) n.is (subst (λ y. ComesBefore y b) m.is before) in
-      let g : meets x (visit_of n.k n.u) ≡ true = subst (λ y. meets x y ≡ true) n.is (subst (λ y. meets y b ≡ true) m.is h) in
+      let x = run_use_of m.k m.u in
+      let c : IsSweptBefore x (run_use_of n.k n.u) = subst (λ y. IsSweptBefore x y) n.is (subst (λ y. IsSweptBefore y b) m.is before) in
+      let g : meets x (run_use_of n.k n.u) ≡ true = subst (λ y. meets x y ≡ true) n.is (subst (λ y. meets y b ≡ true) m.is h) in
       subst (λ y. IsConflict stairs (conflict_of runs y b)) (sym m.is) (subst (λ y. IsConflict stairs (conflict_of runs x y)) (sym n.is) (
         stair_of m.k,
         m.u,
@@ -204,19 +204,19 @@ module _ (stairs : List Stair) (runs : List Ranked) (t : IsTimetable stairs) (ra
         makes_conflict m.k n.k m.u n.u m.within n.within (not_empty b n) c g,
       ))
 
-  whole_is : all_conflicts runs visits ≡ upto (conflicts_at runs visits) (length visits)
-  whole_is = sym (upto_is (conflicts_at runs visits) (length visits))
+  whole_is : all_conflicts runs run_uses ≡ upto (conflicts_at runs run_uses) (length run_uses)
+  whole_is = sym (upto_is (conflicts_at runs run_uses) (length run_uses))
 
-  pub from_found : (c : whole.Conflict) → Contains (all_conflicts runs visits) c → IsConflict stairs c
+  pub from_found : (c : whole.Conflict) → Contains (all_conflicts runs run_uses) c → IsConflict stairs c
   unfolding at met
   from_found c h =
-      let r = from_upto (conflicts_at runs visits) (length visits) c (rw whole_is at h) in
+      let r = from_upto (conflicts_at runs run_uses) (length run_uses) c (rw whole_is at h) in
       let i = r.0 in
-      let m = from_map (conflict_of runs (get_or visits i no_visit)) (met visits swept i) c r.2 in
-      let y = get_or (met visits swept i) m.0 no_visit in
-      let of_y = from_met visits swept i y r.1 (Contains-get_or (met visits swept i) m.0 no_visit m.1) in
-      let made_pair = from_pair (at visits swept i) (at visits swept of_y.0) (made i r.1) (made of_y.0 of_y.2) (order_at visits swept i of_y.0 of_y.1 of_y.2) of_y.4 in
-      rw (m.2 no_visit, of_y.3) made_pair
+      let m = from_map (conflict_of runs (get_or run_uses i no_run_use)) (met run_uses swept i) c r.2 in
+      let y = get_or (met run_uses swept i) m.0 no_run_use in
+      let of_y = from_met run_uses swept i y r.1 (Contains-get_or (met run_uses swept i) m.0 no_run_use m.1) in
+      let made_pair = from_pair (at run_uses swept i) (at run_uses swept of_y.0) (made i r.1) (made of_y.0 of_y.2) (order_at run_uses swept i of_y.0 of_y.1 of_y.2) of_y.4 in
+      rw (m.2 no_run_use, of_y.3) made_pair
 
   -- a run of the timetable has a number
   pub record HasNumber (i : Stair) : Type 0 where
@@ -236,14 +236,14 @@ module _ (stairs : List Stair) (runs : List Ranked) (t : IsTimetable stairs) (ra
         is = ap (λ (x : Ranked). get_or stairs x.stair no_stair) read ∙ get_or_default stairs h.0 no_stair i h.1 ∙ h.2;
       }
 
-  -- of two visits, the one whose run precedes comes first
-  comes_first : (s e : ℕ) → s < length visits → e < length visits → (k q : ℕ) (u v : Use) → k < length runs → q < length runs → at visits swept s ≡ visit_of k u → at visits swept e ≡ visit_of q v → u.block ≡ v.block → whole.ComesBefore u.start (stair_of k).run v.start (stair_of q).run → s < e
+  -- of two uses, the one whose run precedes comes first
+  comes_first : (s e : ℕ) → s < length run_uses → e < length run_uses → (k q : ℕ) (u v : Use) → k < length runs → q < length runs → at run_uses swept s ≡ run_use_of k u → at run_uses swept e ≡ run_use_of q v → u.block ≡ v.block → whole.ComesBefore u.start (stair_of k).run v.start (stair_of q).run → s < e
   comes_first s e ls le k q u v lk lq su ev block before =
       elim (cases_order s e) [
         | inl same ↦
-            let one : visit_of k u ≡ visit_of q v = sym su ∙ ap (at visits swept) same ∙ ev in
-            let start : u.start ≡ v.start = ap (λ (x : Visit). x.start) one in
-            let run : k ≡ q = ap (λ (x : Visit). x.run) one in
+            let one : run_use_of k u ≡ run_use_of q v = sym su ∙ ap (at run_uses swept) same ∙ ev in
+            let start : u.start ≡ v.start = ap (λ (x : RunUse). x.start) one in
+            let run : k ≡ q = ap (λ (x : RunUse). x.run) one in
             absurd (elim before [
               | inl lt ↦ omega (arith, ints)
               | inr p ↦ never_before_itself (stair_of q).run (subst (λ j. IsBefore (stair_of j).run (stair_of q).run) run p.1)
@@ -251,7 +251,7 @@ module _ (stairs : List Stair) (runs : List Ranked) (t : IsTimetable stairs) (ra
         | inr o ↦ elim o [
           | inl lt ↦ lt
           | inr gt ↦
-              let c : ComesBefore (visit_of q v) (visit_of k u) = subst (λ y. ComesBefore (visit_of q v) y) su (subst (λ y. ComesBefore y (at visits swept s)) ev (order_at visits swept e s gt ls)) in
+              let c : IsSweptBefore (run_use_of q v) (run_use_of k u) = subst (λ y. IsSweptBefore (run_use_of q v) y) su (subst (λ y. IsSweptBefore y (at run_uses swept s)) ev (order_at run_uses swept e s gt ls)) in
               absurd (elim c [
                 | inl lt ↦ omega arith
                 | inr p ↦ elim p.1 [
@@ -267,7 +267,7 @@ module _ (stairs : List Stair) (runs : List Ranked) (t : IsTimetable stairs) (ra
         ]
       ]
 
-  is_of : (c : whole.Conflict) (k q : ℕ) (u v : Use) → k < length runs → q < length runs → Makes (stair_of k) u (stair_of q) v c → conflict_of runs (visit_of k u) (visit_of q v) ≡ c
+  is_of : (c : whole.Conflict) (k q : ℕ) (u v : Use) → k < length runs → q < length runs → Makes (stair_of k) u (stair_of q) v c → conflict_of runs (run_use_of k u) (run_use_of q v) ≡ c
   unfolding name_of
   is_of c k q u v lk lq m = λ j. record {
     block = sym m.block j;
@@ -278,22 +278,22 @@ module _ (stairs : List Stair) (runs : List Ranked) (t : IsTimetable stairs) (ra
     to = sym m.to j;
   }
 
-  in_found_by : (c : whole.Conflict) (k q : ℕ) (u v : Use) → k < length runs → q < length runs → Contains (stair_of k).uses u → Contains (stair_of q).uses v → Makes (stair_of k) u (stair_of q) v c → Contains (all_conflicts runs visits) c
+  in_found_by : (c : whole.Conflict) (k q : ℕ) (u v : Use) → k < length runs → q < length runs → Contains (stair_of k).uses u → Contains (stair_of q).uses v → Makes (stair_of k) u (stair_of q) v c → Contains (all_conflicts runs run_uses) c
   unfolding at met stair_of
   in_found_by c k q u v lk lq used other_used m =
-      let a = visit_of k u in
-      let b = visit_of q v in
-      let s = makes stairs runs t ranked visits same order k u lk used in
-      let e = makes stairs runs t ranked visits same order q v lq other_used in
-      let at_s : at visits swept s.0 ≡ a = get_or_default visits s.0 no_visit a s.1 ∙ s.2 in
-      let at_e : at visits swept e.0 ≡ b = get_or_default visits e.0 no_visit b e.1 ∙ e.2 in
+      let a = run_use_of k u in
+      let b = run_use_of q v in
+      let s = makes stairs runs t ranked run_uses same order k u lk used in
+      let e = makes stairs runs t ranked run_uses same order q v lq other_used in
+      let at_s : at run_uses swept s.0 ≡ a = get_or_default run_uses s.0 no_run_use a s.1 ∙ s.2 in
+      let at_e : at run_uses swept e.0 ≡ b = get_or_default run_uses e.0 no_run_use b e.1 ∙ e.2 in
       let first : s.0 < e.0 = comes_first s.0 e.0 s.1 e.1 k q u v lk lq at_s at_e m.overlap.block m.precedes.1 in
-      let meet : meets (at visits swept s.0) (at visits swept e.0) ≡ true = rw (at_s, at_e) (meets_from a b m.overlap.block m.overlap.second) in
-      let here = in_map (conflict_of runs (at visits swept s.0)) (met visits swept s.0) (at visits swept e.0) (in_met visits swept s.0 e.0 first e.1 meet) in
-      let is : conflict_of runs (at visits swept s.0) (at visits swept e.0) ≡ c = rw (at_s, at_e) (is_of c k q u v lk lq m) in
-      rw whole_is (in_upto (conflicts_at runs visits) (length visits) s.0 c s.1 (subst (Contains (conflicts_at runs visits s.0)) is here))
+      let meet : meets (at run_uses swept s.0) (at run_uses swept e.0) ≡ true = rw (at_s, at_e) (meets_from a b m.overlap.block m.overlap.second) in
+      let here = in_map (conflict_of runs (at run_uses swept s.0)) (met run_uses swept s.0) (at run_uses swept e.0) (in_met run_uses swept s.0 e.0 first e.1 meet) in
+      let is : conflict_of runs (at run_uses swept s.0) (at run_uses swept e.0) ≡ c = rw (at_s, at_e) (is_of c k q u v lk lq m) in
+      rw whole_is (in_upto (conflicts_at runs run_uses) (length run_uses) s.0 c s.1 (subst (Contains (conflicts_at runs run_uses s.0)) is here))
 
-  pub in_found : (c : whole.Conflict) → IsConflict stairs c → Contains (all_conflicts runs visits) c
+  pub in_found : (c : whole.Conflict) → IsConflict stairs c → Contains (all_conflicts runs run_uses) c
   in_found c h =
       let m : Makes h.0 h.1 h.2 h.3 c = h.6 in
       let one = number h.0 h.4.0 in
@@ -306,7 +306,7 @@ module _ (stairs : List Stair) (runs : List Ranked) (t : IsTimetable stairs) (ra
   -- ---- the order of the list
 
   -- where one comes before another on its block, so does its moment with its name
-  moment_before : (a b : Visit) → b.run < length runs → a.block ≡ b.block → ComesBefore a b → whole.ComesBefore a.start (get_or runs a.run no_ranked).name b.start (get_or runs b.run no_ranked).name
+  moment_before : (a b : RunUse) → b.run < length runs → a.block ≡ b.block → IsSweptBefore a b → whole.ComesBefore a.start (get_or runs a.run no_ranked).name b.start (get_or runs b.run no_ranked).name
   moment_before a b l e before =
       elim before [
         | inl lt ↦ absurd (omega arith)
@@ -316,51 +316,51 @@ module _ (stairs : List Stair) (runs : List Ranked) (t : IsTimetable stairs) (ra
         ]
       ]
 
-  run_there : (i : ℕ) → i < length visits → (at visits swept i).run < length runs
-  run_there i l = let m = made i l in let is : (at visits swept i).run ≡ m.k = ap (λ (x : Visit). x.run) m.is in omega (arith, m.within)
+  run_there : (i : ℕ) → i < length run_uses → (at run_uses swept i).run < length runs
+  run_there i l = let m = made i l in let is : (at run_uses swept i).run ≡ m.k = ap (λ (x : RunUse). x.run) m.is in omega (arith, m.within)
 
   -- of two that one meets, in their order
-  met_in_order : (i : ℕ) → AllPairs ComesBefore (met visits swept i)
+  met_in_order : (i : ℕ) → AllPairs IsSweptBefore (met run_uses swept i)
   unfolding met
   met_in_order i m n d lt l =
-      let p = meets (get_or visits i no_visit) in
-      let rest = drop (i + 1) visits in
-      let long = length-drop (i + 1) visits in
+      let p = meets (get_or run_uses i no_run_use) in
+      let rest = drop (i + 1) run_uses in
+      let long = length-drop (i + 1) run_uses in
       let inside : n < prefix_len p rest = omega (arith, l, length-prefix_len p rest) in
       let fits = prefix_len-le-length p rest in
-      rw (get_or-take (prefix_len p rest) rest m d (omega arith), get_or-take (prefix_len p rest) rest n d inside, get_or-drop (i + 1) visits m d, get_or-drop (i + 1) visits n d)
+      rw (get_or-take (prefix_len p rest) rest m d (omega arith), get_or-take (prefix_len p rest) rest n d inside, get_or-drop (i + 1) run_uses m d, get_or-drop (i + 1) run_uses n d)
       (swept ((i + 1) + m) ((i + 1) + n) d (omega arith) (omega arith))
 
-  piece_in_order : (i : ℕ) → i < length visits → AllPairs IsListedBefore (conflicts_at runs visits i)
+  piece_in_order : (i : ℕ) → i < length run_uses → AllPairs IsListedBefore (conflicts_at runs run_uses i)
   unfolding at met
   piece_in_order i l =
-      AllPairs-map (conflict_of runs (at visits swept i)) IsListedBefore (met visits swept i) (λ m n d lt ln.
-      let one = get_or (met visits swept i) m d in
-      let other = get_or (met visits swept i) n d in
-      let y = from_met visits swept i one l (Contains-get_or (met visits swept i) m d (omega arith)) in
-      let z = from_met visits swept i other l (Contains-get_or (met visits swept i) n d ln) in
-      let block_y : one.block ≡ (at visits swept i).block = ap (λ (x : Visit). x.block) y.3 ∙ sym (met_parts (at visits swept i) (at visits swept y.0) y.4).0 in
-      let block_z : other.block ≡ (at visits swept i).block = ap (λ (x : Visit). x.block) z.3 ∙ sym (met_parts (at visits swept i) (at visits swept z.0) z.4).0 in
-      let there : other.run < length runs = subst (λ (x : Visit). x.run < length runs) (sym z.3) (run_there z.0 z.2) in
+      AllPairs-map (conflict_of runs (at run_uses swept i)) IsListedBefore (met run_uses swept i) (λ m n d lt ln.
+      let one = get_or (met run_uses swept i) m d in
+      let other = get_or (met run_uses swept i) n d in
+      let y = from_met run_uses swept i one l (Contains-get_or (met run_uses swept i) m d (omega arith)) in
+      let z = from_met run_uses swept i other l (Contains-get_or (met run_uses swept i) n d ln) in
+      let block_y : one.block ≡ (at run_uses swept i).block = ap (λ (x : RunUse). x.block) y.3 ∙ sym (met_parts (at run_uses swept i) (at run_uses swept y.0) y.4).0 in
+      let block_z : other.block ≡ (at run_uses swept i).block = ap (λ (x : RunUse). x.block) z.3 ∙ sym (met_parts (at run_uses swept i) (at run_uses swept z.0) z.4).0 in
+      let there : other.run < length runs = subst (λ (x : RunUse). x.run < length runs) (sym z.3) (run_there z.0 z.2) in
       inr (refl, inr (refl, refl, moment_before one other there (block_y ∙ sym block_z) (met_in_order i m n d lt ln))))
 
-  pieces_in_order : (i j : ℕ) (c d : whole.Conflict) → i < j → j < length visits → Contains (conflicts_at runs visits i) c → Contains (conflicts_at runs visits j) d → IsListedBefore c d
+  pieces_in_order : (i j : ℕ) (c d : whole.Conflict) → i < j → j < length run_uses → Contains (conflicts_at runs run_uses i) c → Contains (conflicts_at runs run_uses j) d → IsListedBefore c d
   unfolding at met
   pieces_in_order i j c d lt l h g =
-      let a = at visits swept i in
-      let b = at visits swept j in
-      let m = from_map (conflict_of runs a) (met visits swept i) c h in
-      let n = from_map (conflict_of runs b) (met visits swept j) d g in
-      let before = order_at visits swept i j lt l in
-      let as_listed : IsListedBefore (conflict_of runs a (get_or (met visits swept i) m.0 no_visit)) (conflict_of runs b (get_or (met visits swept j) n.0 no_visit)) =
+      let a = at run_uses swept i in
+      let b = at run_uses swept j in
+      let m = from_map (conflict_of runs a) (met run_uses swept i) c h in
+      let n = from_map (conflict_of runs b) (met run_uses swept j) d g in
+      let before = order_at run_uses swept i j lt l in
+      let as_listed : IsListedBefore (conflict_of runs a (get_or (met run_uses swept i) m.0 no_run_use)) (conflict_of runs b (get_or (met run_uses swept j) n.0 no_run_use)) =
       elim before [
         | inl less ↦ inl less
         | inr o ↦ inr (o.0, inl (moment_before a b (run_there j l) o.0 (inr o)))
       ] in
-      subst (λ x. IsListedBefore x d) (sym (m.2 no_visit)) (subst (λ y. IsListedBefore (conflict_of runs a (get_or (met visits swept i) m.0 no_visit)) y) (sym (n.2 no_visit)) as_listed)
+      subst (λ x. IsListedBefore x d) (sym (m.2 no_run_use)) (subst (λ y. IsListedBefore (conflict_of runs a (get_or (met run_uses swept i) m.0 no_run_use)) y) (sym (n.2 no_run_use)) as_listed)
 
-  pub all_found : AreConflicts stairs (all_conflicts runs visits)
+  pub all_found : AreConflicts stairs (all_conflicts runs run_uses)
   all_found = record {
     each = λ c. (from_found c, in_found c);
-    order = rw whole_is (AllPairs-upto (conflicts_at runs visits) IsListedBefore (length visits) piece_in_order pieces_in_order);
+    order = rw whole_is (AllPairs-upto (conflicts_at runs run_uses) IsListedBefore (length run_uses) piece_in_order pieces_in_order);
   }

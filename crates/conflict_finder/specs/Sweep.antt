@@ -1,28 +1,28 @@
--- The sweep over the visits.
+-- The sweep over the uses.
 use Rattle.std.specs.Prelude.{◌≡◌, ◌⊎◌, ℕ, ◌+◌, ◌<◌, ◌<ℤ◌, Bool, ◌&&◌, ◌==◌, List, Vec, All, length, map, drop, slice_index_or, AllPairs, pos, int_lt}
 use Rattle.std.specs.Int.{int_min}
 use Rattle.std.specs.List.{AllZip, flat_map, range_with_len, take_while}
 use Rattle.std.specs.declared.alloc.Global.{Global}
 use Rattle.rail_model.specs.Conflict as whole
-use Rattle.conflict_finder.specs.Types.{Ranked, Visit, Conflicts}
+use Rattle.conflict_finder.specs.Types.{Ranked, RunUse, Conflicts}
 use Rattle.conflict_finder.specs.Runs.{no_ranked}
 use Rattle.conflict_finder.specs.Found.{IsListed}
 
 -- the order of the sweep: by block, then by start, then by the run's number
-abbrev pub ComesBefore : Visit → Visit → Type 0
-ComesBefore a b =
+abbrev pub IsSweptBefore : RunUse → RunUse → Type 0
+IsSweptBefore a b =
     (a.block < b.block)
     ⊎ ((a.block ≡ b.block) × ((a.start <ℤ b.start) ⊎ ((a.start ≡ b.start) × (a.run < b.run))))
 
-abbrev pub IsSwept : List Visit → Type 0
-IsSwept visits = AllPairs ComesBefore visits
+abbrev pub IsSwept : List RunUse → Type 0
+IsSwept run_uses = AllPairs IsSweptBefore run_uses
 
--- of two visits in this order, the second is to the same block and starts before the first ends
-abbrev pub meets : Visit → Visit → Bool
+-- of two uses in this order, the second is of the same block and starts before the first ends
+abbrev pub meets : RunUse → RunUse → Bool
 meets one other = (one.block == other.block) && int_lt other.start one.«end»
 
--- the conflict that two visits make
-abbrev pub conflict_of : List Ranked → Visit → Visit → whole.Conflict
+-- the conflict that two uses make
+abbrev pub conflict_of : List Ranked → RunUse → RunUse → whole.Conflict
 conflict_of runs one other = record {
   block = one.block;
   first = (slice_index_or runs one.run no_ranked).name;
@@ -33,34 +33,34 @@ conflict_of runs one other = record {
 }
 
 -- a placeholder where there is none
-abbrev pub no_visit : Visit
-no_visit = record { start = pos 0; «end» = pos 0; block = 0; run = 0 }
+abbrev pub no_run_use : RunUse
+no_run_use = record { start = pos 0; «end» = pos 0; block = 0; run = 0 }
 
 -- what is found by the one at i: its conflicts with those that follow it, up to the first that it
 -- doesn't meet
-abbrev pub conflicts_at : List Ranked → List Visit → ℕ → List whole.Conflict
-conflicts_at runs visits i =
-    map (conflict_of runs (slice_index_or visits i no_visit))
-    (take_while (meets (slice_index_or visits i no_visit)) (drop (i + 1) visits))
+abbrev pub conflicts_at : List Ranked → List RunUse → ℕ → List whole.Conflict
+conflicts_at runs run_uses i =
+    map (conflict_of runs (slice_index_or run_uses i no_run_use))
+    (take_while (meets (slice_index_or run_uses i no_run_use)) (drop (i + 1) run_uses))
 
 -- what is found by the first n
-abbrev pub conflicts_upto : List Ranked → List Visit → ℕ → List whole.Conflict
-conflicts_upto runs visits n = flat_map (conflicts_at runs visits) (range_with_len 0 n)
+abbrev pub conflicts_upto : List Ranked → List RunUse → ℕ → List whole.Conflict
+conflicts_upto runs run_uses n = flat_map (conflicts_at runs run_uses) (range_with_len 0 n)
 
--- what the whole sweep finds: the conflicts of all visits
-abbrev pub all_conflicts : List Ranked → List Visit → List whole.Conflict
-all_conflicts runs visits = conflicts_upto runs visits (length visits)
+-- what the whole sweep finds: the conflicts of all uses
+abbrev pub all_conflicts : List Ranked → List RunUse → List whole.Conflict
+all_conflicts runs run_uses = conflicts_upto runs run_uses (length run_uses)
 
 -- what the sweeps over one list after the other find
-abbrev pub found_in_turn : List Ranked → List (Vec Visit Global) → List whole.Conflict
+abbrev pub found_in_turn : List Ranked → List (Vec RunUse Global) → List whole.Conflict
 found_in_turn runs by_block = flat_map (λ s. all_conflicts runs s.items) by_block
 
--- each list is in the order of the sweep, and its visits are those of these runs
-abbrev pub AreReady : List Ranked → List (Vec Visit Global) → Type 0
+-- each list is in the order of the sweep, and its uses are those of these runs
+abbrev pub AreReady : List Ranked → List (Vec RunUse Global) → Type 0
 AreReady runs by_block = All (λ s. IsSwept s.items × All (λ b. b.run < length runs) s.items) by_block
 
 -- the lists come in parts, and what the sweeps over each part find is listed and counted
-abbrev pub AreFoundInParts : List Ranked → List (Vec Visit Global) → List Conflicts → Type 0
+abbrev pub AreFoundInParts : List Ranked → List (Vec RunUse Global) → List Conflicts → Type 0
 AreFoundInParts runs by_block found =
-    (parts : List (List (Vec Visit Global))) × (flat_map (λ part. part) parts ≡ by_block)
+    (parts : List (List (Vec RunUse Global))) × (flat_map (λ part. part) parts ≡ by_block)
     × AllZip (λ part. IsListed (found_in_turn runs part)) parts found

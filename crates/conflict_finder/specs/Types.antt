@@ -3,4 +3,4 @@ pub use Rattle.conflict_finder.specs.declared.found.Conflict.{Conflict}
 pub use Rattle.conflict_finder.specs.declared.found.Conflicts.{Conflicts}
 pub use Rattle.conflict_finder.specs.declared.ranked.Ranked.{Ranked}
 pub use Rattle.conflict_finder.specs.declared.run_starts.RunStart.{RunStart}
-pub use Rattle.conflict_finder.specs.declared.visits.Visit.{Visit}
+pub use Rattle.conflict_finder.specs.declared.run_uses.RunUse.{RunUse}

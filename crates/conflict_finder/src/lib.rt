@@ -25,8 +25,8 @@ mod laws;
 mod parts;
 mod ranked;
 mod run_starts;
+mod run_uses;
 mod sweep;
-mod visits;
 
 pub use found::{Conflict, Conflicts, LISTED};
 pub use laws::{conflicts_are_unique, found_is_unique};

@@ -9,21 +9,21 @@ ghost use Rattle.conflict_finder.specs.Sweep as swept;
 
 use crate::found::{Conflict, Conflicts, LISTED};
 use crate::ranked::Ranked;
+use crate::run_uses::RunUse;
 use crate::sweep::sweep;
-use crate::visits::Visit;
 use rail_model::{List, OutOfMemory};
 use rayon::current_num_threads;
 use rayon::prelude::*;
 use std::alloc::Global;
 use std::thread::Threads;
 
-// Walks over the lists of visits, parts of them side by side. Visits of two lists are to two
-// blocks, so they don't meet.
+// Walks over the lists of uses, parts of them side by side. Uses of two lists are of two blocks, so
+// they don't meet.
 pub(crate) fn sweep_in_parts(
     rt: &(impl Threads + Sync),
     alloc: Global,
     runs: &[Ranked],
-    by_block: &[Vec<Visit>],
+    by_block: &[Vec<RunUse>],
 ) -> Result<Conflicts, OutOfMemory>
     requires most { length (one_after_another by_block.now) ≤ RUNS * PATH_HOPS }
     requires there { All (λ b. b.run < length runs.now) (one_after_another by_block.now) }
@@ -39,7 +39,7 @@ pub(crate) fn sweep_in_parts(
     Ok(all)
 }
 
-// The visits of fewer runs aren't worth a thread.
+// The uses of fewer runs aren't worth a thread.
 pub(crate) const LEAST_RUNS: usize = 64;
 
 // Fewer lists aren't worth a thread of their own.
@@ -50,7 +50,7 @@ fn found_in_parts(
     rt: &(impl Threads + Sync),
     alloc: Global,
     runs: &[Ranked],
-    by_block: &[Vec<Visit>],
+    by_block: &[Vec<RunUse>],
 ) -> Result<Vec<Conflicts>, OutOfMemory>
     requires most { length (one_after_another by_block.now) ≤ RUNS * PATH_HOPS }
     requires ready { swept.AreReady runs.now by_block.now }
@@ -62,7 +62,7 @@ fn found_in_parts(
         .par_chunks(size.max(LEAST_LISTS))
         .with_min_len(1)
         .map(
-            |part: &[Vec<Visit>]| -> Result<Conflicts, OutOfMemory>
+            |part: &[Vec<RunUse>]| -> Result<Conflicts, OutOfMemory>
                 requires { (length (one_after_another part.now) ≤ RUNS * PATH_HOPS)
                     × swept.AreReady runs.now part.now }
                 ensures { IfOk result (IsListed (swept.found_in_turn runs.entry.now part.now)) }

@@ -7,15 +7,15 @@ use crate::ranked::Ranked;
 use rail_model::{OutOfMemory, Stair, Use};
 use std::alloc::Global;
 
-// A run's number, and the start of its visit to the first block of its path.
+// A run's number, and the start of its use of the first block of its path.
 #[derive(Clone, Copy)]
 pub(crate) struct RunStart {
     pub(crate) start: i64,
     pub(crate) run: u32,
 }
 
-// The runs by the starts of their visits to the first block of each path. Their visits are laid in
-// this order, which is nearly that of the visits' starts where trains overtake few others.
+// The runs by the starts of their uses of the first block of each path. Their uses are laid in
+// this order, which is nearly that of the uses' starts where trains overtake few others.
 pub(crate) fn by_start(
     alloc: Global,
     stairs: &[Stair],
@@ -38,7 +38,7 @@ pub(crate) fn by_start(
     Ok(starts)
 }
 
-// When a run's visit to the first block of its path starts. No clause says so: by it visits are
+// When a run's use of the first block of its path starts. No clause says so: by it uses are
 // laid nearly in order, and put in order later.
 fn first_start(uses: &[Use]) -> i64 {
     if uses.is_empty() {

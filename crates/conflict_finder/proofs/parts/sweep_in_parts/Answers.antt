@@ -1,12 +1,12 @@
 use Rattle.std.proofs.Common.{◌<◌, length, take, ap, ◌∙◌, arith}
 use Rattle.std.specs.List.{flat_map, sum_by}
 use Rattle.std.proofs.lemmas.List.{length-map, length-take}
-use Rattle.conflict_finder.specs.declared.visits.Visit.{Visit}
+use Rattle.conflict_finder.specs.declared.run_uses.RunUse.{RunUse}
 use Rattle.conflict_finder.specs.declared.found.Conflicts.{Conflicts}
 use Rattle.conflict_finder.specs.declared.found.TheConstants.{LISTED}
 use Rattle.conflict_finder.specs.Found.{as_listed, count_of}
 use Rattle.conflict_finder.specs.ByBlock.{one_after_another}
-use Rattle.conflict_finder.specs.Sweep.{ComesBefore, all_conflicts}
+use Rattle.conflict_finder.specs.Sweep.{IsSweptBefore, all_conflicts}
 use Rattle.conflict_finder.proofs.BlockByBlock.{each_all, each_pairs}
 use Rattle.conflict_finder.proofs.InParts.{found_most, counted_in_all, listed_in_all}
 use Rattle.conflict_finder.proofs.parts.sweep_in_parts.Goals as goal
@@ -14,7 +14,7 @@ use Rattle.conflict_finder.proofs.parts.sweep_in_parts.Goals as goal
 pub found_in_parts-requires-clause-ready : goal.found_in_parts-requires-clause-ready
 found_in_parts-requires-clause-ready g c κs inside = λ k d l.
     let by_block = c.args.by_block.now in
-    (each_pairs by_block d ComesBefore k l c.requires.order, each_all by_block d (λ (b : Visit). b.run < length c.args.runs.now) k l c.requires.there)
+    (each_pairs by_block d IsSweptBefore k l c.requires.order, each_all by_block d (λ (b : RunUse). b.run < length c.args.runs.now) k l c.requires.there)
 
 pub joined-requires : goal.joined-requires
 joined-requires g c =

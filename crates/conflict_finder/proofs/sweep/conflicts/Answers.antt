@@ -13,8 +13,8 @@ use Rattle.conflict_finder.specs.declared.found.TheConstants.{LISTED}
 use Rattle.conflict_finder.specs.Found.{IsFound, as_listed}
 use Rattle.rail_model.specs.Conflict.{AreConflicts, IsTimetable}
 use Rattle.conflict_finder.specs.declared.ranked.Ranked.{Ranked}
-use Rattle.conflict_finder.specs.declared.visits.Visit.{Visit}
-use Rattle.conflict_finder.specs.Runs.{runs_of, all_visits}
+use Rattle.conflict_finder.specs.declared.run_uses.RunUse.{RunUse}
+use Rattle.conflict_finder.specs.Runs.{runs_of, all_run_uses}
 use Rattle.conflict_finder.specs.ByBlock.{one_after_another, AreByBlock, AreSorted}
 use Rattle.conflict_finder.specs.Sweep.{IsSwept, all_conflicts}
 use Rattle.conflict_finder.proofs.Ranks.{AreRanked, ranked_by}
@@ -28,33 +28,33 @@ ranked_in : (stairs seen : List Stair) (runs : List Ranked) → IsTimetable stai
 ranked_in stairs seen runs t here same order =
     ranked_by stairs runs t (subst (λ s. IsPermutation (runs_of s) runs) here same) order
 
--- what is known of the visits when they are in order
-record IsReady (stairs : List Stair) (runs : List Ranked) (visits : List Visit) : Type 0 where
-  few : length visits ≤ RUNS * PATH_HOPS
-  there : All (λ b. b.run < length runs) visits
-  order : IsSwept visits
-  conflicts : AreConflicts stairs (all_conflicts runs visits)
+-- what is known of the uses when they are in order
+record IsReady (stairs : List Stair) (runs : List Ranked) (run_uses : List RunUse) : Type 0 where
+  few : length run_uses ≤ RUNS * PATH_HOPS
+  there : All (λ b. b.run < length runs) run_uses
+  order : IsSwept run_uses
+  conflicts : AreConflicts stairs (all_conflicts runs run_uses)
 
-ready : (stairs seen : List Stair) (runs read : List Ranked) (by_block : List (Vec Visit Global)) → IsTimetable stairs → AreRanked stairs runs → seen ≡ stairs → read ≡ runs → IsPermutation (all_visits seen read) (one_after_another by_block) → AreByBlock by_block → AreSorted by_block → IsReady stairs runs (one_after_another by_block)
+ready : (stairs seen : List Stair) (runs read : List Ranked) (by_block : List (Vec RunUse Global)) → IsTimetable stairs → AreRanked stairs runs → seen ≡ stairs → read ≡ runs → IsPermutation (all_run_uses seen read) (one_after_another by_block) → AreByBlock by_block → AreSorted by_block → IsReady stairs runs (one_after_another by_block)
 ready stairs seen runs read by_block t ranked here this permuted blocks sorted =
-    let visits = one_after_another by_block in
-    let same : IsPermutation (all_visits stairs runs) visits = subst (λ r. IsPermutation (all_visits stairs r) visits) this (subst (λ s. IsPermutation (all_visits s read) visits) here permuted) in
+    let run_uses = one_after_another by_block in
+    let same : IsPermutation (all_run_uses stairs runs) run_uses = subst (λ r. IsPermutation (all_run_uses stairs r) run_uses) this (subst (λ s. IsPermutation (all_run_uses s read) run_uses) here permuted) in
     let order = all_in_order by_block blocks sorted in
-    let in_order = swept stairs runs t ranked visits same order in
+    let in_order = swept stairs runs t ranked run_uses same order in
     record {
-      few = few stairs runs t ranked visits same order;
-      there = runs_there stairs runs t ranked visits same order;
+      few = few stairs runs t ranked run_uses same order;
+      there = runs_there stairs runs t ranked run_uses same order;
       order = in_order;
-      conflicts = all_found stairs runs t ranked visits same order in_order;
+      conflicts = all_found stairs runs t ranked run_uses same order in_order;
     }
 
-pub visits_in_order-requires-clause-few : goal.visits_in_order-requires-clause-few
-visits_in_order-requires-clause-few g c =
+pub run_uses_in_order-requires-clause-few : goal.run_uses_in_order-requires-clause-few
+run_uses_in_order-requires-clause-few g c =
     let ranked = ranked_in c.args.stairs.now c.slice.result.now c.in_ok-runs.runs.items c.requires c.slice.ensures c.in_ok-runs.ensures.same c.in_ok-runs.ensures.order in
     omega (arith, ranked.count, ap length c.deref.ensures.value, c.requires.most)
 
-pub visits_in_order-requires-clause-there : goal.visits_in_order-requires-clause-there
-visits_in_order-requires-clause-there g c κs inside =
+pub run_uses_in_order-requires-clause-there : goal.run_uses_in_order-requires-clause-there
+run_uses_in_order-requires-clause-there g c κs inside =
     let ranked = ranked_in c.args.stairs.now c.slice.result.now c.in_ok-runs.runs.items c.requires c.slice.ensures c.in_ok-runs.ensures.same c.in_ok-runs.ensures.order in
     rw (c.slice-2.ensures, c.deref.ensures.value) ranked.there
 
@@ -73,15 +73,15 @@ pub sweep_in_parts-requires-clause-order : goal.sweep_in_parts-requires-clause-o
 sweep_in_parts-requires-clause-order g c κs inside = rw c.deref-3.ensures.value (at_sweep g c).order
 
 -- what the sweep gives are the conflicts
-found_by : (stairs : List Stair) (runs read : List Ranked) (visits seen : List Visit) → IsReady stairs runs visits → read ≡ runs → seen ≡ visits → (r : Result Conflicts OutOfMemory) → IfOk r (λ f. f.list ≡ map as_listed (take LISTED (all_conflicts read seen))) → IfOk r (λ f. f.more ≡ length (all_conflicts read seen) - LISTED) → IfOk r (IsFound stairs)
-found_by stairs runs read visits seen w same swept (Ok f) l m =
+found_by : (stairs : List Stair) (runs read : List Ranked) (run_uses seen : List RunUse) → IsReady stairs runs run_uses → read ≡ runs → seen ≡ run_uses → (r : Result Conflicts OutOfMemory) → IfOk r (λ f. f.list ≡ map as_listed (take LISTED (all_conflicts read seen))) → IfOk r (λ f. f.more ≡ length (all_conflicts read seen) - LISTED) → IfOk r (IsFound stairs)
+found_by stairs runs read run_uses seen w same swept (Ok f) l m =
     record {
       all = all_conflicts read seen;
       are = rw (same, swept) w.conflicts;
       list = l;
       more = m;
     }
-found_by stairs runs read visits seen w same swept (Err e) l m = tt
+found_by stairs runs read run_uses seen w same swept (Err e) l m = tt
 
 pub returns : goal.returns
 returns g c =

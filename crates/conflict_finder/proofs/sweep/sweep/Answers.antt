@@ -3,7 +3,7 @@ use Rattle.std.specs.Prelude.{Vec}
 use Rattle.std.specs.List.{All}
 use Rattle.std.specs.declared.alloc.Global.{Global}
 use Rattle.std.proofs.lemmas.List.{take_all}
-use Rattle.conflict_finder.specs.declared.visits.Visit.{Visit}
+use Rattle.conflict_finder.specs.declared.run_uses.RunUse.{RunUse}
 use Rattle.conflict_finder.specs.declared.found.TheConstants.{LISTED}
 use Rattle.conflict_finder.specs.Found.{as_listed}
 use Rattle.conflict_finder.specs.ByBlock.{one_after_another}
@@ -14,63 +14,63 @@ use Rattle.conflict_finder.proofs.BlockByBlock.{each_few}
 use Rattle.conflict_finder.proofs.sweep.sweep.Goals as goal
 
 -- the list that is walked over
-is_block : (c : goal.After-deref) → c.deref.result.now ≡ (get_or c.args.by_block.now c.loop-visits.visits-index c.visits-item.result).items
-is_block c = c.deref.ensures.value ∙ ap (λ (v : Vec Visit Global). v.items) c.visits-item.is
+is_block : (c : goal.After-deref) → c.deref.result.now ≡ (get_or c.args.by_block.now c.loop-run_uses.run_uses-index c.run_uses-item.result).items
+is_block c = c.deref.ensures.value ∙ ap (λ (v : Vec RunUse Global). v.items) c.run_uses-item.is
 
 pub sweep_block-requires-clause-room : goal.sweep_block-requires-clause-room
 sweep_block-requires-clause-room c =
-    rw c.loop-visits.invariant.list (listed_most (found_in_turn c.args.runs.now (take c.loop-visits.visits-index c.args.by_block.now)))
+    rw c.loop-run_uses.invariant.list (listed_most (found_in_turn c.args.runs.now (take c.loop-run_uses.run_uses-index c.args.by_block.now)))
 
 pub sweep_block-requires-clause-most : goal.sweep_block-requires-clause-most
 sweep_block-requires-clause-most c =
-    omega (arith, ap length (is_block c), each_few c.args.by_block.now c.visits-item.result c.loop-visits.visits-index c.loop-visits-test.true, c.requires.most)
+    omega (arith, ap length (is_block c), each_few c.args.by_block.now c.run_uses-item.result c.loop-run_uses.run_uses-index c.loop-run_uses-test.true, c.requires.most)
 
 pub sweep_block-requires-clause-there : goal.sweep_block-requires-clause-there
 sweep_block-requires-clause-there c =
-    subst (All (λ (b : Visit). b.run < length c.args.runs.now)) (sym (is_block c))
-    (c.requires.ready c.loop-visits.visits-index c.visits-item.result c.loop-visits-test.true).1
+    subst (All (λ (b : RunUse). b.run < length c.args.runs.now)) (sym (is_block c))
+    (c.requires.ready c.loop-run_uses.run_uses-index c.run_uses-item.result c.loop-run_uses-test.true).1
 
 pub sweep_block-requires-clause-order : goal.sweep_block-requires-clause-order
 sweep_block-requires-clause-order c =
-    subst IsSwept (sym (is_block c)) (c.requires.ready c.loop-visits.visits-index c.visits-item.result c.loop-visits-test.true).0
+    subst IsSwept (sym (is_block c)) (c.requires.ready c.loop-run_uses.run_uses-index c.run_uses-item.result c.loop-run_uses-test.true).0
 
 pub overflow_add-count : goal.overflow_add-count
 overflow_add-count c =
     let by_block = c.args.by_block.now in
-    let i = c.loop-visits.visits-index in
-    let is = c.deref.ensures.value ∙ ap (λ (v : Vec Visit Global). v.items) c.visits-item.is in
-    omega (arith, ap length is, each_few by_block c.visits-item.result i c.loop-visits-test.true, c.requires.most, c.loop-visits.invariant.most, c.in_ok-count.ensures.most)
+    let i = c.loop-run_uses.run_uses-index in
+    let is = c.deref.ensures.value ∙ ap (λ (v : Vec RunUse Global). v.items) c.run_uses-item.is in
+    omega (arith, ap length is, each_few by_block c.run_uses-item.result i c.loop-run_uses-test.true, c.requires.most, c.loop-run_uses.invariant.most, c.in_ok-count.ensures.most)
 
-pub loop-visits-preserved : goal.loop-visits-preserved
-loop-visits-preserved c =
+pub loop-run_uses-preserved : goal.loop-run_uses-preserved
+loop-run_uses-preserved c =
     let by_block = c.args.by_block.now in
     let runs = c.args.runs.now in
-    let i = c.loop-visits.visits-index in
-    let d = c.visits-item.result in
+    let i = c.loop-run_uses.run_uses-index in
+    let d = c.run_uses-item.result in
     let seen = c.deref.result.now in
     let so_far = found_in_turn runs (take i by_block) in
-    let is : seen ≡ (get_or by_block i d).items = c.deref.ensures.value ∙ ap (λ (v : Vec Visit Global). v.items) c.visits-item.is in
+    let is : seen ≡ (get_or by_block i d).items = c.deref.ensures.value ∙ ap (λ (v : Vec RunUse Global). v.items) c.run_uses-item.is in
     let more : found_in_turn runs (take (i + 1) by_block) ≡ so_far ++ all_conflicts runs seen =
-    next_block (λ (v : Vec Visit Global). all_conflicts runs v.items) by_block i d c.loop-visits-test.true ∙ ap (λ s. so_far ++ all_conflicts runs s) (sym is) in
+    next_block (λ (v : Vec RunUse Global). all_conflicts runs v.items) by_block i d c.loop-run_uses-test.true ∙ ap (λ s. so_far ++ all_conflicts runs s) (sym is) in
     let count : length (found_in_turn runs (take (i + 1) by_block)) ≡ length so_far + length (all_conflicts runs seen) = ap length more ∙ length-append so_far (all_conflicts runs seen) in
     let long : length (one_after_another (take (i + 1) by_block)) ≡ length (one_after_another (take i by_block)) + length seen =
-    ap length (next_block (λ (v : Vec Visit Global). v.items) by_block i d c.loop-visits-test.true) ∙ length-append (one_after_another (take i by_block)) (get_or by_block i d).items
+    ap length (next_block (λ (v : Vec RunUse Global). v.items) by_block i d c.loop-run_uses-test.true) ∙ length-append (one_after_another (take i by_block)) (get_or by_block i d).items
     ∙ ap (λ s. length (one_after_another (take i by_block)) + length s) (sym is) in
     record {
-      list = c.in_ok-count.ensures.list ∙ rw (c.loop-visits.invariant.list, more) (listed_more so_far (all_conflicts runs seen));
-      count = omega (arith, c.loop-visits.invariant.count, c.in_ok-count.ensures.count, count);
-      most = omega (arith, c.loop-visits.invariant.most, c.in_ok-count.ensures.most, long);
+      list = c.in_ok-count.ensures.list ∙ rw (c.loop-run_uses.invariant.list, more) (listed_more so_far (all_conflicts runs seen));
+      count = omega (arith, c.loop-run_uses.invariant.count, c.in_ok-count.ensures.count, count);
+      most = omega (arith, c.loop-run_uses.invariant.most, c.in_ok-count.ensures.most, long);
     }
 
 pub overflow_sub-more : goal.overflow_sub-more
 overflow_sub-more c =
-    omega (arith, c.len.ensures.count, ap length c.loop-visits.invariant.list, c.loop-visits.invariant.count, listed_some (found_in_turn c.args.runs.now (take c.loop-visits.visits-index c.args.by_block.now)))
+    omega (arith, c.len.ensures.count, ap length c.loop-run_uses.invariant.list, c.loop-run_uses.invariant.count, listed_some (found_in_turn c.args.runs.now (take c.loop-run_uses.run_uses-index c.args.by_block.now)))
 
 pub returns : goal.returns
 returns c =
     let by_block = c.args.by_block.now in
-    let all = found_in_turn c.args.runs.now (take c.loop-visits.visits-index by_block) in
-    let last = take_all c.loop-visits.visits-index by_block (omega (arith, c.loop-visits-test.false)) in (
-      c.loop-visits.invariant.list ∙ ap (λ s. map as_listed (take LISTED (found_in_turn c.args.runs.now s))) last,
-      rw (c.len.ensures.count, c.loop-visits.invariant.list, c.loop-visits.invariant.count) (listed_count_is all ∙ ap (λ s. length (found_in_turn c.args.runs.now s) - LISTED) last),
+    let all = found_in_turn c.args.runs.now (take c.loop-run_uses.run_uses-index by_block) in
+    let last = take_all c.loop-run_uses.run_uses-index by_block (omega (arith, c.loop-run_uses-test.false)) in (
+      c.loop-run_uses.invariant.list ∙ ap (λ s. map as_listed (take LISTED (found_in_turn c.args.runs.now s))) last,
+      rw (c.len.ensures.count, c.loop-run_uses.invariant.list, c.loop-run_uses.invariant.count) (listed_count_is all ∙ ap (λ s. length (found_in_turn c.args.runs.now s) - LISTED) last),
     )

@@ -7,9 +7,9 @@ use Rattle.conflict_finder.specs.Sweep.{found_in_turn}
 use Rattle.conflict_finder.proofs.sweep.sweep.Given as goal
 
 -- the conflicts of the lists so far, and how many they may be
-abbrev pub invariant-loop-visits : goal.invariant-loop-visits
-invariant-loop-visits l = record {
-  list : l.list ≡ map as_listed (take LISTED (found_in_turn l.runs (take l.visits-index l.by_block)));
-  count : l.count ≡ length (found_in_turn l.runs (take l.visits-index l.by_block));
-  most : l.count ≤ length (one_after_another (take l.visits-index l.by_block)) * (RUNS * PATH_HOPS);
+abbrev pub invariant-loop-run_uses : goal.invariant-loop-run_uses
+invariant-loop-run_uses l = record {
+  list : l.list ≡ map as_listed (take LISTED (found_in_turn l.runs (take l.run_uses-index l.by_block)));
+  count : l.count ≡ length (found_in_turn l.runs (take l.run_uses-index l.by_block));
+  most : l.count ≤ length (one_after_another (take l.run_uses-index l.by_block)) * (RUNS * PATH_HOPS);
 }

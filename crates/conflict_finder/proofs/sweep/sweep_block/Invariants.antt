@@ -8,7 +8,7 @@ use Rattle.conflict_finder.proofs.sweep.sweep_block.Given as goal
 -- the conflicts that are found so far, and how many they may be
 abbrev pub invariant-loop-i : goal.invariant-loop-i
 invariant-loop-i l = record {
-  list : l.list ≡ l.fn.list ++ map as_listed (take (LISTED - length l.fn.list) (conflicts_upto l.runs l.visits l.i));
-  count : l.count ≡ length (conflicts_upto l.runs l.visits l.i);
+  list : l.list ≡ l.fn.list ++ map as_listed (take (LISTED - length l.fn.list) (conflicts_upto l.runs l.run_uses l.i));
+  count : l.count ≡ length (conflicts_upto l.runs l.run_uses l.i);
   most : l.count ≤ l.i * (RUNS * PATH_HOPS);
 }
