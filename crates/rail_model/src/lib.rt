@@ -37,7 +37,7 @@ pub use limits::{
 };
 pub use list::List;
 pub use memory::OutOfMemory;
-pub use name::{BadName, NAME_BYTES, Name};
+pub use name::{BadName, NAME_BYTES, Name, are_joined, same_names};
 pub use named::Named;
 pub use path::{Hop, Path};
 pub use range::is_within;

@@ -123,6 +123,22 @@ fn padded(bytes: &[u8]) -> [u8; 64]
     room
 }
 
+/// Whether two lists have the same names in the same order.
+pub fn same_names(some: &[Name], others: &[Name]) -> bool
+    ensures { IsTrue result ↔ (some.now ≡ others.now) }
+{
+    some == others
+}
+
+/// Whether some names are the first, and then the others.
+pub fn are_joined(names: &[Name], first: &[Name], then: &[Name]) -> bool
+    ensures { IsTrue result ↔ (names.now ≡ first.now ++ then.now) }
+{
+    names.len() >= first.len()
+        && same_names(&names[..first.len()], first)
+        && same_names(&names[first.len()..], then)
+}
+
 impl PartialEq for Name {
     ghost eq = { pointwise nat_eq };
 
