@@ -12,11 +12,11 @@ ghost use Rattle.plan_model.specs.Cut as cuts;
 ghost use Rattle.section_cut.specs.ReachedRuns.{IsTold};
 ghost use Rattle.section_cut.specs.Connected.{joins, HasEntryOf, TellsEntries, IsOneOf, IsOfRuns, is_joined, with_told, row_beside, use_if_listed, with_bound, block_part};
 
-use crate::connections::{comes_before, last_arrival, number_of_run};
+use crate::connections::{last_arrival, number_of_run};
 use crate::same_value::same_name;
 use crate::stamps::{own_row, place_of};
 use line_tables::LineTables;
-use plan_model::{Cut, CutRow};
+use plan_model::{Cut, CutRow, comes_before};
 use rail_model::{Connection, List, Name, OutOfMemory, Section, Use};
 use std::alloc::Global;
 

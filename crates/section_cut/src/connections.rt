@@ -6,14 +6,13 @@ ghost use Rattle.rail_model.specs.declared.limits.TheConstants.{GREATEST_START_S
 ghost use Rattle.blocking_time.specs.declared.motion.TheConstants.{GREATEST_DEPARTURE_S};
 ghost use Rattle.rail_model.specs.Rules.{has_run};
 ghost use Rattle.rail_model.specs.Tables.{number_of, run_at};
-ghost use Rattle.plan_model.specs.Members.{comes_before};
 ghost use Rattle.plan_model.specs.Cut as cuts;
 ghost use Rattle.section_cut.specs.Members.{members_of, members_by_run};
 ghost use Rattle.section_cut.specs.Bound as bounds;
 
 use crate::members::Member;
 use line_tables::LineTables;
-use plan_model::CutRow;
+use plan_model::{CutRow, comes_before};
 use rail_model::{Connection, List, Name, OutOfMemory, Run, Section, Use};
 use std::alloc::Global;
 
@@ -121,14 +120,6 @@ fn member(
         (cuts.is_member tables.now section.now (cuts.run_named tables.now name.now) ≡ false) }
 {
     of_run[number as usize]
-}
-
-// Whether the first run's entry comes before the second run's start: of two at one moment, the
-// lesser name does.
-pub(crate) fn comes_before(entry: i64, first: &Name, start: i64, second: &Name) -> bool
-    ensures { result ≡ comes_before entry first.now start second.now }
-{
-    entry < start || (entry == start && first < second)
 }
 
 // When the run of a number comes to the end of its path: its start, and its running and dwell
