@@ -298,7 +298,8 @@ fn restamped(old: &Cut, later: Cut, number: u64) -> Cut
 /// Makes the cut of a section that of the tables after an edit, and tells whether the edit touches
 /// the section: whether its cuts before and after the edit differ, where a cut that isn't there
 /// differs from each that is. Each row that is new, or whose value changed, gets the edit's number
-/// as its stamp, and each other row keeps its stamp. Without memory the cut stays as it was.
+/// as its stamp, and each other row keeps its stamp. Without memory the cut stays as it was. A book
+/// changes its cuts by `CutChanges`; this is for tests and other programs.
 pub fn cut_change(
     alloc: Global,
     cut: &mut Option<Cut>,
