@@ -4,7 +4,7 @@ ghost use Rattle.plan_model.specs.Cut.{stamped_row, IsSameCut};
 ghost use Rattle.section_cut.specs.Change.{HasSameRows};
 
 use plan_model::{Cut, CutRow};
-use rail_model::{Name, Section, Use};
+use rail_model::{Name, Section, Use, same_names};
 
 // Whether two cuts are equal but for their stamps.
 pub(crate) fn same_cut(a: &Cut, b: &Cut) -> bool
@@ -61,13 +61,6 @@ pub(crate) fn has_same_rows(a: &Section, b: &Section) -> bool
     ensures { result ≡ true → HasSameRows a.now b.now }
 {
     a.from_s == b.from_s && a.to_s == b.to_s && same_names(a.blocks.slice(), b.blocks.slice())
-}
-
-// Whether two lists of names are equal.
-fn same_names(a: &[Name], b: &[Name]) -> bool
-    ensures { IsTrue result ↔ (a.now ≡ b.now) }
-{
-    a == b
 }
 
 // Whether two names are equal.
