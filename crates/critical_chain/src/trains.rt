@@ -1,10 +1,9 @@
 //! Whether a plan has the window, the places and the trains of a cut.
-ghost use Rattle.std.specs.Prelude.{◌≡◌, ℕ, ◌+◌, ◌<◌, ◌↔◌, ◌++◌, IsTrue, length};
-ghost use Rattle.plan_model.specs.Cut.{IsSoundCut};
+ghost use Rattle.std.specs.Prelude.{◌↔◌, IsTrue};
 ghost use Rattle.critical_chain.specs.Parts as parts;
 
 use plan_model::{Cut, CutRow, Placed, Plan};
-use rail_model::Name;
+use rail_model::are_joined;
 
 // Whether a plan has a cut's window, additional time rate and places.
 pub(crate) fn has_frame(cut: &Cut, plan: &Plan) -> bool
@@ -13,27 +12,11 @@ pub(crate) fn has_frame(cut: &Cut, plan: &Plan) -> bool
     plan.from_s == cut.section.from_s
         && plan.to_s == cut.section.to_s
         && plan.add_percent == cut.section.add_percent
-        && are_places(
+        && are_joined(
             plan.blocks.slice(),
             cut.section.blocks.slice(),
             cut.connections.slice(),
         )
-}
-
-// Whether names are those of blocks, and then those of connections.
-fn are_places(names: &[Name], blocks: &[Name], connections: &[Name]) -> bool
-    ensures { IsTrue result ↔ (names.now ≡ blocks.now ++ connections.now) }
-{
-    names.len() >= blocks.len()
-        && are_same(&names[..blocks.len()], blocks)
-        && are_same(&names[blocks.len()..], connections)
-}
-
-// Whether the same names stand in both lists.
-fn are_same(names: &[Name], others: &[Name]) -> bool
-    ensures { IsTrue result ↔ (names.now ≡ others.now) }
-{
-    names == others
 }
 
 // Whether there is a train for each member, which enters within the limits.
