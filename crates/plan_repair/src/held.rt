@@ -1,5 +1,5 @@
 //! The net that is held beside kept rows, with the names of the places of which it speaks.
-ghost use Rattle.std.specs.Prelude.{◌≡◌, ◌≤◌, ◌++◌, length, IfOk, IfSome, IsTrue, ◌↔◌, Ok};
+ghost use Rattle.std.specs.Prelude.{◌≡◌, ◌≤◌, length, IfOk, IfSome, IsTrue, ◌↔◌, Ok};
 ghost use Rattle.std.specs.Prelude.{count_by, is_none};
 ghost use Rattle.plan_model.specs.declared.limits.TheConstants.{MEMBERS};
 ghost use Rattle.plan_model.specs.Cut.{IsSoundCut};
@@ -9,7 +9,7 @@ ghost use Rattle.train_order.specs.Ordering.{IsOrdering};
 ghost use Rattle.plan_repair.specs.Held.{IsHeldOf, IsHeldBefore};
 
 use plan_model::{Answer, Cut, FitCut, SoundCut};
-use rail_model::{List, Name, OutOfMemory};
+use rail_model::{List, Name, OutOfMemory, are_joined};
 use std::alloc::Global;
 use train_net::{Net, mend, net_of, plan_by};
 use train_order::order;
@@ -115,27 +115,9 @@ fn are_places(cut: &SoundCut, names: &[Name]) -> bool
     are_joined(names, cut.section.blocks.slice(), cut.connections.slice())
 }
 
-// Whether some names are these, and then those.
-fn are_joined(names: &[Name], first: &[Name], then: &[Name]) -> bool
-    ensures { IsTrue result ↔ (names.now ≡ first.now ++ then.now) }
-{
-    let count = first.len();
-    if names.len() < count {
-        return false;
-    }
-    same_names(&names[..count], first) && same_names(&names[count..], then)
-}
-
 // How many rows are fresh.
 fn fresh_count(origin: &[Option<u32>]) -> usize
     ensures { result ≡ count_by is_none origin.now }
 {
     origin.iter().filter(|one| one.is_none()).count()
-}
-
-// Whether two lists have the same names.
-fn same_names(some: &[Name], others: &[Name]) -> bool
-    ensures { IsTrue result ↔ (some.now ≡ others.now) }
-{
-    some == others
 }
