@@ -19,12 +19,12 @@ use Rattle.plan_model.specs.Journal.{last_number}
 use Rattle.plan_model.specs.Legal.{IsLegal, IsReading}
 use Rattle.plan_model.proofs.Stamps.{stamp_tells_row}
 use Rattle.plan_repair.specs.Kept.{kept_of, AgreesWith}
-use Rattle.section_worker.specs.declared.worker.Held.{Held}
+use Rattle.section_worker.specs.declared.worker.KeptReading.{KeptReading}
 use Rattle.section_worker.specs.Keeping.{Working, kept_for, WasRead, KeepsWhatWasRead, KeepsRows, Forgets}
 use Rattle.plan_model.proofs.Readings.{reading_name}
 
 -- what was read of a beginning of a journal was read of the journal
-pub still_read : (seen more : List Entry) (section : List ℕ) (h : Held) → WasRead seen section h
+pub still_read : (seen more : List Entry) (section : List ℕ) (h : KeptReading) → WasRead seen section h
     → WasRead (seen ++ more) section h
 still_read seen more section h r = record {
   found = r.found;
@@ -52,7 +52,7 @@ agrees w journal name cut legal reading keeps =
     let section = cut.section.name in
     let here : IsReading journal section cut = subst (λ n. IsReading journal n cut)
     (sym (reading_name journal name cut reading)) reading in
-    let go : (o : Option Held) → kept_for w section ≡ o → IfSome o (λ h. AgreesWith h.keep cut) =
+    let go : (o : Option KeptReading) → kept_for w section ≡ o → IfSome o (λ h. AgreesWith h.keep cut) =
     elim [
       | None ↦ λ is. tt
       | Some h ↦ λ is.
@@ -97,7 +97,7 @@ pub keeps_rows : (w later : Working) (cut : Cut) (at : ℕ) (found more : List E
     → KeepsWhatWasRead w (found ++ more)
     → KeepsWhatWasRead later (found ++ more)
 keeps_rows w later cut at found more name legal reading at_is k keeps = λ section h is.
-    let new : Held = record { at = at; keep = kept_of cut } in
+    let new : KeptReading = record { at = at; keep = kept_of cut } in
     let go : (b : Bool) → is_same section cut.section.name ≡ b → WasRead (found ++ more) section h =
     elim [
       | true ↦ λ e.
@@ -135,23 +135,23 @@ keeps_less section w later journal f keeps = λ other h is.
 -- ---- the map of what is kept
 
 module _ (share of actor : ℕ) (section : List ℕ) where
-  abbrev worker : BTreeMap (List ℕ) Held → Working
+  abbrev worker : BTreeMap (List ℕ) KeptReading → Working
   worker kept = record { share = share; of = of; actor = actor; kept = kept.entries }
 
-  abbrev Sets : BTreeMap (List ℕ) Held → BTreeMap (List ℕ) Held → Option Held → Type 0
+  abbrev Sets : BTreeMap (List ℕ) KeptReading → BTreeMap (List ℕ) KeptReading → Option KeptReading → Type 0
   Sets old new h = UpdatesBy (slice_cmp nat_cmp) (slice_cmp nat_cmp section) old new h
 
-  pub forgets : (old new : BTreeMap (List ℕ) Held) → Sets old new None → Forgets section (worker old) (worker new)
+  pub forgets : (old new : BTreeMap (List ℕ) KeptReading) → Sets old new None → Forgets section (worker old) (worker new)
   forgets old new u = record { gone = u.1; others = λ other ne. u.2 other (other_key section other ne) }
 
   -- an insertion that found no memory leaves what was forgotten so
-  pub still_forgotten : (old mid new : BTreeMap (List ℕ) Held) → Sets old mid None → new.entries ≡ mid.entries
+  pub still_forgotten : (old mid new : BTreeMap (List ℕ) KeptReading) → Sets old mid None → new.entries ≡ mid.entries
       → Forgets section (worker old) (worker new)
   still_forgotten old mid new u same = subst (λ es. Forgets section
       (worker old) record { share = share; of = of; actor = actor; kept = es })
       (sym same) (forgets old mid u)
 
-  pub keeps_new : (cut : Cut) (at : ℕ) (old mid new : BTreeMap (List ℕ) Held) (h : Held) → section ≡ cut.section.name
+  pub keeps_new : (cut : Cut) (at : ℕ) (old mid new : BTreeMap (List ℕ) KeptReading) (h : KeptReading) → section ≡ cut.section.name
       → h ≡ record { at = at; keep = kept_of cut } → Sets old mid None → Sets mid new (Some h)
       → KeepsRows cut at (worker old) (worker new)
   keeps_new cut at old mid new h named is u v = record {

@@ -9,7 +9,7 @@ use Rattle.plan_model.specs.declared.journal.Entry.{Entry}
 use Rattle.plan_model.specs.Journal.{last_number}
 use Rattle.plan_model.specs.Legal.{IsLegal, IsReading}
 use Rattle.plan_repair.specs.Kept.{kept_of, uses_not_kept}
-use Rattle.section_worker.specs.declared.worker.Held.{Held}
+use Rattle.section_worker.specs.declared.worker.KeptReading.{KeptReading}
 
 -- a worker: it answers those sections whose number leaves the rest `share` on division by `of`, passes the gate as
 -- this actor, and keeps something of sections, by their names
@@ -17,7 +17,7 @@ pub record Working : Type 0 where
   pub share : ℕ
   pub of : ℕ
   pub actor : ℕ
-  pub kept : List (List ℕ × Held)
+  pub kept : List (List ℕ × KeptReading)
 
 -- a worker that keeps nothing
 abbrev pub new_worker : ℕ → ℕ → ℕ → Working
@@ -30,17 +30,17 @@ pub record IsSameWorker (old new : Working) : Type 0 where
   pub actor : new.actor ≡ old.actor
 
 -- what a worker keeps of the section of a name, if it keeps something of it
-abbrev pub kept_for : Working → List ℕ → Option Held
+abbrev pub kept_for : Working → List ℕ → Option KeptReading
 kept_for w section = lookup (is_at (slice_cmp nat_cmp section)) w.kept
 
 -- how many uses those rows of a cut have that aren't kept with their name and stamp
-abbrev pub uses_missing : Option Held → Cut → ℕ
+abbrev pub uses_missing : Option KeptReading → Cut → ℕ
 uses_missing None cut = sum_by (λ r. length r.uses) cut.rows
 uses_missing (Some h) cut = uses_not_kept h.keep cut
 
 -- what is kept of a section was read: of a beginning of the journal, whose last edit had the number that is kept, and
 -- each kept row stands with its stamp in that reading of the section
-pub record WasRead (journal : List Entry) (section : List ℕ) (h : Held) : Type 0 where
+pub record WasRead (journal : List Entry) (section : List ℕ) (h : KeptReading) : Type 0 where
   pub found : List Entry
   pub more : List Entry
   pub is : journal ≡ found ++ more
@@ -54,7 +54,7 @@ pub record WasRead (journal : List Entry) (section : List ℕ) (h : Held) : Type
 -- all that a worker keeps was read
 abbrev pub KeepsWhatWasRead : Working → List Entry → Type 0
 KeepsWhatWasRead w journal =
-    (section : List ℕ) (h : Held) → kept_for w section ≡ Some h → WasRead journal section h
+    (section : List ℕ) (h : KeptReading) → kept_for w section ≡ Some h → WasRead journal section h
 
 -- of each other section there is kept what was kept
 abbrev pub KeepsOthers : List ℕ → Working → Working → Type 0

@@ -34,7 +34,7 @@ pub enum Turned {
 
 // What a worker keeps of a section: the number of its last reading, and that reading's rows.
 #[derive(Drop)]
-pub(crate) struct Held {
+pub(crate) struct KeptReading {
     at: u64,
     keep: Keep,
 }
@@ -47,7 +47,7 @@ pub struct Worker {
     share: u32,
     of: u32,
     actor: u32,
-    kept: BTreeMap<Name, Held>,
+    kept: BTreeMap<Name, KeptReading>,
 }
 
 impl Model for Worker {
@@ -166,7 +166,7 @@ impl Worker {
         let held = self.kept.remove(&section);
         let (keep, answer) = answer_by(self.alloc, held, reading)?;
         let at = reading.at();
-        self.kept.insert(section, Held { at, keep })?;
+        self.kept.insert(section, KeptReading { at, keep })?;
         Ok(answer)
     }
 
@@ -182,7 +182,7 @@ impl Worker {
 // The answer of a reading by what is kept of its section, and what is kept of it from then on.
 fn answer_by<R: Rows>(
     alloc: Global,
-    held: Option<Held>,
+    held: Option<KeptReading>,
     reading: &mut R,
 ) -> Result<(Keep, Answer), OutOfMemory>
     requires { IfSome held (λ h. AgreesWith h.keep (R.shown reading.old).cut) }
