@@ -12,7 +12,7 @@ ghost use Rattle.plan_model.specs.declared.journal.Act.TheVariants as acts;
 ghost use Rattle.plan_model.specs.declared.scripts.Task.TheVariants as tasks;
 ghost use Rattle.plan_book.specs.Kept.{IsQuiet, IsBy, MayDo, IsAnswered};
 
-use crate::changes::{Accepted, change_shelves, changes_for, share_cuts};
+use crate::changes::{AcceptedEdit, change_shelves, changes_for, share_cuts};
 use crate::entries::{add_edited, opening, published_entry, replied};
 use crate::first::first_shelves;
 use crate::shelf::{Published, Shelf, asked_of, place_of, shelf_of, verdict_of};
@@ -293,7 +293,7 @@ impl Book {
             result self.old self.new }
     {
         let number = self.next_number();
-        let accepted = Accepted {
+        let accepted = AcceptedEdit {
             before: self.tables.tables(),
             after: &next,
             edit: &edit,

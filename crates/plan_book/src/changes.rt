@@ -34,7 +34,7 @@ pub(crate) enum ShelfChange {
 
 // An edit that no rule refuses, the tables before and after it, and its number.
 #[derive(Clone, Copy)]
-pub(crate) struct Accepted<'a> {
+pub(crate) struct AcceptedEdit<'a> {
     pub(crate) before: &'a LineTables,
     pub(crate) after: &'a LineTables,
     pub(crate) edit: &'a Edit,
@@ -48,7 +48,7 @@ pub(crate) fn changes_for(
     alloc: Global,
     shelves: &mut List<Shelf>,
     first: u64,
-    accepted: Accepted<'_>,
+    accepted: AcceptedEdit<'_>,
 ) -> Result<List<ShelfChange>, OutOfMemory>
     requires rise { NamesRise (λ s. s.name) shelves.old }
     requires cuts { HaveCuts accepted.before.now first shelves.old }
@@ -109,7 +109,7 @@ fn blank(name: &Name, first: u64) -> Shelf
 fn changes_of(
     alloc: Global,
     shelves: &[Shelf],
-    accepted: Accepted<'_>,
+    accepted: AcceptedEdit<'_>,
 ) -> Result<List<ShelfChange>, OutOfMemory>
     requires after { accepted.after.now ≡ rules.after accepted.before.now accepted.edit.now }
     requires cuts { All (HasCutOf accepted.before.now) shelves.now }
