@@ -13,7 +13,7 @@ use std::marker::Model;
 // A line is a cut that is to be cut into pieces, with what is known of its trains' ways and guessed
 // of its pieces. Contracts see the cut.
 #[derive(Drop)]
-pub(crate) struct Line<'a> {
+pub(crate) struct CutLine<'a> {
     cut: FitCut<'a>,
     // For each train, whether the blocks of its uses are known to rise all along or to fall.
     one_way: Vec<bool>,
@@ -21,7 +21,7 @@ pub(crate) struct Line<'a> {
     breaks: Vec<bool>,
 }
 
-impl<'a> Model for Line<'a> {
+impl<'a> Model for CutLine<'a> {
     ghost use Rattle.plan_model.specs.declared.cut.Cut.{Cut};
 
     ghost Value = { Cut };
@@ -33,15 +33,15 @@ impl<'a> Model for Line<'a> {
     ghost invariant = { λ l. AreOneWay l.cut.rows l.one_way.items };
 }
 
-impl<'a> Line<'a> {
+impl<'a> CutLine<'a> {
     // The line of this cut.
-    pub(crate) fn of(alloc: Global, cut: FitCut<'a>) -> Result<Line<'a>, OutOfMemory>
+    pub(crate) fn of(alloc: Global, cut: FitCut<'a>) -> Result<CutLine<'a>, OutOfMemory>
         ensures { IfOk result (λ line. line ≡ cut.entry) }
     {
         let rows = cut.sound().rows();
         let one_way = one_ways(alloc, rows)?;
         let breaks = breaks_of(alloc, rows, cut.sound().block_count())?;
-        Ok(Line {
+        Ok(CutLine {
             cut,
             one_way,
             breaks,
