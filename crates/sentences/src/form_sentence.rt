@@ -1,13 +1,13 @@
 //! Why a row's form is wrong, in a sentence.
 use crate::column::{Column, START, column_of, fields_of};
 use crate::piece::Piece::{Clock, Field, Number, Text};
-use crate::piece::{Written, place, tell};
+use crate::piece::{Added, place, tell};
 use crate::row_at::RowAt;
 use rail_model::{Form, PATH_HOPS};
 use row_text::{Word, word_of};
 use std::str;
 
-pub(crate) fn form_sentence(text: &mut String, row: &RowAt<'_>, form: Form) -> Written {
+pub(crate) fn form_sentence(text: &mut String, row: &RowAt<'_>, form: Form) -> Added {
     match form {
         Form::Kind => kind_sentence(text, row),
         Form::Fields => fields_sentence(text, row),
@@ -17,7 +17,7 @@ pub(crate) fn form_sentence(text: &mut String, row: &RowAt<'_>, form: Form) -> W
 }
 
 // Why the first field is no word of a row.
-fn kind_sentence(text: &mut String, row: &RowAt<'_>) -> Written {
+fn kind_sentence(text: &mut String, row: &RowAt<'_>) -> Added {
     let header = if row.place == 0 { HEADER } else { "" };
     let word = row.field(0);
     tell(text, word_fault(word), &[Field(word), Text(header)])
@@ -114,7 +114,7 @@ fn is_word_in_any_case(field: &[u8]) -> bool {
 }
 
 // Why the number of fields is wrong.
-fn fields_sentence(text: &mut String, row: &RowAt<'_>) -> Written {
+fn fields_sentence(text: &mut String, row: &RowAt<'_>) -> Added {
     let word = str::from_utf8(row.field(0)).unwrap_or("");
     let fields = fields_of(row.word(), row.version);
     tell(text, fields, &[Text(word), Number(PATH_HOPS as u64)])?;
@@ -141,7 +141,7 @@ fn empty_at_end(row: &RowAt<'_>) -> u64 {
 }
 
 // Which field isn't what it is to be: the first.
-fn sort_sentence(text: &mut String, row: &RowAt<'_>) -> Written {
+fn sort_sentence(text: &mut String, row: &RowAt<'_>) -> Added {
     for at in 1..row.len() {
         let column = column_of(row.word(), at);
         if !row.fits_in(row.version, at, column) {
@@ -181,7 +181,7 @@ const NO_TIME: &str =
     "number of one to nine digits: times of day are read below a first row version,2";
 
 // Which time of a run is less than the one before it: the first.
-fn order_sentence(text: &mut String, row: &RowAt<'_>) -> Written {
+fn order_sentence(text: &mut String, row: &RowAt<'_>) -> Added {
     for at in START + 1..row.len() {
         let (time, before) = (time_at(row, at), time_at(row, at - 1));
         if time < before {

@@ -1,6 +1,6 @@
 //! Lists of what is found in a timetable: how many things, and the names of the first.
 use crate::piece::Piece::{Field, Moment, Number};
-use crate::piece::{Written, tell};
+use crate::piece::{Added, tell};
 use rail_model::Section;
 
 // How many things are found, and the first of them: a name, and a moment in seconds from the
@@ -36,7 +36,7 @@ pub(crate) fn tell_found(
     sentence: &str,
     section: &Section,
     found: &Found<'_>,
-) -> Written {
+) -> Added {
     if found.count == 0 {
         return Ok(());
     }
@@ -49,7 +49,7 @@ pub(crate) fn tell_found(
     tell_first(text, found)
 }
 
-fn tell_first(text: &mut String, found: &Found<'_>) -> Written {
+fn tell_first(text: &mut String, found: &Found<'_>) -> Added {
     for i in 0..found.count.min(NAMED) {
         let (name, moment) = found.first[i];
         let thing = match moment {

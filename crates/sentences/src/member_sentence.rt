@@ -5,7 +5,7 @@ ghost use Rattle.sentences.specs.Told.{IsOfRun};
 
 use crate::Told;
 use crate::piece::Piece::{Field, Number};
-use crate::piece::{Written, tell};
+use crate::piece::{Added, tell};
 use plan_model::Cut;
 use rail_model::{Name, OutOfMemory};
 use std::alloc::Global;
@@ -34,7 +34,7 @@ fn run_text(alloc: Global, cut: &Cut, run: Option<Name>) -> Result<String, OutOf
     }
 }
 
-fn tell_of_run<'a>(text: &mut String, cut: &'a Cut, run: &'a Name) -> Written {
+fn tell_of_run<'a>(text: &mut String, cut: &'a Cut, run: &'a Name) -> Added {
     let section = &cut.section;
     let (run, name) = (Field(run.bytes()), Field(section.name.bytes()));
     let (from, to) = (Number(section.from_s as u64), Number(section.to_s as u64));

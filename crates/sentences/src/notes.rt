@@ -5,7 +5,7 @@ ghost use Rattle.sentences.specs.Told.{is_plain};
 use crate::Told;
 use crate::clashes::clashing_places;
 use crate::found::{Found, NAMED, tell_found};
-use crate::piece::Written;
+use crate::piece::Added;
 use blocking_time::stairs;
 use line_tables::{LineTables, Paths};
 use plan_model::Cut;
@@ -74,7 +74,7 @@ fn add_outsider<'a>(
     paths: &Paths<'_>,
     run: u32,
     blocks: &[bool],
-) -> Written
+) -> Added
     requires { run < length paths.now }
 {
     let path = paths.path(run)?;

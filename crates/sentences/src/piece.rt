@@ -4,8 +4,8 @@ use std::alloc::AllocError;
 use std::fmt::Write;
 use std::str;
 
-/// Whether there was memory for all of a text.
-pub(crate) type Written = Result<(), OutOfMemory>;
+// Whether there was memory for all of a text.
+pub(crate) type Added = Result<(), OutOfMemory>;
 
 /// What fills a gap of a sentence.
 #[derive(Clone, Copy)]
@@ -30,7 +30,7 @@ pub(crate) fn place(at: usize) -> Piece<'static> {
 }
 
 // Adds a sentence, in which each @ is a gap for the next piece.
-pub(crate) fn tell(text: &mut String, sentence: &str, pieces: &[Piece<'_>]) -> Written {
+pub(crate) fn tell(text: &mut String, sentence: &str, pieces: &[Piece<'_>]) -> Added {
     let mut gap: usize = 0;
     for character in sentence.chars() {
         if character != '@' {

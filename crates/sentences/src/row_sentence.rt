@@ -6,7 +6,7 @@ ghost use Rattle.sentences.specs.Told.{IsOfRow, of_row};
 use crate::Told;
 use crate::form_sentence::form_sentence;
 use crate::line_number::line_of;
-use crate::piece::Written;
+use crate::piece::Added;
 use crate::row_at::RowAt;
 use crate::rule_sentence::rule_sentence;
 use crate::said::said_by;
@@ -92,7 +92,7 @@ fn row_sentence(
     Ok(text)
 }
 
-fn fault_sentence(text: &mut String, row: &RowAt<'_>, fault: Fault) -> Written {
+fn fault_sentence(text: &mut String, row: &RowAt<'_>, fault: Fault) -> Added {
     match fault {
         Fault::Form(form) => form_sentence(text, row, form),
         Fault::Rule(rule) => rule_sentence(text, row, rule),

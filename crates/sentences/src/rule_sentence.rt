@@ -1,14 +1,14 @@
 //! Which rule a row breaks and by what, in a sentence.
 use crate::column::{Column, START, column_at};
 use crate::piece::Piece::{Field, Limit, Many, Number, Text};
-use crate::piece::{Written, place, tell};
+use crate::piece::{Added, place, tell};
 use crate::row_at::{RowAt, noun, row_below, row_of};
 use crate::standing::{route_of, run_off, stands, user};
 use crate::twice_sentence::twice_sentence;
 use rail_model::{BLOCKS, CONNECTIONS, Kind, ROUTES, RUNS, Rule, SECTIONS, SIGNALS};
 use row_text::Word;
 
-pub(crate) fn rule_sentence(text: &mut String, row: &RowAt<'_>, rule: Rule) -> Written {
+pub(crate) fn rule_sentence(text: &mut String, row: &RowAt<'_>, rule: Rule) -> Added {
     let (is_put, kind) = match row.word() {
         Some(Word::Put(kind)) => (true, kind),
         Some(Word::Change(kind) | Word::Drop(kind)) => (false, kind),
@@ -26,7 +26,7 @@ pub(crate) fn rule_sentence(text: &mut String, row: &RowAt<'_>, rule: Rule) -> W
 }
 
 // Which number is outside its limits: the first.
-fn range_sentence(text: &mut String, row: &RowAt<'_>, kind: Kind) -> Written {
+fn range_sentence(text: &mut String, row: &RowAt<'_>, kind: Kind) -> Added {
     for at in 2..row.len() {
         let is_step = kind == Kind::Run && at > START && row.version == 2;
         let limits = limits_at(kind, at);
@@ -70,7 +70,7 @@ fn outside_sentence(
     at: usize,
     step: Option<u32>,
     limits: (&'static str, u32, u32),
-) -> Written {
+) -> Added {
     let (what, least, most) = (Text(limits.0), Limit(limits.1), Limit(limits.2));
     let (to, field) = (place(at), Field(row.field(at)));
     let Some(step) = step else {
@@ -88,7 +88,7 @@ fn outside_sentence(
 }
 
 // How many items of a kind there may be.
-fn limit_sentence(text: &mut String, kind: Kind) -> Written {
+fn limit_sentence(text: &mut String, kind: Kind) -> Added {
     let most = match kind {
         Kind::Block => BLOCKS,
         Kind::Signal => SIGNALS,
@@ -102,7 +102,7 @@ fn limit_sentence(text: &mut String, kind: Kind) -> Written {
 }
 
 // Which name isn't there: the first.
-fn unknown_sentence(text: &mut String, row: &RowAt<'_>, is_put: bool, kind: Kind) -> Written {
+fn unknown_sentence(text: &mut String, row: &RowAt<'_>, is_put: bool, kind: Kind) -> Added {
     if !is_put && !stands(row.tables, kind, row.field(1)) {
         return no_item(text, row, kind, 1);
     }
@@ -117,7 +117,7 @@ fn unknown_sentence(text: &mut String, row: &RowAt<'_>, is_put: bool, kind: Kind
 }
 
 // Says that there is no item of the name in a field.
-fn no_item(text: &mut String, row: &RowAt<'_>, kind: Kind, at: usize) -> Written {
+fn no_item(text: &mut String, row: &RowAt<'_>, kind: Kind, at: usize) -> Added {
     let name = row.field(at);
     let (why, below) = match row_below(row, kind, name) {
         0 => (NO_ITEM, Text("")),
@@ -139,7 +139,7 @@ const ITEM_BELOW: &str = "field @, @, is no @ of the rows above; it stands below
 const BLANK: &str = "; the blank beside it belongs to the name";
 
 // How many legs a run has, and how many signals its route.
-fn count_sentence(text: &mut String, row: &RowAt<'_>) -> Written {
+fn count_sentence(text: &mut String, row: &RowAt<'_>) -> Added {
     // The start and the last leg have a field each, and each other leg has two.
     let legs = Many(row.len().saturating_sub(START).div_ceil(2), "leg");
     let route = row.field(2);
@@ -157,7 +157,7 @@ fn count_sentence(text: &mut String, row: &RowAt<'_>) -> Written {
 }
 
 // How many signals a changed route gets, and how many legs a run over it has.
-fn changed_count(text: &mut String, row: &RowAt<'_>) -> Written {
+fn changed_count(text: &mut String, row: &RowAt<'_>) -> Added {
     let count = row.len().saturating_sub(2);
     let signals = Many(count, "signal");
     match run_off(row.tables, row.field(1), count) {
@@ -180,7 +180,7 @@ fn changed_count(text: &mut String, row: &RowAt<'_>) -> Written {
 }
 
 // Who uses the item that is dropped.
-fn in_use_sentence(text: &mut String, row: &RowAt<'_>, kind: Kind) -> Written {
+fn in_use_sentence(text: &mut String, row: &RowAt<'_>, kind: Kind) -> Added {
     let name = row.field(1);
     let used = [Text(noun(kind)), Field(name)];
     match user(row.tables, kind, name) {

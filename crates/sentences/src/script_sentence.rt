@@ -1,6 +1,6 @@
 //! Why a row may not stand at its place, in a sentence.
 use crate::piece::Piece::{Field, Many, Number};
-use crate::piece::{Written, tell};
+use crate::piece::{Added, tell};
 use crate::row_at::{RowAt, is_planner_row};
 use row_text::Word;
 
@@ -10,7 +10,7 @@ pub(crate) fn script_sentence(
     row: &RowAt<'_>,
     planners: usize,
     tasks: usize,
-) -> Written {
+) -> Added {
     let above = planner_rows_above(row);
     let next = Number((above as u64).saturating_add(1));
     let (why, piece) = match row.word() {

@@ -6,7 +6,7 @@ ghost use Rattle.sentences.specs.Told.{IsOfSection};
 
 use crate::Told;
 use crate::piece::Piece::{Field, Number};
-use crate::piece::{Written, tell};
+use crate::piece::{Added, tell};
 use line_tables::LineTables;
 use rail_model::{Name, OutOfMemory};
 use std::alloc::Global;
@@ -48,7 +48,7 @@ fn section_text(
 const NAMED: u32 = 5;
 
 // The first sections of a line, and how many more there are.
-fn tell_sections(text: &mut String, tables: &LineTables) -> Written {
+fn tell_sections(text: &mut String, tables: &LineTables) -> Added {
     let count = tables.sections();
     if count == 0 {
         return tell(text, "; the line has no section", &[]);

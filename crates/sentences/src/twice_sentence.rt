@@ -1,7 +1,7 @@
 //! What stands twice, in a sentence.
 use crate::column::FIRST_BLOCK;
 use crate::piece::Piece::{Field, Number, Text};
-use crate::piece::{Written, place, tell};
+use crate::piece::{Added, place, tell};
 use crate::row_at::{RowAt, noun, row_of};
 use crate::standing::{block_of, lists, stands};
 use rail_model::{Kind, Route, Tables};
@@ -11,7 +11,7 @@ pub(crate) fn twice_sentence(
     row: &RowAt<'_>,
     is_put: bool,
     kind: Kind,
-) -> Written {
+) -> Added {
     if is_put {
         if let Some(holder) = holder(row, kind) {
             return taken_sentence(text, row, kind, holder);
@@ -45,7 +45,7 @@ fn holder(row: &RowAt<'_>, kind: Kind) -> Option<Kind> {
     }
 }
 
-fn taken_sentence(text: &mut String, row: &RowAt<'_>, kind: Kind, holder: Kind) -> Written {
+fn taken_sentence(text: &mut String, row: &RowAt<'_>, kind: Kind, holder: Kind) -> Added {
     let name = row.field(1);
     let why = if kind == holder { TAKEN } else { SHARED };
     let above = Number(row_of(row, holder, name));
@@ -59,7 +59,7 @@ const SHARED: &str =
 
 // The block that two fields from one on name, or that the signals of a route have: those are its
 // fields from the third on.
-fn repeat_sentence(text: &mut String, row: &RowAt<'_>, from: usize) -> Written {
+fn repeat_sentence(text: &mut String, row: &RowAt<'_>, from: usize) -> Added {
     for second in from..row.len() {
         let block = block_at(row, from, second);
         for first in from..second {
@@ -85,7 +85,7 @@ fn block_at<'a>(row: &RowAt<'a>, from: usize, at: usize) -> &'a [u8] {
 }
 
 // The route that would pass the changed signal's block twice.
-fn changed_signal_sentence(text: &mut String, row: &RowAt<'_>) -> Written {
+fn changed_signal_sentence(text: &mut String, row: &RowAt<'_>) -> Added {
     let (signal, block) = (row.field(1), row.field(2));
     for route in row.tables.routes.slice() {
         if let Some(other) = other_signal(row.tables, route, signal, block) {
