@@ -4,12 +4,12 @@ use Rattle.std.specs.Borrow.{Fml, RattleType, MutBor}
 use Rattle.std.specs.Io.BufRead.{Rests}
 use Rattle.rail_model.specs.declared.stair.Use.{Use}
 use Rattle.plan_model.specs.Types.{Cut}
-use Rattle.plan_model.specs.declared.reading.Held.{Held}
-use Rattle.plan_model.specs.declared.reading.Held.TheVariants as held
+use Rattle.plan_model.specs.declared.reading.HeldCut.{HeldCut}
+use Rattle.plan_model.specs.declared.reading.HeldCut.TheVariants as held
 use Rattle.plan_model.specs.Members.{member}
 
 -- the cut that a reading holds, as its own or shared with others
-abbrev pub held_cut : Held → Cut
+abbrev pub held_cut : HeldCut → Cut
 held_cut (held.Own cut) = cut
 held_cut (held.Shared cut) = cut
 

@@ -11,19 +11,19 @@ use std::marker::Model;
 /// with others, who can't change it meanwhile.
 #[derive(Drop)]
 pub struct Reading {
-    held: Held,
+    held: HeldCut,
     at: u64,
     taken: u64,
 }
 
 // How a reading holds its cut.
 #[derive(Drop)]
-pub(crate) enum Held {
+pub(crate) enum HeldCut {
     Own(Cut),
     Shared(SharedCut),
 }
 
-impl Held {
+impl HeldCut {
     ghost use Rattle.plan_model.specs.Reading.{held_cut};
 
     // The cut.
@@ -31,8 +31,8 @@ impl Held {
         ensures { result.now ≡ held_cut self.now }
     {
         match self {
-            Held::Own(cut) => cut,
-            Held::Shared(cut) => cut.cut(),
+            HeldCut::Own(cut) => cut,
+            HeldCut::Shared(cut) => cut.cut(),
         }
     }
 }
@@ -60,7 +60,7 @@ impl Reading {
         ensures { result ≡ record { cut = cut; at = at; taken = 0 } }
     {
         Reading {
-            held: Held::Own(cut),
+            held: HeldCut::Own(cut),
             at,
             taken: 0,
         }
@@ -72,7 +72,7 @@ impl Reading {
     {
         let _sound = cut.cut();
         Reading {
-            held: Held::Shared(cut),
+            held: HeldCut::Shared(cut),
             at,
             taken: 0,
         }
