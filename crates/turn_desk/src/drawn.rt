@@ -6,7 +6,7 @@ ghost use Rattle.turn_desk.specs.Seats.{IsSmall, IsPass, known};
 ghost use Rattle.turn_desk.specs.Views.{with_drawn};
 
 use crate::kept::learn_legal;
-use crate::steps::{Seat, Shared, give_back, new_seat};
+use crate::steps::{Shared, TableSeat, give_back, new_seat};
 use crate::{Kept, MOST_PASSES, Pass};
 use rail_model::{List, OutOfMemory};
 use std::alloc::Global;
@@ -30,7 +30,7 @@ pub(crate) fn enter_all<V: Kept>(value: &mut V, by: u32, count: u32) -> Result<(
 pub(crate) fn make_passes<V: Kept>(
     alloc: Global,
     shared: &Shared<V>,
-    seat: &mut Seat<V>,
+    seat: &mut TableSeat<V>,
     first: u32,
     count: u32,
 ) -> Result<List<Pass<V>>, OutOfMemory>
@@ -61,7 +61,7 @@ pub(crate) fn make_passes<V: Kept>(
 pub(crate) fn draw_all<V: Kept>(
     alloc: Global,
     shared: &Shared<V>,
-    seat: &mut Seat<V>,
+    seat: &mut TableSeat<V>,
     number: u32,
     value: V,
     count: u32,

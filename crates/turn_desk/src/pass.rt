@@ -3,7 +3,7 @@ ghost use Rattle.std.specs.Prelude.{◌≡◌, ◌<◌, All, Contains};
 ghost use Rattle.turn_desk.specs.Seats.{known, IsPass};
 
 use crate::Kept;
-use crate::steps::Seat;
+use crate::steps::TableSeat;
 use std::marker::Model;
 
 /// A pass is a thread's access to a desk. Contracts see what it knows: its desk, its number, its
@@ -11,7 +11,7 @@ use std::marker::Model;
 /// desk's journal that it has seen, whether it holds the turn, and counts of its tries and its
 /// steps, with the words that the last of them found and left.
 pub struct Pass<V: Kept> {
-    pub(crate) seat: Seat<V>,
+    pub(crate) seat: TableSeat<V>,
     pub(crate) number: u32,
 }
 
@@ -39,7 +39,7 @@ impl<V: Kept> Pass<V> {
         self.number
     }
 
-    pub(crate) fn into_seat(self) -> Seat<V>
+    pub(crate) fn into_seat(self) -> TableSeat<V>
         ensures known { known result ≡ self }
         ensures pass { IsPass V.issued_by V.is_legal result.me self.number }
     {

@@ -18,10 +18,10 @@ pub(crate) type Shared<V> = atomic_table::Shared<
     Law<V>,
 >;
 
-pub(crate) type Seat<V> = atomic_table::Seat<Option<V>, View<<V as Kept>::Entry>>;
+pub(crate) type TableSeat<V> = atomic_table::Seat<Option<V>, View<<V as Kept>::Entry>>;
 
 // One try to take the turn, with its value.
-pub(crate) fn try_turn<V: Kept>(shared: &Shared<V>, seat: &mut Seat<V>) -> Option<V>
+pub(crate) fn try_turn<V: Kept>(shared: &Shared<V>, seat: &mut TableSeat<V>) -> Option<V>
     requires table { (seat.old.table_id ≡ shared.now.table_id) × IsSmall shared.now.table_id }
     requires idle { (seat.old.me.0.holds ≡ false) × (seat.old.me.1 ≡ []) }
     ensures table { seat.new.table_id ≡ seat.old.table_id }
@@ -37,7 +37,7 @@ pub(crate) fn try_turn<V: Kept>(shared: &Shared<V>, seat: &mut Seat<V>) -> Optio
 }
 
 // Gives the turn back with this value, and wakes one that waits.
-pub(crate) fn give_back<V: Kept>(shared: &Shared<V>, seat: &mut Seat<V>, number: u32, value: V)
+pub(crate) fn give_back<V: Kept>(shared: &Shared<V>, seat: &mut TableSeat<V>, number: u32, value: V)
     requires table { (seat.old.table_id ≡ shared.now.table_id) × IsSmall shared.now.table_id }
     requires holds { (seat.old.me.0.holds ≡ true) × (seat.old.me.1 ≡ (0, None) ∷ []) }
     requires number { Contains seat.old.me.0.numbers number }
@@ -54,7 +54,7 @@ pub(crate) fn give_back<V: Kept>(shared: &Shared<V>, seat: &mut Seat<V>, number:
 }
 
 // Keeps the turn for ever. The empty slot goes home.
-pub(crate) fn shut_down<V: Kept>(shared: &Shared<V>, seat: &mut Seat<V>)
+pub(crate) fn shut_down<V: Kept>(shared: &Shared<V>, seat: &mut TableSeat<V>)
     requires table { (seat.old.table_id ≡ shared.now.table_id) × IsSmall shared.now.table_id }
     requires holds { (seat.old.me.0.holds ≡ true) × (seat.old.me.1 ≡ (0, None) ∷ []) }
     ensures table { seat.new.table_id ≡ seat.old.table_id }
@@ -64,7 +64,7 @@ pub(crate) fn shut_down<V: Kept>(shared: &Shared<V>, seat: &mut Seat<V>)
 }
 
 // A seat for the least number that was drawn and is not given to a pass yet.
-pub(crate) fn new_seat<V: Kept>(shared: &Shared<V>, seat: &mut Seat<V>) -> Seat<V>
+pub(crate) fn new_seat<V: Kept>(shared: &Shared<V>, seat: &mut TableSeat<V>) -> TableSeat<V>
     requires table { (seat.old.table_id ≡ shared.now.table_id) × IsSmall shared.now.table_id }
     requires drawn { 0 < seat.old.me.0.left }
     ensures table { (seat.new.table_id ≡ seat.old.table_id)
@@ -76,7 +76,7 @@ pub(crate) fn new_seat<V: Kept>(shared: &Shared<V>, seat: &mut Seat<V>) -> Seat<
 }
 
 // One seat with what both have seen, and what is thereby known of both.
-pub(crate) fn join_one<V: Kept>(shared: &Shared<V>, seat: &mut Seat<V>, other: Seat<V>)
+pub(crate) fn join_one<V: Kept>(shared: &Shared<V>, seat: &mut TableSeat<V>, other: TableSeat<V>)
     requires table { (seat.old.table_id ≡ shared.now.table_id)
         × (other.table_id ≡ shared.now.table_id) × IsSmall shared.now.table_id }
     requires idle { (seat.old.me.0.holds ≡ false) × (other.me.0.holds ≡ false) × (other.me.1 ≡ []) }
