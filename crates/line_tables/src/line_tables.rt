@@ -238,7 +238,7 @@ type TrainTables = (
     NamedTable<Linked<Connection>>,
 );
 
-type Counts = (KeyCounts, KeyCounts, KeyCounts, KeyCounts);
+type KindCounts = (KeyCounts, KeyCounts, KeyCounts, KeyCounts);
 
 fn copy_track(
     blocks: &NamedTable<Block>,
@@ -265,7 +265,7 @@ fn copy_counts(
     signals: &KeyCounts,
     routes: &KeyCounts,
     runs: &KeyCounts,
-) -> Result<Counts, OutOfMemory>
+) -> Result<KindCounts, OutOfMemory>
     ensures { IfOk result (λ copies. copies ≡ (blocks.now, signals.now, routes.now, runs.now)) }
 {
     Ok((
@@ -281,7 +281,7 @@ fn from_parts(
     alloc: Global,
     track: TrackTables,
     trains: TrainTables,
-    counts: Counts,
+    counts: KindCounts,
     sets: RouteSets,
 ) -> LineTables
     requires { IsJoined (parts alloc track trains counts sets) }
