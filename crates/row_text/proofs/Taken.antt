@@ -4,7 +4,7 @@ use Rattle.std.proofs.lemmas.List.{length-append, length-drop, length-take-le, m
 use Rattle.std.proofs.lemmas.List.Elements.{All-nil, All-push}
 use Rattle.csv.specs.Records.{Rising, cut_from, last_end, prev}
 use Rattle.csv.proofs.RecordFacts.{field-bounds, field-cut, field-get, last-append, last-take, rising-end, rising-more}
-use Rattle.row_text.specs.declared.row_list.Taken.{Taken}
+use Rattle.row_text.specs.declared.row_list.TakenRows.{TakenRows}
 use Rattle.row_text.specs.SheetRows.{Row}
 use Rattle.row_text.specs.Pieces.{pieces}
 use Rattle.row_text.specs.Cuts.{CutsIn, fields_cut_at, PutsField, RowsIn}
@@ -13,7 +13,7 @@ use Rattle.row_text.proofs.Cuts.{each-weaker, put-field, rows-same, take-kept}
 use Rattle.row_text.proofs.Pieces.{pieces-append}
 
 -- no field of a row is put yet
-pub HasPut-none : (old mid new : Taken) → HasSame old mid → new.bytes.items ≡ mid.bytes.items → new.used ≡ mid.used → new.cuts.items ≡ mid.cuts.items ++ mid.used ∷ [] → new.ends.items ≡ mid.ends.items
+pub HasPut-none : (old mid new : TakenRows) → HasSame old mid → new.bytes.items ≡ mid.bytes.items → new.used ≡ mid.used → new.cuts.items ≡ mid.cuts.items ++ mid.used ∷ [] → new.ends.items ≡ mid.ends.items
     → mid.used ≤ length mid.bytes.items → old.used < 2 ^ 32 → HasPut old new (mid.used ∷ []) []
 unfolding fields_cut_at CutsIn last_end
 HasPut-none old mid new same bytes used cuts ends room small =
@@ -50,7 +50,7 @@ field-there ends bytes field i start rise there is from =
     }
 
 -- one field more of a row was put
-pub HasPut-more : (old mid new : Taken) (cuts : List ℕ) (row : Row) (field : List ℕ) → HasPut old mid cuts row → PutsField mid.bytes.items new.bytes.items mid.cuts.items new.cuts.items mid.used new.used field
+pub HasPut-more : (old mid new : TakenRows) (cuts : List ℕ) (row : Row) (field : List ℕ) → HasPut old mid cuts row → PutsField mid.bytes.items new.bytes.items mid.cuts.items new.cuts.items mid.used new.used field
     → new.ends.items ≡ mid.ends.items → HasPut old new (cuts ++ new.used ∷ []) (row ++ field ∷ [])
 HasPut-more old mid new cuts row field has put ends =
     let one : PutsField mid.bytes.items new.bytes.items cuts (cuts ++ new.used ∷ []) mid.used new.used field = record { cuts = refl; bytes = put.bytes; past = put.past; room = put.room; small = put.small } in
@@ -68,7 +68,7 @@ HasPut-more old mid new cuts row field has put ends =
     }
 
 -- one row more was taken
-pub HasTaken-more : (old mid new : Taken) (rows : List Row) (cuts : List ℕ) (row : Row) → HasPut old mid cuts row → new.bytes.items ≡ mid.bytes.items → new.used ≡ mid.used → new.cuts.items ≡ mid.cuts.items
+pub HasTaken-more : (old mid new : TakenRows) (rows : List Row) (cuts : List ℕ) (row : Row) → HasPut old mid cuts row → new.bytes.items ≡ mid.bytes.items → new.used ≡ mid.used → new.cuts.items ≡ mid.cuts.items
     → new.ends.items ≡ mid.ends.items ++ length mid.cuts.items ∷ [] → HasTaken old rows → HasTaken new (rows ++ row ∷ [])
 HasTaken-more old mid new rows cuts row put bytes used cuts_same ends has =
     let before = pieces 0 old.ends.items old.cuts.items in
@@ -86,7 +86,7 @@ HasTaken-more old mid new rows cuts row put bytes used cuts_same ends has =
     }
 
 -- no row is taken yet
-pub HasTaken-none : (taken : Taken) → taken.used ≡ 0 → taken.cuts.items ≡ [] → taken.ends.items ≡ [] → HasTaken taken []
+pub HasTaken-none : (taken : TakenRows) → taken.used ≡ 0 → taken.cuts.items ≡ [] → taken.ends.items ≡ [] → HasTaken taken []
 unfolding pieces Rising last_end
 HasTaken-none taken used cuts ends =
     record {
@@ -99,6 +99,6 @@ HasTaken-none taken used cuts ends =
     }
 
 -- the rows lie within the bytes
-pub RowsIn-taken : (taken : Taken) (rows : List Row) → HasTaken taken rows → RowsIn taken.bytes.items taken.cuts.items taken.ends.items
+pub RowsIn-taken : (taken : TakenRows) (rows : List Row) → HasTaken taken rows → RowsIn taken.bytes.items taken.cuts.items taken.ends.items
 RowsIn-taken taken rows has =
     record { rise = has.rise; each = each-weaker taken.used (length taken.bytes.items + 1) (pieces 0 taken.ends.items taken.cuts.items) (omega (arith, has.room)) has.each }

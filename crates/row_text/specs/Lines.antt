@@ -9,7 +9,7 @@ use Rattle.rail_model.specs.declared.edit.Edit.TheVariants as edit
 use Rattle.rail_model.specs.declared.items.Leg.{Leg}
 use Rattle.rail_model.specs.declared.items.Item.{Item}
 use Rattle.rail_model.specs.declared.items.Item.TheVariants as item
-use Rattle.row_text.specs.Types.{Line, Word, Part}
+use Rattle.row_text.specs.Types.{Line, Word, Cell}
 use Rattle.row_text.specs.declared.line.Line.TheVariants as line
 use Rattle.row_text.specs.declared.word.Word.TheVariants as word
 use Rattle.row_text.specs.SheetRows.{Row, field}
@@ -18,7 +18,7 @@ use Rattle.rail_model.specs.Name.{is_same}
 use Rattle.rail_model.specs.Rules.{kind_of_item}
 use Rattle.std.specs.List.{list_all}
 use Rattle.rail_model.specs.declared.edit.Edit.{Edit}
-use Rattle.row_text.specs.declared.line_row.Part.TheVariants as part
+use Rattle.row_text.specs.declared.line_row.Cell.TheVariants as cell
 use Rattle.row_text.specs.declared.time_text.TheConstants.{GREATEST_CLOCK_S}
 
 -- what comes next where there is no fault
@@ -189,11 +189,11 @@ item_fields version (item.Section s) =
     s.name ∷ time_text version s.from_s ∷ time_text version s.to_s ∷ decimal s.add_percent ∷ s.blocks
 item_fields version (item.Connection c) = c.name ∷ c.first ∷ c.second ∷ decimal c.minimum_s ∷ []
 
--- the field of a row that says a name, a number or a time
-abbrev pub part_text : ℕ → Part → List ℕ
-part_text version (part.Name name) = name.now
-part_text version (part.Number n) = decimal n
-part_text version (part.Time seconds) = time_text version seconds
+-- the cell of a row that says a name, a number or a time
+abbrev pub cell_text : ℕ → Cell → List ℕ
+cell_text version (cell.Name name) = name.now
+cell_text version (cell.Number n) = decimal n
+cell_text version (cell.Time seconds) = time_text version seconds
 
 -- the row of a line in a version of the rows
 abbrev pub edit_row : ℕ → Edit → Row

@@ -106,21 +106,21 @@ fn push_item(row: &mut Fields, alloc: Global, version: u32, item: &Item) -> Resu
 {
     match item {
         Item::Block(block) => {
-            let parts = [Part::Name(&block.name), Part::Number(block.length_m)];
-            push_parts(row, alloc, version, &parts)
+            let cells = [Cell::Name(&block.name), Cell::Number(block.length_m)];
+            push_cells(row, alloc, version, &cells)
         }
         Item::Signal(signal) => push_signal(row, alloc, version, signal),
         Item::Route(route) => push_route(row, route),
         Item::Run(run) => push_run(row, alloc, version, run),
         Item::Section(section) => push_section(row, alloc, version, section),
         Item::Connection(connection) => {
-            let parts = [
-                Part::Name(&connection.name),
-                Part::Name(&connection.first),
-                Part::Name(&connection.second),
-                Part::Number(connection.minimum_s),
+            let cells = [
+                Cell::Name(&connection.name),
+                Cell::Name(&connection.first),
+                Cell::Name(&connection.second),
+                Cell::Number(connection.minimum_s),
             ];
-            push_parts(row, alloc, version, &parts)
+            push_cells(row, alloc, version, &cells)
         }
     }
 }
@@ -134,16 +134,16 @@ fn push_signal(
     ensures { OnOk result (row.new
         ≡ row.old ++ lines.item_fields version (item.Signal signal.now)) }
 {
-    let parts = [
-        Part::Name(&signal.name),
-        Part::Name(&signal.block),
-        Part::Number(signal.approach_m),
-        Part::Number(signal.watch_s),
-        Part::Number(signal.form_s),
-        Part::Number(signal.overlap_m),
-        Part::Number(signal.release_s),
+    let cells = [
+        Cell::Name(&signal.name),
+        Cell::Name(&signal.block),
+        Cell::Number(signal.approach_m),
+        Cell::Number(signal.watch_s),
+        Cell::Number(signal.form_s),
+        Cell::Number(signal.overlap_m),
+        Cell::Number(signal.release_s),
     ];
-    push_parts(row, alloc, version, &parts)
+    push_cells(row, alloc, version, &cells)
 }
 
 fn push_route(row: &mut Fields, route: &Route) -> Result<(), OutOfMemory>
@@ -157,14 +157,14 @@ fn push_run(row: &mut Fields, alloc: Global, version: u32, run: &Run) -> Result<
     requires { version ≡ 2 → IsTrue (lines.has_clock_times (item.Run run.now)) }
     ensures { OnOk result (row.new ≡ row.old ++ lines.item_fields version (item.Run run.now)) }
 {
-    let parts = [
-        Part::Name(&run.name),
-        Part::Name(&run.route),
-        Part::Number(run.length_m),
-        Part::Number(run.tail_s),
-        Part::Time(run.start_s),
+    let cells = [
+        Cell::Name(&run.name),
+        Cell::Name(&run.route),
+        Cell::Number(run.length_m),
+        Cell::Number(run.tail_s),
+        Cell::Time(run.start_s),
     ];
-    push_parts(row, alloc, version, &parts)?;
+    push_cells(row, alloc, version, &cells)?;
     let times = run_times(alloc, version, run)?;
     push_times(row, alloc, version, &times)
 }
@@ -191,50 +191,50 @@ fn push_section(
     ensures { OnOk result (row.new
         ≡ row.old ++ lines.item_fields version (item.Section section.now)) }
 {
-    let parts = [
-        Part::Name(&section.name),
-        Part::Time(section.from_s),
-        Part::Time(section.to_s),
-        Part::Number(section.add_percent),
+    let cells = [
+        Cell::Name(&section.name),
+        Cell::Time(section.from_s),
+        Cell::Time(section.to_s),
+        Cell::Number(section.add_percent),
     ];
-    push_parts(row, alloc, version, &parts)?;
+    push_cells(row, alloc, version, &cells)?;
     push_names(row, section.blocks.slice())
 }
 
-// A field of a row by its sort.
+// A cell of a row by its sort.
 #[derive(Clone, Copy)]
-enum Part<'a> {
+enum Cell<'a> {
     Name(&'a Name),
     Number(u32),
     Time(u32),
 }
 
-fn push_parts(
+fn push_cells(
     row: &mut Fields,
     alloc: Global,
     version: u32,
-    parts: &[Part<'_>],
+    cells: &[Cell<'_>],
 ) -> Result<(), OutOfMemory>
-    ensures { OnOk result (row.new ≡ row.old ++ map (lines.part_text version) parts.now) }
+    ensures { OnOk result (row.new ≡ row.old ++ map (lines.cell_text version) cells.now) }
 {
-    for part in parts {
-        push_part(row, alloc, version, part)?;
+    for cell in cells {
+        push_cell(row, alloc, version, cell)?;
     }
     Ok(())
 }
 
-fn push_part(
+fn push_cell(
     row: &mut Fields,
     alloc: Global,
     version: u32,
-    part: &Part<'_>,
+    cell: &Cell<'_>,
 ) -> Result<(), OutOfMemory>
-    ensures { OnOk result (row.new ≡ row.old ++ lines.part_text version part.now ∷ []) }
+    ensures { OnOk result (row.new ≡ row.old ++ lines.cell_text version cell.now ∷ []) }
 {
-    match part {
-        Part::Name(name) => row.push(name.bytes()),
-        Part::Number(number) => push_number(row, *number),
-        Part::Time(time) => push_time(row, alloc, version, *time),
+    match cell {
+        Cell::Name(name) => row.push(name.bytes()),
+        Cell::Number(number) => push_number(row, *number),
+        Cell::Time(time) => push_time(row, alloc, version, *time),
     }
 }
 

@@ -19,7 +19,7 @@ use std::thread::{Threads, map_indices};
 const LEAST_PART: usize = 262_144;
 
 // What a thread cuts from a part of a text: nothing where there is a double quote.
-type Part = Result<Option<CutFields>, OutOfMemory>;
+type CutPart = Result<Option<CutFields>, OutOfMemory>;
 
 /// The rows of a text as `rows` reads them. Several threads cut parts of a long text.
 pub fn rows_by_threads<'a>(
@@ -110,12 +110,12 @@ fn cut_parts(
     alloc: Global,
     text: &[u8],
     ends: &[u32],
-) -> Result<Vec<Part>, OutOfMemory>
+) -> Result<Vec<CutPart>, OutOfMemory>
     requires small { length text.now + 1 < 2 ^ 32 }
     requires ends { Rising 0 ends.now (length text.now) }
     ensures { IfOk result (λ parts. AreParts text.now ends.now parts.items) }
 {
-    let part = move |i: usize| -> Part
+    let part = move |i: usize| -> CutPart
         requires { (i < length ends.now) × (length text.now + 1 < 2 ^ 32)
             × Rising 0 ends.now (length text.now) }
         ensures { IsPart text.entry.now ends.entry.now i result }
@@ -124,7 +124,7 @@ fn cut_parts(
 }
 
 // What is cut from the part at `i`.
-fn cut_part(alloc: Global, text: &[u8], ends: &[u32], i: usize) -> Part
+fn cut_part(alloc: Global, text: &[u8], ends: &[u32], i: usize) -> CutPart
     requires there { i < length ends.now }
     requires small { length text.now + 1 < 2 ^ 32 }
     requires ends { Rising 0 ends.now (length text.now) }
@@ -139,7 +139,7 @@ fn joined<'a>(
     alloc: Global,
     text: &'a [u8],
     ends: &[u32],
-    parts: Vec<Part>,
+    parts: Vec<CutPart>,
 ) -> Result<Option<RowList<'a>>, OutOfMemory>
     requires no_mark { strip_bom text.now ≡ text.now }
     requires ends { Splits text.now ends.now }
@@ -157,7 +157,7 @@ fn joined<'a>(
 
 // Puts the places of a part after those of the parts before it. `false`, as where it has a double
 // quote, says nothing. The part goes, so that not all places are there twice.
-fn put_part(places: &mut Places, part: Part) -> Result<bool, OutOfMemory>
+fn put_part(places: &mut Places, part: CutPart) -> Result<bool, OutOfMemory>
     requires { EndsRise part }
     ensures { IfOk result (λ plain. IsTrue plain → PutsPart places.old places.new part) }
 {

@@ -155,7 +155,7 @@ fn version_in(row: &Row<'_>) -> Result<u32, Form>
 
 // The rows that were read so far, as a list of rows keeps them.
 #[derive(Drop)]
-struct Taken {
+struct TakenRows {
     // The bytes of the fields, with one more after each, and spare room after them.
     bytes: Vec<u8>,
     // How many of the bytes are used.
@@ -191,11 +191,11 @@ pub(crate) fn rows_read(alloc: Global, text: &[u8]) -> Result<RowList<'_>, OutOf
 }
 
 // No row of a text, and room for all.
-fn nothing_taken(alloc: Global, text: &[u8]) -> Result<Taken, OutOfMemory>
+fn nothing_taken(alloc: Global, text: &[u8]) -> Result<TakenRows, OutOfMemory>
     ensures { IfOk result (λ taken. HasTaken taken []) }
 {
     let places = places_for(alloc, text)?;
-    Ok(Taken {
+    Ok(TakenRows {
         bytes: Vec::new(alloc),
         used: 0,
         cuts: places.cuts,
@@ -204,7 +204,7 @@ fn nothing_taken(alloc: Global, text: &[u8]) -> Result<Taken, OutOfMemory>
 }
 
 // Takes the rows of a text.
-fn take_text(taken: &mut Taken, alloc: Global, text: &[u8]) -> Result<(), OutOfMemory>
+fn take_text(taken: &mut TakenRows, alloc: Global, text: &[u8]) -> Result<(), OutOfMemory>
     requires { HasTaken taken.old [] }
     ensures { OnOk result (HasTaken taken.new (rows_of text.now)) }
 {
@@ -217,7 +217,7 @@ fn take_text(taken: &mut Taken, alloc: Global, text: &[u8]) -> Result<(), OutOfM
 
 // Takes the rows that a reader of a text gives. Any error of the reader is that memory ran out.
 fn take_rows(
-    taken: &mut Taken,
+    taken: &mut TakenRows,
     reader: &mut Reader<&[u8]>,
     alloc: Global,
     text: &[u8],
@@ -238,7 +238,7 @@ fn take_rows(
 }
 
 // Takes one row more.
-fn take(taken: &mut Taken, row: &ByteRecord) -> Result<(), OutOfMemory>
+fn take(taken: &mut TakenRows, row: &ByteRecord) -> Result<(), OutOfMemory>
     requires record { IsRecord row.now }
     requires room { taken.old.used ≤ length taken.old.bytes.items }
     requires small { taken.old.used < 2 ^ 32 }
@@ -250,7 +250,7 @@ fn take(taken: &mut Taken, row: &ByteRecord) -> Result<(), OutOfMemory>
 }
 
 // Puts the fields of a row, and their places.
-fn put_fields(taken: &mut Taken, row: &ByteRecord) -> Result<(), OutOfMemory>
+fn put_fields(taken: &mut TakenRows, row: &ByteRecord) -> Result<(), OutOfMemory>
     requires record { IsRecord row.now }
     requires room { taken.old.used ≤ length taken.old.bytes.items }
     requires small { taken.old.used < 2 ^ 32 }
@@ -276,7 +276,7 @@ fn put_fields(taken: &mut Taken, row: &ByteRecord) -> Result<(), OutOfMemory>
 }
 
 // Sees that there is room for the fields of a row, and for their places.
-fn make_row_room(taken: &mut Taken, row: &ByteRecord) -> Result<(), OutOfMemory>
+fn make_row_room(taken: &mut TakenRows, row: &ByteRecord) -> Result<(), OutOfMemory>
     requires { taken.old.used ≤ length taken.old.bytes.items }
     ensures ok { OnOk result (HasRoom taken.new row.now) }
     ensures kept { OnOk result (HasSame taken.old taken.new) }
