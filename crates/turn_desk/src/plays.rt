@@ -6,35 +6,35 @@ use crate::Kept;
 use crate::rule::View;
 use atomic_table::{Join, Play, Split};
 
-/// The turn is taken, or was found taken.
+// The turn is taken, or was found taken.
 pub(crate) struct Take;
 
 impl<V: Kept> Play<Option<V>, View<V::Entry>> for Take {
     ghost then = { IsTake V.entries V.pass_of V.issued_by V.is_legal };
 }
 
-/// The turn is given back.
+// The turn is given back.
 pub(crate) struct Give;
 
 impl<V: Kept> Play<Option<V>, View<V::Entry>> for Give {
     ghost then = { IsGive V.entries V.pass_of V.issued_by V.is_legal };
 }
 
-/// The turn is kept for ever, and the empty slot goes home.
+// The turn is kept for ever, and the empty slot goes home.
 pub(crate) struct Shut;
 
 impl<V: Kept> Play<Option<V>, View<V::Entry>> for Shut {
     ghost then = { IsShut V.entries V.pass_of V.issued_by V.is_legal };
 }
 
-/// What was seen by the two passes of the last join agrees.
+// What was seen by the two passes of the last join agrees.
 pub(crate) struct Tell;
 
 impl<V: Kept> Play<Option<V>, View<V::Entry>> for Tell {
     ghost then = { IsTell V.entries V.pass_of V.issued_by V.is_legal };
 }
 
-/// A drawn number goes to a new pass.
+// A drawn number goes to a new pass.
 pub(crate) struct NewPass;
 
 impl<E> Split<View<E>> for NewPass {
@@ -43,7 +43,7 @@ impl<E> Split<View<E>> for NewPass {
     ghost right = { newcomer };
 }
 
-/// Two passes become one.
+// Two passes become one.
 pub(crate) struct Glue;
 
 impl<E> Join<View<E>> for Glue {
