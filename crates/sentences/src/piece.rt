@@ -7,20 +7,20 @@ use std::str;
 // Whether there was memory for all of a text.
 pub(crate) type Added = Result<(), OutOfMemory>;
 
-/// What fills a gap of a sentence.
+// What fills a gap of a sentence.
 #[derive(Clone, Copy)]
 pub(crate) enum Piece<'a> {
     Text(&'a str),
-    /// A field in quotes: its first characters. What can't be shown stands as \xNN.
+    // A field in quotes: its first characters. What can't be shown stands as \xNN.
     Field(&'a [u8]),
     Number(u64),
-    /// With commas between its thousands.
+    // With commas between its thousands.
     Limit(u32),
-    /// Seconds from the timetable's origin.
+    // Seconds from the timetable's origin.
     Moment(i64),
-    /// Seconds as a time of day.
+    // Seconds as a time of day.
     Clock(u32),
-    /// So many of a thing: its word gets an s unless it is one.
+    // So many of a thing: its word gets an s unless it is one.
     Many(usize, &'a str),
 }
 
