@@ -19,5 +19,5 @@ mod ties;
 
 pub use disorder::{crowded_row, opposite_row, ring_rows};
 pub use links::link_rows;
-pub use rates::{push_consumption, push_rate, rate_row};
+pub use rates::{push_consumption, rate_row};
 pub use ties::{push_after, push_start};

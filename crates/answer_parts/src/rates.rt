@@ -48,9 +48,9 @@ pub fn push_consumption(
     push_verdict(sheet, consumption)
 }
 
-/// Adds a rate to a row: as a fraction, and in per cent, rounded up to two digits behind the point,
-/// `NUM/DEN,PERCENT`. It takes memory; where that runs out, the row that is open is unknown.
-pub fn push_rate(alloc: Global, sheet: &mut Sheet, rate: &Fraction) -> Result<(), OutOfMemory>
+// Adds a rate to a row: as a fraction, and in per cent, rounded up to two digits behind the point,
+// `NUM/DEN,PERCENT`.
+fn push_rate(alloc: Global, sheet: &mut Sheet, rate: &Fraction) -> Result<(), OutOfMemory>
     requires { rate.now.num < 2 ^ 100 }
     ensures { AddsFields result sheet.old sheet.new (rows.rate_fields rate.now) }
 {
