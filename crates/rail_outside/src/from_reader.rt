@@ -1,9 +1,9 @@
 //! A source over any reader.
 ghost use Rattle.std.specs.Prelude.{◌≡◌, ◌≤◌, ◌<◌, ◌++◌, ◌↔◌, [], length, take, Ok, IsOk, IsErr, IfOk, OnErr, IsTrue, IsFalse};
 
-use crate::faults::one_more;
-use crate::source::found_end;
-use crate::{Failed, History, Source};
+use crate::faults::{Failed, one_more};
+use crate::history::History;
+use crate::source::{Source, found_end};
 use std::io;
 use std::io::Read;
 

@@ -4,10 +4,10 @@ ghost use Rattle.std.specs.Borrow.{ftrue};
 
 use std::marker::{Model, PhantomData};
 
-/// The bytes that passed through a stream, and how many of them are flushed. Only proofs read it:
-/// it takes no memory, and its methods do nothing when they run.
+// The bytes that passed through a stream, and how many of them are flushed. Only proofs read it:
+// it takes no memory, and its methods do nothing when they run.
 #[derive(Drop)]
-pub struct History {
+pub(crate) struct History {
     marker: PhantomData<u8>,
     pub ghost items: { List ℕ },
     pub ghost flushed: { ℕ },

@@ -41,7 +41,6 @@ mod words;
 pub use faults::Failed;
 pub use from_reader::FromReader;
 pub use gate::{Gate, OpenGate, Point};
-pub use history::History;
 pub use memory_sink::MemorySink;
 pub use memory_source::MemorySource;
 pub use memory_words::MemoryWords;

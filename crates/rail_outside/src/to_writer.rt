@@ -1,8 +1,9 @@
 //! A sink over any writer.
 ghost use Rattle.std.specs.Prelude.{◌≡◌, ◌≤◌, ◌<◌, ◌++◌, ◌↔◌, [], length, take, Ok, IsOk, IfOk, IsOkAnd, OnErr};
 
-use crate::faults::one_more;
-use crate::{Failed, History, Sink};
+use crate::faults::{Failed, one_more};
+use crate::history::History;
+use crate::sink::Sink;
 use std::io;
 use std::io::Write;
 
