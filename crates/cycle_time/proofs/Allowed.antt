@@ -4,16 +4,16 @@ use Rattle.std.specs.Prelude.{ℤ, pos, ◌+ℤ◌, ◌-ℤ◌, ◌*ℤ◌, ◌�
 use Rattle.std.proofs.lemmas.Bool.{cases_lt}
 use Rattle.std.proofs.lemmas.Int.{ints}
 use Rattle.std.proofs.lemmas.List.{take_more}
-use Rattle.cycle_time.specs.declared.edge.Edge.{Edge}
-use Rattle.cycle_time.specs.Rings.{no_edge, weights, laps}
+use Rattle.cycle_time.specs.declared.demand.Demand.{Demand}
+use Rattle.cycle_time.specs.Rings.{no_demand, weights, laps}
 use Rattle.cycle_time.proofs.Refused.{nat_times, mono}
 use Rattle.cycle_time.proofs.Turned.{weights_append}
 
-pub weights_more : (edges : List Edge) (k : ℕ) → k < length edges
-    → weights (take (k + 1) edges) ≡ (weights (take k edges) +ℤ (get_or edges k no_edge).weight)
-weights_more edges k l =
-    let more = ap weights (take_more edges k no_edge l) in
-    let split = weights_append (take k edges) (get_or edges k no_edge ∷ []) in
+pub weights_more : (demands : List Demand) (k : ℕ) → k < length demands
+    → weights (take (k + 1) demands) ≡ (weights (take k demands) +ℤ (get_or demands k no_demand).weight)
+weights_more demands k l =
+    let more = ap weights (take_more demands k no_demand l) in
+    let split = weights_append (take k demands) (get_or demands k no_demand ∷ []) in
     omega (arith, ints, more, split)
 
 -- the quotient, rounded up: it is enough, and one less isn't

@@ -1,4 +1,4 @@
--- Edges that are laid along an order: who keeps them keeps each place for the trains so far.
+-- Demands that are laid along an order: who keeps them keeps each place for the trains so far.
 use Rattle.std.proofs.Common.{◌≡◌, ◌≢◌, ℕ, ◌+◌, ◌<◌, ◌≤◌, Bool, true, false, ◌==◌, ◌||◌, List, [], ◌∷◌, length, get_or, set, take, ◌⊎◌, inl, inr, refl, sym, ap, subst, ◌∙◌, arith, length-set}
 use Rattle.std.specs.Prelude.{ℤ, pos, ◌+ℤ◌, ◌-ℤ◌, ◌≤ℤ◌, All, IsTrue, Option, None, Some, IfSome, if◌then◌else◌, replicate, unwrap_or}
 use Rattle.std.specs.List.{list_any}
@@ -22,20 +22,20 @@ use Rattle.train_order.proofs.Among.{among_first, first_among, among_more}
 use Rattle.train_order.proofs.Following.{apart}
 use Rattle.train_order.proofs.Next.{is_there}
 use Rattle.train_order.proofs.Users.{user_there, users}
-use Rattle.cycle_time.specs.declared.edge.Edge.{Edge}
+use Rattle.cycle_time.specs.declared.demand.Demand.{Demand}
 use Rattle.cycle_time.specs.declared.stay.Stay.{Stay}
 use Rattle.cycle_time.specs.declared.stay.Ends.{Ends}
 use Rattle.cycle_time.specs.Cycle.{IsStep, weight}
-use Rattle.cycle_time.specs.Edges.{step_on, IsSpan, IsLight, IsEdge, Keeps, AreEnough}
-use Rattle.cycle_time.specs.Laying.{stay_by, with_stay, edge_to, Cover, IsAdded, IsLedTo, IsLedOn, HaveSpans, IsStayOf, AreEnds, AreEndsIfAny, KeepOrder, AreEnoughFor, ends_at, AreLaidOn, AreLaid, with_uses, AreLaidAgain}
+use Rattle.cycle_time.specs.Demands.{step_on, IsSpan, IsLight, IsDemand, Keeps, AreEnough}
+use Rattle.cycle_time.specs.Laying.{stay_by, with_stay, demand_to, Cover, IsAdded, IsLedTo, IsLedOn, HaveSpans, IsStayOf, AreEnds, AreEndsIfAny, KeepOrder, AreEnoughFor, ends_at, AreLaidOn, AreLaid, with_uses, AreLaidAgain}
 use Rattle.cycle_time.proofs.Weights.{by_moments, by_moments_again}
 
 -- ---- at first
 
-pub none_laid : (cut : Cut) (some : List ℕ) (edges : List Edge) (ends : List (Option Ends)) → some ≡ [] → edges ≡ []
-    → ends ≡ replicate (place_count cut) None → AreLaid cut some edges ends
-none_laid cut some edges ends s e is = record {
-  each = subst (All (IsEdge cut)) (sym e) (All-nil (IsEdge cut));
+pub none_laid : (cut : Cut) (some : List ℕ) (demands : List Demand) (ends : List (Option Ends)) → some ≡ [] → demands ≡ []
+    → ends ≡ replicate (place_count cut) None → AreLaid cut some demands ends
+none_laid cut some demands ends s e is = record {
+  each = subst (All (IsDemand cut)) (sym e) (All-nil (IsDemand cut));
   count = ap length is ∙ length-replicate (place_count cut) None;
   places = λ place l.
       let none : ends_at ends place ≡ None = ap (λ es. ends_at es place) is ∙ get_or-replicate (place_count cut) place None None l in
@@ -44,11 +44,11 @@ none_laid cut some edges ends s e is = record {
       rw none (record { enough = λ period entries keep i j hi hj p. absurd (nobody i hi); ends = λ i h. absurd (nobody i h) });
 }
 
--- entries that keep the edges that there are keep those that there were
-abbrev IsKept : List Edge → List Edge → Type 0
+-- entries that keep the demands that there are keep those that there were
+abbrev IsKept : List Demand → List Demand → Type 0
 IsKept before after = (period : ℕ) (entries : List ℤ) → All (Keeps period entries) after → All (Keeps period entries) before
 
--- ---- an edge between two uses of a place
+-- ---- a demand between two uses of a place
 
 light : (until from : ℤ) → IsSpan until → IsSpan from → IsLight (until -ℤ from)
 light until from u f = record {
@@ -73,8 +73,8 @@ module _ (cut : Cut) (place : ℕ) (one other : Stay) (first : IsStayOf cut plac
   weight_is next = ap (λ u. u -ℤ other.from) until_is
       ∙ ap (λ f. ((use_at (member cut i) place).«end» -ℤ (member cut i).entry) -ℤ f) from_is
 
-  is_edge : (next : Bool) → IsStep cut (step_on i j place next) → IsEdge cut (edge_to one other place next)
-  is_edge next step =
+  is_demand : (next : Bool) → IsStep cut (step_on i j place next) → IsDemand cut (demand_to one other place next)
+  is_demand next step =
       record { is_step = step; weight_is = weight_is next; light = light one.until other.from first.until second.from }
 
   module _ (period : ℕ) (entries : List ℤ) where
@@ -84,12 +84,12 @@ module _ (cut : Cut) (place : ℕ) (one other : Stay) (first : IsStayOf cut plac
     abbrev y : ℤ
     y = entry_at entries j
 
-    clear : Keeps period entries (edge_to one other place false) → end_by cut entries i place ≤ℤ start_by cut entries j place
+    clear : Keeps period entries (demand_to one other place false) → end_by cut entries i place ≤ℤ start_by cut entries j place
     clear keep =
         by_moments (use_at (member cut i) place).«end» (use_at (member cut j) place).start (member cut i).entry
         (member cut j).entry x y (subst (λ w. (x +ℤ w) ≤ℤ y) (weight_is false) keep)
 
-    clear_again : Keeps period entries (edge_to one other place true)
+    clear_again : Keeps period entries (demand_to one other place true)
         → end_by cut entries i place ≤ℤ (start_by cut entries j place +ℤ pos period)
     clear_again keep =
         by_moments_again (use_at (member cut i) place).«end» (use_at (member cut j) place).start (member cut i).entry
@@ -179,8 +179,8 @@ module _ (cut : Cut) (sound : IsSoundCut cut) (some more : List ℕ) (j : ℕ) (
       none_after = λ i h p. seen.none_after i (still i h (users cut ends.last.train i place p).1) p;
     }
 
-    unused : (edges : List Edge) (o : Option Ends) → AreEnoughFor cut place some edges o → AreEnoughFor cut place more edges o
-    unused edges o are = record {
+    unused : (demands : List Demand) (o : Option Ends) → AreEnoughFor cut place some demands o → AreEnoughFor cut place more demands o
+    unused demands o are = record {
       enough = λ period entries keep i k hi hk p.
           let both = users cut i k place p in
           are.enough period entries keep i k (still i hi both.0) (still k hk both.1) p;
@@ -188,10 +188,10 @@ module _ (cut : Cut) (sound : IsSoundCut cut) (some more : List ℕ) (j : ℕ) (
     }
 
   -- a place that it uses
-  module _ (place : ℕ) (stay : Stay) (its : IsStayOf cut place stay) (train : stay.train ≡ j) (before after : List Edge) where
-    -- what there is after an edge from the last train on the place
+  module _ (place : ℕ) (stay : Stay) (its : IsStayOf cut place stay) (train : stay.train ≡ j) (before after : List Demand) where
+    -- what there is after a demand from the last train on the place
     record IsLaidNow (o : Option Ends) : Type 0 where
-      each : All (IsEdge cut) before → All (IsEdge cut) after
+      each : All (IsDemand cut) before → All (IsDemand cut) after
       kept : IsKept before after
       now : AreEnoughFor cut place more after (Some (with_stay o stay))
 
@@ -250,9 +250,9 @@ module _ (cut : Cut) (sound : IsSoundCut cut) (some more : List ℕ) (j : ℕ) (
         next = λ e. absurd (cc);
       }
 
-      behind : IsAdded before after (edge_to ends.last stay place false) → IsLaidNow (Some ends)
+      behind : IsAdded before after (demand_to ends.last stay place false) → IsLaidNow (Some ends)
       behind added = record {
-        each = λ all. added.each cut all (is_edge cut place ends.last stay are.ends.last its false step);
+        each = λ all. added.each cut all (is_demand cut place ends.last stay are.ends.last its false step);
         kept = added.kept;
         now = record {
           enough = λ period entries keep i k hi hk p.
@@ -313,7 +313,7 @@ module _ (cut : Cut) (sound : IsSoundCut cut) (some more : List ℕ) (j : ℕ) (
         until = until;
       }
 
-  module _ (n : ℕ) (l : n < length uses) (before after : List Edge) (ends now : List (Option Ends)) where
+  module _ (n : ℕ) (l : n < length uses) (before after : List Demand) (ends now : List (Option Ends)) where
     abbrev place : ℕ
     place = (use_of n).block
 
@@ -373,18 +373,18 @@ module _ (cut : Cut) (sound : IsSoundCut cut) (some more : List ℕ) (j : ℕ) (
       }
 
   -- all of them
-  pub train_laid : (edges : List Edge) (ends : List (Option Ends)) → AreLaidOn cut (with_uses some more uses) edges ends
-      → AreLaid cut more edges ends
-  train_laid edges ends laid = record {
+  pub train_laid : (demands : List Demand) (ends : List (Option Ends)) → AreLaidOn cut (with_uses some more uses) demands ends
+      → AreLaid cut more demands ends
+  train_laid demands ends laid = record {
     each = laid.each;
     count = laid.count;
     places = λ place l.
         let are = laid.places place l in
         elim (cases_Bool (uses_place (member cut j) place)) [
-          | inl used ↦ subst (λ b. AreEnoughFor cut place (if b then more else some) edges (ends_at ends place)) used are
+          | inl used ↦ subst (λ b. AreEnoughFor cut place (if b then more else some) demands (ends_at ends place)) used are
           | inr free ↦
-              unused cut sound some more j is_more next place free edges (ends_at ends place)
-              (subst (λ b. AreEnoughFor cut place (if b then more else some) edges (ends_at ends place)) free are)
+              unused cut sound some more j is_more next place free demands (ends_at ends place)
+              (subst (λ b. AreEnoughFor cut place (if b then more else some) demands (ends_at ends place)) free are)
         ];
   }
 
@@ -395,11 +395,11 @@ have_spans cut p some None seen = tt
 have_spans cut p some (Some ends) seen = record { first = seen.first.from; last = seen.last.until }
 
 module _ (cut : Cut) (some : List ℕ) (ends : List (Option Ends)) (n : ℕ) (block : n < block_count cut) (there : n < place_count cut)
-    (before after : List Edge) where
+    (before after : List Demand) where
   record IsOn (o : Option Ends) : Type 0 where
-    each : All (IsEdge cut) before → All (IsEdge cut) after
+    each : All (IsDemand cut) before → All (IsDemand cut) after
     kept : IsKept before after
-    again : IfSome o (λ e. Cover after (edge_to e.last e.first n true))
+    again : IfSome o (λ e. Cover after (demand_to e.last e.first n true))
 
   led_on : (o : Option Ends) → AreEndsIfAny cut n some o → IsLedOn o n before after → IsOn o
   led_on None seen led = record {
@@ -408,7 +408,7 @@ module _ (cut : Cut) (some : List ℕ) (ends : List (Option Ends)) (n : ℕ) (bl
     again = tt;
   }
   led_on (Some e) seen led = record {
-    each = λ all. led.each cut all (is_edge cut n e.last e.first seen.last seen.first true (record {
+    each = λ all. led.each cut all (is_demand cut n e.last e.first seen.last seen.first true (record {
       one_there = seen.last.there;
       other_there = seen.first.there;
       same = λ e. absurd (cc);
@@ -418,8 +418,8 @@ module _ (cut : Cut) (some : List ℕ) (ends : List (Option Ends)) (n : ℕ) (bl
     again = led.more;
   }
 
-  again_kept : IsKept before after → (m : ℕ) (o : Option Ends) → IfSome o (λ e. Cover before (edge_to e.last e.first m true))
-      → IfSome o (λ e. Cover after (edge_to e.last e.first m true))
+  again_kept : IsKept before after → (m : ℕ) (o : Option Ends) → IfSome o (λ e. Cover before (demand_to e.last e.first m true))
+      → IfSome o (λ e. Cover after (demand_to e.last e.first m true))
   again_kept kept m None h = tt
   again_kept kept m (Some e) h = λ period entries keep. h period entries (kept period entries keep)
 
@@ -443,9 +443,9 @@ module _ (cut : Cut) (some : List ℕ) (ends : List (Option Ends)) (n : ℕ) (bl
 
 -- ---- all places
 
-module _ (cut : Cut) (sound : IsSoundCut cut) (order : List ℕ) (is : IsOrder cut order) (edges : List Edge) (place : ℕ) where
-  again_kept_on : (o : Option Ends) → AreEndsIfAny cut place order o → IfSome o (λ e. Cover edges (edge_to e.last e.first place true))
-      → (period : ℕ) (entries : List ℤ) → All (Keeps period entries) edges → KeepOrder cut place order entries
+module _ (cut : Cut) (sound : IsSoundCut cut) (order : List ℕ) (is : IsOrder cut order) (demands : List Demand) (place : ℕ) where
+  again_kept_on : (o : Option Ends) → AreEndsIfAny cut place order o → IfSome o (λ e. Cover demands (demand_to e.last e.first place true))
+      → (period : ℕ) (entries : List ℤ) → All (Keeps period entries) demands → KeepOrder cut place order entries
       → (i j : ℕ) → i < member_count cut → j < member_count cut → IsTrue (uses_place (member cut i) place)
       → IsTrue (uses_place (member cut j) place) → end_by cut entries i place ≤ℤ (start_by cut entries j place +ℤ pos period)
   again_kept_on None seen again period entries keep kept i j li lj ui uj =
@@ -456,15 +456,15 @@ module _ (cut : Cut) (sound : IsSoundCut cut) (order : List ℕ) (is : IsOrder c
       let c = from_first cut sound place order e seen entries kept j (is_there cut order is j lj) uj in
       omega (arith, ints, a, b, c)
 
-pub all_laid : (cut : Cut) → IsSoundCut cut → (order : List ℕ) → IsOrder cut order → (edges : List Edge)
-    (ends : List (Option Ends)) (n : ℕ) → block_count cut ≤ n → AreLaidAgain cut order edges ends n → AreEnough cut edges
-all_laid cut sound order is edges ends n all laid = record {
+pub all_laid : (cut : Cut) → IsSoundCut cut → (order : List ℕ) → IsOrder cut order → (demands : List Demand)
+    (ends : List (Option Ends)) (n : ℕ) → block_count cut ≤ n → AreLaidAgain cut order demands ends n → AreEnough cut demands
+all_laid cut sound order is demands ends n all laid = record {
   each = laid.laid.each;
   enough = λ period entries keep place l.
       let are = laid.laid.places place l in
       let kept = are.enough period entries keep in record {
         order = λ i j li lj p. kept i j (is_there cut order is i li) (is_there cut order is j lj) p;
-        again = λ block. again_kept_on cut sound order is edges place (ends_at ends place) are.ends
+        again = λ block. again_kept_on cut sound order is demands place (ends_at ends place) are.ends
             (laid.again place (omega (arith, block, all))) period entries keep kept;
       };
 }

@@ -11,8 +11,8 @@ use Rattle.plan_model.proofs.Uses.{place_there}
 use Rattle.train_order.specs.declared.visits.Visit.{Visit}
 use Rattle.train_order.specs.Visits.{no_visit}
 use Rattle.cycle_time.specs.Cycle.{IsRepeating}
-use Rattle.cycle_time.specs.Edges.{edge_on, Keeps, KeepsPlace}
-use Rattle.cycle_time.specs.declared.edge.Edge.{Edge}
+use Rattle.cycle_time.specs.Demands.{demand_on, Keeps, KeepsPlace}
+use Rattle.cycle_time.specs.declared.demand.Demand.{Demand}
 use Rattle.cycle_time.specs.Laying.{IsVisitOf, train_at, AreTurns, KeepsTurn, KeepTurns, KeepsAgain}
 use Rattle.cycle_time.specs.Checking.{KeepAll}
 use Rattle.cycle_time.proofs.Weights.{by_weight, by_weight_again}
@@ -70,15 +70,15 @@ module _ (cut : Cut) (period : ℕ) (entries : List ℤ) (place : ℕ) (some : L
       (entry_at entries i) (entry_at entries j) (pos period)
       (keeps.again block i j v.there w.there v.used w.used)
 
--- ---- the edges from each visit to the next one
+-- ---- the demands from each visit to the next one
 
-module _ (cut : Cut) (period : ℕ) (entries : List ℤ) (place : ℕ) (some : List Visit) (k : ℕ) (first : 0 < k) (e : Edge)
-    (is : e ≡ edge_on cut (train_at some (k - 1)) (train_at some k) place false) where
+module _ (cut : Cut) (period : ℕ) (entries : List ℤ) (place : ℕ) (some : List Visit) (k : ℕ) (first : 0 < k) (e : Demand)
+    (is : e ≡ demand_on cut (train_at some (k - 1)) (train_at some k) place false) where
   before : k - 1 + 1 ≡ k
   before = omega (arith, first)
 
   abbrev on : ℕ → Type 0
-  on m = Keeps period entries (edge_on cut (train_at some (k - 1)) (train_at some m) place false)
+  on m = Keeps period entries (demand_on cut (train_at some (k - 1)) (train_at some m) place false)
 
   pub turn_more : KeepTurns cut place some k period entries → Keeps period entries e → KeepTurns cut place some (k + 1) period entries
   turn_more so_far keep m l =

@@ -1,4 +1,4 @@
--- Visits in turn: who keeps the edges from each to the next, and from the last to the first, keeps the place.
+-- Visits in turn: who keeps the demands from each to the next, and from the last to the first, keeps the place.
 use Rattle.std.proofs.Common.{◌≡◌, ℕ, zero, suc, ◌+◌, ◌-◌, ◌<◌, true, List, length, get_or, inl, inr, sym, ap, subst, ◌∙◌, arith}
 use Rattle.std.specs.Prelude.{ℤ, pos, nat_abs, ◌+ℤ◌, ◌-ℤ◌, ◌≤ℤ◌, ◌<ℤ◌, filter}
 use Rattle.std.specs.List.{Contains}
@@ -18,7 +18,7 @@ use Rattle.train_order.specs.declared.visits.Visit.{Visit}
 use Rattle.train_order.specs.Visits.{no_visit, visit_at, visits, AreInTurn}
 use Rattle.train_order.proofs.Among.{stands_at}
 use Rattle.train_order.proofs.InTurn.{IsVisit, is_visit, goes_first, in_order}
-use Rattle.cycle_time.specs.Edges.{KeepsPlace}
+use Rattle.cycle_time.specs.Demands.{KeepsPlace}
 use Rattle.cycle_time.specs.Laying.{IsVisitOf, train_at, AreTurns, KeepTurns, KeepsAgain}
 use Rattle.cycle_time.proofs.Weights.{by_moments, by_moments_again}
 

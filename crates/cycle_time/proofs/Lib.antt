@@ -16,6 +16,6 @@ pub mod Repeated
 pub mod Told
 pub mod Kept
 pub mod Led
-pub mod SomeEdge
+pub mod SomeDemand
 pub mod SomeCycle
 pub mod SomeAnswer

@@ -12,9 +12,9 @@ use Rattle.plan_model.specs.Members.{block_count, member, member_count, no_membe
 use Rattle.plan_model.specs.Cut.{IsSoundCut, is_block, block_uses, connection_uses}
 use Rattle.plan_model.specs.Schedule.{entry_at}
 use Rattle.plan_model.proofs.Uses.{takes_time_by}
-use Rattle.cycle_time.specs.declared.edge.Edge.{Edge}
+use Rattle.cycle_time.specs.declared.demand.Demand.{Demand}
 use Rattle.cycle_time.specs.Cycle.{IsRepeating, IsLeastRepeating}
-use Rattle.cycle_time.specs.Edges.{IsLight}
+use Rattle.cycle_time.specs.Demands.{IsLight}
 use Rattle.cycle_time.proofs.Refused.{nat_times}
 use Rattle.cycle_time.proofs.Allowed.{greater}
 use Rattle.cycle_time.specs.Rings.{weights, laps, IsRefusal, IsLimit, IsFound}
@@ -35,14 +35,14 @@ not_at_once cut sound l entries repeats =
     absurd (omega (arith, ints, takes_time_by cut sound 0 u.block l used (entry_at entries 0), repeats.again 0 0 u.block l l block used used))
 
 -- the period that is tried: 0 at first, and then one that a ring allows
-pub record IsSearched (cut : Cut) (period : ℕ) (ring : List Edge) : Type 0 where
+pub record IsSearched (cut : Cut) (period : ℕ) (ring : List Demand) : Type 0 where
   pub limit : (period ≡ 0) ⊎ IsLimit cut period ring
   pub most : period ≤ 200000000000
 
-pub at_first : (cut : Cut) (ring : List Edge) → IsSearched cut 0 ring
+pub at_first : (cut : Cut) (ring : List Demand) → IsSearched cut 0 ring
 at_first cut ring = record { limit = inl refl; most = omega arith }
 
-pub found_it : (cut : Cut) → IsSoundCut cut → 0 < member_count cut → (period : ℕ) (ring : List Edge)
+pub found_it : (cut : Cut) → IsSoundCut cut → 0 < member_count cut → (period : ℕ) (ring : List Demand)
     → (period ≡ 0) ⊎ IsLimit cut period ring → (entries : List ℤ) → IsLeastRepeating cut period entries
     → IsFound cut (record { period = period; entries = entries; ring = ring })
 found_it cut sound some period ring limit entries least = record {
@@ -54,22 +54,22 @@ found_it cut sound some period ring limit entries least = record {
 }
 
 -- what a ring that refuses a period gives to the search
-pub lights : (cut : Cut) (period : ℕ) (ring : List Edge) → IsRefusal cut period ring → All (λ (e : Edge). IsLight e.weight) ring
+pub lights : (cut : Cut) (period : ℕ) (ring : List Demand) → IsRefusal cut period ring → All (λ (e : Demand). IsLight e.weight) ring
 lights cut period ring refusal k d l = (refusal.is_loop.each k d l).light
 
-pub positive : (cut : Cut) (period : ℕ) (ring : List Edge) → IsRefusal cut period ring → pos 0 <ℤ weights ring
+pub positive : (cut : Cut) (period : ℕ) (ring : List Demand) → IsRefusal cut period ring → pos 0 <ℤ weights ring
 positive cut period ring refusal =
     let more = refusal.more in
     let n = nat_times (laps ring) period in
     omega (arith, ints, more, n)
 
-pub allows : (cut : Cut) (period result : ℕ) (ring : List Edge) → IsRefusal cut period ring
+pub allows : (cut : Cut) (period result : ℕ) (ring : List Demand) → IsRefusal cut period ring
     → (pos (laps ring) *ℤ (pos result -ℤ pos 1)) <ℤ weights ring → result ≤ 200000000000 → IsSearched cut result ring
 allows cut period result ring refusal more small = record {
   limit = inr (record { is_loop = refusal.is_loop; more = more });
   most = small;
 }
 
-pub rises : (cut : Cut) (period result : ℕ) (ring : List Edge) → IsRefusal cut period ring
+pub rises : (cut : Cut) (period result : ℕ) (ring : List Demand) → IsRefusal cut period ring
     → weights ring ≤ℤ (pos (laps ring) *ℤ pos result) → period < result
 rises cut period result ring refusal most = greater (laps ring) period result (weights ring) refusal.more most

@@ -1,4 +1,4 @@
--- A ring of edges, told from its least train on.
+-- A ring of demands, told from its least train on.
 use Rattle.std.proofs.Common.{◌≡◌, ◌≢◌, ℕ, zero, suc, ◌+◌, ◌<◌, ◌≤◌, List, [], ◌∷◌, ◌++◌, length, take, drop, map, get_or, reverse, refl, sym, ap, subst, ◌∙◌, arith}
 use Rattle.std.specs.Prelude.{pos, ◌+ℤ◌, ◌-ℤ◌, ◌*ℤ◌, ◌<ℤ◌, cond, All, AllPairs}
 use Rattle.std.specs.List.Sorted.{IsPermutation}
@@ -12,26 +12,26 @@ use Rattle.plan_model.specs.declared.cut.Cut.{Cut}
 use Rattle.train_order.specs.Taking.{IsDistinct}
 use Rattle.train_order.proofs.Among.{among_at}
 use Rattle.train_order.proofs.Apart.{Differ, not_twice}
-use Rattle.cycle_time.specs.declared.edge.Edge.{Edge}
+use Rattle.cycle_time.specs.declared.demand.Demand.{Demand}
 use Rattle.cycle_time.specs.declared.found.Step.{Step}
 use Rattle.cycle_time.specs.Cycle.{IsStep, total, patterns, Leads, first_train, Refuses}
-use Rattle.cycle_time.specs.Edges.{IsEdge}
+use Rattle.cycle_time.specs.Demands.{IsDemand}
 use Rattle.cycle_time.specs.Raising.{Back}
-use Rattle.cycle_time.specs.Rings.{to_of, step_of, no_edge, IsTurned, weights, laps, IsLoop}
+use Rattle.cycle_time.specs.Rings.{to_of, step_of, no_demand, IsTurned, weights, laps, IsLoop}
 
 -- ---- back from one train to another
 
-back_split : (i : ℕ) (xs ys : List Edge) (j : ℕ) → Back i (xs ++ ys) j → (k : ℕ) × Back i xs k × Back k ys j
+back_split : (i : ℕ) (xs ys : List Demand) (j : ℕ) → Back i (xs ++ ys) j → (k : ℕ) × Back i xs k × Back k ys j
 back_split i [] ys j b = (i, refl, b)
 back_split i (e ∷ xs) ys j b =
     let rest = back_split e.step.from xs ys j b.1 in (rest.0, (b.0, rest.1), rest.2)
 
-back_join : (i : ℕ) (xs ys : List Edge) (k j : ℕ) → Back i xs k → Back k ys j → Back i (xs ++ ys) j
+back_join : (i : ℕ) (xs ys : List Demand) (k j : ℕ) → Back i xs k → Back k ys j → Back i (xs ++ ys) j
 back_join i [] ys k j b c = subst (λ m. Back m ys j) (sym b) c
 back_join i (e ∷ xs) ys k j b c = (b.0, back_join e.step.from xs ys k j b.1 c)
 
--- a ring that is turned so that another edge comes first
-pub back_turned : (i m : ℕ) (ring : List Edge) → Back i ring i → (k : ℕ) × Back k (drop m ring ++ take m ring) k
+-- a ring that is turned so that another demand comes first
+pub back_turned : (i m : ℕ) (ring : List Demand) → Back i ring i → (k : ℕ) × Back k (drop m ring ++ take m ring) k
 back_turned i m ring b =
     let split = back_split i (take m ring) (drop m ring) i (subst (λ es. Back i es i) (sym (take-append-drop m ring)) b) in
     (split.0, back_join split.0 (drop m ring) (take m ring) i split.0 split.2 split.1)
@@ -43,45 +43,45 @@ leads_more : (cut : Cut) (i : ℕ) (steps : List Step) (s : Step) (j : ℕ) → 
 leads_more cut i [] s j l is e = (is, sym l, e)
 leads_more cut i (t ∷ steps) s j l is e = (l.0, l.1, leads_more cut t.to steps s j l.2 is e)
 
-pub forward : (cut : Cut) (i : ℕ) (ring : List Edge) (j : ℕ) → All (IsEdge cut) ring → Back i ring j
+pub forward : (cut : Cut) (i : ℕ) (ring : List Demand) (j : ℕ) → All (IsDemand cut) ring → Back i ring j
     → Leads cut j (map step_of (reverse ring)) i
 forward cut i [] j all b = sym b
 forward cut i (e ∷ ring) j all b =
-    let rest = forward cut e.step.from ring j (All-tail (IsEdge cut) e ring all) b.1 in
-    let is = All-head (IsEdge cut) e ring all in
+    let rest = forward cut e.step.from ring j (All-tail (IsDemand cut) e ring all) b.1 in
+    let is = All-head (IsDemand cut) e ring all in
     subst (λ steps. Leads cut j steps i) (sym (ap (map step_of) (reverse-append (e ∷ []) ring) ∙ map-append step_of (reverse ring) (e ∷ [])))
     (leads_more cut j (map step_of (reverse ring)) e.step i rest is.is_step b.0)
 
 -- ---- sums
 
-pub weights_append : (xs ys : List Edge) → weights (xs ++ ys) ≡ weights xs +ℤ weights ys
+pub weights_append : (xs ys : List Demand) → weights (xs ++ ys) ≡ weights xs +ℤ weights ys
 weights_append [] ys = omega (arith, ints)
 weights_append (e ∷ xs) ys = let rest = weights_append xs ys in omega (arith, ints, rest)
 
-weights_reverse : (ring : List Edge) → weights (reverse ring) ≡ weights ring
+weights_reverse : (ring : List Demand) → weights (reverse ring) ≡ weights ring
 weights_reverse [] = refl
 weights_reverse (e ∷ ring) =
     let rest = weights_reverse ring in
     let split = ap weights (reverse-append (e ∷ []) ring) ∙ weights_append (reverse ring) (e ∷ []) in
     omega (arith, ints, rest, split)
 
-total_is : (cut : Cut) (ring : List Edge) → All (IsEdge cut) ring → total cut (map step_of ring) ≡ weights ring
+total_is : (cut : Cut) (ring : List Demand) → All (IsDemand cut) ring → total cut (map step_of ring) ≡ weights ring
 total_is cut [] all = refl
 total_is cut (e ∷ ring) all =
-    let rest = total_is cut ring (All-tail (IsEdge cut) e ring all) in
-    let is = (All-head (IsEdge cut) e ring all).weight_is in
+    let rest = total_is cut ring (All-tail (IsDemand cut) e ring all) in
+    let is = (All-head (IsDemand cut) e ring all).weight_is in
     omega (arith, ints, rest, is)
 
-abbrev one_of : Edge → ℕ
+abbrev one_of : Demand → ℕ
 one_of e = cond e.step.next 1 0
 
-patterns_is : (ring : List Edge) → patterns (map step_of ring) ≡ laps ring
+patterns_is : (ring : List Demand) → patterns (map step_of ring) ≡ laps ring
 patterns_is [] = refl
 patterns_is (e ∷ ring) =
     sum_by-cons (λ (s : Step). cond s.next 1 0) e.step (map step_of ring)
     ∙ ap (λ n. one_of e + n) (patterns_is ring) ∙ sym (sum_by-cons one_of e ring)
 
-laps_reverse : (ring : List Edge) → laps (reverse ring) ≡ laps ring
+laps_reverse : (ring : List Demand) → laps (reverse ring) ≡ laps ring
 laps_reverse [] = refl
 laps_reverse (e ∷ ring) =
     let rest = laps_reverse ring in
@@ -103,15 +103,15 @@ differ (x ∷ some) once (suc i) (suc j) d l lj e = differ some once.1 i j d (om
 
 -- ---- the least train
 
-pub least_more : (edges : List Edge) (k least next : ℕ) → k < length edges
-    → All (λ (e : Edge). (get_or edges least no_edge).step.to ≤ e.step.to) (take k edges)
-    → (get_or edges next no_edge).step.to ≤ (get_or edges least no_edge).step.to
-    → (get_or edges next no_edge).step.to ≤ (get_or edges k no_edge).step.to
-    → All (λ (e : Edge). (get_or edges next no_edge).step.to ≤ e.step.to) (take (k + 1) edges)
-least_more edges k least next l so_far a b =
-    All-more (λ (e : Edge). (get_or edges next no_edge).step.to ≤ e.step.to) edges k no_edge l
-    (All-weaker (λ (e : Edge). (get_or edges least no_edge).step.to ≤ e.step.to)
-    (λ (e : Edge). (get_or edges next no_edge).step.to ≤ e.step.to) (λ e h. omega (arith, h, a)) (take k edges) so_far)
+pub least_more : (demands : List Demand) (k least next : ℕ) → k < length demands
+    → All (λ (e : Demand). (get_or demands least no_demand).step.to ≤ e.step.to) (take k demands)
+    → (get_or demands next no_demand).step.to ≤ (get_or demands least no_demand).step.to
+    → (get_or demands next no_demand).step.to ≤ (get_or demands k no_demand).step.to
+    → All (λ (e : Demand). (get_or demands next no_demand).step.to ≤ e.step.to) (take (k + 1) demands)
+least_more demands k least next l so_far a b =
+    All-more (λ (e : Demand). (get_or demands next no_demand).step.to ≤ e.step.to) demands k no_demand l
+    (All-weaker (λ (e : Demand). (get_or demands least no_demand).step.to ≤ e.step.to)
+    (λ (e : Demand). (get_or demands next no_demand).step.to ≤ e.step.to) (λ e h. omega (arith, h, a)) (take k demands) so_far)
     b
 
 -- ---- the steps of a ring
@@ -120,8 +120,8 @@ first_is : (cut : Cut) (i : ℕ) (steps : List Step) (j : ℕ) → 0 < length st
 first_is cut i [] j some l = absurd (omega (arith, some))
 first_is cut i (s ∷ steps) j some l = l.1
 
-module _ (ring turned final : List Edge) (steps : List Step) (m : ℕ) (there : m < length ring)
-    (least : All (λ (e : Edge). (get_or ring m no_edge).step.to ≤ e.step.to) ring)
+module _ (ring turned final : List Demand) (steps : List Step) (m : ℕ) (there : m < length ring)
+    (least : All (λ (e : Demand). (get_or ring m no_demand).step.to ≤ e.step.to) ring)
     (turns : turned ≡ drop m ring ++ take m ring) (permuted : IsPermutation ring turned)
     (back : final ≡ reverse turned) (reversed : IsPermutation turned final) (told : steps ≡ map step_of final) where
   whole : IsPermutation ring final
@@ -132,15 +132,15 @@ module _ (ring turned final : List Edge) (steps : List Step) (m : ℕ) (there : 
 
   module _ (cut : Cut) (period : ℕ) (is : IsLoop cut ring)
       (more : (pos (laps ring) *ℤ (pos period -ℤ pos 1)) <ℤ weights ring) where
-    all : All (IsEdge cut) turned
-    all = All-permutation (IsEdge cut) ring turned permuted is.each
+    all : All (IsDemand cut) turned
+    all = All-permutation (IsDemand cut) ring turned permuted is.each
 
     around : (k : ℕ) × Back k turned k
     around = let b = back_turned is.at m ring is.leads in (b.0, subst (λ es. Back b.0 es b.0) (sym turns) b.1)
 
-    starts : around.0 ≡ (get_or ring m no_edge).step.to
+    starts : around.0 ≡ (get_or ring m no_demand).step.to
     starts =
-        let b = subst (λ es. Back around.0 es around.0) (turns ∙ ap (λ es. es ++ take m ring) (drop_more ring m no_edge there)) around.1 in
+        let b = subst (λ es. Back around.0 es around.0) (turns ∙ ap (λ es. es ++ take m ring) (drop_more ring m no_demand there)) around.1 in
         sym b.0
 
     same_weights : weights final ≡ weights ring
@@ -174,8 +174,8 @@ module _ (ring turned final : List Edge) (steps : List Step) (m : ℕ) (there : 
     to_is : (i : ℕ) (d : Step) → i < length steps → (get_or steps i d).to ≡ get_or (map to_of final) i 0
     to_is i d l =
         let lf : i < length final = omega (arith, l, ap length told, length-map final step_of) in
-        ap (λ ss. (get_or ss i d).to) told ∙ ap (λ (s : Step). s.to) (get_or-map step_of final i no_edge d lf)
-        ∙ sym (get_or-map to_of final i no_edge 0 lf)
+        ap (λ ss. (get_or ss i d).to) told ∙ ap (λ (s : Step). s.to) (get_or-map step_of final i no_demand d lf)
+        ∙ sym (get_or-map to_of final i no_demand 0 lf)
 
     once : AllPairs (λ (s : Step) (t : Step). s.to ≢ t.to) steps
     once i j d l lj e =
@@ -185,13 +185,13 @@ module _ (ring turned final : List Edge) (steps : List Step) (m : ℕ) (there : 
 
     least_first : All (λ (s : Step). first_train steps ≤ s.to) steps
     least_first =
-        let all_final = All-permutation (λ (e : Edge). (get_or ring m no_edge).step.to ≤ e.step.to) ring final whole least in
-        let e : first_train steps ≡ (get_or ring m no_edge).step.to = first ∙ starts in
+        let all_final = All-permutation (λ (e : Demand). (get_or ring m no_demand).step.to ≤ e.step.to) ring final whole least in
+        let e : first_train steps ≡ (get_or ring m no_demand).step.to = first ∙ starts in
         subst (λ ss. All (λ (s : Step). first_train steps ≤ s.to) ss) (sym told)
         (All-map (λ (s : Step). first_train steps ≤ s.to) step_of final (λ k d l. let h = all_final k d l in omega (arith, e, h)))
 
     sum : total cut steps ≡ weights ring
-    sum = ap (total cut) told ∙ total_is cut final (All-permutation (IsEdge cut) ring final whole is.each) ∙ same_weights
+    sum = ap (total cut) told ∙ total_is cut final (All-permutation (IsDemand cut) ring final whole is.each) ∙ same_weights
 
     counted : patterns steps ≡ laps ring
     counted = ap patterns told ∙ patterns_is final ∙ same_laps

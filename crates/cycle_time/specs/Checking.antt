@@ -4,7 +4,7 @@ use Rattle.plan_model.specs.declared.cut.Cut.{Cut}
 use Rattle.plan_model.specs.Members.{place_count, member_count}
 use Rattle.plan_model.specs.Schedule.{window_start}
 use Rattle.train_order.specs.declared.visits.Visit.{Visit}
-use Rattle.cycle_time.specs.Edges.{KeepsPlace}
+use Rattle.cycle_time.specs.Demands.{KeepsPlace}
 use Rattle.cycle_time.specs.Laying.{KeepTurns, KeepsAgain}
 use Rattle.cycle_time.specs.Types.{Step}
 use Rattle.cycle_time.specs.Cycle.{IsStep, no_step}
@@ -32,7 +32,7 @@ Differs steps k = (j : ℕ) → j < k → (slice_index_or steps j no_step).to �
 abbrev pub IsMore : ℤ → ℕ → ℕ → Type 0
 IsMore sum count period = (pos count *ℤ (pos period -ℤ pos 1)) <ℤ sum
 
--- entries keep the edges from each visit to the next one, and from the last one to the first one of the next pattern
+-- entries keep the demands from each visit to the next one, and from the last one to the first one of the next pattern
 pub record KeepInTurn (cut : Cut) (place : ℕ) (visits : List Visit) (period : ℕ) (entries : List ℤ) : Type 0 where
   pub turns : KeepTurns cut place visits (length visits) period entries
   pub again : KeepsAgain cut place visits period entries

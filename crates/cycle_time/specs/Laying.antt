@@ -1,4 +1,4 @@
--- The edges of a cut's places: on one place by its visits in the order of precedence, and on all along an order.
+-- The demands of a cut's places: on one place by its visits in the order of precedence, and on all along an order.
 use Rattle.std.specs.Prelude.{◌≡◌, ℕ, ◌+◌, ◌-◌, ◌<◌, ℤ, pos, ◌+ℤ◌, ◌-ℤ◌, ◌≤ℤ◌, Bool, true, false, if◌then◌else◌, ◌==◌, IsTrue, Option, None, Some, IfSome, List, length, slice_index_or, All}
 use Rattle.std.specs.List.{list_any}
 use Rattle.rail_model.specs.declared.stair.Use.{Use}
@@ -8,8 +8,8 @@ use Rattle.plan_model.specs.Cut.{IsMoment}
 use Rattle.plan_model.specs.Schedule.{start_by, end_by}
 use Rattle.train_order.specs.declared.visits.Visit.{Visit}
 use Rattle.train_order.specs.Visits.{no_visit}
-use Rattle.cycle_time.specs.Types.{Edge, Stay, Ends}
-use Rattle.cycle_time.specs.Edges.{step_on, edge_on, IsSpan, IsEdge, Keeps}
+use Rattle.cycle_time.specs.Types.{Demand, Stay, Ends}
+use Rattle.cycle_time.specs.Demands.{step_on, demand_on, IsSpan, IsDemand, Keeps}
 
 -- a visit of a place by one of its users
 pub record IsVisitOf (cut : Cut) (place : ℕ) (v : Visit) : Type 0 where
@@ -35,23 +35,23 @@ pub record AreTurns (cut : Cut) (place : ℕ) (visits : List Visit) : Type 0 whe
   pub goes : (k : ℕ) → k + 1 < length visits
       → GoesBefore cut place (train_at visits k) (train_at visits (k + 1))
 
--- entries keep the edge from one visit's train to the next one's
+-- entries keep the demand from one visit's train to the next one's
 abbrev pub KeepsTurn : Cut → ℕ → List Visit → ℕ → List ℤ → ℕ → Type 0
 KeepsTurn cut place visits period entries k =
-    Keeps period entries (edge_on cut (train_at visits k) (train_at visits (k + 1)) place false)
+    Keeps period entries (demand_on cut (train_at visits k) (train_at visits (k + 1)) place false)
 
--- entries keep these edges for the first n visits
+-- entries keep these demands for the first n visits
 abbrev pub KeepTurns : Cut → ℕ → List Visit → ℕ → ℕ → List ℤ → Type 0
 KeepTurns cut place visits n period entries =
     (k : ℕ) → k + 1 < n → KeepsTurn cut place visits period entries k
 
--- on a block, they keep the edge from the last visit's train to the first one's of the next pattern
+-- on a block, they keep the demand from the last visit's train to the first one's of the next pattern
 abbrev pub KeepsAgain : Cut → ℕ → List Visit → ℕ → List ℤ → Type 0
 KeepsAgain cut place visits period entries =
     place < block_count cut → 0 < length visits
-    → Keeps period entries (edge_on cut (train_at visits (length visits - 1)) (train_at visits 0) place true)
+    → Keeps period entries (demand_on cut (train_at visits (length visits - 1)) (train_at visits 0) place true)
 
--- ---- the edges of all places, along an order
+-- ---- the demands of all places, along an order
 
 -- a train's use of a place by its entry
 abbrev pub stay_by : ℕ → ℤ → Use → Stay
@@ -62,38 +62,38 @@ abbrev pub with_stay : Option Ends → Stay → Ends
 with_stay None stay = record { first = stay; last = stay }
 with_stay (Some ends) stay = record { first = ends.first; last = stay }
 
--- the edge from the train of one use of a place to that of another
-abbrev pub edge_to : Stay → Stay → ℕ → Bool → Edge
-edge_to one other place next =
+-- the demand from the train of one use of a place to that of another
+abbrev pub demand_to : Stay → Stay → ℕ → Bool → Demand
+demand_to one other place next =
     record { step = step_on one.train other.train place next; weight = one.until -ℤ other.from }
 
--- two edges are between the same trains, of the same patterns
-pub record AreBetweenSame (one other : Edge) : Type 0 where
+-- two demands are between the same trains, of the same patterns
+pub record AreBetweenSame (one other : Demand) : Type 0 where
   pub from : one.step.from ≡ other.step.from
   pub to : one.step.to ≡ other.step.to
   pub next : one.step.next ≡ other.step.next
 
--- edges cover one more: entries that keep them keep that one, too
-abbrev pub Cover : List Edge → Edge → Type 0
-Cover edges e = (period : ℕ) (entries : List ℤ) → All (Keeps period entries) edges → Keeps period entries e
+-- demands cover one more: entries that keep them keep that one, too
+abbrev pub Cover : List Demand → Demand → Type 0
+Cover demands e = (period : ℕ) (entries : List ℤ) → All (Keeps period entries) demands → Keeps period entries e
 
--- some edges and one more: those that there are cover those that there were, and the one
-pub record IsAdded (before after : List Edge) (e : Edge) : Type 0 where
-  pub each : (cut : Cut) → All (IsEdge cut) before → IsEdge cut e → All (IsEdge cut) after
+-- some demands and one more: those that there are cover those that there were, and the one
+pub record IsAdded (before after : List Demand) (e : Demand) : Type 0 where
+  pub each : (cut : Cut) → All (IsDemand cut) before → IsDemand cut e → All (IsDemand cut) after
   pub kept : (period : ℕ) (entries : List ℤ) → All (Keeps period entries) after → All (Keeps period entries) before
   pub more : Cover after e
 
--- the edge from the last use of a place so far, if there is one, is added to some edges
-abbrev pub IsLedTo : Option Ends → Stay → ℕ → List Edge → List Edge → Type 0
+-- the demand from the last use of a place so far, if there is one, is added to some demands
+abbrev pub IsLedTo : Option Ends → Stay → ℕ → List Demand → List Demand → Type 0
 IsLedTo None stay place before after = after ≡ before
-IsLedTo (Some ends) stay place before after = IsAdded before after (edge_to ends.last stay place false)
+IsLedTo (Some ends) stay place before after = IsAdded before after (demand_to ends.last stay place false)
 
--- the edge from the last use of a place to the first use by the next pattern, if there is one, is added to some edges
-abbrev pub IsLedOn : Option Ends → ℕ → List Edge → List Edge → Type 0
+-- the demand from the last use of a place to the first use by the next pattern, if there is one, is added to some demands
+abbrev pub IsLedOn : Option Ends → ℕ → List Demand → List Demand → Type 0
 IsLedOn None place before after = after ≡ before
-IsLedOn (Some ends) place before after = IsAdded before after (edge_to ends.last ends.first place true)
+IsLedOn (Some ends) place before after = IsAdded before after (demand_to ends.last ends.first place true)
 
--- what edges from the last use and to the first one are weighed by
+-- what demands from the last use and to the first one are weighed by
 pub record HaveSpans (ends : Ends) : Type 0 where
   pub first : IsSpan ends.first.from
   pub last : IsSpan ends.last.until
@@ -127,9 +127,9 @@ KeepOrder cut place some entries =
     (i j : ℕ) → IsTrue (is_among some i) → IsTrue (is_among some j) → GoesBefore cut place i j
     → end_by cut entries i place ≤ℤ start_by cut entries j place
 
--- edges are enough for the order of some trains on a place, and the ends are known
-pub record AreEnoughFor (cut : Cut) (place : ℕ) (some : List ℕ) (edges : List Edge) (known : Option Ends) : Type 0 where
-  pub enough : (period : ℕ) (entries : List ℤ) → All (Keeps period entries) edges
+-- demands are enough for the order of some trains on a place, and the ends are known
+pub record AreEnoughFor (cut : Cut) (place : ℕ) (some : List ℕ) (demands : List Demand) (known : Option Ends) : Type 0 where
+  pub enough : (period : ℕ) (entries : List ℤ) → All (Keeps period entries) demands
       → KeepOrder cut place some entries
   pub ends : AreEndsIfAny cut place some known
 
@@ -137,22 +137,22 @@ pub record AreEnoughFor (cut : Cut) (place : ℕ) (some : List ℕ) (edges : Lis
 abbrev pub ends_at : List (Option Ends) → ℕ → Option Ends
 ends_at ends place = slice_index_or ends place None
 
--- the edges of a cut that are laid so far are enough on each place for some trains
-pub record AreLaidOn (cut : Cut) (some : ℕ → List ℕ) (edges : List Edge) (ends : List (Option Ends)) : Type 0 where
-  pub each : All (IsEdge cut) edges
+-- the demands of a cut that are laid so far are enough on each place for some trains
+pub record AreLaidOn (cut : Cut) (some : ℕ → List ℕ) (demands : List Demand) (ends : List (Option Ends)) : Type 0 where
+  pub each : All (IsDemand cut) demands
   pub count : length ends ≡ place_count cut
-  pub places : (p : ℕ) → p < place_count cut → AreEnoughFor cut p (some p) edges (ends_at ends p)
+  pub places : (p : ℕ) → p < place_count cut → AreEnoughFor cut p (some p) demands (ends_at ends p)
 
 -- on all places for the same ones
-abbrev pub AreLaid : Cut → List ℕ → List Edge → List (Option Ends) → Type 0
-AreLaid cut some edges ends = AreLaidOn cut (λ place. some) edges ends
+abbrev pub AreLaid : Cut → List ℕ → List Demand → List (Option Ends) → Type 0
+AreLaid cut some demands ends = AreLaidOn cut (λ place. some) demands ends
 
 -- some trains, and on the places of some uses one more
 abbrev pub with_uses : List ℕ → List ℕ → List Use → ℕ → List ℕ
 with_uses some more uses place = if list_any (λ u. u.block == place) uses then more else some
 
--- the edges are laid, and on the first blocks those to the next pattern
-pub record AreLaidAgain (cut : Cut) (some : List ℕ) (edges : List Edge) (ends : List (Option Ends)) (n : ℕ) : Type 0 where
-  pub laid : AreLaid cut some edges ends
+-- the demands are laid, and on the first blocks those to the next pattern
+pub record AreLaidAgain (cut : Cut) (some : List ℕ) (demands : List Demand) (ends : List (Option Ends)) (n : ℕ) : Type 0 where
+  pub laid : AreLaid cut some demands ends
   pub again : (block : ℕ) → block < n
-      → IfSome (ends_at ends block) (λ e. Cover edges (edge_to e.last e.first block true))
+      → IfSome (ends_at ends block) (λ e. Cover demands (demand_to e.last e.first block true))

@@ -1,7 +1,7 @@
 pub mod Types
 pub mod Cycle
 pub mod Laws
-pub mod Edges
+pub mod Demands
 pub mod Raising
 pub mod Laying
 pub mod Rings

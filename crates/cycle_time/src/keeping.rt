@@ -4,13 +4,13 @@ ghost use Rattle.plan_model.specs.Cut.{IsSoundCut};
 ghost use Rattle.plan_model.specs.Members.{member_count, place_count};
 ghost use Rattle.plan_model.specs.Schedule.{entry_at};
 ghost use Rattle.train_order.specs.Visits.{AreInTurn};
-ghost use Rattle.cycle_time.specs.Edges.{Keeps, KeepsPlace, asks};
+ghost use Rattle.cycle_time.specs.Demands.{Keeps, KeepsPlace, asks};
 ghost use Rattle.cycle_time.specs.Laying as given;
 ghost use Rattle.cycle_time.specs.Laying.{AreTurns};
 ghost use Rattle.cycle_time.specs.Checking.{KeepPlaces, KeepAll, KeepInTurn};
 ghost use Rattle.cycle_time.specs.Cycle.{IsRepeating};
 
-use crate::edge::{Edge, edge_between};
+use crate::demand::{Demand, demand_of};
 use plan_model::{FitCut, MEMBERS, SoundCut};
 use train_order::{Visit, visits_at};
 
@@ -110,8 +110,8 @@ fn keeps_turns(cut: &SoundCut, period: u64, entries: &[i64], place: u32, visits:
         ↔ given.KeepTurns cut.now place visits.now (length visits.now) period entries.now }
 {
     for k in 1..visits.len() {
-        let edge = edge_between(cut, place, visits[k - 1], visits[k], false);
-        if !keeps(entries, edge, period) {
+        let demand = demand_of(cut, place, visits[k - 1], visits[k], false);
+        if !keeps(entries, demand, period) {
             return false;
         }
     }
@@ -127,34 +127,34 @@ fn keeps_again(cut: &SoundCut, period: u64, entries: &[i64], place: u32, visits:
 {
     let count = visits.len();
     if place < cut.block_count() && 0 < count {
-        let edge = edge_between(cut, place, visits[count - 1], visits[0], true);
-        return keeps(entries, edge, period);
+        let demand = demand_of(cut, place, visits[count - 1], visits[0], true);
+        return keeps(entries, demand, period);
     }
     true
 }
 
-// Whether entries keep an edge. They may be any numbers.
-fn keeps(entries: &[i64], edge: Edge, period: u64) -> bool
-    requires one { edge.step.from < length entries.now }
-    requires other { edge.step.to < length entries.now }
-    ensures { IsTrue result ↔ Keeps period entries.now edge }
+// Whether entries keep a demand. They may be any numbers.
+fn keeps(entries: &[i64], demand: Demand, period: u64) -> bool
+    requires one { demand.step.from < length entries.now }
+    requires other { demand.step.to < length entries.now }
+    ensures { IsTrue result ↔ Keeps period entries.now demand }
 {
-    let asked = least_entry(entries[edge.step.from as usize], edge, period);
-    is_asked(entries[edge.step.to as usize], asked)
+    let asked = least_entry(entries[demand.step.from as usize], demand, period);
+    is_asked(entries[demand.step.to as usize], asked)
 }
 
-// When the second train of an edge can enter at the earliest, where the first enters at `entry`. It
-// is reckoned in 128 bits, since an entry from elsewhere may be any number.
-fn least_entry(entry: i64, edge: Edge, period: u64) -> i128
-    ensures is { result ≡ entry +ℤ asks period edge }
+// When the second train of a demand can enter at the earliest, where the first enters at `entry`.
+// It is reckoned in 128 bits, since an entry from elsewhere may be any number.
+fn least_entry(entry: i64, demand: Demand, period: u64) -> i128
+    ensures is { result ≡ entry +ℤ asks period demand }
 {
-    if edge.step.next {
-        return i128::from(entry) + (i128::from(edge.weight) - i128::from(period));
+    if demand.step.next {
+        return i128::from(entry) + (i128::from(demand.weight) - i128::from(period));
     }
-    i128::from(entry) + i128::from(edge.weight)
+    i128::from(entry) + i128::from(demand.weight)
 }
 
-// Whether an entry is no earlier than an edge asks for.
+// Whether an entry is no earlier than a demand asks for.
 fn is_asked(entry: i64, asked: i128) -> bool
     ensures { IsTrue result ↔ (asked ≤ℤ entry) }
 {

@@ -2,13 +2,13 @@
 //! without end, with running times, dwell times and order kept, and a ring of trains that refuses
 //! each lesser period. `shows` tells whether a cycle from elsewhere is one.
 //!
-//! On each place an edge leads to a train from the last train that used the place. On each block
-//! one more leads from the last train to the first of the next pattern. An edge's weight says how
-//! long after the first train the second must enter. Entries that keep the edges keep all pairs.
+//! On each place a demand leads to a train from the last train that used the place. On each block
+//! one more leads from the last train to the first of the next pattern. A demand's weight says how
+//! long after the first train the second must enter. Entries that keep the demands keep all pairs.
 //!
 //! To try a period, all trains enter at the window's start at first. Each round raises the second
-//! train of each edge that isn't kept, and the edge stays with it as the cause. After a round the
-//! causes are followed back from the latest raised train:
+//! train of each demand that isn't kept, and the demand stays with it as the cause. After a round
+//! the causes are followed back from the latest raised train:
 //!
 //! - They end at a train that was never raised: there is another round.
 //! - They come to a train twice: a ring, which asks for more than this period gives. The next
@@ -28,7 +28,7 @@
 #![tactic(auto)]
 
 mod checking;
-mod edge;
+mod demand;
 mod found;
 mod keeping;
 mod laws;

@@ -8,8 +8,8 @@ ghost use Rattle.train_order.specs.Ordering.{IsOrder};
 ghost use Rattle.cycle_time.specs.Cycle.{IsAnswered, IsCycle, IsStill, HasNoLesserPeriod};
 
 use crate::found::Cycle;
-use crate::laying::edges;
-use crate::least_period::{Found, least_period};
+use crate::laying::laid;
+use crate::least_period::{LeastPeriod, least_period};
 use crate::turning::told;
 use plan_model::{Cut, Disorder, FitCut};
 use rail_model::{List, OutOfMemory};
@@ -42,12 +42,12 @@ fn cycle_of(alloc: Global, cut: &FitCut, order: &[u32]) -> Result<Cycle, OutOfMe
     if cut.member_count() == 0 {
         return Ok(still(alloc));
     }
-    let edges = edges(alloc, cut, order)?;
-    let Found {
+    let demands = laid(alloc, cut, order)?;
+    let LeastPeriod {
         period,
         entries,
         ring,
-    } = least_period(alloc, cut, &edges)?;
+    } = least_period(alloc, cut, &demands)?;
     let ring = told(alloc, ring)?;
     Ok(Cycle {
         period,

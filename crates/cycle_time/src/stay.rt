@@ -1,10 +1,10 @@
 //! How trains use a place, by their entries.
 ghost use Rattle.std.specs.Prelude.{◌≡◌};
 ghost use Rattle.plan_model.specs.Cut.{IsMoment};
-ghost use Rattle.cycle_time.specs.Edges.{IsLight, IsSpan};
+ghost use Rattle.cycle_time.specs.Demands.{IsLight, IsSpan};
 ghost use Rattle.cycle_time.specs.Laying as given;
 
-use crate::edge::{Edge, headway, since};
+use crate::demand::{Demand, headway, since};
 use crate::found::Step;
 use rail_model::Use;
 
@@ -59,11 +59,11 @@ pub(crate) fn with_stay(seen: Option<Ends>, stay: Stay) -> Ends
     }
 }
 
-// The edge from the train of one stay on a place to that of another.
-pub(crate) fn edge_to(one: Stay, other: Stay, place: u32, next: bool) -> Edge
+// The demand from the train of one stay on a place to that of another.
+pub(crate) fn demand_to(one: Stay, other: Stay, place: u32, next: bool) -> Demand
     requires until { IsSpan one.until }
     requires from { IsSpan other.from }
-    ensures is { result ≡ given.edge_to one other place next }
+    ensures is { result ≡ given.demand_to one other place next }
     ensures light { IsLight result.weight }
 {
     let step = Step {
@@ -73,5 +73,5 @@ pub(crate) fn edge_to(one: Stay, other: Stay, place: u32, next: bool) -> Edge
         next,
     };
     let weight = headway(one.until, other.from);
-    Edge { step, weight }
+    Demand { step, weight }
 }

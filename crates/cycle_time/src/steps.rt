@@ -2,11 +2,11 @@
 ghost use Rattle.std.specs.Prelude.{◌≡◌, ◌<◌, ◌↔◌, IsTrue};
 ghost use Rattle.plan_model.specs.Members as members;
 ghost use Rattle.cycle_time.specs.Checking.{IsStepFrom};
-ghost use Rattle.cycle_time.specs.Edges.{IsLight};
+ghost use Rattle.cycle_time.specs.Demands.{IsLight};
 ghost use Rattle.cycle_time.specs.Cycle as rings;
 ghost use Rattle.cycle_time.specs.Cycle.{AreUsers, IsStep};
 
-use crate::edge::{headway, since};
+use crate::demand::{headway, since};
 use crate::found::Step;
 use plan_model::SoundCut;
 

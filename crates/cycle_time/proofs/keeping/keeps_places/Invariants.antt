@@ -1,5 +1,5 @@
 use Rattle.std.proofs.Common.{ℕ, ◌<◌}
-use Rattle.cycle_time.specs.Edges.{KeepsPlace}
+use Rattle.cycle_time.specs.Demands.{KeepsPlace}
 use Rattle.cycle_time.proofs.keeping.keeps_places.Given as goal
 
 abbrev pub invariant-loop-place : goal.invariant-loop-place

@@ -9,13 +9,13 @@ returns-then-not-keeps c = (
   λ turns.
       absurd (both_ways c.keeps.result c.if-not-keeps.true (c.keeps.ensures.1
       (turn_back c.args.cut.now c.args.period c.args.entries.now c.args.place c.args.visits.now c.loop-k.k c.loop-k.auto.k
-      c.edge_between-edge.result c.edge_between-edge.ensures.is c.loop-k-test.true turns))),
+      c.demand_of-demand.result c.demand_of-demand.ensures.is c.loop-k-test.true turns))),
 )
 
 pub loop-k-preserved : goal.loop-k-preserved
 loop-k-preserved c =
     turn_more c.args.cut.now c.args.period c.args.entries.now c.args.place c.args.visits.now c.loop-k.k c.loop-k.auto.k
-    c.edge_between-edge.result c.edge_between-edge.ensures.is c.loop-k.invariant (c.keeps.ensures.0 c.if-not-keeps.false)
+    c.demand_of-demand.result c.demand_of-demand.ensures.is c.loop-k.invariant (c.keeps.ensures.0 c.if-not-keeps.false)
 
 pub returns : goal.returns
 returns c = (λ t k l. c.loop-k.invariant k (omega (arith, l, c.loop-k-test.false)), λ k. refl)

@@ -5,7 +5,7 @@ use Rattle.rail_model.specs.declared.stair.Use.{Use}
 use Rattle.plan_model.specs.declared.cut.CutRow.{CutRow}
 use Rattle.plan_model.specs.Members.{member, no_use}
 use Rattle.cycle_time.specs.declared.stay.Stay.{Stay}
-use Rattle.cycle_time.specs.Edges.{IsSpan}
+use Rattle.cycle_time.specs.Demands.{IsSpan}
 use Rattle.cycle_time.specs.Laying.{stay_by, with_stay, ends_at, IsLedTo, AreLaidOn, with_uses}
 use Rattle.cycle_time.proofs.Along.{next_more, use_laid, train_laid}
 use Rattle.cycle_time.proofs.laying.lay_train.Goals as goal
@@ -19,8 +19,8 @@ loop-one-preserved c =
     let n = c.loop-one.one-index in
     let its : c.slice-one-items.result.now ≡ (member cut j).uses =
     c.slice-one-items.ensures ∙ ap (λ (r : CutRow). r.uses) c.row-row.ensures.row in
-    let before = c.loop-one.edges.items in
-    let after = c.lay_stay.new.edges.items in
+    let before = c.loop-one.demands.items in
+    let after = c.lay_stay.new.demands.items in
     let ends = c.loop-one.ends in
     let entry = (member cut j).entry in
     let items = c.slice-one-items.result.now in
@@ -34,7 +34,7 @@ loop-one-preserved c =
     n (omega (arith, c.loop-one-test.true, ap length its)) before after ends c.lay_stay.new.ends c.loop-one.invariant
     (subst (λ (u : Use). IsLedTo (ends_at ends u.block) (stay_by j entry u) u.block before after) here
     (subst (λ s. IsLedTo (ends_at ends (get_or items n no_use).block) s (get_or items n no_use).block before after) stay
-    c.in_ok-lay_stay.ensures.edges))
+    c.in_ok-lay_stay.ensures.demands))
     (subst (λ (u : Use). c.lay_stay.new.ends ≡ set ends u.block (Some (with_stay (ends_at ends u.block) (stay_by j entry u)))) here
     (subst (λ s. c.lay_stay.new.ends
     ≡ set ends (get_or items n no_use).block (Some (with_stay (ends_at ends (get_or items n no_use).block) s))) stay
@@ -52,5 +52,5 @@ returns c =
     c.slice-one-items.ensures ∙ ap (λ (r : CutRow). r.uses) c.row-row.ensures.row in
     let all = take_all c.loop-one.one-index (member cut j).uses (omega (arith, c.loop-one-test.false, ap length its)) in
     train_laid cut c.requires.sound (take k order) (take (k + 1) order) j (next_more order k c.requires.there) c.requires.next
-    c.loop-one.edges.items c.loop-one.ends
-    (subst (λ us. AreLaidOn cut (with_uses (take k order) (take (k + 1) order) us) c.loop-one.edges.items c.loop-one.ends) all c.loop-one.invariant)
+    c.loop-one.demands.items c.loop-one.ends
+    (subst (λ us. AreLaidOn cut (with_uses (take k order) (take (k + 1) order) us) c.loop-one.demands.items c.loop-one.ends) all c.loop-one.invariant)

@@ -5,4 +5,4 @@ use Rattle.cycle_time.proofs.laying.lay_train.Given as goal
 
 abbrev pub invariant-loop-one : goal.invariant-loop-one
 invariant-loop-one l =
-    AreLaidOn l.cut (with_uses (take l.k l.order) (take (l.k + 1) l.order) (take l.one-index (member l.cut l.train).uses)) l.edges.items l.ends
+    AreLaidOn l.cut (with_uses (take l.k l.order) (take (l.k + 1) l.order) (take l.one-index (member l.cut l.train).uses)) l.demands.items l.ends

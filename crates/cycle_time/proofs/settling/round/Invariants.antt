@@ -3,7 +3,7 @@ use Rattle.cycle_time.specs.Raising.{AreRaised, AreEarly}
 use Rattle.cycle_time.specs.Settling.{IsSoFar}
 use Rattle.cycle_time.proofs.settling.round.Given as goal
 
-abbrev pub invariant-loop-edge : goal.invariant-loop-edge
-invariant-loop-edge l =
+abbrev pub invariant-loop-demand : goal.invariant-loop-demand
+invariant-loop-demand l =
     AreRaised l.cut l.period l.entries l.causes × AreEarly l.entries
-    × IsSoFar l.period (take l.edge-index l.edges) l.fn.entries l.entries l.top
+    × IsSoFar l.period (take l.demand-index l.demands) l.fn.entries l.entries l.top

@@ -27,5 +27,5 @@ loop-top-preserved c = (
 pub returns : goal.returns
 returns c =
     subst (IsLeastRepeating c.args.cut.now c.args.period) (sym c.in_ok-list_of.ensures)
-    (repeats_at c.args.cut.now c.requires.sound c.args.edges.now c.requires.enough c.args.period c.loop-top.entries
+    (repeats_at c.args.cut.now c.requires.sound c.args.demands.now c.requires.enough c.args.period c.loop-top.entries
     c.round.new.entries c.round.new.causes c.round.ensures.raised c.in_default.ensures.round)

@@ -22,7 +22,7 @@ pub loop-train-smaller : goal.loop-train-smaller
 loop-train-smaller c =
     let causes = c.args.causes.now in
     let trail = c.loop-train.trail.items in
-    let e = c.in-Some.edge in
+    let e = c.in-Some.demand in
     let found : c.place_of-from.result ≡ position_or_len (λ t. t == c.loop-train.train) (map to_of trail) =
     c.place_of-from.ensures ∙ ap (λ es. position_or_len (λ (t : ℕ). t == c.loop-train.train) (map to_of es)) c.deref.ensures.value in
     let more = trail_more causes c.requires.causes c.args.top trail c.loop-train.train e c.place_of-from.result
@@ -38,7 +38,7 @@ pub loop-train-preserved : goal.loop-train-preserved
 loop-train-preserved c =
     let causes = c.args.causes.now in
     let trail = c.loop-train.trail.items in
-    let e = c.in-Some.edge in
+    let e = c.in-Some.demand in
     let found : c.place_of-from.result ≡ position_or_len (λ t. t == c.loop-train.train) (map to_of trail) =
     c.place_of-from.ensures ∙ ap (λ es. position_or_len (λ (t : ℕ). t == c.loop-train.train) (map to_of es)) c.deref.ensures.value in
     let more = trail_more causes c.requires.causes c.args.top trail c.loop-train.train e c.place_of-from.result

@@ -1,7 +1,7 @@
 //! Steps with their weights.
 ghost use Rattle.std.specs.Prelude.{◌≡◌, ◌+ℤ◌, ◌-ℤ◌, pos};
 ghost use Rattle.plan_model.specs.Cut.{IsMoment};
-ghost use Rattle.cycle_time.specs.Edges.{edge_on, IsLight, IsSpan};
+ghost use Rattle.cycle_time.specs.Demands.{demand_on, IsLight, IsSpan};
 ghost use Rattle.cycle_time.specs.Laying.{IsVisitOf};
 
 use crate::found::Step;
@@ -11,16 +11,16 @@ use train_order::Visit;
 // A step from one train to another, with its weight: how many seconds after the first train the
 // second must enter. Where the second is one of the next pattern, the period is taken off that.
 #[derive(Clone, Copy)]
-pub(crate) struct Edge {
+pub(crate) struct Demand {
     pub(crate) step: Step,
     pub(crate) weight: i64,
 }
 
-// The edge from the train of one visit of a place to that of another.
-pub(crate) fn edge_between(cut: &SoundCut, place: u32, one: Visit, other: Visit, next: bool) -> Edge
+// The demand from the train of one visit of a place to that of another.
+pub(crate) fn demand_of(cut: &SoundCut, place: u32, one: Visit, other: Visit, next: bool) -> Demand
     requires one { IsVisitOf cut.now place one }
     requires other { IsVisitOf cut.now place other }
-    ensures is { result ≡ edge_on cut.now one.member other.member place next }
+    ensures is { result ≡ demand_on cut.now one.member other.member place next }
     ensures light { IsLight result.weight }
 {
     let step = Step {
@@ -32,7 +32,7 @@ pub(crate) fn edge_between(cut: &SoundCut, place: u32, one: Visit, other: Visit,
     let until = since(cut.row(one.member).entry, end_of(one));
     let from = since(cut.row(other.member).entry, other.start);
     let weight = headway(until, from);
-    Edge { step, weight }
+    Demand { step, weight }
 }
 
 // When a visit ends.

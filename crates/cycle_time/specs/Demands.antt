@@ -3,15 +3,15 @@ use Rattle.std.specs.Prelude.{◌≡◌, ℕ, ◌<◌, ℤ, pos, ◌+ℤ◌, ◌
 use Rattle.plan_model.specs.declared.cut.Cut.{Cut}
 use Rattle.plan_model.specs.Members.{block_count, place_count, member, member_count, uses_place, precedes}
 use Rattle.plan_model.specs.Schedule.{entry_at, start_by, end_by}
-use Rattle.cycle_time.specs.Types.{Edge, Step}
+use Rattle.cycle_time.specs.Types.{Demand, Step}
 use Rattle.cycle_time.specs.Cycle.{IsStep, weight}
 
 -- the step from member i to member j on a place
 abbrev pub step_on : ℕ → ℕ → ℕ → Bool → Step
 step_on i j place next = record { from = i; to = j; block = place; next = next }
 
-abbrev pub edge_on : Cut → ℕ → ℕ → ℕ → Bool → Edge
-edge_on cut i j place next = record { step = step_on i j place next; weight = weight cut (step_on i j place next) }
+abbrev pub demand_on : Cut → ℕ → ℕ → ℕ → Bool → Demand
+demand_on cut i j place next = record { step = step_on i j place next; weight = weight cut (step_on i j place next) }
 
 -- what lies between two moments of a timetable
 pub record IsSpan (w : ℤ) : Type 0 where
@@ -24,17 +24,17 @@ pub record IsLight (w : ℤ) : Type 0 where
   pub below : w ≤ℤ pos 200000000
 
 -- a step of a cut with its weight
-pub record IsEdge (cut : Cut) (e : Edge) : Type 0 where
+pub record IsDemand (cut : Cut) (e : Demand) : Type 0 where
   pub is_step : IsStep cut e.step
   pub weight_is : e.weight ≡ weight cut e.step
   pub light : IsLight e.weight
 
 -- how much later than the first train the second enters at least, where the pattern repeats in a period
-abbrev pub asks : ℕ → Edge → ℤ
+abbrev pub asks : ℕ → Demand → ℤ
 asks period e = if e.step.next then e.weight -ℤ pos period else e.weight
 
--- entries keep an edge in a period
-abbrev pub Keeps : ℕ → List ℤ → Edge → Type 0
+-- entries keep a demand in a period
+abbrev pub Keeps : ℕ → List ℤ → Demand → Type 0
 Keeps period entries e = (entry_at entries e.step.from +ℤ asks period e) ≤ℤ entry_at entries e.step.to
 
 -- entries keep a place: who precedes another has left before the other starts, or as it starts; on a block each has
@@ -47,13 +47,13 @@ pub record KeepsPlace (cut : Cut) (period : ℕ) (entries : List ℤ) (place : �
       → IsTrue (uses_place (member cut i) place) → IsTrue (uses_place (member cut j) place)
       → end_by cut entries i place ≤ℤ (start_by cut entries j place +ℤ pos period)
 
--- entries that keep these edges keep the first places
-abbrev pub KeepFirst : Cut → List Edge → ℕ → Type 0
-KeepFirst cut edges n =
-    (period : ℕ) (entries : List ℤ) → All (Keeps period entries) edges → (place : ℕ) → place < n
+-- entries that keep these demands keep the first places
+abbrev pub KeepFirst : Cut → List Demand → ℕ → Type 0
+KeepFirst cut demands n =
+    (period : ℕ) (entries : List ℤ) → All (Keeps period entries) demands → (place : ℕ) → place < n
     → KeepsPlace cut period entries place
 
--- edges of a cut that are enough: entries that keep them keep all places, whatever the period
-pub record AreEnough (cut : Cut) (edges : List Edge) : Type 0 where
-  pub each : All (IsEdge cut) edges
-  pub enough : KeepFirst cut edges (place_count cut)
+-- demands of a cut that are enough: entries that keep them keep all places, whatever the period
+pub record AreEnough (cut : Cut) (demands : List Demand) : Type 0 where
+  pub each : All (IsDemand cut) demands
+  pub enough : KeepFirst cut demands (place_count cut)

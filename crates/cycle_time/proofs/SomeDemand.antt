@@ -1,4 +1,4 @@
--- Entries repeat in a period, or there is an edge that they don't keep.
+-- Entries repeat in a period, or there is a demand that they don't keep.
 use Rattle.std.proofs.Common.{◌≡◌, ℕ, zero, suc, ◌<◌, true, false, List, length, inl, inr, refl, sym, subst, arith}
 use Rattle.std.specs.Prelude.{ℤ, pos, ◌+ℤ◌, ◌-ℤ◌, ◌≤ℤ◌, ◌<ℤ◌, ◌⊎◌, Bool, IsTrue}
 use Rattle.std.proofs.lemmas.Bool.{cases_Bool, cases_eq, both_ways}
@@ -10,9 +10,9 @@ use Rattle.plan_model.specs.Schedule.{window_start, entry_at, start_by, end_by}
 use Rattle.plan_model.proofs.Sound.{usable, use_sound}
 use Rattle.plan_model.proofs.Uses.{place_there}
 use Rattle.train_order.proofs.Users.{users}
-use Rattle.cycle_time.specs.declared.edge.Edge.{Edge}
+use Rattle.cycle_time.specs.declared.demand.Demand.{Demand}
 use Rattle.cycle_time.specs.Cycle.{IsStep, IsRepeating}
-use Rattle.cycle_time.specs.Edges.{step_on, edge_on, IsLight, IsEdge, asks}
+use Rattle.cycle_time.specs.Demands.{step_on, demand_on, IsLight, IsDemand, asks}
 
 -- each of the first numbers has a property, or something else holds
 each_or : (P : ℕ → Type 0) (Other : Type 0) (n : ℕ) → ((k : ℕ) → k < n → P k ⊎ Other) → ((k : ℕ) → k < n → P k) ⊎ Other
@@ -40,11 +40,11 @@ same_later e s ei ej x y h = omega (arith, ints, h)
 next_later : (e s ei ej x y t : ℤ) → (s -ℤ ej +ℤ y +ℤ t) <ℤ (e -ℤ ei +ℤ x) → y <ℤ (x +ℤ ((e -ℤ ei) -ℤ (s -ℤ ej) -ℤ t))
 next_later e s ei ej x y t h = omega (arith, ints, h)
 
--- an edge of a cut by which a train must enter later
+-- a demand of a cut by which a train must enter later
 pub record AsksForMore (cut : Cut) (period : ℕ) (entries : List ℤ) : Type 0 where
-  pub edge : Edge
-  pub is_edge : IsEdge cut edge
-  pub later : entry_at entries edge.step.to <ℤ (entry_at entries edge.step.from +ℤ asks period edge)
+  pub demand : Demand
+  pub is_demand : IsDemand cut demand
+  pub later : entry_at entries demand.step.to <ℤ (entry_at entries demand.step.from +ℤ asks period demand)
 
 module _ (cut : Cut) (sound : IsSoundCut cut) (period : ℕ) (entries : List ℤ) where
   abbrev n : ℕ
@@ -53,9 +53,9 @@ module _ (cut : Cut) (sound : IsSoundCut cut) (period : ℕ) (entries : List ℤ
   abbrev More : Type 0
   More = AsksForMore cut period entries
 
-  edge_is : (i j place : ℕ) (next : Bool) → IsTrue (uses_place (member cut i) place) → IsTrue (uses_place (member cut j) place)
-      → IsStep cut (step_on i j place next) → IsEdge cut (edge_on cut i j place next)
-  edge_is i j place next ui uj step = record {
+  demand_is : (i j place : ℕ) (next : Bool) → IsTrue (uses_place (member cut i) place) → IsTrue (uses_place (member cut j) place)
+      → IsStep cut (step_on i j place next) → IsDemand cut (demand_on cut i j place next)
+  demand_is i j place next ui uj step = record {
     is_step = step;
     weight_is = refl;
     light = light (use_at (member cut i) place).«end» (member cut i).entry (use_at (member cut j) place).start (member cut j).entry
@@ -78,8 +78,8 @@ module _ (cut : Cut) (sound : IsSoundCut cut) (period : ℕ) (entries : List ℤ
         | inr fails ↦ inl (λ h. absurd (both_ways _ fails h))
         | inl h ↦ by_lt_z (start_by cut entries j place) (end_by cut entries i place)
             (λ lt. inr (record {
-              edge = edge_on cut i j place false;
-              is_edge = let used = users cut i j place h in edge_is i j place false used.0 used.1
+              demand = demand_on cut i j place false;
+              is_demand = let used = users cut i j place h in demand_is i j place false used.0 used.1
                   (record { one_there = li; other_there = lj; same = λ e. h; next = λ e. absurd (both_ways _ refl e) });
               later = same_later (use_at (member cut i) place).«end» (use_at (member cut j) place).start (member cut i).entry
                   (member cut j).entry (entry_at entries i) (entry_at entries j) lt;
@@ -95,8 +95,8 @@ module _ (cut : Cut) (sound : IsSoundCut cut) (period : ℕ) (entries : List ℤ
           | inr fails ↦ inl (λ ui uj. absurd (both_ways _ fails uj))
           | inl uj ↦ by_lt_z (start_by cut entries j block +ℤ pos period) (end_by cut entries i block)
               (λ lt. inr (record {
-                edge = edge_on cut i j block true;
-                is_edge = edge_is i j block true ui uj (record {
+                demand = demand_on cut i j block true;
+                is_demand = demand_is i j block true ui uj (record {
                   one_there = li;
                   other_there = lj;
                   same = λ e. absurd (both_ways _ e refl);
@@ -109,7 +109,7 @@ module _ (cut : Cut) (sound : IsSoundCut cut) (period : ℕ) (entries : List ℤ
         ]
       ]
 
-  -- what each two members have at each of the first places, or there is such an edge
+  -- what each two members have at each of the first places, or there is such a demand
   all_or : (P : ℕ → ℕ → ℕ → Type 0) (m : ℕ)
       → ((i j place : ℕ) → i < n → j < n → place < m → P i j place ⊎ More)
       → ((i : ℕ) → i < n → (j : ℕ) → j < n → (place : ℕ) → place < m → P i j place) ⊎ More
