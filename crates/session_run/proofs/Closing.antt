@@ -20,7 +20,7 @@ use Rattle.plan_model.specs.Outcome.{IsPlanner, ShareIsCurrent}
 use Rattle.plan_model.specs.Session.{opened, entered, IsMade, IsSession}
 use Rattle.plan_model.proofs.Growing.{opening-more, done_by-more, issued-more}
 use Rattle.plan_model.proofs.Legality.{legal_has_one, each_is_next}
-use Rattle.plan_model.proofs.TasksLeft.{none_is_left}
+use Rattle.plan_model.proofs.TasksLeft.{none_is_left, none_of}
 use Rattle.plan_model.proofs.Touching.{share_without_edits}
 use Rattle.plan_model.proofs.Working.{script_is}
 use Rattle.turn_desk.proofs.Growing.{all_right}
@@ -147,10 +147,6 @@ no_edits_more planners (e ∷ es) none h =
     (no_edits_more planners es (λ planner from to. (none_done e es planner (none planner from to)).1)
     (All-tail (EditsAsPlanner planners) e es h))
 
-nothing_left : {X : Type 0} (xs : List X) → length xs ≤ 0 → xs ≡ []
-nothing_left [] few = refl
-nothing_left (x ∷ xs) few = absurd (omega (arith, few))
-
 -- a planner keeps to its script
 keeps_to_script : (log : List Entry) (planner : ℕ) → IsJournal log → IsPlanner log planner → KeepsToScript log planner
 keeps_to_script log planner h is_planner =
@@ -171,7 +167,7 @@ done_is_script : (log : List Entry) (planner : ℕ) → IsJournal log → IsPlan
     → length (script_of log planner) ≤ length (done_by log planner) → done_by log planner ≡ script_of log planner
 done_is_script log planner h is_planner finished =
     let keeps = keeps_to_script log planner h is_planner in
-    let none : keeps.0 ≡ [] = nothing_left keeps.0 (omega (arith, ap length keeps.1, length-append (done_by log planner) keeps.0, finished)) in
+    let none : keeps.0 ≡ [] = none_of keeps.0 (omega (arith, ap length keeps.1, length-append (done_by log planner) keeps.0, finished)) in
     sym (keeps.1 ∙ ap (λ ts. done_by log planner ++ ts) none ∙ append-nil (done_by log planner))
 
 -- once no task is left, none is done

@@ -18,6 +18,7 @@ use Rattle.plan_model.specs.Legal.{IsLegal}
 use Rattle.plan_model.specs.Outcome.{IsPlanner}
 use Rattle.plan_model.proofs.Working.{script_is}
 use Rattle.plan_model.specs.Session.{opened, IsMade, AllAreCurrent, tasks_in_turn, GoesInTurn, IsSessionAlone}
+use Rattle.section_cut.proofs.Lists.{enumerate_push}
 use Rattle.session_run.specs.Turns.{IsPublication, HasCaughtUp, DoesTasks, by_planner}
 use Rattle.session_run.proofs.Turns.{tasks_for, of_planner, doer, nothing_done, all_done, tasks_more, tasks_opening, task_opening}
 
@@ -26,13 +27,6 @@ abbrev in_turn_from : ℕ → List (List Task) → List (ℕ × Task)
 in_turn_from first scripts = flat_map (λ s. map (λ t. (s.0, t)) s.1) (enumerate_from first scripts)
 
 -- ---- one script more
-
-enumerate_push : {X : Type 0} (n : ℕ) (xs : List X) (x : X)
-    → enumerate_from n (xs ++ x ∷ []) ≡ enumerate_from n xs ++ (n + length xs, x) ∷ []
-enumerate_push n [] x = ap (λ k. (k, x) ∷ []) (omega arith)
-enumerate_push n (y ∷ xs) x =
-    ap (λ r. (n, y) ∷ r)
-    (enumerate_push (n + 1) xs x ∙ ap (λ k. enumerate_from (n + 1) xs ++ (k, x) ∷ []) (omega arith))
 
 pub script_more : (scripts : List (List Task)) (k : ℕ) → k < length scripts
     → tasks_in_turn (take (k + 1) scripts) ≡ tasks_in_turn (take k scripts) ++ by_planner (k + 1) (get_or scripts k [])

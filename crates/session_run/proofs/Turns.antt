@@ -11,6 +11,7 @@ use Rattle.plan_model.specs.declared.journal.Act.TheVariants as act
 use Rattle.plan_model.specs.declared.journal.Entry.{Entry}
 use Rattle.plan_model.specs.Journal.{opening, task_of, done_by}
 use Rattle.plan_model.proofs.Growing.{opening-more, done_by-more}
+use Rattle.plan_model.proofs.Touching.{same_one}
 use Rattle.session_run.specs.Turns.{IsPublication, HasCaughtUp, DoesTask, DoesTasks}
 
 -- the tasks of one planner among those of all
@@ -38,9 +39,6 @@ pub same_opening : (found after : List Entry) → 0 < length found → HasCaught
 same_opening found after some h = ap opening h.is ∙ opening-more found h.publications some
 
 -- ---- the tasks of each planner
-
-same_one : {X : Type 0} (a b : X) → Some a ≡ Some b → a ≡ b
-same_one a b e = cc
 
 -- who does a task
 pub doer : (by planner : ℕ) (t u : Task) → (if eqb by planner then Some t else None) ≡ Some u → by ≡ planner
