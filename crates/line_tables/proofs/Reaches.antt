@@ -5,7 +5,7 @@ use Rattle.std.specs.List.{list_any, find}
 use Rattle.std.specs.Option.{option_map_or}
 use Rattle.std.proofs.lemmas.Bool.{cases_Bool, both_ways, eqb-true, eq-eqb, or_parts, and_parts, false_from_ne_true}
 use Rattle.std.proofs.lemmas.List.Folds.{list_any_none}
-use Rattle.std.proofs.Math.Bool.{or-true, and-false}
+use Rattle.std.proofs.Math.Bool.{or-false, or-true, and-false}
 use Rattle.rail_model.specs.declared.items.Route.{Route}
 use Rattle.rail_model.specs.declared.items.Signal.{Signal}
 use Rattle.line_tables.specs.declared.linked.Linked.{Linked}
@@ -19,10 +19,6 @@ use Rattle.line_tables.proofs.References.{list_any_same}
 use Rattle.line_tables.proofs.Meets.{under_passes}
 use Rattle.line_tables.proofs.Repeats.{moved, key_once}
 use Rattle.line_tables.proofs.Under.{IsSwapped}
-
-or_none : (a : Bool) → (a || false) ≡ a
-or_none true = refl
-or_none false = refl
 
 -- ---- another route, or none, under a key
 
@@ -55,7 +51,7 @@ module _ (f : ℕ → ℕ) where
         | inl e ↦
             let key = eqb-true r k e in
             let was : has old x r ≡ before = sets x r ∙ ap (reaches f routes x) key ∙ led_by f (under routes k) x in
-            let left : has new x r ≡ after = changed x r ∙ rw (e, was, and_true after, and_true before, not_both before) (or_none after) in
+            let left : has new x r ≡ after = changed x r ∙ rw (e, was, and_true after, and_true before, not_both before) (or-false after) in
             let stands : under later r ≡ now = swapped r ∙ rw e refl in
             left ∙ sym (rw stands (led_by f now x))
         | inr e ↦
