@@ -21,7 +21,7 @@ use Rattle.train_placing.proofs.Row.{from_below, reached}
 pub later_still : (n : ℕ) (t : ℤ) → t ≤ℤ latest n → t ≤ℤ latest (n + 1)
 later_still n t h = omega (arith, ints, h)
 
-floor_latest : (n : ℕ) (t x : ℤ) → IsFloor t → x ≡ t → x ≤ℤ latest (n + 1)
+pub floor_latest : (n : ℕ) (t x : ℤ) → IsFloor t → x ≡ t → x ≤ℤ latest (n + 1)
 floor_latest n t x h e = omega (arith, ints, h.before, e)
 
 -- a use ends within the limit, its train entered by then, and the next train's times are within the limit

@@ -76,7 +76,13 @@ row_step cut row train entry p last sound = uses_step row.entry train entry p la
 abbrev pub asked : ℤ → List Use → ℕ → Last → ℤ
 asked planned uses p l = l.until -ℤ ((at uses p).start -ℤ planned)
 
-max_either : (a b : ℤ) → (int_max a b ≡ a) ⊎ (int_max a b ≡ b)
+pub max_left : (a b : ℤ) → a ≤ℤ int_max a b
+max_left a b = grind (arith, ints)
+
+pub max_right : (a b : ℤ) → b ≤ℤ int_max a b
+max_right a b = grind (arith, ints)
+
+pub max_either : (a b : ℤ) → (int_max a b ≡ a) ⊎ (int_max a b ≡ b)
 max_either a b =
     elim (cases_Bool (int_lt a b)) [
       | inl e ↦ inr (grind (arith, ints, e))
