@@ -1,8 +1,8 @@
 -- Trains that enter one after the other, each as early as its floor and the edges to it allow.
-use Rattle.std.proofs.Common.{◌≡◌, ◌≢◌, ℕ, ◌+◌, ◌<◌, ◌≤◌, ◌⊎◌, List, ◌++◌, ◌∷◌, [], length, get_or, set, inl, inr, refl, sym, ap, subst, ◌∙◌, arith, length-set}
-use Rattle.std.specs.Prelude.{ℤ, pos, ◌+ℤ◌, ◌-ℤ◌, ◌≤ℤ◌, int_lt, All, Any, slice_index}
+use Rattle.std.proofs.Common.{◌≡◌, ◌≢◌, ℕ, ◌+◌, ◌<◌, ◌≤◌, List, ◌++◌, ◌∷◌, [], length, get_or, set, inl, inr, refl, sym, ap, subst, ◌∙◌, arith, length-set}
+use Rattle.std.specs.Prelude.{ℤ, pos, ◌+ℤ◌, ◌-ℤ◌, ◌≤ℤ◌, All, Any, slice_index}
 use Rattle.std.specs.Int.{int_max}
-use Rattle.std.proofs.lemmas.Bool.{cases_Bool, cases_eq}
+use Rattle.std.proofs.lemmas.Bool.{cases_eq}
 use Rattle.std.proofs.lemmas.Int.{ints}
 use Rattle.std.proofs.lemmas.List.{get_or-set_other, get_or-set_same}
 use Rattle.std.proofs.lemmas.List.Elements.{All-push, All-set}
@@ -17,6 +17,8 @@ use Rattle.train_order.proofs.Apart.{below}
 use Rattle.train_order.proofs.Users.{users, somewhere}
 use Rattle.train_placing.specs.Last.{IsNear}
 use Rattle.train_placing.specs.Placing.{latest}
+use Rattle.train_placing.proofs.Moments.{later_still}
+use Rattle.train_placing.proofs.Row.{max_either, max_left, max_right}
 use Rattle.train_net.specs.declared.edge.Edge.{Edge}
 use Rattle.train_net.specs.Net.{IsEdge, edges_to, IsNet}
 use Rattle.train_net.specs.Read.{by_edge, IsSolved, AreSolved}
@@ -34,19 +36,6 @@ pub record AreEntered (cut : Cut) (order : List ℕ) (edges : List (List Edge)) 
 
 -- ---- with one edge more
 
-max_either : (a b : ℤ) → (int_max a b ≡ a) ⊎ (int_max a b ≡ b)
-max_either a b =
-    elim (cases_Bool (int_lt a b)) [
-      | inl e ↦ inr (grind (arith, ints, e))
-      | inr e ↦ inl (grind (arith, ints, e))
-    ]
-
-max_first : (a b : ℤ) → a ≤ℤ int_max a b
-max_first a b = grind (arith, ints)
-
-max_other : (a b : ℤ) → b ≤ℤ int_max a b
-max_other a b = grind (arith, ints)
-
 no_less : (a b c : ℤ) → a ≤ℤ b → b ≤ℤ c → a ≤ℤ c
 no_less a b c p q = omega (arith, ints)
 
@@ -63,10 +52,10 @@ solved_more floor edges entries entry e is =
     let by = by_edge entries e in
     let next = int_max entry by in
     record {
-      from = no_less floor entry next is.from (max_first entry by);
+      from = no_less floor entry next is.from (max_left entry by);
       after =
           All-push (λ f. by_edge entries f ≤ℤ next) edges e
-          (λ k d l. no_less (by_edge entries (get_or edges k d)) entry next (is.after k d l) (max_first entry by)) (max_other entry by);
+          (λ k d l. no_less (by_edge entries (get_or edges k d)) entry next (is.after k d l) (max_left entry by)) (max_right entry by);
       tied =
           elim (max_either entry by) [
             | inl same ↦
@@ -104,9 +93,6 @@ near_between n start t m from before few = record {
   after = omega (arith, ints, m.after, from);
   before = omega (arith, ints, before, few);
 }
-
-latest_more : (n : ℕ) (t : ℤ) → t ≤ℤ latest n → t ≤ℤ latest (n + 1)
-latest_more n t h = omega (arith, ints, h)
 
 latest_by : (n : ℕ) (x w t : ℤ) → t ≡ (x +ℤ w) → x ≤ℤ latest n → IsShort w → t ≤ℤ latest (n + 1)
 latest_by n x w t e h short = omega (arith, ints, e, h, short.before)
@@ -193,7 +179,7 @@ module _ (cut : Cut) (order : List ℕ) (edges : List (List Edge)) (sound : IsSo
                     latest_by n (entry_at entries e.from) e.weight t enters
                     (entered.latest e.from (pos 0) (omega (arith, edge.there, entered.count))) (edge_short cut sound train lt e edge)
               ])
-              (λ k d l. latest_more n _ (entered.latest k d l));
+              (λ k d l. later_still n _ (entered.latest k d l));
           solved = λ m l.
               let j = get_or order m 0 in
               elim (cases_eq m n) [

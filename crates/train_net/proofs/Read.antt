@@ -18,6 +18,7 @@ use Rattle.train_order.proofs.Users.{user_there, users, somewhere}
 use Rattle.train_order.proofs.Among.{stands_at, among_at}
 use Rattle.train_placing.specs.declared.last.Last.{Last}
 use Rattle.train_placing.specs.Placing.{IsFloor, IsFirstTouch, IsTie, IsLeft, latest}
+use Rattle.train_placing.proofs.Moments.{floor_latest}
 use Rattle.train_net.specs.declared.edge.Edge.{Edge}
 use Rattle.train_net.specs.Net.{standing, IsEdge, edges_to, IsNet}
 use Rattle.train_net.specs.Read.{by_edge, AreSolved, IsFirstTight, IsTieBy, IsLeftAlong}
@@ -27,9 +28,6 @@ use Rattle.train_net.proofs.Solved.{apart, keeps_order, touches_by}
 use Rattle.train_net.proofs.Touched.{touch_edge}
 
 -- a floor, and what an edge allows, are within the limits
-floor_within : (n : ℕ) (t x : ℤ) → IsFloor t → x ≡ t → x ≤ℤ latest (n + 1)
-floor_within n t x h e = omega (arith, ints, h.before, e)
-
 allowed_within : (stop a start b y w x : ℤ) (p n : ℕ) → w ≡ ((stop -ℤ a) -ℤ (start -ℤ b)) → IsMoment stop → IsMoment a
     → IsMoment start → IsMoment b → y ≤ℤ latest (p + 1) → x ≡ (y +ℤ w) → p < n → x ≤ℤ latest (n + 1)
 allowed_within stop a start b y w x p n weight c d e f before at lt = omega
@@ -129,7 +127,7 @@ module _ (cut : Cut) (order : List ℕ) (edges : List (List Edge)) (entries : Li
       let j = slice_index order at in
       let lj = below cut order net.in_order.each_once at 0 within in
       elim ((solved j lj).tied) [
-        | inl e ↦ floor_within at (floor j) (entry_at entries j) (floors j lj) e
+        | inl e ↦ floor_latest at (floor j) (entry_at entries j) (floors j lj) e
         | inr (k, e, l, is, enters) ↦
             let edge : IsEdge cut j e = subst (IsEdge cut j) is (edge_to cut order edges net j lj k e l) in
             let i = e.from in
