@@ -1,6 +1,6 @@
 -- The occupancy time of members and copies: each block that the copies use is kept up to the end of the last copy.
-use Rattle.std.proofs.Common.{◌≡◌, ℕ, suc, ◌+◌, ◌-◌, ◌*◌, ◌<◌, ◌≤◌, max, true, false, List, replicate, inl, inr, refl, sym, ap, subst, ◌∙◌, arith, length-append}
-use Rattle.std.specs.Prelude.{◌⊎◌, ℤ, pos, negsuc, ◌+ℤ◌, ◌-ℤ◌, ◌≤ℤ◌, ◌<ℤ◌, ◌++◌, nat_abs}
+use Rattle.std.proofs.Common.{◌≡◌, ℕ, suc, ◌+◌, ◌-◌, ◌*◌, ◌<◌, ◌≤◌, max, true, false, List, replicate, inl, inr, sym, ap, subst, ◌∙◌, arith, length-append}
+use Rattle.std.specs.Prelude.{◌⊎◌, ℤ, pos, ◌+ℤ◌, ◌-ℤ◌, ◌≤ℤ◌, ◌<ℤ◌, ◌++◌, nat_abs}
 use Rattle.std.specs.List.{list_any}
 use Rattle.std.proofs.lemmas.Bool.{cases_Bool, cases_lt, both_ways}
 use Rattle.std.proofs.lemmas.Int.{ints}
@@ -13,6 +13,7 @@ use Rattle.plan_model.specs.Members.{block_count, blocks, member, member_count, 
 use Rattle.plan_model.specs.Cut.{IsSoundCut}
 use Rattle.plan_model.specs.Schedule.{entry_at, start_at, end_at, start_by, end_by, IsLeast}
 use Rattle.plan_model.specs.Answer.{users, used_blocks, first_start, last_end, time_kept, occupancy}
+use Rattle.plan_model.proofs.Closing.{abs_is, not_negative as difference}
 use Rattle.plan_model.proofs.MemberTests.{has, in_range, filter-has, some_member}
 use Rattle.plan_model.proofs.Uses.{takes_time}
 use Rattle.plan_model.proofs.Users.{is_user, user, is_used}
@@ -23,10 +24,6 @@ use Rattle.path_fill.proofs.FirstCopy.{IsFirstCopy, ends_later}
 use Rattle.path_fill.proofs.Least.{IsOwnHeadway, copy_entry, copy_entries, at}
 
 -- ---- moments
-
-pub abs_is : (z : ℤ) → pos 0 ≤ℤ z → pos (nat_abs z) ≡ z
-abs_is (pos n) h = refl
-abs_is (negsuc n) h = absurd (omega (arith, ints, h))
 
 -- a copy that enters at the first copy's entry or later starts and ends no earlier than it
 start_later : (s e y : ℤ) (a : ℕ) → (s -ℤ e +ℤ y) ≤ℤ (s -ℤ e +ℤ (y +ℤ pos a))
@@ -57,9 +54,6 @@ time_reached t first a kept is l = omega (arith, ints, is, l)
 
 no_longer : (t u : ℕ) (last first end : ℤ) → pos t ≡ last -ℤ first → pos u ≡ end -ℤ first → last ≤ℤ end → t ≤ u
 no_longer t u last first end a b l = omega (arith, ints, a, b, l)
-
-difference : (a b : ℤ) → a ≤ℤ b → pos 0 ≤ℤ (b -ℤ a)
-difference a b h = omega (arith, ints, h)
 
 through : (a s f b : ℤ) → a ≤ℤ s → s ≤ℤ f → f ≤ℤ b → a ≤ℤ b
 through a s f b x y z = omega (arith, ints, x, y, z)

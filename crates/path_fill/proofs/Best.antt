@@ -1,23 +1,11 @@
 -- The greatest of a number and of those at the places that pass a test, place after place.
 use Rattle.std.proofs.Common.{◌≡◌, ℕ, ◌+◌, true, false, inl, inr, refl, sym, ap, subst, ◌∙◌, arith}
-use Rattle.std.specs.Prelude.{◌⊎◌, ℤ, pos, ◌≤ℤ◌, int_lt, Bool, Option, None, Some}
+use Rattle.std.specs.Prelude.{ℤ, pos, ◌≤ℤ◌, Bool, Option, None, Some}
 use Rattle.std.specs.Int.{int_max}
 use Rattle.std.proofs.lemmas.Bool.{cases_Bool, cases_eq, both_ways}
 use Rattle.std.proofs.lemmas.Int.{ints}
+use Rattle.train_placing.proofs.Row.{max_either, max_left, max_right}
 use Rattle.path_fill.specs.Search.{where_used, greater, IsAtMost, IsGreatest}
-
-max_left : (a b : ℤ) → a ≤ℤ int_max a b
-max_left a b = grind (arith, ints)
-
-max_right : (a b : ℤ) → b ≤ℤ int_max a b
-max_right a b = grind (arith, ints)
-
-max_either : (a b : ℤ) → (int_max a b ≡ a) ⊎ (int_max a b ≡ b)
-max_either a b =
-    elim (cases_Bool (int_lt a b)) [
-      | inl e ↦ inr (grind (arith, ints, e))
-      | inr e ↦ inl (grind (arith, ints, e))
-    ]
 
 module _ (test : ℕ → Bool) (f : ℕ → ℤ) (from : ℤ) where
   pub none_yet : IsGreatest test f 0 from from

@@ -10,6 +10,7 @@ use Rattle.plan_model.specs.Cut.{IsBounded, IsSoundCut}
 use Rattle.plan_model.specs.Disorder.{remaining}
 use Rattle.plan_model.specs.Schedule.{window_start, window_floor}
 use Rattle.plan_model.specs.Answer.{occupancy}
+use Rattle.plan_model.proofs.Closing.{abs_is}
 use Rattle.train_order.specs.Ordering.{IsOrder}
 use Rattle.train_order.proofs.Next.{count}
 use Rattle.train_placing.specs.declared.last.Last.{Last}
@@ -21,7 +22,6 @@ use Rattle.train_placing.proofs.Whole.{least}
 use Rattle.path_fill.specs.declared.found.Fill.{Fill}
 use Rattle.path_fill.specs.Filling.{IsFill}
 use Rattle.path_fill.specs.Search.{asked, kept_to, time_at, IsGreatest, IsFillBy}
-use Rattle.path_fill.proofs.Behind.{abs_is}
 use Rattle.path_fill.proofs.FirstCopy.{first_copy_is}
 use Rattle.path_fill.proofs.Filled.{own_is, fill_is}
 

@@ -7,12 +7,12 @@ use Rattle.plan_model.specs.Members.{block_count, member, member_count, uses_pla
 use Rattle.plan_model.specs.Cut.{IsSoundCut}
 use Rattle.plan_model.specs.Schedule.{window_start, window_floor, start_at, end_by, IsLeast}
 use Rattle.plan_model.specs.Answer.{occupancy}
+use Rattle.plan_model.proofs.Closing.{abs_is}
 use Rattle.compression.proofs.SomeLeast.{least_is_there}
 use Rattle.path_fill.specs.Filling.{IsFilledOccupancy}
 use Rattle.path_fill.specs.Laws.{FilledOccupancyIsThere}
 use Rattle.path_fill.specs.Search.{where_used, greater, time_at, kept_to, filled_time, IsGreatest}
 use Rattle.path_fill.proofs.Best.{none_yet, one_more}
-use Rattle.path_fill.proofs.Behind.{abs_is}
 use Rattle.path_fill.proofs.FirstCopy.{IsFirstCopy, starts_after, asked_by}
 use Rattle.path_fill.proofs.Filled.{own_is, filled_is}
 
