@@ -25,7 +25,7 @@ abs_is (pos n) h = refl
 abs_is (negsuc n) h = absurd (omega (arith, ints, h))
 
 -- what starts before it ends, and ends before another starts, starts before it
-starts_before : (s f e x t : ℤ) → s <ℤ f → (f -ℤ e +ℤ x) ≤ℤ t → (s -ℤ e +ℤ x) ≤ℤ t
+pub starts_before : (s f e x t : ℤ) → s <ℤ f → (f -ℤ e +ℤ x) ≤ℤ t → (s -ℤ e +ℤ x) ≤ℤ t
 starts_before s f e x t h l = omega (arith, ints)
 
 -- an entry that is later by some time is a start that is later by it
@@ -38,7 +38,7 @@ not_negative a b h = omega (arith, ints)
 reached : (s e x m : ℤ) (k o : ℕ) → pos k ≡ (m -ℤ (s -ℤ e +ℤ x)) → k ≤ o → m ≤ℤ (s -ℤ e +ℤ (x +ℤ pos o))
 reached s e x m k o h l = omega (arith, ints)
 
-back : (x y : ℤ) (o : ℕ) → y ≤ℤ (x +ℤ pos o) → (y -ℤ x) ≤ℤ pos o
+pub back : (x y : ℤ) (o : ℕ) → y ≤ℤ (x +ℤ pos o) → (y -ℤ x) ≤ℤ pos o
 back x y o h = omega (arith, ints)
 
 below_pos : (k : ℕ) (z : ℤ) → pos k ≤ℤ z → k ≤ nat_abs z

@@ -2,7 +2,7 @@
 use Rattle.std.proofs.Common.{◌≡◌, ℕ, ◌<◌, Bool, true, false, List, [], ◌∷◌, ◌∙◌, inl, inr, refl, sym, ap, subst}
 use Rattle.std.specs.Prelude.{◌==◌, not, None, Some, find}
 use Rattle.std.specs.List.{list_all}
-use Rattle.std.proofs.lemmas.Bool.{cases_Bool, cases_order, eqb-true, eq-eqb, and_from, and_parts, or_left, or_right, or_cases, not_from_false}
+use Rattle.std.proofs.lemmas.Bool.{cases_Bool, cases_order, eqb-true, eq-eqb, and_from, and_parts, or_left, or_right, or_cases, not_from_false, not-true}
 use Rattle.rail_model.specs.Name.{is_before}
 use Rattle.rail_model.proofs.NameOrder.{same_if_neither}
 use Rattle.plan_model.specs.declared.cut.Cut.{Cut}
@@ -65,10 +65,7 @@ first_is cut sound some b there h first =
     (λ c e all.
     let other = one_passes (λ d. not (is_before (place_name cut d) (place_name cut c))) some b all h in
     same_place cut sound c b (there c e) (there b h)
-    (same_if_neither (place_name cut c) (place_name cut b) (first c e) (not_true (is_before (place_name cut b) (place_name cut c)) other))) where
-      not_true : (x : Bool) → not x ≡ true → x ≡ false
-      not_true true h = absurd (cc)
-      not_true false h = refl
+    (same_if_neither (place_name cut c) (place_name cut b) (first c e) (not-true (is_before (place_name cut b) (place_name cut c)) other)))
 
 -- of no places there is none
 pub first_of_none : (cut : Cut) (some : List ℕ) → ((b : ℕ) → has some b ≡ true → ⊥) → first_by_name cut some ≡ None

@@ -8,6 +8,7 @@ use Rattle.plan_model.specs.Schedule.{entry_at, start_by, end_by}
 use Rattle.plan_model.specs.Answer.{users, used_blocks, first_start, last_end, time_kept, occupancy, IsAfterAll}
 use Rattle.plan_model.specs.Laws.{OccupancyReachesClosing}
 use Rattle.plan_model.proofs.Users.{user_there, is_user, is_used}
+use Rattle.plan_model.proofs.Closing.{back}
 use Rattle.plan_model.proofs.Greatest.{above_each, below_each, longest_above}
 
 below_abs : (z : ℤ) → z ≤ℤ pos (nat_abs z)
@@ -18,9 +19,6 @@ below_abs (negsuc n) = omega (arith, ints)
 after : (end first last s e x : ℤ) (kept most : ℕ) → end ≤ℤ last → first ≤ℤ (s -ℤ e +ℤ x) → (last -ℤ first) ≤ℤ pos kept
     → kept ≤ most → end ≤ℤ (s -ℤ e +ℤ (x +ℤ pos most))
 after end first last s e x kept most p q r l = omega (arith, ints)
-
-back : (x y : ℤ) (most : ℕ) → y ≤ℤ (x +ℤ pos most) → (y -ℤ x) ≤ℤ pos most
-back x y most h = omega (arith, ints)
 
 -- a copy that enters later than its train by the occupancy time comes after all members
 later_copy : (cut : Cut) (entries : List ℤ) (c : ℕ)

@@ -38,7 +38,7 @@ module _ (cut : Cut) where
   abbrev Remains : ℕ → Type 0
   Remains j = has (remaining cut) j ≡ true
 
-  of_rounds : (n : ℕ) (some : List ℕ) (j : ℕ) → has (after_rounds cut n some) j ≡ true → has some j ≡ true
+  pub of_rounds : (n : ℕ) (some : List ℕ) (j : ℕ) → has (after_rounds cut n some) j ≡ true → has some j ≡ true
   of_rounds zero some j h = h
   of_rounds (suc n) some j h =
       (filter-has (λ j. list_any (λ i. precedes_somewhere cut i j) some) some j (of_rounds n (preceded cut some) j h)).0
@@ -96,7 +96,7 @@ module _ (cut : Cut) where
   -- ---- the links
 
   -- of some places one is the first by name
-  looked_at : (some later : List ℕ) (best : Option ℕ) → AnswersFirst cut some best
+  pub looked_at : (some later : List ℕ) (best : Option ℕ) → AnswersFirst cut some best
       → AnswersFirst cut (some ++ later) (fold (first_with cut) best later)
   looked_at some [] best first = subst (λ ps. AnswersFirst cut ps best) (sym (append-nil some)) first
   looked_at some (p ∷ later) best first =
