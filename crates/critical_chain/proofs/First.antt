@@ -1,24 +1,16 @@
 -- Where a train is touched, there is a first train by name that touches it, and a first place.
-use Rattle.std.proofs.Common.{◌≡◌, ℕ, ◌<◌, Bool, true, List, [], ◌∷◌, ◌++◌, refl, sym, ap, subst, ◌∙◌, append_assoc, arith}
+use Rattle.std.proofs.Common.{◌≡◌, ℕ, ◌<◌, Bool, true, List, [], refl, ap, ◌∙◌, arith}
 use Rattle.std.specs.Prelude.{ℤ, Option, Some, None, filter, fold, option_map, option_and_then}
 use Rattle.std.specs.List.{list_any}
-use Rattle.std.proofs.lemmas.List.{append-nil}
 use Rattle.plan_model.specs.declared.cut.Cut.{Cut}
 use Rattle.plan_model.specs.declared.answer.Tie.TheVariants.{After}
 use Rattle.plan_model.specs.Members.{places, place_count, first_by_name, first_with, AnswersFirst, member_count, members}
 use Rattle.plan_model.specs.Cut.{IsSoundCut}
 use Rattle.plan_model.specs.Schedule.{touches, touch, touching_place}
 use Rattle.plan_model.proofs.MemberTests.{has, has-range, has_any, has-filter, filter-has, in_range}
-use Rattle.plan_model.proofs.FirstWith.{one_more, is_first}
+use Rattle.plan_model.proofs.FirstWith.{is_first}
+use Rattle.plan_model.proofs.TrueRing.{looked_at}
 use Rattle.train_order.proofs.Find.{find_some}
-
--- of some places of a sound cut one is the first by name
-all_looked_at : (cut : Cut) (some later : List ℕ) (best : Option ℕ) → AnswersFirst cut some best
-    → AnswersFirst cut (some ++ later) (fold (first_with cut) best later)
-all_looked_at cut some [] best first = subst (λ ps. AnswersFirst cut ps best) (sym (append-nil some)) first
-all_looked_at cut some (p ∷ later) best first =
-    subst (λ ps. AnswersFirst cut ps (fold (first_with cut) best (p ∷ later))) (append_assoc some (p ∷ []) later)
-    (all_looked_at cut (some ++ p ∷ []) later (first_with cut best p) (one_more cut some p best first))
 
 is_some : (cut : Cut) (some : List ℕ) (i : ℕ) (best : Option ℕ) → has some i ≡ true → AnswersFirst cut some best
     → (b : ℕ) × (best ≡ Some b)
@@ -29,7 +21,7 @@ first_there : (cut : Cut) → IsSoundCut cut → (some : List ℕ) (i : ℕ) →
     → ((c : ℕ) → has some c ≡ true → c < place_count cut) → (b : ℕ) × (first_by_name cut some ≡ Some b)
 first_there cut sound some i h there =
     let best = fold (first_with cut) None some in
-    let first = all_looked_at cut [] some None refl in
+    let first = looked_at cut [] some None refl in
     let b = is_some cut some i best h first in
     (b.0, is_first cut sound some best there first ∙ b.1)
 

@@ -5,16 +5,12 @@ use Rattle.std.proofs.lemmas.Bool.{cases_Bool, both_ways, false_from_ne_true}
 use Rattle.plan_model.specs.declared.cut.Cut.{Cut}
 use Rattle.plan_model.specs.Members.{member_count, members, precedes_somewhere}
 use Rattle.plan_model.specs.Disorder.{preceded, after_rounds}
-use Rattle.plan_model.proofs.MemberTests.{has, has-range, has_any, has-filter, filter-has}
+use Rattle.plan_model.proofs.MemberTests.{has, has-range, has_any, has-filter}
+use Rattle.plan_model.proofs.TrueRing.{of_rounds}
 
 module _ (cut : Cut) where
-  pub still_there : (n : ℕ) (some : List ℕ) (i : ℕ) → has (after_rounds cut n some) i ≡ true → has some i ≡ true
-  still_there zero some i h = h
-  still_there (suc n) some i h =
-      (filter-has (λ j. list_any (λ k. precedes_somewhere cut k j) some) some i (still_there n (preceded cut some) i h)).0
-
   none_comes_back : (n : ℕ) (some : List ℕ) (i : ℕ) → has some i ≡ false → has (after_rounds cut n some) i ≡ false
-  none_comes_back n some i out = false_from_ne_true _ (λ h. both_ways _ out (still_there n some i h))
+  none_comes_back n some i out = false_from_ne_true _ (λ h. both_ways _ out (of_rounds cut n some i h))
 
   module _ (i j : ℕ) (before : precedes_somewhere cut i j ≡ true) where
     -- where a train goes in a round, those that precede it are gone
