@@ -1,15 +1,16 @@
 -- With one train fewer the others keep an order.
-use Rattle.std.proofs.Common.{◌≡◌, ℕ, zero, suc, ◌<◌, Bool, true, List, [], ◌∷◌, refl, sym, subst, arith}
+use Rattle.std.proofs.Common.{◌≡◌, ℕ, ◌<◌, Bool, true, List, [], ◌∷◌, refl, sym, subst, arith}
 use Rattle.std.specs.Prelude.{◌==◌}
 use Rattle.std.specs.List.{list_any}
 use Rattle.std.proofs.lemmas.Bool.{eq-eqb, or_left}
 use Rattle.std.proofs.lemmas.List.Folds.{Any-from_list_any, list_any_at}
 use Rattle.plan_model.specs.declared.cut.Cut.{Cut}
 use Rattle.plan_model.specs.Members.{member, member_count, members, precedes_somewhere}
-use Rattle.plan_model.specs.Disorder.{preceded, after_rounds, remaining}
+use Rattle.plan_model.specs.Disorder.{preceded, remaining}
 use Rattle.plan_model.proofs.MemberTests.{has, in_range, filter-has}
 use Rattle.plan_model.proofs.Preceded.{remain}
 use Rattle.plan_model.proofs.Remaining.{remaining_is_left}
+use Rattle.plan_model.proofs.TrueRing.{of_rounds}
 use Rattle.compression.specs.Laws.{cut_without, OrderStaysWithout}
 use Rattle.compression.proofs.Fewer.{stays}
 
@@ -19,14 +20,6 @@ some_of test some h =
     let at = Any-from_list_any test some h in
     (at.1, list_any_at (λ k. k == at.1) some at.0 at.1 at.2 (eq-eqb _ at.1 at.3), at.4)
 
--- what is there after some rounds was there before
-before_rounds : (cut : Cut) (n : ℕ) (some : List ℕ) (j : ℕ) → has (after_rounds cut n some) j ≡ true
-    → has some j ≡ true
-before_rounds cut zero some j h = h
-before_rounds cut (suc n) some j h =
-    (filter-has (λ k. list_any (λ i. precedes_somewhere cut i k) some) some j
-    (before_rounds cut n (preceded cut some) j h)).0
-
 module _ (cut : Cut) (r : ℕ) (there : r < member_count cut) where
   abbrev rest : Cut
   rest = cut_without cut r
@@ -35,7 +28,7 @@ module _ (cut : Cut) (r : ℕ) (there : r < member_count cut) where
   left_there j h =
       omega (
         arith,
-        in_range 0 (member_count rest) j (before_rounds rest (member_count rest) (members rest) j h),
+        in_range 0 (member_count rest) j (of_rounds rest (member_count rest) (members rest) j h),
       )
 
   same_before : (i j k m : ℕ) → member rest i ≡ member cut k → member rest j ≡ member cut m
