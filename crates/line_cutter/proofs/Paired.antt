@@ -1,15 +1,10 @@
 -- Two lists whose elements are related place by place.
-use Rattle.std.proofs.Common.{◌≡◌, ℕ, zero, suc, ◌+◌, ◌<◌, List, [], ◌∷◌, ◌++◌, length, take, get_or, refl, sym, ap, subst, ◌∙◌, arith}
+use Rattle.std.proofs.Common.{◌≡◌, ℕ, zero, suc, ◌+◌, ◌<◌, List, [], ◌∷◌, ◌++◌, length, take, get_or, sym, ap, subst, ◌∙◌, arith}
 use Rattle.std.specs.List.{AllZip}
 use Rattle.std.proofs.lemmas.List.{take_more}
+use Rattle.std.proofs.lemmas.Slice.Zip.{all_zipped_more}
 
 module _ {A B : Type 0} (R : A → B → Type 0) where
-  pub paired_count : (xs : List A) (ys : List B) → AllZip R xs ys → length ys ≡ length xs
-  paired_count [] [] h = refl
-  paired_count [] (y ∷ ys) h = absurd h
-  paired_count (x ∷ xs) [] h = absurd h
-  paired_count (x ∷ xs) (y ∷ ys) h = ap suc (paired_count xs ys h.1)
-
   pub paired_at : (xs : List A) (ys : List B) (k : ℕ) (d : A) (e : B) → AllZip R xs ys → k < length xs
       → R (get_or xs k d) (get_or ys k e)
   paired_at [] [] k d e h l = absurd (omega arith)
@@ -18,15 +13,8 @@ module _ {A B : Type 0} (R : A → B → Type 0) where
   paired_at (x ∷ xs) (y ∷ ys) zero d e h l = h.0
   paired_at (x ∷ xs) (y ∷ ys) (suc k) d e h l = paired_at xs ys k d e h.1 (omega (arith, l))
 
-  paired_push : (xs : List A) (ys : List B) (x : A) (y : B) → AllZip R xs ys → R x y
-      → AllZip R (xs ++ x ∷ []) (ys ++ y ∷ [])
-  paired_push [] [] x y h r = (r, tt)
-  paired_push [] (b ∷ ys) x y h r = absurd h
-  paired_push (a ∷ xs) [] x y h r = absurd h
-  paired_push (a ∷ xs) (b ∷ ys) x y h r = (h.0, paired_push xs ys x y h.1 r)
-
   pub paired_more : (xs : List A) (i : ℕ) (x : A) (ys : List B) (y : B) → i < length xs → x ≡ get_or xs i x
       → AllZip R (take i xs) ys → R x y → AllZip R (take (i + 1) xs) (ys ++ y ∷ [])
   paired_more xs i x ys y l is h r =
       subst (λ zs. AllZip R zs (ys ++ y ∷ [])) (ap (λ z. take i xs ++ z ∷ []) is ∙ sym (take_more xs i x l))
-      (paired_push (take i xs) ys x y h r)
+      (all_zipped_more R (take i xs) ys x y h r)

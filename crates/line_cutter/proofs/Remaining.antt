@@ -7,13 +7,13 @@ use Rattle.plan_model.specs.Disorder.{preceded, remaining}
 use Rattle.plan_model.proofs.MemberTests.{has, in_range, filter-has}
 use Rattle.plan_model.proofs.Remaining.{remaining_is_left}
 use Rattle.train_order.proofs.Find.{find_some}
-use Rattle.critical_chain.proofs.Rounds.{still_there}
+use Rattle.plan_model.proofs.TrueRing.{of_rounds}
 
 module _ (cut : Cut) where
   -- what remains is a member
   pub remaining_there : (j : ℕ) → has (remaining cut) j ≡ true → j < member_count cut
   remaining_there j h =
-      omega (arith, in_range 0 (member_count cut) j (still_there cut (member_count cut) (members cut) j h))
+      omega (arith, in_range 0 (member_count cut) j (of_rounds cut (member_count cut) (members cut) j h))
 
   -- and is preceded by one that remains
   pub remaining_preceded : (j : ℕ) → has (remaining cut) j ≡ true

@@ -1,12 +1,13 @@
 use Rattle.std.proofs.Common.{◌≡◌, ◌<◌, ℕ, false, inl, inr, sym, subst, ◌∙◌, arith}
 use Rattle.std.specs.Prelude.{slice_index_or, pos}
 use Rattle.std.proofs.lemmas.Bool.{cases_eq}
+use Rattle.std.proofs.lemmas.Slice.Zip.{AllZip-long}
 use Rattle.plan_model.specs.declared.cut.CutRow.{CutRow}
 use Rattle.plan_model.specs.Members.{member, member_count, no_member}
 use Rattle.plan_model.specs.Disorder.{are_opposite}
 use Rattle.line_cutter.specs.declared.opposed.Span.{Span}
 use Rattle.line_cutter.specs.Opposed.{IsSpan}
-use Rattle.line_cutter.proofs.Paired.{paired_at, paired_count}
+use Rattle.line_cutter.proofs.Paired.{paired_at}
 use Rattle.line_cutter.proofs.Apart.{not_opposite}
 use Rattle.line_cutter.proofs.opposed.next_opposite.Goals as goal
 use Rattle.line_cutter.proofs.opposed.next_opposite.Goals.{then-meet+else-are_opposed+else-tried-ge-TRIES, else-meet}
@@ -16,13 +17,13 @@ no_span = record { first = pos 0; last = pos 0 }
 
 pub bounds-spans-i : goal.bounds-spans-i
 bounds-spans-i c =
-    omega (arith, paired_count (λ (row : CutRow) (span : Span). IsSpan row.uses span) c.args.cut.now.rows c.args.spans.now c.requires.spans, c.requires.there)
+    omega (arith, AllZip-long (λ (row : CutRow) (span : Span). IsSpan row.uses span) c.args.cut.now.rows c.args.spans.now c.requires.spans, c.requires.there)
 
 pub bounds-spans-j : goal.bounds-spans-j
 bounds-spans-j c =
     omega (
       arith,
-      paired_count (λ (row : CutRow) (span : Span). IsSpan row.uses span) c.args.cut.now.rows c.args.spans.now c.requires.spans,
+      AllZip-long (λ (row : CutRow) (span : Span). IsSpan row.uses span) c.args.cut.now.rows c.args.spans.now c.requires.spans,
       c.loop-j-test.true,
       c.member_count-count.ensures.count,
     )

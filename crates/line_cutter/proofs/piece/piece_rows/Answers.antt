@@ -1,14 +1,15 @@
 use Rattle.std.proofs.Common.{◌≡◌, true, false, Bool, sym, subst, arith}
+use Rattle.std.proofs.lemmas.Slice.Zip.{AllZip-long}
 use Rattle.plan_model.specs.declared.cut.CutRow.{CutRow}
 use Rattle.line_cutter.specs.Ways.{IsOneWay}
-use Rattle.line_cutter.proofs.Paired.{paired_at, paired_count}
+use Rattle.line_cutter.proofs.Paired.{paired_at}
 use Rattle.line_cutter.proofs.piece.piece_rows.Goals as goal
 
 pub bounds-one_way-k : goal.bounds-one_way-k
 bounds-one_way-k c =
     omega (
       arith,
-      paired_count (λ (row : CutRow) (mark : Bool). mark ≡ true → IsOneWay row.uses) c.args.rows.now c.args.one_way.now c.requires.ways,
+      AllZip-long (λ (row : CutRow) (mark : Bool). mark ≡ true → IsOneWay row.uses) c.args.rows.now c.args.one_way.now c.requires.ways,
       c.loop-k-test.true,
     )
 
