@@ -1,21 +1,12 @@
 -- Where one member precedes another at a place, both are members and use it; of two that use a place one precedes the
 -- other.
-use Rattle.std.proofs.Common.{◌≡◌, ℕ, ◌<◌, true, false, ◌&&◌, inl, inr, ap}
+use Rattle.std.proofs.Common.{◌≡◌, ℕ, ◌<◌, true, ◌&&◌}
 use Rattle.std.specs.List.{range_with_len}
-use Rattle.std.proofs.lemmas.Bool.{cases_lt, and_parts}
-use Rattle.std.proofs.lemmas.List.{get_or_past}
+use Rattle.std.proofs.lemmas.Bool.{and_parts}
 use Rattle.plan_model.specs.declared.cut.Cut.{Cut}
-use Rattle.plan_model.specs.Members.{place_count, member, member_count, no_member, uses_place, use_at, precedes, precedes_somewhere, comes_before}
+use Rattle.plan_model.specs.Members.{place_count, member, uses_place, use_at, precedes, precedes_somewhere, comes_before}
 use Rattle.plan_model.proofs.MemberTests.{has-range, has_any}
-
-pub user_there : (cut : Cut) (i place : ℕ) → uses_place (member cut i) place ≡ true → i < member_count cut
-user_there cut i place h =
-    elim (cases_lt i (member_count cut)) [
-      | inl l ↦ l
-      | inr past ↦
-          absurd (let none : uses_place (member cut i) place ≡ false = ap (λ r. uses_place r place)
-          (get_or_past cut.rows i no_member past) in (cc))
-    ]
+pub use Rattle.plan_model.proofs.Users.{user_there}
 
 pub users : (cut : Cut) (i j place : ℕ) → precedes (member cut i) (member cut j) place ≡ true
     → (uses_place (member cut i) place ≡ true) × (uses_place (member cut j) place ≡ true)
