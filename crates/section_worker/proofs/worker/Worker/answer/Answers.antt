@@ -1,6 +1,7 @@
 use Rattle.std.proofs.Common.{◌≡◌, subst, ap, ◌∙◌}
 use Rattle.section_worker.specs.Keeping.{Working, KeepsRows, Forgets}
-use Rattle.section_worker.proofs.Keeps.{forgets, still_forgotten, keeps_new, on_err}
+use Rattle.rail_outside.proofs.Pieces.{after_error}
+use Rattle.section_worker.proofs.Keeps.{forgets, still_forgotten, keeps_new}
 use Rattle.section_worker.proofs.worker.Worker.answer.Goals as goal
 
 pub returns-in_err-keep-clause-err : goal.returns-in_err-keep-clause-err
@@ -13,7 +14,7 @@ returns-in_err-keep-clause-err g c =
       actor = w.actor;
       kept = c.remove-held.new.self.entries;
     } in
-    on_err c.from_residual.result
+    after_error c.from_residual.result
     (subst (λ x. Forgets (g.R.Rows.shown c.args.reading.now).cut.section.name x later) c.self.view_is
     (subst (λ s. Forgets s old later) (ap (λ s. s.name) c.section.ensures)
     (forgets w.share w.of w.actor c.section.result.now.name w.kept c.remove-held.new.self
@@ -24,7 +25,7 @@ returns-in_err-insert-clause-err g c =
     let w = c.self.inside in
     let old : Working = record { share = w.share; of = w.of; actor = w.actor; kept = w.kept.entries } in
     let later : Working = record { share = w.share; of = w.of; actor = w.actor; kept = c.insert.new.self.entries } in
-    on_err c.from_residual-in_err-insert.result
+    after_error c.from_residual-in_err-insert.result
     (subst (λ x. Forgets (g.R.Rows.shown c.args.reading.now).cut.section.name x later) c.self.view_is
     (subst (λ s. Forgets s old later) (ap (λ s. s.name) c.section.ensures)
     (still_forgotten w.share w.of w.actor c.section.result.now.name w.kept c.remove-held.new.self c.insert.new.self
