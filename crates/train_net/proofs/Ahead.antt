@@ -8,6 +8,7 @@ use Rattle.std.proofs.lemmas.List.Folds.{list_any_at, Any-from_list_any}
 use Rattle.rail_model.specs.declared.stair.Use.{Use}
 use Rattle.rail_model.specs.Moment.{IsMoment}
 use Rattle.rail_model.proofs.NameOrder.{is_before-itself}
+use Rattle.rail_model.proofs.Numbers.{le_from_same}
 use Rattle.plan_model.specs.declared.cut.Cut.{Cut}
 use Rattle.plan_model.specs.Members.{place_name, place_count, member, member_count, uses_place, use_at, no_use, precedes, headway_at}
 use Rattle.plan_model.specs.Cut.{IsSoundCut}
@@ -19,7 +20,6 @@ use Rattle.train_net.specs.declared.edge.Edge.{Edge}
 use Rattle.train_net.specs.declared.near.Near.{Near}
 use Rattle.train_net.specs.Net.{IsEdge, Covers}
 use Rattle.train_net.specs.Gathered.{edge_of, IsAhead, AreCovered}
-use Rattle.train_net.proofs.Spanned.{same_no_later}
 
 module _ (cut : Cut) (sound : IsSoundCut cut) (j : ℕ) (lj : j < member_count cut) where
   abbrev uses : List Use
@@ -60,7 +60,7 @@ module _ (cut : Cut) (sound : IsSoundCut cut) (j : ℕ) (lj : j < member_count c
     pub covers : Covers cut near.train j place (edge_of cut j u near)
     covers = record {
       from = refl;
-      tight = same_no_later _ _ (sym weight_is);
+      tight = le_from_same _ _ (sym weight_is);
       first = λ e. rw block (is_before-itself (place_name cut place));
     }
 

@@ -3,12 +3,13 @@ use Rattle.std.proofs.Common.{◌≡◌, ℕ, ◌<◌, true, false, List, length
 use Rattle.std.specs.Prelude.{All, ℤ, ◌+ℤ◌, ◌-ℤ◌, ◌≤ℤ◌, ◌<ℤ◌, slice_index, slice_index_or}
 use Rattle.std.proofs.lemmas.Bool.{both_ways, cases_order, false_from_ne_true}
 use Rattle.std.proofs.lemmas.Int.{ints}
-use Rattle.rail_model.proofs.Numbers.{le_both_ways}
+use Rattle.rail_model.proofs.Numbers.{le_both_ways, le_from_same}
 use Rattle.plan_model.specs.declared.cut.Cut.{Cut}
 use Rattle.plan_model.specs.Members.{member, member_count, members, uses_place, use_at}
 use Rattle.plan_model.specs.Cut.{IsSoundCut}
 use Rattle.plan_model.specs.Schedule.{entry_at, start_by, end_by}
 use Rattle.plan_model.specs.Answer.{users, first_start, last_end}
+use Rattle.plan_model.proofs.Closing.{starts_before}
 use Rattle.plan_model.proofs.MemberTests.{has, has-range, has_any}
 use Rattle.plan_model.proofs.Users.{user_there, user, is_user}
 use Rattle.plan_model.proofs.Uses.{takes_time}
@@ -26,14 +27,8 @@ use Rattle.train_net.proofs.Solved.{apart}
 
 -- ---- moments
 
-starts_no_later : (start stop a x then : ℤ) → start <ℤ stop → (stop -ℤ a +ℤ x) ≤ℤ then → (start -ℤ a +ℤ x) ≤ℤ then
-starts_no_later start stop a x then time after = omega (arith, ints)
-
 ends_no_earlier : (first start stop a x : ℤ) → first ≤ℤ (start -ℤ a +ℤ x) → start <ℤ stop → first ≤ℤ (stop -ℤ a +ℤ x)
 ends_no_earlier first start stop a x before time = omega (arith, ints)
-
-pub same_no_later : (a b : ℤ) → a ≡ b → a ≤ℤ b
-same_no_later a b e = omega (arith, ints)
 
 module _ (cut : Cut) (order : List ℕ) (edges : List (List Edge)) (entries : List ℤ) (floor : ℕ → ℤ) (sound : IsSoundCut cut)
     (net : IsNet cut order edges) (solved : AreSolved cut floor edges entries) (block : ℕ) where
@@ -64,7 +59,7 @@ module _ (cut : Cut) (order : List ℕ) (edges : List (List Edge)) (entries : Li
         let uses : uses_place (standing cut order s.at) block ≡ true =
         subst (λ k. uses_place (member cut k) block ≡ true) (sym s.is) u.1 in
         elim (cases_order along.first s.at) [
-          | inl e ↦ same_no_later _ _ (ap (λ k. start_by cut entries k block) (ap (λ k. slice_index order k) e ∙ s.is))
+          | inl e ↦ le_from_same _ _ (ap (λ k. start_by cut entries k block) (ap (λ k. slice_index order k) e ∙ s.is))
           | inr other ↦ elim other [
             | inr gt ↦ absurd (both_ways _ (along.none_before s.at gt) uses)
             | inl lt ↦
@@ -72,7 +67,7 @@ module _ (cut : Cut) (order : List ℕ) (edges : List (List Edge)) (entries : Li
                 let clear = apart cut order edges entries floor sound net solved block s.at along.first s.at (omega arith) lt s.within
                 along.first_uses uses in
                 subst (λ k. start_by cut entries first block ≤ℤ start_by cut entries k block) s.is
-                (starts_no_later (use_at row block).start (use_at row block).«end» row.entry (entry_at entries first) _
+                (starts_before (use_at row block).start (use_at row block).«end» row.entry (entry_at entries first) _
                 (time along.first along.first_within along.first_uses) clear)
           ]
         ]
@@ -84,7 +79,7 @@ module _ (cut : Cut) (order : List ℕ) (edges : List (List Edge)) (entries : Li
         let uses : uses_place (standing cut order s.at) block ≡ true =
         subst (λ k. uses_place (member cut k) block ≡ true) (sym s.is) u.1 in
         elim (cases_order s.at along.last) [
-          | inl e ↦ same_no_later _ _ (ap (λ k. end_by cut entries k block) (sym s.is ∙ ap (λ k. slice_index order k) e))
+          | inl e ↦ le_from_same _ _ (ap (λ k. end_by cut entries k block) (sym s.is ∙ ap (λ k. slice_index order k) e))
           | inr other ↦ elim other [
             | inr gt ↦ absurd (both_ways _ (along.none_after s.at gt s.within) uses)
             | inl lt ↦
