@@ -1,14 +1,15 @@
 -- The blocks that a member uses, and its use of one.
-use Rattle.std.proofs.Common.{◌≡◌, ℕ, ◌<◌, true, false, List, [], ◌∷◌, length, inl, inr, refl, ap, arith}
-use Rattle.std.specs.Prelude.{ℤ, ◌==◌, nat_lt, filter, find, unwrap_or, None, Some}
+use Rattle.std.proofs.Common.{◌≡◌, ℕ, ◌<◌, true, false, List, [], ◌∷◌, length, inl, inr, refl, arith}
+use Rattle.std.specs.Prelude.{ℤ, ◌==◌, nat_lt, filter, find, None, Some}
 use Rattle.std.specs.List.{list_any}
 use Rattle.std.proofs.lemmas.Bool.{cases_Bool, eq-eqb, or_left, or_right}
 use Rattle.std.proofs.lemmas.Bool.Decides.{nat_tests}
 use Rattle.rail_model.specs.declared.stair.Use.{Use}
 use Rattle.plan_model.specs.declared.cut.CutRow.{CutRow}
 use Rattle.plan_model.specs.declared.cut.Cut.{Cut}
-use Rattle.plan_model.specs.Members.{block_count, member, member_count, no_member, no_use, uses_place, use_of, use_at}
+use Rattle.plan_model.specs.Members.{block_count, member, member_count, no_member, uses_place, use_of, use_at}
 use Rattle.plan_model.specs.Cut.{IsSoundCut}
+use Rattle.plan_model.proofs.Uses.{its_use}
 use Rattle.path_fill.specs.Search.{where_used}
 
 below : (a b : ℕ) → nat_lt a b ≡ true → a < b
@@ -60,13 +61,10 @@ at_none row p x e = rw (not_found row.uses p e) refl
 pub uses_found : (row : CutRow) (p : ℕ) (one : Use) → use_of row p ≡ Some one → uses_place row p ≡ true
 uses_found row p one e = is_found row.uses p one e
 
-pub use_found : (row : CutRow) (p : ℕ) (one : Use) → use_of row p ≡ Some one → use_at row p ≡ one
-use_found row p one e = ap (λ o. unwrap_or o no_use) e
-
 -- what is told of the use that is found
 pub at_some : (row : CutRow) (p : ℕ) (one : Use) (f : Use → ℤ) → use_of row p ≡ Some one
     → Some (f one) ≡ where_used (uses_place row p) (f (use_at row p))
 at_some row p one f e =
     let used = uses_found row p one e in
-    let is = use_found row p one e in
+    let is = its_use row p one e in
     rw (used, is) refl

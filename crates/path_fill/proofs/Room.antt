@@ -3,6 +3,7 @@ use Rattle.std.proofs.Common.{◌≡◌, ℕ, zero, suc, ◌+◌, ◌-◌, ◌*�
 use Rattle.std.specs.Prelude.{nat_le}
 use Rattle.std.proofs.lemmas.Bool.{cases_lt}
 use Rattle.std.proofs.lemmas.Bool.Decides.{nat_tests}
+use Rattle.std.proofs.lemmas.Nat.{le-div}
 use Rattle.std.proofs.Math.Nat.{mul-le-mul_right, le_of_mul-le-mul_right, div-mul-le_self, lt-div-mul-add}
 use Rattle.rail_model.specs.declared.items.Section.{Section}
 use Rattle.plan_model.specs.Answer.{period, reduced, IsReduced}
@@ -43,17 +44,6 @@ one_at_most p q a b e some l =
     let is : q * b ≡ b * q = omega arith in
     let both : p * b ≤ q * b = omega (arith, times, e, is) in le_of_mul-le-mul_right both some
 
-within_quotient : (t b d : ℕ) → 0 < d → t * d ≤ b → t ≤ b / d
-within_quotient t b d some l =
-    elim (cases_lt (b / d) t) [
-      | inr h ↦ h
-      | inl h ↦
-          let past : b < b / d * d + d = lt-div-mul-add some in
-          let times : (b / d + 1) * d ≤ t * d = mul-le-mul_right d (omega (arith, h)) in
-          let is : (b / d + 1) * d ≡ b / d * d + d = omega arith in
-          absurd (omega (arith, past, times, is, l))
-    ]
-
 quotient_within : (t b d : ℕ) → t ≤ b / d → t * d ≤ b
 quotient_within t b d l =
     let times : t * d ≤ b / d * d = mul-le-mul_right d l in
@@ -71,7 +61,7 @@ room_is section window time =
     let f = reduced a b in
     let is : IsReduced f a b = fraction_is_reduced a b some in
     same_tests f.num f.den time (b / d)
-    (λ l. within_quotient time b d more (at_most_one f.num f.den a b is.equal is.some l))
+    (λ l. le-div time b d more (at_most_one f.num f.den a b is.equal is.some l))
     (λ l. one_at_most f.num f.den a b is.equal some (quotient_within time b d l))
 
 -- ---- copies
