@@ -2,6 +2,7 @@
 use Rattle.std.proofs.Common.{◌≡◌, ◌≢◌, ℕ, zero, suc, ◌+◌, ◌<◌, ◌≤◌, List, [], ◌∷◌, ◌++◌, length, get_or, drop, take, Some, None, refl, sym, ap, ◌∙◌, subst, arith}
 use Rattle.std.specs.Prelude.{slice_get}
 use Rattle.std.proofs.lemmas.Bool.{eq-eqb}
+use Rattle.std.proofs.lemmas.Option.{get_or_from_slice_get}
 use Rattle.std.proofs.lemmas.List.{take_more, take_all, length-take-le, map-append}
 use Rattle.plan_model.specs.declared.scripts.Task.{Task}
 use Rattle.plan_model.specs.declared.journal.Act.{Act}
@@ -54,11 +55,6 @@ there [] i l = absurd (omega (arith, l))
 there (x ∷ xs) zero l = (x, refl)
 there (x ∷ xs) (suc i) l = there xs i (omega (arith, l))
 
-got : {X : Type 0} (xs : List X) (i : ℕ) (x d : X) → slice_get xs i ≡ Some x → get_or xs i d ≡ x
-got [] i x d h = absurd (cc)
-got (y ∷ xs) zero x d h = cc
-got (y ∷ xs) (suc i) x d h = got xs i x d h
-
 module _ (found now : List Entry) (planner i : ℕ) (some : 0 < length found) (is_planner : IsPlanner found planner) (none : done_by found planner ≡ []) (h : DoesTasks found (by_planner planner (take i (script_of found planner))) now) (l : i < length (script_of found planner)) where
   abbrev tasks : List Task
   tasks = script_of found planner
@@ -87,7 +83,7 @@ module _ (found now : List Entry) (planner i : ℕ) (some : 0 < length found) (i
   pub task_more : (after : List Entry) → DoesNextTask planner now after
       → DoesTasks found (by_planner planner (take (i + 1) tasks)) after
   task_more after d =
-      let is : get_or tasks i d.task ≡ d.task = got tasks i d.task d.task (sym next_now ∙ d.next) in
+      let is : get_or tasks i d.task ≡ d.task = get_or_from_slice_get tasks i d.task d.task (sym next_now ∙ d.next) in
       let more : by_planner planner (take (i + 1) tasks) ≡ by_planner planner (take i tasks) ++ (planner, d.task) ∷ [] =
       ap (by_planner planner) (take_more tasks i d.task l)
       ∙ map-append (λ t. (planner, t)) (take i tasks) (get_or tasks i d.task ∷ [])
