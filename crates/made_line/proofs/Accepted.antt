@@ -1,9 +1,9 @@
 -- No rule refuses an edit of the base, and they leave its tables.
-use Rattle.std.proofs.Common.{◌≡◌, ℕ, ◌+◌, ◌*◌, ◌/◌, ◌<◌, ◌≤◌, Bool, true, false, None, List, [], ◌∷◌, ◌++◌, length, map, ◌-◌, refl, ap, slice_index_or, subst, ◌∙◌, mod-lt, arith}
+use Rattle.std.proofs.Common.{◌≡◌, ℕ, ◌+◌, ◌*◌, ◌/◌, ◌<◌, ◌≤◌, true, false, None, List, [], ◌∷◌, ◌++◌, length, map, ◌-◌, refl, ap, slice_index_or, subst, ◌∙◌, mod-lt, arith}
 use Rattle.std.specs.Prelude.{not, ◌&&◌, nat_le, nat_lt}
 use Rattle.std.specs.List.{list_all, range_with_len}
 use Rattle.std.specs.Cmp.Derive.{both_true}
-use Rattle.std.proofs.lemmas.Bool.{lt-ltb, le-leb}
+use Rattle.std.proofs.lemmas.Bool.{lt-ltb, le-leb, not-true}
 use Rattle.std.proofs.lemmas.Bool.Decides.{nat_tests}
 use Rattle.std.proofs.lemmas.List.FromFn.{length-map-range_with_len, get_or-map-range_with_len}
 use Rattle.std.proofs.lemmas.List.Sums.{list_all-from_AllPass}
@@ -34,10 +34,6 @@ from_one n most some within = both_true (lt-ltb 0 n some) (le-leb n most within)
 
 room : (most count k : ℕ) → count ≡ k → k < most → nat_le most count ≡ false
 room most count k is below = grind (arith, nat_tests, is, below)
-
-not_true : (b : Bool) → not b ≡ true → b ≡ false
-not_true true h = absurd (cc)
-not_true false h = refl
 
 -- the put of an item that passes all tests
 accepted_put : (tables : Tables) (x : Item) → is_within x ≡ true → is_taken tables x ≡ false → is_full tables x ≡ false
@@ -178,7 +174,7 @@ known_blocks n first count within =
 
 names_once : (j : ℕ) → j < 8 → has_repeat (block_names (8 * j) 8) ≡ false
 unfolding block_names
-names_once j below = not_true _ (tested (λ k. not (has_repeat (block_names (8 * k) 8))) 8 refl j below)
+names_once j below = not-true _ (tested (λ k. not (has_repeat (block_names (8 * k) 8))) 8 refl j below)
 
 section_within : (j : ℕ) → is_section_within (made_section j) ≡ true
 section_within j = rw (length_block_names (8 * j) 8) refl
