@@ -1,5 +1,5 @@
 -- Sets of keys whose words change.
-use Rattle.std.proofs.Common.{◌≡◌, ◌≢◌, ℕ, ◌+◌, ◌-◌, ◌*◌, ◌/◌, ◌%◌, ◌^◌, ◌<◌, ◌≤◌, ◌==◌, min, max, Bool, true, false, not, cond, List, length, get_or, refl, sym, ap, ◌∙◌, inl, inr, arith, w64}
+use Rattle.std.proofs.Common.{◌≡◌, ◌≢◌, ℕ, ◌+◌, ◌-◌, ◌*◌, ◌/◌, ◌%◌, ◌^◌, ◌<◌, ◌≤◌, ◌==◌, min, max, true, false, not, cond, List, length, get_or, refl, sym, ap, ◌∙◌, inl, inr, arith, w64}
 use Rattle.std.specs.Prelude.{◌&&◌, ◌||◌, nat_lt, bit_and, bit_or}
 use Rattle.std.specs.Int.{bit_at, bit_not, trailing_zeros}
 use Rattle.std.proofs.Math.ListN.{set}
@@ -7,7 +7,7 @@ use Rattle.std.proofs.lemmas.Bool.{cases_Bool, cases_lt, eqb-true, eq-eqb, both_
 use Rattle.std.proofs.lemmas.Bool.Decides.{nat_tests}
 use Rattle.std.proofs.lemmas.List.{get_or-set_same, get_or-set_other, get_or_past}
 use Rattle.std.proofs.lemmas.Nat.Bits.{bit_at_and, bit_at_or, bit_at_not, bit_at-zero, bit_at-lt, bit_at-trailing_zeros}
-use Rattle.std.proofs.Math.Bool.{and-false}
+use Rattle.std.proofs.Math.Bool.{and-false, and_comm}
 use Rattle.line_tables.specs.KeySet.{holds, Meets, KeepsApart}
 
 -- ---- one bit of a word
@@ -21,12 +21,6 @@ less_bit x y a b = grind (arith, nat_tests)
 flipped_bit : (x : ℕ) → x < 2 → (1 - x == 1) ≡ not (x == 1)
 flipped_bit x a = grind (arith, nat_tests)
 
-and_swap : (a b : Bool) → (a && b) ≡ (b && a)
-and_swap true true = refl
-and_swap true false = refl
-and_swap false true = refl
-and_swap false false = refl
-
 joined_bit : (a b i : ℕ) → (bit_at (bit_or a b) i == 1) ≡ ((bit_at b i == 1) || (bit_at a i == 1))
 joined_bit a b i = rw (bit_at_or a b i) (greater_bit (bit_at a i) (bit_at b i) (bit_at-lt a i) (bit_at-lt b i))
 
@@ -37,7 +31,7 @@ parted_bit : (a b i : ℕ) → b < 2 ^ 64 → i < 64 → (bit_at (bit_and a (bit
 parted_bit a b i fits l =
     shared_bit a (bit_not w64 b) i
     ∙ ap (λ q. (bit_at a i == 1) && q) (ap (λ x. x == 1) (bit_at_not w64 b i fits l) ∙ flipped_bit (bit_at b i) (bit_at-lt b i))
-    ∙ and_swap (bit_at a i == 1) (not (bit_at b i == 1))
+    ∙ and_comm (bit_at a i == 1) (not (bit_at b i == 1))
 
 -- ---- one word of a set
 

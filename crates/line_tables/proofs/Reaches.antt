@@ -5,7 +5,7 @@ use Rattle.std.specs.List.{list_any, find}
 use Rattle.std.specs.Option.{option_map_or}
 use Rattle.std.proofs.lemmas.Bool.{cases_Bool, both_ways, eqb-true, eq-eqb, or_parts, and_parts, false_from_ne_true}
 use Rattle.std.proofs.lemmas.List.Folds.{list_any_none}
-use Rattle.std.proofs.Math.Bool.{or-false, or-true, and-false}
+use Rattle.std.proofs.Math.Bool.{or-false, or-true, and-false, and-true, not-and_self}
 use Rattle.rail_model.specs.declared.items.Route.{Route}
 use Rattle.rail_model.specs.declared.items.Signal.{Signal}
 use Rattle.line_tables.specs.declared.linked.Linked.{Linked}
@@ -29,14 +29,6 @@ led_by : (f : ℕ → ℕ) (o : Option (Linked Route)) (x : ℕ) → option_map_
 led_by f None x = refl
 led_by f (Some e) x = refl
 
-and_true : (a : Bool) → (a && true) ≡ a
-and_true true = refl
-and_true false = refl
-
-not_both : (a : Bool) → (not a && a) ≡ false
-not_both true = refl
-not_both false = refl
-
 module _ (f : ℕ → ℕ) where
   -- sets that say what they said
   pub sets_same : (routes : List (ℕ × Linked Route)) (old new : List (List ℕ)) → SameSets old new → AreSetsOf f routes old → AreSetsOf f routes new
@@ -51,7 +43,7 @@ module _ (f : ℕ → ℕ) where
         | inl e ↦
             let key = eqb-true r k e in
             let was : has old x r ≡ before = sets x r ∙ ap (reaches f routes x) key ∙ led_by f (under routes k) x in
-            let left : has new x r ≡ after = changed x r ∙ rw (e, was, and_true after, and_true before, not_both before) (or-false after) in
+            let left : has new x r ≡ after = changed x r ∙ rw (e, was, and-true after, and-true before, not-and_self before) (or-false after) in
             let stands : under later r ≡ now = swapped r ∙ rw e refl in
             left ∙ sym (rw stands (led_by f now x))
         | inr e ↦
@@ -101,8 +93,8 @@ module _ (f : ℕ → ℕ) (s from to : ℕ) (is : f s ≡ from) where
             elim (cases_Bool (from == x)) [
               | inl e ↦
                   let none : lead_to f refs x ≡ false = ap (lead_to f refs) (sym (eqb-true from x e) ∙ sym image) ∙ sym (list_any-map f (λ y. y == f q) refs) ∙ apart.0 in
-                  rw (t, past, none, image, e, and_true (to == x)) refl
-              | inr e ↦ rw (t, past, image, e, and_true (to == x)) refl
+                  rw (t, past, none, image, e, and-true (to == x)) refl
+              | inr e ↦ rw (t, past, image, e, and-true (to == x)) refl
             ]
         | inr t ↦ elim (cases_Bool (f q == x)) [
           | inl e ↦

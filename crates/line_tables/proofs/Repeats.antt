@@ -5,7 +5,7 @@ use Rattle.std.specs.List.{list_any}
 use Rattle.std.proofs.lemmas.Bool.{cases_Bool, or_cases, or_parts, or_left, or_right, eqb-true, eq-eqb, both_ways, false_from_ne_true}
 use Rattle.std.proofs.lemmas.List.{take-append-drop, take_more}
 use Rattle.std.proofs.lemmas.List.Folds.{list_any-append, list_any_more}
-use Rattle.std.proofs.Math.Bool.{or-false, or_comm}
+use Rattle.std.proofs.Math.Bool.{or-false, or_comm, and-or_distrib_left}
 use Rattle.rail_model.proofs.Numbers.{eqb-sym}
 use Rattle.line_tables.specs.Links.{lists_key, repeats_key}
 use Rattle.line_tables.proofs.Found.{list_any-map}
@@ -46,10 +46,6 @@ seen_more keys i k l before e =
     rw (e, list_any_more (λ q. q == k) keys i 0 l, eqb-sym k (get_or keys i 0)) (or_comm (get_or keys i 0 == k) (lists_key (take i keys) k))
 
 -- ---- one key of a list whose images don't repeat gets another image
-
-or_and : (a b c : Bool) → ((a && b) || (a && c)) ≡ (a && (b || c))
-or_and true b c = refl
-or_and false b c = refl
 
 module _ (f : ℕ → ℕ) (key b : ℕ) where
   abbrev pub moved : ℕ → ℕ
@@ -107,5 +103,5 @@ module _ (f : ℕ → ℕ) (key b : ℕ) where
             let none : (lists_key (map f keys) b || false) ≡ list_any (λ q. f q == b) keys = or-false (lists_key (map f keys) b) ∙ list_any-map f (λ y. y == b) keys in
             rw (t, same, apart.1, image) none
         | inr t ↦
-            rw (t, moved_lists keys (f q) apart.0, rest) (or_and (lists_key keys key) (f q == b) (list_any (λ q. f q == b) keys))
+            rw (t, moved_lists keys (f q) apart.0, rest) (sym (and-or_distrib_left (lists_key keys key) (f q == b) (list_any (λ q. f q == b) keys)))
       ]
