@@ -23,12 +23,10 @@ passing_at p (x ∷ xs) (suc k) d l h =
 -- an item more with its number
 pub enumerate_push : {X : Type 0} (n : ℕ) (xs : List X) (x : X)
     → enumerate_from n (xs ++ x ∷ []) ≡ enumerate_from n xs ++ (n + length xs, x) ∷ []
-enumerate_push {X} n [] x =
-    let e : n ≡ n + 0 = omega arith in
-    ap (λ m. (m, x) ∷ []) e
+enumerate_push n [] x = ap (λ k. (k, x) ∷ []) (omega arith)
 enumerate_push n (y ∷ xs) x =
-    let e : n + 1 + length xs ≡ n + suc (length xs) = omega arith in
-    ap (λ ps. (n, y) ∷ ps) (enumerate_push (n + 1) xs x ∙ ap (λ m. enumerate_from (n + 1) xs ++ (m, x) ∷ []) e)
+    ap (λ r. (n, y) ∷ r)
+    (enumerate_push (n + 1) xs x ∙ ap (λ k. enumerate_from (n + 1) xs ++ (k, x) ∷ []) (omega arith))
 
 -- what passes a test, with the next item
 pub filter_next : {X : Type 0} (p : X → Bool) (xs : List X) (n : ℕ) (x : X) (b : Bool) → n < length xs

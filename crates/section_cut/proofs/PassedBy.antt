@@ -30,7 +30,7 @@ use Rattle.line_tables.proofs.Found.{find_some}
 use Rattle.section_cut.specs.OneRun.{row_of_stair, PassesBy}
 
 -- the block of a name that is there has this name
-named : (tables : Tables) (n : List ℕ) → has_block tables n ≡ true → block_name tables (block_number tables n) ≡ n
+pub named : (tables : Tables) (n : List ℕ) → has_block tables n ≡ true → block_name tables (block_number tables n) ≡ n
 named tables n there =
     same_name (block_name tables (block_number tables n)) n
     (passes_at_first (λ (x : Block). is_same x.name n) tables.blocks no_block (place_within (λ (x : Block). is_same x.name n) tables.blocks there))

@@ -228,6 +228,10 @@ module _ {earlier later : Tables} {stairs : List (Option Stair)} {s : Section} {
           by_stair None is bare = tt
           by_stair (Some t) is bare = subst (λ (u : Stair). IfSome own (IsOwnRow s u.run)) (sym is) bare
 
+      entry_if : (b : Bool) → option_map (λ (r : CutRow). r.entry) (cond b (Some (row_of earlier s run)) None) ≡ cond b (Some (entry_of earlier s run)) None
+      entry_if true = refl
+      entry_if false = refl
+
       -- the row after it has the run's entry
       pub after_entry : option_map (λ (r : CutRow). r.entry) (row_after s positions stair (option_map (stamped_row 0) own)) ≡ entry_in later s run
       after_entry = by_stair stair reached_is
@@ -236,10 +240,6 @@ module _ {earlier later : Tables} {stairs : List (Option Stair)} {s : Section} {
               → option_map (λ (r : CutRow). r.entry) (row_after s positions o (option_map (stamped_row 0) own)) ≡ entry_in later s run
           by_stair None is =
               ap (option_map (λ (r : CutRow). r.entry)) own_is ∙ entry_if (is_member earlier s run) ∙ sym (entry_same earlier later s run (unreached is))
-            where
-              entry_if : (b : Bool) → option_map (λ (r : CutRow). r.entry) (cond b (Some (row_of earlier s run)) None) ≡ cond b (Some (entry_of earlier s run)) None
-              entry_if true = refl
-              entry_if false = refl
           by_stair (Some t) is =
               ap (λ (u : Stair). option_map (λ (r : CutRow). r.entry) (option_map (with_rest s (option_map (stamped_row 0) own)) (member_row s u.run 0 (uses_in positions (length s.blocks) u.uses)))) (is ∙ ap (λ (r : Run). stair_of (path_in later r)) same_run)
               ∙ ap (λ us. option_map (λ (r : CutRow). r.entry) (option_map (with_rest s (option_map (stamped_row 0) own)) (member_row s run.name 0 us))) by_table
@@ -273,10 +273,6 @@ module _ {earlier later : Tables} {stairs : List (Option Stair)} {s : Section} {
           → entry_in later s run ≡ entry_in earlier s run
       kept_by same =
           sym after_entry ∙ same ∙ sym (unmarked own) ∙ ap (option_map (λ (r : CutRow). r.entry)) own_is ∙ entry_if (is_member earlier s run)
-        where
-          entry_if : (b : Bool) → option_map (λ (r : CutRow). r.entry) (cond b (Some (row_of earlier s run)) None) ≡ cond b (Some (entry_of earlier s run)) None
-          entry_if true = refl
-          entry_if false = refl
 
       -- where it is kept, and the same connections bind, it is the run's
       module _ (kept : IsKept earlier later s n) (binding : binding_connections later s ≡ binding_connections earlier s) where

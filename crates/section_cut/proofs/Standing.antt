@@ -1,9 +1,8 @@
 -- A run's uses of a section depend on the run, its route, and the route's signals and blocks alone.
-use Rattle.std.proofs.Common.{◌≡◌, ℕ, Bool, true, List, [], map, ltb, length, get_or, sym, ap, ◌∙◌, subst, arith}
+use Rattle.std.proofs.Common.{◌≡◌, ℕ, true, List, [], map, ltb, length, get_or, sym, ap, ◌∙◌, subst, arith}
 use Rattle.std.specs.Prelude.{All, filter}
 use Rattle.std.specs.List.{zip}
 use Rattle.std.proofs.lemmas.List.{get_or_default}
-use Rattle.std.proofs.lemmas.List.Sums.{passes_at_first}
 use Rattle.std.proofs.lemmas.Simd.{map-map}
 use Rattle.std.proofs.lemmas.Slice.Zip.{length-zip, get_or-zip}
 use Rattle.rail_model.specs.declared.items.Block.{Block}
@@ -14,16 +13,14 @@ use Rattle.rail_model.specs.declared.tables.Tables.{Tables}
 use Rattle.rail_model.specs.declared.path.Hop.{Hop}
 use Rattle.rail_model.specs.declared.path.Path.{Path}
 use Rattle.rail_model.specs.declared.stair.Use.{Use}
-use Rattle.rail_model.specs.Name.{is_same}
 use Rattle.rail_model.specs.Rules.{has_block, IsSound}
 use Rattle.rail_model.specs.Blocking.{stairway}
-use Rattle.rail_model.specs.Tables.{no_block, no_run, run_at, number_of, block_name, block_number, block_named, signal_named, route_named, hop_beyond, path_in}
+use Rattle.rail_model.specs.Tables.{no_run, run_at, number_of, block_named, signal_named, route_named, hop_beyond, path_in}
 use Rattle.rail_model.specs.Within.{no_leg}
 use Rattle.rail_model.proofs.Lists.{map_same}
-use Rattle.rail_model.proofs.NameOrder.{same_name}
-use Rattle.rail_model.proofs.Paths.{place_within}
 use Rattle.plan_model.specs.Cut.{position_in_section, section_uses, cut_of}
 use Rattle.section_cut.proofs.Numberless.{renumbered_hop, renumbered, uses_renumbered}
+use Rattle.section_cut.proofs.PassedBy.{named}
 use Rattle.section_cut.proofs.SameRuns.{cuts_same}
 
 -- a signal, its block's name, and the block's length stand as they stood
@@ -38,13 +35,6 @@ pub record IsSameWay (earlier later : Tables) (run : Run) : Type 0 where
   pub route : route_named later run.route ≡ route_named earlier run.route
   pub signals : All (IsSameBeyond earlier later) (route_named earlier run.route).signals
 
--- the block of a name has the name
-name_there : (tables : Tables) (name : List ℕ) → has_block tables name ≡ true → block_name tables (block_number tables name) ≡ name
-name_there tables name there =
-    let p : Block → Bool = λ b. is_same b.name name in
-    let first : is_same (block_named tables name).name name ≡ true = passes_at_first p tables.blocks no_block (place_within p tables.blocks there) in
-    same_name (block_named tables name).name name first
-
 module _ (earlier later : Tables) (s : Section) where
   -- a hop over the block beyond a signal, by the block's position in the section
   abbrev hop_placed : Tables → List ℕ × Leg → Hop
@@ -54,8 +44,8 @@ module _ (earlier later : Tables) (s : Section) where
   hop_still p same =
       let b = (signal_named earlier p.0).block in
       let hop : List ℕ → Block → Hop = λ n block. record (hop_beyond earlier (signal_named earlier p.0) p.1) { block = number_of (λ m. m) s.blocks n; block_m = block.length_m } in
-      rw (same.signal) (ap (λ n. hop n (block_named later b)) (name_there later b same.still) ∙ ap (hop b) same.block
-      ∙ ap (λ n. hop n (block_named earlier b)) (sym (name_there earlier b same.there)))
+      rw (same.signal) (ap (λ n. hop n (block_named later b)) (named later b same.still) ∙ ap (hop b) same.block
+      ∙ ap (λ n. hop n (block_named earlier b)) (sym (named earlier b same.there)))
 
   path_still : (run : Run) → IsSameWay earlier later run
       → renumbered (position_in_section later s) (path_in later run) ≡ renumbered (position_in_section earlier s) (path_in earlier run)
