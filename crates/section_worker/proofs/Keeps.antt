@@ -170,4 +170,3 @@ forget_then section cut at w mid later named k f = record {
   gone = ap (kept_for later) (sym named) ∙ f.gone;
   others = λ other ne. f.others other (λ e. ne (e ∙ named)) ∙ k.others other ne;
 }
-
