@@ -15,13 +15,13 @@ use Rattle.row_text.specs.SheetRows.{Row}
 use Rattle.capacity_report.specs.Answers.{AreAnswers}
 use Rattle.capacity_report.proofs.Reports.{total_more, answers_more, answers_count}
 use Rattle.made_line.specs.declared.counts.TheConstants.{BASE_EDITS}
-use Rattle.capacity_cmd.specs.declared.reply.Reply.{Reply}
+use Rattle.capacity_cmd.specs.declared.reply.CallReply.{CallReply}
 use Rattle.capacity_cmd.specs.declared.status.Status.{Status}
 use Rattle.capacity_cmd.specs.declared.status.Status.TheVariants.{Done, Refused, ReadFault, WriteFault, OutOfMemory}
 use Rattle.capacity_cmd.specs.Outcome.{Writes, EndsInText, outcome_text, outcome_status}
 use Rattle.capacity_cmd.specs.Ends.{occupancy_of, line_row, session_row, made_rows}
 use Rattle.capacity_cmd.specs.Counted.{Counted, counted_of, with_one, CountsSection, AreCounted}
-use Rattle.capacity_cmd.specs.Reply.{IsReply, IsSent}
+use Rattle.capacity_cmd.specs.Reply.{IsCallReply, IsSent}
 use Rattle.capacity_cmd.specs.Promise.{WritesOutcome}
 
 -- ---- what is counted
@@ -88,18 +88,18 @@ rows_made n made base last none line counted session whole e0 e1 e2 e3 e4 =
 -- ---- the call that sends them
 
 -- the reply to it is a text
-pub text_said : (IsText : List ℕ → Type 0) (reply : Reply) → IsReply (EndsInText IsText) reply → IsText reply.text
+pub text_said : (IsText : List ℕ → Type 0) (reply : CallReply) → IsCallReply (EndsInText IsText) reply → IsText reply.text
 text_said IsText reply is =
     subst IsText (sym (is.said.text ∙ ap outcome_text is.ends.2)) is.ends.1
 
-pub is_done : (IsText : List ℕ → Type 0) (reply : Reply) → IsReply (EndsInText IsText) reply → reply.status ≡ Done
+pub is_done : (IsText : List ℕ → Type 0) (reply : CallReply) → IsCallReply (EndsInText IsText) reply → reply.status ≡ Done
 is_done IsText reply is = is.said.status ∙ ap outcome_status is.ends.2
 
 done_fault : {X : Type 0} → Done ≡ WriteFault → X
 done_fault is = absurd (cc)
 
-module _ {K : Type 0} (IsText : List ℕ → Type 0) (sink : SinkInCall K) (reply : Reply) (status : Status)
-    (is : IsReply (EndsInText IsText) reply) (sent : IsSent sink reply status) where
+module _ {K : Type 0} (IsText : List ℕ → Type 0) (sink : SinkInCall K) (reply : CallReply) (status : Status)
+    (is : IsCallReply (EndsInText IsText) reply) (sent : IsSent sink reply status) where
   done_here : (status ≡ Done) ⊎ (status ≡ WriteFault)
   done_here = elim sent [ inl w ↦ inl (w.0 ∙ is_done IsText reply is) | inr f ↦ inr f.0 ]
 

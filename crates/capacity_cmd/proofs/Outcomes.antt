@@ -11,7 +11,7 @@ use Rattle.capacity_cmd.specs.declared.command.Command.{Command}
 use Rattle.capacity_cmd.specs.declared.command.Command.TheVariants as command
 use Rattle.capacity_cmd.specs.declared.refusal.Refusal.{Refusal}
 use Rattle.capacity_cmd.specs.declared.accepted.Accepted.{Accepted}
-use Rattle.capacity_cmd.specs.declared.reply.Reply.{Reply}
+use Rattle.capacity_cmd.specs.declared.reply.CallReply.{CallReply}
 use Rattle.capacity_cmd.specs.declared.status.Status.TheVariants as status
 use Rattle.capacity_cmd.specs.declared.status.Cause.TheVariants as cause
 use Rattle.capacity_cmd.specs.declared.limit.TheConstants.{INPUT_BYTES}
@@ -21,7 +21,7 @@ use Rattle.capacity_cmd.specs.Command.{planners_of}
 use Rattle.capacity_cmd.specs.Outcome.{Outcome, Refuses}
 use Rattle.capacity_cmd.specs.Ends.{EndsOnAccepted, Ends, EndsOn}
 use Rattle.capacity_cmd.specs.Promise.{IsEnd}
-use Rattle.capacity_cmd.specs.Reply.{IsReply}
+use Rattle.capacity_cmd.specs.Reply.{IsCallReply}
 use Rattle.capacity_cmd.specs.Given.{GivesOrRefuses}
 use Rattle.capacity_cmd.proofs.RowCount.{row_count}
 
@@ -116,11 +116,11 @@ within_limits c planners input rows given takes is short within = record {
 
 -- ---- what may be said of an outcome that the call may have
 
-pub reply_more : (MayEnd MayEnd2 : Outcome → Type 0) (reply : Reply) → ((outcome : Outcome) → MayEnd outcome → MayEnd2 outcome)
-    → IsReply MayEnd reply → IsReply MayEnd2 reply
+pub reply_more : (MayEnd MayEnd2 : Outcome → Type 0) (reply : CallReply) → ((outcome : Outcome) → MayEnd outcome → MayEnd2 outcome)
+    → IsCallReply MayEnd reply → IsCallReply MayEnd2 reply
 reply_more MayEnd MayEnd2 reply more is = record { outcome = is.outcome; ends = more is.outcome is.ends; said = is.said }
 
-pub found_more : (c : Command) (MayEnd MayEnd2 : Outcome → Type 0) (found : Result Accepted Reply)
+pub found_more : (c : Command) (MayEnd MayEnd2 : Outcome → Type 0) (found : Result Accepted CallReply)
     → ((outcome : Outcome) → MayEnd outcome → MayEnd2 outcome) → GivesOrRefuses c MayEnd found → GivesOrRefuses c MayEnd2 found
 found_more c MayEnd MayEnd2 (Ok given) more is = record {
   within = is.within;
@@ -128,7 +128,7 @@ found_more c MayEnd MayEnd2 (Ok given) more is = record {
 }
 found_more c MayEnd MayEnd2 (Err reply) more is = reply_more MayEnd MayEnd2 reply more is
 
-pub found_at_end : (X : Type 0) (found : Result Accepted Reply) → X
+pub found_at_end : (X : Type 0) (found : Result Accepted CallReply) → X
     → MatchResult found (λ given. X) (λ reply. reply.status ≡ status.Done → X)
 found_at_end X (Ok given) end = end
 found_at_end X (Err reply) end = λ is. end

@@ -6,7 +6,7 @@ pub use Rattle.capacity_cmd.specs.declared.section_heads.Head.{Head}
 pub use Rattle.capacity_cmd.specs.declared.input.BaseSoFar.{BaseSoFar}
 pub use Rattle.capacity_cmd.specs.declared.input.InputSoFar.{InputSoFar}
 pub use Rattle.capacity_cmd.specs.declared.refusal.Refusal.{Refusal}
-pub use Rattle.capacity_cmd.specs.declared.reply.Reply.{Reply}
+pub use Rattle.capacity_cmd.specs.declared.reply.CallReply.{CallReply}
 pub use Rattle.capacity_cmd.specs.declared.status.Cause.{Cause}
 pub use Rattle.capacity_cmd.specs.declared.status.Status.{Status}
 pub use Rattle.capacity_cmd.specs.declared.stopped.Stopped.{Stopped}

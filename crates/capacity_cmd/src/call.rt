@@ -9,14 +9,14 @@ ghost use Rattle.capacity_cmd.specs.declared.status.Status.TheVariants as status
 ghost use Rattle.capacity_cmd.specs.Command.{command_of, made_of, workers_of, workers_asked, IsAlone};
 ghost use Rattle.capacity_cmd.specs.Outcome.{EndsInText};
 ghost use Rattle.capacity_cmd.specs.Ends.{IsMadeText};
-ghost use Rattle.capacity_cmd.specs.Reply.{IsReply};
+ghost use Rattle.capacity_cmd.specs.Reply.{IsCallReply};
 ghost use Rattle.capacity_cmd.specs.Given.{GivesOrRefuses};
 ghost use Rattle.capacity_cmd.specs.Promise.{IsEnd, WritesOutcome, RunsCommand, Answers};
 
 use crate::accepted::Accepted;
 use crate::command::{command_of, made_of, workers_asked};
 use crate::limit::INPUT_BYTES;
-use crate::reply::{Reply, given_or_reply, made_reply, refusal, reply_alone, reply_on_threads};
+use crate::reply::{CallReply, given_or_reply, made_reply, refusal, reply_alone, reply_on_threads};
 use crate::send::send;
 use crate::{Cause, Command, Status, Told};
 use rail_model::OutOfMemory;
@@ -213,9 +213,9 @@ fn reply_from<R: AllocGlobal + Threads + Sync, S: Source>(
     command: &Command,
     source: &mut S,
     told: &mut Told,
-) -> Result<Reply, Status>
+) -> Result<CallReply, Status>
     requires { workers_of command.now ≡ 0 }
-    ensures replies { IfOk result (IsReply (IsEnd command.now
+    ensures replies { IfOk result (IsCallReply (IsEnd command.now
         (source_call S.given S.left S.ended S.faults S.at_fault source.old source.new))) }
     ensures whole_input { IfOk result (λ reply. reply.status ≡ status.Done → IsReadToEnd
         (source_call S.given S.left S.ended S.faults S.at_fault source.old source.new)) }
@@ -239,10 +239,10 @@ fn session_reply<R: AllocGlobal + Threads + Wait + Sync, S: Source, G: Gate>(
     source: &mut S,
     gate: &G,
     told: &mut Told,
-) -> Result<Reply, Status>
+) -> Result<CallReply, Status>
     requires some { 1 ≤ workers }
     requires most { workers ≤ WORKERS }
-    ensures replies { IfOk result (IsReply (IsEnd (command.Session workers)
+    ensures replies { IfOk result (IsCallReply (IsEnd (command.Session workers)
         (source_call S.given S.left S.ended S.faults S.at_fault source.old source.new))) }
     ensures whole_input { IfOk result (λ reply. reply.status ≡ status.Done → IsReadToEnd
         (source_call S.given S.left S.ended S.faults S.at_fault source.old source.new)) }
@@ -267,7 +267,7 @@ fn input_from<R: AllocGlobal + Threads + Sync, S: Source>(
     command: &Command,
     source: &mut S,
     told: &mut Told,
-) -> Result<Result<Accepted, Reply>, Status>
+) -> Result<Result<Accepted, CallReply>, Status>
     ensures found { IfOk result (GivesOrRefuses command.now (IsEnd command.now
         (source_call S.given S.left S.ended S.faults S.at_fault source.old source.new))) }
     ensures whole_input { IfOk result (λ found. MatchResult found

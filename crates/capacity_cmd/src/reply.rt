@@ -10,7 +10,7 @@ ghost use Rattle.capacity_cmd.specs.Outcome as outcome;
 ghost use Rattle.capacity_cmd.specs.InputSoFar.{IsWithin};
 ghost use Rattle.plan_book.specs.declared.book.TheConstants.{PLANNERS};
 ghost use Rattle.sentences.specs.Told.{IsOfRow};
-ghost use Rattle.capacity_cmd.specs.Reply.{Says, IsReply};
+ghost use Rattle.capacity_cmd.specs.Reply.{Says, IsCallReply};
 ghost use Rattle.capacity_cmd.specs.Given.{GivesOrRefuses};
 
 use crate::accepted::Accepted;
@@ -33,7 +33,7 @@ use std::sync::Wait;
 use std::thread::Threads;
 
 #[derive(Drop)]
-pub(crate) struct Reply {
+pub(crate) struct CallReply {
     pub(crate) text: Text,
     pub(crate) status: Status,
 }
@@ -45,7 +45,7 @@ pub(crate) fn given_or_reply(
     command: &Command,
     input: &[u8],
     told: &mut Told,
-) -> Result<Result<Accepted, Reply>, OutOfMemory>
+) -> Result<Result<Accepted, CallReply>, OutOfMemory>
     requires { length input.now ≤ INPUT_BYTES }
     ensures { IfOk result (GivesOrRefuses command.now (EndsOn command.now input.now)) }
 {
@@ -69,7 +69,7 @@ fn refusal_told(
     planners: usize,
     refused: Refusal,
     told: &mut Told,
-) -> Result<Reply, OutOfMemory>
+) -> Result<CallReply, OutOfMemory>
     ensures says { IfOk result (Says (Refuses refused.row refused.cause)) }
     ensures told { (told.new ≡ told.old) ⊎ IsOfRow refused.row told.new }
 {
@@ -100,13 +100,13 @@ pub(crate) fn reply_alone(
     command: &Command,
     given: Accepted,
     told: &mut Told,
-) -> Result<Reply, OutOfMemory>
+) -> Result<CallReply, OutOfMemory>
     requires within { IsWithin PLANNERS INPUT_BYTES given }
     requires alone { workers_of command.now ≡ 0 }
-    ensures { IfOk result (IsReply (EndsOnAccepted command.now given)) }
+    ensures { IfOk result (IsCallReply (EndsOnAccepted command.now given)) }
 {
     match text_of(rt, alloc, command, given, told) {
-        Ok(text) => Ok(Reply {
+        Ok(text) => Ok(CallReply {
             text,
             status: Status::Done,
         }),
@@ -122,13 +122,13 @@ pub(crate) fn reply_on_threads<R: Threads + Wait + Sync, G: Gate>(
     given: Accepted,
     workers: u32,
     gate: &G,
-) -> Result<Reply, OutOfMemory>
+) -> Result<CallReply, OutOfMemory>
     requires within { IsWithin PLANNERS INPUT_BYTES given }
     requires some { 1 ≤ workers }
     requires most { workers ≤ WORKERS }
-    ensures { IfOk result (IsReply (EndsOnAccepted (command.Session workers) given)) }
+    ensures { IfOk result (IsCallReply (EndsOnAccepted (command.Session workers) given)) }
 {
-    Ok(Reply {
+    Ok(CallReply {
         text: text_on_threads(rt, alloc, given, workers, gate)?,
         status: Status::Done,
     })
@@ -139,20 +139,20 @@ pub(crate) fn made_reply<R: AllocGlobal + Threads + Wait + Sync, G: Gate>(
     rt: &R,
     n: u32,
     gate: &G,
-) -> Result<Reply, OutOfMemory>
-    ensures { IfOk result (IsReply (EndsInText (IsMadeText n))) }
+) -> Result<CallReply, OutOfMemory>
+    ensures { IfOk result (IsCallReply (EndsInText (IsMadeText n))) }
 {
-    Ok(Reply {
+    Ok(CallReply {
         text: Text::of(made_text(rt, rt.alloc(), n, gate)?)?,
         status: Status::Done,
     })
 }
 
 // The refusal of a row.
-pub(crate) fn refusal(alloc: Global, row: u64, cause: Cause) -> Result<Reply, OutOfMemory>
+pub(crate) fn refusal(alloc: Global, row: u64, cause: Cause) -> Result<CallReply, OutOfMemory>
     ensures { IfOk result (Says (Refuses row cause)) }
 {
-    Ok(Reply {
+    Ok(CallReply {
         text: Text::of(refusal_text(alloc, row, cause)?)?,
         status: Status::Refused { row, cause },
     })

@@ -1,4 +1,4 @@
--- Members whose spans have no moment in common are not opposite.
+-- Members whose ranges have no moment in common are not opposite.
 use Rattle.std.proofs.Common.{◌≡◌, ℕ, true, false, ◌&&◌, inl, inr, arith}
 use Rattle.std.specs.Prelude.{ℤ, ◌≤ℤ◌, ◌<ℤ◌, int_le, All}
 use Rattle.std.proofs.lemmas.Int.{ints}
@@ -10,8 +10,8 @@ use Rattle.plan_model.specs.Members.{place_count, member, uses_place, use_at, pr
 use Rattle.plan_model.specs.Disorder.{are_opposite}
 use Rattle.plan_model.proofs.Planned.{no_later}
 use Rattle.plan_model.proofs.Sound.{of_all}
-use Rattle.line_cutter.specs.declared.opposed.Span.{Span}
-use Rattle.line_cutter.specs.Opposed.{IsSpan}
+use Rattle.line_cutter.specs.declared.opposed.StartRange.{StartRange}
+use Rattle.line_cutter.specs.Opposed.{IsStartRange}
 use Rattle.line_cutter.proofs.Whole.{some_below}
 
 -- what starts after all starts of another precedes it nowhere
@@ -25,8 +25,8 @@ never i j first last from to apart p h =
     let before = no_later (use_at i p).start (use_at j p).start i.name j.name parts.1 in
     omega (arith, ints, low, high, before, apart)
 
-module _ (cut : Cut) (i j : ℕ) (one other : Span) (is_one : IsSpan (member cut i).uses one)
-    (is_other : IsSpan (member cut j).uses other) where
+module _ (cut : Cut) (i j : ℕ) (one other : StartRange) (is_one : IsStartRange (member cut i).uses one)
+    (is_other : IsStartRange (member cut j).uses other) where
   nowhere : int_le one.first other.last ≡ false → precedes_somewhere cut i j ≡ false
   nowhere h =
       false_from_ne_true (precedes_somewhere cut i j) (λ t.

@@ -7,16 +7,16 @@ use Rattle.plan_model.specs.declared.cut.Cut.{Cut}
 use Rattle.plan_model.specs.Members.{member_count}
 use Rattle.plan_model.specs.Disorder.{are_opposite}
 use Rattle.train_order.specs.Ordering.{AreOpposed}
-use Rattle.line_cutter.specs.Types.{Span}
+use Rattle.line_cutter.specs.Types.{StartRange}
 
--- all starts lie in the span
-pub record IsSpan (uses : List Use) (span : Span) : Type 0 where
-  pub first : All (λ u. span.first ≤ℤ u.start) uses
-  pub last : All (λ u. u.start ≤ℤ span.last) uses
+-- all starts lie in the range
+pub record IsStartRange (uses : List Use) (range : StartRange) : Type 0 where
+  pub first : All (λ u. range.first ≤ℤ u.start) uses
+  pub last : All (λ u. u.start ≤ℤ range.last) uses
 
--- each row has its span
-abbrev pub AreSpans : List CutRow → List Span → Type 0
-AreSpans rows spans = AllZip (λ row span. IsSpan row.uses span) rows spans
+-- each row has its range
+abbrev pub AreStartRanges : List CutRow → List StartRange → Type 0
+AreStartRanges rows ranges = AllZip (λ row range. IsStartRange row.uses range) rows ranges
 
 -- the first member after member i that is opposite to it, or the number of members
 pub record IsNextOpposite (cut : Cut) (i next : ℕ) : Type 0 where

@@ -17,7 +17,7 @@ use Rattle.section_worker.specs.declared.worker.Turned.TheVariants as turned
 use Rattle.timetable_desk.specs.Seat.{Seated, access_of}
 use Rattle.section_worker.specs.Keeping.{Working, IsSameWorker, KeepsWhatWasRead}
 use Rattle.section_worker.specs.Turn.{IsSameBoard, Reads, EndsAs, Answers, Rests, TurnsTo}
-use Rattle.session_run.specs.declared.actor.Part.TheVariants as part
+use Rattle.session_run.specs.declared.actor.Duty.TheVariants as duty
 use Rattle.session_run.specs.declared.actor.Actor.{Actor}
 use Rattle.session_run.specs.Actors.{Role, Planner, Worker, IsBy, AreBy, HasRested, IsAtWork}
 use Rattle.session_run.specs.Acting.{has_ended, rests, IsSameAccess, role_of, KeepsRead, IsWorking, WorksOn}
@@ -135,19 +135,19 @@ works_again one two three h more = record {
   role = more.role ∙ h.role;
 }
 
-pub planner_works : (old : Actor) (planner : ℕ) (seat : Seated) (ended : Bool) → old.part ≡ part.Planner planner
+pub planner_works : (old : Actor) (planner : ℕ) (seat : Seated) (ended : Bool) → old.duty ≡ duty.Planner planner
     → IsSameAccess (access_of old.seat) (access_of seat) → IsAtWork (Planner planner) ended (access_of seat)
-    → WorksOn old (record { seat = seat; part = part.Planner planner; ended = ended })
+    → WorksOn old (record { seat = seat; duty = duty.Planner planner; ended = ended })
 planner_works old planner seat ended is same at_work = record {
   working = record { at_work = at_work; keeps = tt };
   same = same;
   role = ap role_of (sym is);
 }
 
-pub worker_works : (old : Actor) (w later : Working) (seat : Seated) (ended : Bool) → old.part ≡ part.Worker w
+pub worker_works : (old : Actor) (w later : Working) (seat : Seated) (ended : Bool) → old.duty ≡ duty.Worker w
     → IsSameAccess (access_of old.seat) (access_of seat) → IsSameWorker w later → KeepsWhatWasRead later seat.pass.seen
     → IsAtWork (Worker w.share w.of) ended (access_of seat)
-    → WorksOn old (record { seat = seat; part = part.Worker later; ended = ended })
+    → WorksOn old (record { seat = seat; duty = duty.Worker later; ended = ended })
 worker_works old w later seat ended is same worker keeps at_work =
     let role : Worker later.share later.of ≡ Worker w.share w.of = (λ k. Worker (worker.share k) (worker.of k)) in
     record {
@@ -157,17 +157,17 @@ worker_works old w later seat ended is same worker keeps at_work =
     }
 
 -- what is known of a planner, and of a worker, that has not ended
-pub planner_is : (a : Actor) (planner : ℕ) → IsWorking a → a.ended ≡ false → a.part ≡ part.Planner planner
+pub planner_is : (a : Actor) (planner : ℕ) → IsWorking a → a.ended ≡ false → a.duty ≡ duty.Planner planner
     → IsAtWork (Planner planner) false (access_of a.seat)
 planner_is a planner h ended is =
     subst (λ p. IsAtWork (role_of p) false (access_of a.seat)) is
-    (subst (λ e. IsAtWork (role_of a.part) e (access_of a.seat)) ended h.at_work)
+    (subst (λ e. IsAtWork (role_of a.duty) e (access_of a.seat)) ended h.at_work)
 
-pub worker_is : (a : Actor) (w : Working) → IsWorking a → a.ended ≡ false → a.part ≡ part.Worker w
+pub worker_is : (a : Actor) (w : Working) → IsWorking a → a.ended ≡ false → a.duty ≡ duty.Worker w
     → IsAtWork (Worker w.share w.of) false (access_of a.seat)
 worker_is a w h ended is =
     subst (λ p. IsAtWork (role_of p) false (access_of a.seat)) is
-    (subst (λ e. IsAtWork (role_of a.part) e (access_of a.seat)) ended h.at_work)
+    (subst (λ e. IsAtWork (role_of a.duty) e (access_of a.seat)) ended h.at_work)
 
-pub worker_keeps : (a : Actor) (w : Working) → IsWorking a → a.part ≡ part.Worker w → KeepsWhatWasRead w a.seat.pass.seen
+pub worker_keeps : (a : Actor) (w : Working) → IsWorking a → a.duty ≡ duty.Worker w → KeepsWhatWasRead w a.seat.pass.seen
 worker_keeps a w h is = subst (λ p. KeepsRead p a.seat.pass.seen) is h.keeps

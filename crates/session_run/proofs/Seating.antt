@@ -8,23 +8,23 @@ use Rattle.turn_desk.specs.Known.{Known, TableId, AgreeOn, IsReady, with_other, 
 use Rattle.turn_desk.proofs.Drawing.{new_passes-order}
 use Rattle.timetable_desk.specs.Seat.{new_seat, access_of}
 use Rattle.section_worker.specs.Keeping.{new_worker}
-use Rattle.session_run.specs.declared.actor.Part.{Part}
-use Rattle.session_run.specs.declared.actor.Part.TheVariants as part
+use Rattle.session_run.specs.declared.actor.Duty.{Duty}
+use Rattle.session_run.specs.declared.actor.Duty.TheVariants as duty
 use Rattle.session_run.specs.declared.actor.Actor.{Actor}
 use Rattle.session_run.specs.Actors.{Worker, role_at, IsAble, HasLeft, IsLeaving}
-use Rattle.session_run.specs.Acting.{role_of, HasOpened, IsNewPass, IsNewPart, IsActorOf, StandInPlaces}
+use Rattle.session_run.specs.Acting.{role_of, HasOpened, IsNewPass, IsNewDuty, IsActorOf, StandInPlaces}
 use Rattle.session_run.proofs.Entered.{pass_of}
 use Rattle.session_run.proofs.Closing.{planner_role, worker_role}
 use Rattle.session_run.proofs.Starting.{fresh_at_work}
 use Rattle.session_run.proofs.Leaving.{leaves}
 
--- ---- parts
+-- ---- duties
 
-pub new_planner : (planners workers number : ℕ) → number ≤ planners → IsNewPart planners workers number (part.Planner number)
+pub new_planner : (planners workers number : ℕ) → number ≤ planners → IsNewDuty planners workers number (duty.Planner number)
 new_planner planners workers number l = record { role = sym (planner_role planners workers number l); keeps = λ seen. tt }
 
 pub another_worker : (planners workers number share actor : ℕ) → planners < number → share ≡ number - planners - 1
-    → IsNewPart planners workers number (part.Worker (new_worker share workers actor))
+    → IsNewDuty planners workers number (duty.Worker (new_worker share workers actor))
 another_worker planners workers number share actor l is = record {
   role = ap (λ s. Worker s workers) is ∙ sym (worker_role planners workers number l);
   keeps = λ seen section h none. absurd (cc);
@@ -42,23 +42,23 @@ able_at planners workers number seen opened from to =
           (record { from_one = from; to_last = omega (arith, l, opened.count) })
     ]
 
-pub new_actor : (desk : TableId) (planners workers number : ℕ) (pass : Known Entry) (p : Part) → IsNewPass desk planners number pass
-    → number ≤ planners + workers → IsNewPart planners workers number p
-    → IsActorOf desk planners workers number (record { seat = new_seat pass; part = p; ended = false })
-new_actor desk planners workers number pass p h to new =
-    let made : IsActorOf desk planners workers number (record { seat = new_seat (new_pass desk number h.seen); part = p; ended = false }) =
+pub new_actor : (desk : TableId) (planners workers number : ℕ) (pass : Known Entry) (d : Duty) → IsNewPass desk planners number pass
+    → number ≤ planners + workers → IsNewDuty planners workers number d
+    → IsActorOf desk planners workers number (record { seat = new_seat pass; duty = d; ended = false })
+new_actor desk planners workers number pass d h to new =
+    let made : IsActorOf desk planners workers number (record { seat = new_seat (new_pass desk number h.seen); duty = d; ended = false }) =
     record {
       desk_is = refl;
       number_is = refl;
       role = new.role;
       working = record {
         at_work =
-            fresh_at_work (role_of p) number (access_of (new_seat (new_pass desk number h.seen))) h.from_one refl refl h.opened.is_journal h.opened.by_main
+            fresh_at_work (role_of d) number (access_of (new_seat (new_pass desk number h.seen))) h.from_one refl refl h.opened.is_journal h.opened.by_main
             (subst (λ r. IsAble r h.seen) (sym new.role) (able_at planners workers number h.seen h.opened h.from_one to));
         keeps = new.keeps h.seen;
       };
     } in
-    subst (λ k. IsActorOf desk planners workers number (record { seat = new_seat k; part = p; ended = false })) (sym h.is) made
+    subst (λ k. IsActorOf desk planners workers number (record { seat = new_seat k; duty = d; ended = false })) (sym h.is) made
 
 -- ---- places
 
@@ -155,10 +155,10 @@ module _ (desk : TableId) (planners workers : ℕ) where
         let number = gone + 1 in
         let work = b.working.at_work in
         let its_number : a.seat.pass.number ≡ number = b.number_is ∙ place in
-        let role_is : role_of a.part ≡ role_at planners workers number = b.role ∙ ap (role_at planners workers) place in
+        let role_is : role_of a.duty ≡ role_at planners workers number = b.role ∙ ap (role_at planners workers) place in
         let new : HasLeft a.seat.pass.numbers a.seat.pass.seen (role_at planners workers number) number =
         subst (λ r. HasLeft a.seat.pass.numbers a.seat.pass.seen r number) role_is
-        (subst (HasLeft a.seat.pass.numbers a.seat.pass.seen (role_of a.part)) its_number
+        (subst (HasLeft a.seat.pass.numbers a.seat.pass.seen (role_of a.duty)) its_number
         (record { there = rw work.own (0, omega arith, refl); by = work.by; finished = work.finished ended })) in
         let left = subst (λ k. IsLeaving planners workers first (with_other main k word) number) (sym is)
         (leaves planners workers first main a.seat.pass gone word h.left (subst (AgreeOn pass_of main) is agree) number refl new (legal_has_one a.seat.pass.seen work.journal.legal)) in

@@ -11,8 +11,8 @@ use Rattle.timetable_desk.specs.Seat.{access_of}
 use Rattle.section_worker.specs.declared.worker.Turned.{Turned}
 use Rattle.section_worker.specs.declared.worker.Turned.TheVariants as turned
 use Rattle.section_worker.specs.Keeping.{KeepsWhatWasRead}
-use Rattle.session_run.specs.declared.actor.Part.{Part}
-use Rattle.session_run.specs.declared.actor.Part.TheVariants as part
+use Rattle.session_run.specs.declared.actor.Duty.{Duty}
+use Rattle.session_run.specs.declared.actor.Duty.TheVariants as duty
 use Rattle.session_run.specs.declared.actor.Actor.{Actor}
 use Rattle.session_run.specs.Actors.{Role, Planner, Worker, role_at, IsAtWork}
 
@@ -37,25 +37,25 @@ pub record IsSameAccess (old new : Access) : Type 0 where
   pub numbers : new.numbers ≡ old.numbers
 
 -- what an actor is
-abbrev pub role_of : Part → Role
-role_of (part.Planner planner) = Planner planner
-role_of (part.Worker worker) = Worker worker.share worker.of
+abbrev pub role_of : Duty → Role
+role_of (duty.Planner planner) = Planner planner
+role_of (duty.Worker worker) = Worker worker.share worker.of
 
 -- what a worker keeps was read; a planner keeps nothing
-abbrev pub KeepsRead : Part → List Entry → Type 0
-KeepsRead (part.Planner planner) seen = Unit {0}
-KeepsRead (part.Worker worker) seen = KeepsWhatWasRead worker seen
+abbrev pub KeepsRead : Duty → List Entry → Type 0
+KeepsRead (duty.Planner planner) seen = Unit {0}
+KeepsRead (duty.Worker worker) seen = KeepsWhatWasRead worker seen
 
 -- an actor between two steps or turns
 pub record IsWorking (a : Actor) : Type 0 where
-  pub at_work : IsAtWork (role_of a.part) a.ended (access_of a.seat)
-  pub keeps : KeepsRead a.part a.seat.pass.seen
+  pub at_work : IsAtWork (role_of a.duty) a.ended (access_of a.seat)
+  pub keeps : KeepsRead a.duty a.seat.pass.seen
 
 -- the actor after some work
 pub record WorksOn (old new : Actor) : Type 0 where
   pub working : IsWorking new
   pub same : IsSameAccess (access_of old.seat) (access_of new.seat)
-  pub role : role_of new.part ≡ role_of old.part
+  pub role : role_of new.duty ≡ role_of old.duty
 
 -- all actors after some work
 pub record AllWorkOn (old new : List Actor) : Type 0 where
@@ -83,16 +83,16 @@ pub record IsNewPass (desk : TableId) (planners number : ℕ) (pass : Known Entr
   pub from_one : 1 ≤ number
   pub is : pass ≡ new_pass desk number seen
 
--- a part that has the role of a number, and keeps nothing
-pub record IsNewPart (planners workers number : ℕ) (p : Part) : Type 0 where
-  pub role : role_of p ≡ role_at planners workers number
-  pub keeps : (seen : List Entry) → KeepsRead p seen
+-- a duty that has the role of a number, and keeps nothing
+pub record IsNewDuty (planners workers number : ℕ) (d : Duty) : Type 0 where
+  pub role : role_of d ≡ role_at planners workers number
+  pub keeps : (seen : List Entry) → KeepsRead d seen
 
 -- the actor of a number, at this desk
 pub record IsActorOf (desk : TableId) (planners workers number : ℕ) (a : Actor) : Type 0 where
   pub desk_is : a.seat.pass.desk ≡ desk
   pub number_is : a.seat.pass.number ≡ number
-  pub role : role_of a.part ≡ role_at planners workers number
+  pub role : role_of a.duty ≡ role_at planners workers number
   pub working : IsWorking a
 
 -- actors of all numbers from 1 on, of which those with lower numbers stand last, and some of the last are gone

@@ -13,9 +13,9 @@ use section_worker::{Turned, Worker};
 use std::sync::Wait;
 use timetable_desk::Seat;
 
-// An actor's part in the session: the planner of this number, or a worker.
+// An actor's duty in the session: the planner of this number, or a worker.
 #[derive(Drop)]
-pub(crate) enum Part {
+pub(crate) enum Duty {
     Planner(u32),
     Worker(Worker),
 }
@@ -24,7 +24,7 @@ pub(crate) enum Part {
 #[derive(Drop)]
 pub(crate) struct Actor<'a> {
     pub(crate) seat: Seat<'a>,
-    pub(crate) part: Part,
+    pub(crate) duty: Duty,
     // Whether nothing is left to do for it.
     pub(crate) ended: bool,
 }
@@ -58,12 +58,12 @@ impl<'a> Actor<'a> {
         requires ended { self.old.ended ≡ false }
         ensures { WorksOn self.old self.new }
     {
-        match &mut self.part {
-            Part::Planner(planner) => {
+        match &mut self.duty {
+            Duty::Planner(planner) => {
                 self.ended = step(rt, gate, signals, &mut self.seat, *planner)?;
                 Ok(())
             }
-            Part::Worker(worker) => {
+            Duty::Worker(worker) => {
                 self.ended = turn(rt, gate, signals, &mut self.seat, worker)?;
                 Ok(())
             }

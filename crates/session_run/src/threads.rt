@@ -6,9 +6,9 @@ ghost use Rattle.turn_desk.specs.Known.{IsReady};
 ghost use Rattle.session_run.specs.declared.threads.TheConstants.{WORKERS};
 ghost use Rattle.session_run.specs.Actors.{IsLeaving};
 ghost use Rattle.session_run.specs.Acting.{IsWorking, WorksOn, AllWorkOn, AreNewPasses, IsNewPass};
-ghost use Rattle.session_run.specs.Acting.{IsNewPart, IsActorOf, AreActors};
+ghost use Rattle.session_run.specs.Acting.{IsNewDuty, IsActorOf, AreActors};
 
-use crate::actor::{Actor, Part};
+use crate::actor::{Actor, Duty};
 use crate::signals::Signals;
 use line_tables::LineTables;
 use plan_book::Book;
@@ -106,25 +106,25 @@ fn actor_of<'a>(
 {
     Actor {
         seat: Seat::new(desk, pass),
-        part: part_of(alloc, number, planners, workers),
+        duty: duty_of(alloc, number, planners, workers),
         ended: false,
     }
 }
 
-// The part of the actor of a number: the planner of this number, or the worker that comes after all
+// The duty of the actor of a number: the planner of this number, or the worker that comes after all
 // planners.
-fn part_of(alloc: Global, number: u32, planners: u32, workers: u32) -> Part
+fn duty_of(alloc: Global, number: u32, planners: u32, workers: u32) -> Duty
     requires from_one { 1 ≤ number }
     requires number { number ≤ planners + workers }
     requires planners { planners ≤ PLANNERS }
     requires workers { workers ≤ WORKERS }
-    ensures { IsNewPart planners workers number result }
+    ensures { IsNewDuty planners workers number result }
 {
     if number <= planners {
-        return Part::Planner(number);
+        return Duty::Planner(number);
     }
     let share = number - planners - 1;
-    Part::Worker(Worker::new(alloc, share, workers, GATE_WORKERS + share + 1))
+    Duty::Worker(Worker::new(alloc, share, workers, GATE_WORKERS + share + 1))
 }
 
 // Lets all actors work, in as many threads as they are.
@@ -172,7 +172,7 @@ fn leave_all(
         };
         let Actor {
             seat,
-            part: _,
+            duty: _,
             ended,
         } = actor;
         if !ended {

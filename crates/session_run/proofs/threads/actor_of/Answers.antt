@@ -8,4 +8,4 @@ new-requires c = rw c.requires.pass.is (record { desk_is = refl; idle = refl })
 pub returns : goal.returns
 returns c =
     rw c.new.ensures
-    (new_actor c.args.desk.now c.args.planners c.args.workers c.args.number c.args.pass c.part_of.result c.requires.pass c.requires.number c.part_of.ensures)
+    (new_actor c.args.desk.now c.args.planners c.args.workers c.args.number c.args.pass c.duty_of.result c.requires.pass c.requires.number c.duty_of.ensures)

@@ -1,6 +1,6 @@
 use Rattle.std.proofs.Common.{◌-◌, refl}
 use Rattle.session_run.proofs.Seating.{new_planner, another_worker}
-use Rattle.session_run.proofs.threads.part_of.Goals as goal
+use Rattle.session_run.proofs.threads.duty_of.Goals as goal
 
 pub returns-then-number-planners : goal.returns-then-number-planners
 returns-then-number-planners c = new_planner c.args.planners c.args.workers c.args.number c.if-number-planners.true
