@@ -81,7 +81,7 @@ sound_same cut other same sound =
 
 -- the cut of a section of sound tables is sound
 module _ (tables : Tables) (sound : IsSound tables) (name : List ℕ) where
-  sound_found : (cut : Cut) (found : Option Section) → find (λ s. is_same s.name name) tables.sections ≡ found
+  pub sound_found : (cut : Cut) (found : Option Section) → find (λ s. is_same s.name name) tables.sections ≡ found
       → option_map (section_cut tables) found ≡ Some cut → IsSoundCut cut
   sound_found cut None e is = absurd (cc)
   sound_found cut (Some s) e is =
