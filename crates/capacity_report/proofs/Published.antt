@@ -1,39 +1,28 @@
 -- The answers that a legal journal publishes are those of sound cuts.
-use Rattle.std.proofs.Common.{◌≡◌, ℕ, List, [], ◌∷◌, ◌++◌, Option, None, Some, refl, subst}
-use Rattle.std.specs.Prelude.{find, option_map, All}
+use Rattle.std.proofs.Common.{◌≡◌, ℕ, List, [], ◌∷◌, ◌++◌, Some, refl}
+use Rattle.std.specs.Prelude.{find, All}
 use Rattle.std.proofs.lemmas.List.Elements.{All-nil, All-cons}
-use Rattle.rail_model.specs.declared.items.Section.{Section}
 use Rattle.rail_model.specs.declared.items.Item.TheVariants as item
 use Rattle.rail_model.specs.declared.tables.Tables.{Tables}
 use Rattle.rail_model.specs.Name.{is_same}
-use Rattle.rail_model.specs.Rules.{Stands, IsSound}
-use Rattle.line_tables.proofs.Found.{find_some}
+use Rattle.rail_model.specs.Rules.{IsSound}
 use Rattle.plan_model.specs.declared.cut.Cut.{Cut}
 use Rattle.plan_model.specs.declared.answer.Answer.{Answer}
 use Rattle.plan_model.specs.declared.journal.Act.{Act}
 use Rattle.plan_model.specs.declared.journal.Act.TheVariants as act
 use Rattle.plan_model.specs.declared.journal.Entry.{Entry}
-use Rattle.plan_model.specs.Cut.{IsSoundCut, section_cut, cut_of}
+use Rattle.plan_model.specs.Cut.{IsSoundCut, cut_of}
 use Rattle.plan_model.specs.Journal.{tables_at}
 use Rattle.plan_model.specs.Legal.{cut_at, IsAnswerAt, MayFollow, AllFollow, Opens, IsLegal}
 use Rattle.plan_model.proofs.Legality.{tables_are_sound, next_is_legal}
-use Rattle.section_cut.proofs.SoundCut.{sound_cut}
+use Rattle.section_cut.proofs.SameValue.{sound_found}
 use Rattle.capacity_report.specs.Answers.{IsAnswerOfSome}
 use Rattle.capacity_report.specs.Published.{PublishesAnswer}
 
 -- the cut of a section of sound tables is sound
 module _ (tables : Tables) (sound : IsSound tables) (name : List ℕ) where
-  sound_found : (cut : Cut) (found : Option Section) → find (λ s. is_same s.name name) tables.sections ≡ found
-      → option_map (section_cut tables) found ≡ Some cut → IsSoundCut cut
-  sound_found cut None e is = absurd (cc)
-  sound_found cut (Some s) e is =
-      let same : section_cut tables s ≡ cut = cc in
-      let stands = (find_some (λ (s : Section). is_same s.name name) tables.sections s e).1
-      (λ s. Stands tables (item.Section s)) sound.sections.each in
-      subst IsSoundCut same (sound_cut tables s sound stands)
-
   sound_cut_of : (cut : Cut) → cut_of tables name ≡ Some cut → IsSoundCut cut
-  sound_cut_of cut is = sound_found cut (find (λ s. is_same s.name name) tables.sections) refl is
+  sound_cut_of cut is = sound_found tables sound name cut (find (λ s. is_same s.name name) tables.sections) refl is
 
 -- an answer that a legal journal may publish
 answer_of_some : (journal : List Entry) (section : List ℕ) (at : ℕ) (a : Answer) → IsLegal journal
