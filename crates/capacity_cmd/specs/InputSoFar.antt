@@ -86,18 +86,19 @@ TakesRow planners row (Ok line) made more taken = TakesLine planners row line ma
 TakesRow planners row (Err fault) made more None = ⊥
 TakesRow planners row (Err fault) made more (Some why) = why ≡ cause.Form fault
 
--- all rows are taken, so many, or one has a fault, by what the whole says
+-- all rows are taken, so many, by what the whole says
 pub record TakesAll (planners rows : ℕ) (whole : Result Content Refusal) (made : InputSoFar) : Type 0 where
   pub is : accepted_in whole ≡ accepted_so_far made
   pub scripts : length made.scripts ≤ planners
   pub edits : made.base.edits ≤ rows
 
+-- what taking rows ends with: all are taken, or the first fault is what the whole ends with; of a want of memory nothing is said
 abbrev pub TakesRows : ℕ → ℕ → Result Content Refusal → Result InputSoFar (Stopped Refusal) → Type 0
 TakesRows planners rows whole (Ok made) = TakesAll planners rows whole made
 TakesRows planners rows whole (Err (Refused refusal)) = whole ≡ Err refusal
 TakesRows planners rows whole (Err OutOfMemory) = Unit {0}
 
--- the same of rows whose lines are taken in place
+-- rows are taken one by one into what is there, which ends so
 abbrev pub TakesEach : {U : Type 0} → ℕ → ℕ → Result Content Refusal → InputSoFar → Result U (Stopped Refusal) → Type 0
 TakesEach planners rows whole made (Ok done) = TakesRows planners rows whole (Ok made)
 TakesEach planners rows whole made (Err why) = TakesRows planners rows whole (Err why)

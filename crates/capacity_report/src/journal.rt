@@ -136,9 +136,16 @@ fn rejected_row(
     sheet.drop_row();
     sheet.push_field(b"rejected")?;
     sheet.push_count(u64::from(planner))?;
-    sheet.push_field(rule_text(rule))?;
+    push_rule(sheet, rule)?;
     push_edit(alloc, sheet, edit)?;
     sheet.end_row()
+}
+
+// Adds the field that names a rule.
+fn push_rule(sheet: &mut Sheet, rule: Rule) -> Result<(), OutOfMemory>
+    ensures { AddsFields result sheet.old sheet.new (rows.rule_text rule ∷ []) }
+{
+    sheet.push_field(rule_text(rule))
 }
 
 // Adds the fields that spell an edit.
