@@ -6,7 +6,7 @@ use plan_model::{Answer, Plan, Reading, Rows, Tie};
 use small_lines::{Text, piece_at, signed_number, small_number, word};
 use std::alloc::Global;
 
-/// Adds so many runs over the route R, named by their numbers, one second after the other.
+// Adds so many runs over the route R, named by their numbers, one second after the other.
 pub(crate) fn put_runs(rows: &mut Text, count: u64) {
     for number in 0..count.min(2_000) {
         rows.show(b"run,t", number + 1_000);
@@ -15,7 +15,7 @@ pub(crate) fn put_runs(rows: &mut Text, count: u64) {
     }
 }
 
-/// The answer's kind, with the occupancy time or the number of trains, and how many uses were taken.
+// The answer's kind, with the occupancy time or the number of trains, and how many uses were taken.
 pub(crate) fn write_answer(alloc: Global, text: &mut Text, reading: &mut Reading) {
     match answer(alloc, reading) {
         Ok(answer) => put_kind(text, &answer),
@@ -25,7 +25,7 @@ pub(crate) fn write_answer(alloc: Global, text: &mut Text, reading: &mut Reading
     text.put(b"\n");
 }
 
-/// The kind of an answer, with its occupancy time or its number of trains.
+// The kind of an answer, with its occupancy time or its number of trains.
 pub(crate) fn put_kind(text: &mut Text, answer: &Answer) {
     match answer {
         Answer::Ordered(plan) => text.show(b"occupancy ", plan.occupancy),
@@ -34,8 +34,8 @@ pub(crate) fn put_kind(text: &mut Text, answer: &Answer) {
     }
 }
 
-/// Whether the checker takes the compressed timetable for the answer where its last train enters at
-/// the moment of the case, with its tie: `start`, or the positions of a train and a block.
+// Whether the checker takes the compressed timetable for the answer where its last train enters at
+// the moment of the case, with its tie: `start`, or the positions of a train and a block.
 pub(crate) fn write_is_answer(alloc: Global, text: &mut Text, line: &[u8], reading: &mut Reading) {
     match answer(alloc, reading) {
         Ok(Answer::Ordered(plan)) => write_moved(text, line, reading, plan),

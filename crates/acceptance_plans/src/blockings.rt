@@ -7,8 +7,8 @@ use rail_model::{Path, Use};
 use small_lines::Text;
 use std::alloc::Global;
 
-/// From when until when each block is kept; the parts of the first two blockings; and both of each
-/// blocking in the list of all.
+// From when until when each block is kept; the parts of the first two blockings; and both of each
+// blocking in the list of all.
 pub(crate) fn write_blockings(alloc: Global, text: &mut Text, tables: &LineTables) {
     if tables.runs() == 0 {
         return text.put_line(b"no path");

@@ -96,7 +96,7 @@ fn case_of(line: &[u8]) -> Option<Case> {
     None
 }
 
-/// Repeats each remark and the line of each case, and writes what comes of it.
+// Repeats each remark and the line of each case, and writes what comes of it.
 pub(crate) fn write_cases<R: AllocGlobal + Threads + Sync>(rt: &R, text: &mut Text, script: &[u8]) {
     for at in 0..script.len() {
         if starts_line(script, at, b'#') {

@@ -10,8 +10,8 @@ use section_cut::{cut_change, cut_of};
 use small_lines::{Text, edit_of, parts_of};
 use std::alloc::Global;
 
-/// The section S of tables: its rows are stamped 8 before all. For each edit, with the numbers from
-/// 9 on, whether it touches the section, and the section's cut after it.
+// The section S of tables: its rows are stamped 8 before all. For each edit, with the numbers from
+// 9 on, whether it touches the section, and the section's cut after it.
 pub(crate) fn write_changes(alloc: Global, text: &mut Text, tables: &mut LineTables, edits: &[u8]) {
     let Ok(name) = Name::read(b"S") else {
         return text.put_line(b"no name");

@@ -9,7 +9,7 @@ use section_cut::{AllStairways, cut_among, cut_of, stairways};
 use small_lines::Text;
 use std::alloc::Global;
 
-/// The cut of the section of a name, whose rows get this stamp, if it is there.
+// The cut of the section of a name, whose rows get this stamp, if it is there.
 pub(crate) fn cut_in(
     alloc: Global,
     text: &mut Text,
@@ -31,8 +31,8 @@ pub(crate) fn cut_in(
     }
 }
 
-/// The names of a cut's connections, each before a comma; then for each train the place, start and
-/// end of each use, and its entry, stamp and name.
+// The names of a cut's connections, each before a comma; then for each train the place, start and
+// end of each use, and its entry, stamp and name.
 pub(crate) fn put_cut(text: &mut Text, cut: &Cut) {
     put_names(text, cut.connections.slice());
     text.put_line(b"cut");
@@ -41,7 +41,7 @@ pub(crate) fn put_cut(text: &mut Text, cut: &Cut) {
     }
 }
 
-/// Names, each before a comma.
+// Names, each before a comma.
 pub(crate) fn put_names(text: &mut Text, names: &[Name]) {
     for name in names {
         text.put(name.bytes());
@@ -62,7 +62,7 @@ fn put_row(text: &mut Text, row: &CutRow) {
     text.put_line(row.name.bytes());
 }
 
-/// The cut of the only section with stamp 7, by stairways that are made once.
+// The cut of the only section with stamp 7, by stairways that are made once.
 pub(crate) fn write_cut_among(alloc: Global, text: &mut Text, tables: &LineTables) {
     if tables.sections() != 1 {
         return text.put_line(b"not one section");

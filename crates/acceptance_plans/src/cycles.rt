@@ -11,7 +11,7 @@ use row_text::Sheet;
 use small_lines::Text;
 use std::alloc::Global;
 
-/// The rows of the cycle of a section; nothing where its trains have no order.
+// The rows of the cycle of a section; nothing where its trains have no order.
 pub(crate) fn write_cycle(alloc: Global, text: &mut Text, cut: &Cut)
     requires sound { IsSoundCut cut.now }
     requires few { member_count cut.now ≤ MEMBERS }

@@ -4,14 +4,14 @@ use std::alloc::Global;
 
 const DIGITS: [u8; 16] = *b"0123456789abcdef";
 
-/// The bytes that an escaped text stands for.
+// The bytes that an escaped text stands for.
 pub(crate) fn unescaped(alloc: Global, escaped: &[u8]) -> Text {
     let mut bytes = Text::new(alloc);
     put_unescaped(&mut bytes, escaped);
     bytes
 }
 
-/// Adds these bytes to others.
+// Adds these bytes to others.
 pub(crate) fn put_unescaped(bytes: &mut Text, escaped: &[u8]) {
     let (plain, mut rest) = parts_of(escaped, b'\\');
     bytes.put(plain);
@@ -46,7 +46,7 @@ fn value(digit: u8) -> u8 {
     }
 }
 
-/// Adds bytes, of which those that are no sign of ASCII stand escaped.
+// Adds bytes, of which those that are no sign of ASCII stand escaped.
 pub(crate) fn put_escaped(text: &mut Text, bytes: &[u8]) {
     for byte in bytes {
         put_sign(text, *byte);

@@ -4,7 +4,7 @@ use row_text::{Fields, Line, RowList, read_row_in};
 use small_lines::Text;
 use std::alloc::Global;
 
-/// Of the first row, in a version.
+// Of the first row, in a version.
 pub(crate) fn write_first(alloc: Global, text: &mut Text, version: u32, rows: &RowList<'_>) {
     if rows.is_empty() {
         return text.put_line(b"no row");
@@ -22,7 +22,7 @@ fn write_read(alloc: Global, text: &mut Text, version: u32, fields: &Fields) {
     }
 }
 
-/// Of the row at a place, in version 1.
+// Of the row at a place, in version 1.
 pub(crate) fn write_at(alloc: Global, text: &mut Text, place: usize, rows: &RowList<'_>) {
     if place >= rows.len() {
         return text.put_line(b"no row");

@@ -5,8 +5,8 @@ use plan_model::{Reading, Rows};
 use small_lines::Text;
 use std::alloc::Global;
 
-/// How many copies of the train at a position fit into a reading's section, with the occupancy time
-/// that they make, and that of one more.
+// How many copies of the train at a position fit into a reading's section, with the occupancy time
+// that they make, and that of one more.
 pub(crate) fn write_fill(alloc: Global, text: &mut Text, reading: &mut Reading, train: u32) {
     if train >= reading.count() {
         return text.put_line(b"no train");

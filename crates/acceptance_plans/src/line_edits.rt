@@ -4,8 +4,8 @@ use rail_model::Edit;
 use small_lines::{Text, edit_of, parts_of};
 use std::alloc::Global;
 
-/// Edits of tables, one after the other, and what each is answered; then how many blocks, runs,
-/// sections and connections there are.
+// Edits of tables, one after the other, and what each is answered; then how many blocks, runs,
+// sections and connections there are.
 pub(crate) fn write_edits(alloc: Global, text: &mut Text, tables: &mut LineTables, edits: &[u8]) {
     let mut rest = edits;
     for _ in 0..edits.len() {

@@ -6,8 +6,8 @@ use rail_model::{Name, OutOfMemory, Path, Tables};
 use small_lines::{Text, word};
 use std::alloc::Global;
 
-/// What is looked up by the names of a block and of a run, the second hop of the second run, and
-/// how many runs and connections a copy of a copy's plain tables has.
+// What is looked up by the names of a block and of a run, the second hop of the second run, and
+// how many runs and connections a copy of a copy's plain tables has.
 pub(crate) fn write_look_ups(alloc: Global, text: &mut Text, tables: &LineTables, line: &[u8]) {
     match (Name::read(word(line, 1)), Name::read(word(line, 2))) {
         (Ok(block), Ok(run)) => write_numbers(text, tables, &block, &run),

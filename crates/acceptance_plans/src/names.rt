@@ -5,7 +5,7 @@ use small_lines::{Text, after_pieces, word};
 use std::alloc::Global;
 use std::collections::HashSet;
 
-/// What the calls of a list give, one after the other.
+// What the calls of a list give, one after the other.
 pub(crate) fn write_list(alloc: Global, text: &mut Text) {
     let mut list = List::new(alloc);
     text.show(b"is_empty ", list.is_empty());
@@ -46,7 +46,7 @@ fn write_copied(text: &mut Text, items: Vec<u8>) {
     text.put(b"\n");
 }
 
-/// Whether bytes are a name, and whether it gives them again.
+// Whether bytes are a name, and whether it gives them again.
 pub(crate) fn write_name(alloc: Global, text: &mut Text, line: &[u8]) {
     let bytes = unescaped(alloc, after_pieces(line, b' ', 1));
     match Name::read(bytes.bytes()) {
@@ -56,8 +56,8 @@ pub(crate) fn write_name(alloc: Global, text: &mut Text, line: &[u8]) {
     }
 }
 
-/// Two names: their bytes, their order, whether they are the same, and whether a set of the first
-/// has each.
+// Two names: their bytes, their order, whether they are the same, and whether a set of the first
+// has each.
 pub(crate) fn write_names(alloc: Global, text: &mut Text, line: &[u8]) {
     match (Name::read(word(line, 1)), Name::read(word(line, 2))) {
         (Ok(one), Ok(other)) => write_two(alloc, text, &one, &other),

@@ -11,8 +11,8 @@ use small_lines::{Text, number_of, small_number, word};
 use std::alloc::Global;
 use train_order::{Disorder, Order, order};
 
-/// A row of the positions in order, of two opposite trains and their places, or a row for each link
-/// of a ring.
+// A row of the positions in order, of two opposite trains and their places, or a row for each link
+// of a ring.
 pub(crate) fn write_order(alloc: Global, text: &mut Text, cut: &Cut)
     requires sound { IsSoundCut cut.now }
     requires few { member_count cut.now ≤ MEMBERS }
@@ -56,8 +56,8 @@ fn put_links(text: &mut Text, links: &[Link]) {
     }
 }
 
-/// The occupancy time and the busiest block where both trains of a section enter at the moments of
-/// the case.
+// The occupancy time and the busiest block where both trains of a section enter at the moments of
+// the case.
 pub(crate) fn write_occupancy(text: &mut Text, line: &[u8], cut: &Cut)
     requires { IsSoundCut cut.now }
 {
@@ -71,9 +71,9 @@ pub(crate) fn write_occupancy(text: &mut Text, line: &[u8], cut: &Cut)
     text.put(b"\n");
 }
 
-/// The capacity consumption by an occupancy time, an additional time rate and a window's length, as
-/// a reduced fraction: its parts, its hundredths of a per cent, and whether it lies within the
-/// capacity.
+// The capacity consumption by an occupancy time, an additional time rate and a window's length, as
+// a reduced fraction: its parts, its hundredths of a per cent, and whether it lies within the
+// capacity.
 pub(crate) fn write_rate(text: &mut Text, line: &[u8]) {
     let seconds = number_of(word(line, 1));
     let (add_percent, period_s) = (small_number(word(line, 2)), small_number(word(line, 3)));

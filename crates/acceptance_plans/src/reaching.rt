@@ -7,8 +7,8 @@ use rail_model::{Hop, List, Name, OutOfMemory, Path};
 use small_lines::{Text, number_of, word};
 use std::alloc::Global;
 
-/// When the head of a train over two blocks of 700 and 300 m reaches so many metres, rounded up and
-/// down, and when the second block's signal is approached.
+// When the head of a train over two blocks of 700 and 300 m reaches so many metres, rounded up and
+// down, and when the second block's signal is approached.
 pub(crate) fn write_reach(alloc: Global, text: &mut Text, line: &[u8]) {
     let metres = number_of(word(line, 1));
     if metres > 1_000 {

@@ -5,8 +5,8 @@ use rail_model::Name;
 use small_lines::Text;
 use std::alloc::Global;
 
-/// The end of a reading's window and its connections. Its first row is taken, if it has this name,
-/// then the whole cut.
+// The end of a reading's window and its connections. Its first row is taken, if it has this name,
+// then the whole cut.
 pub(crate) fn write_reading(text: &mut Text, reading: &mut Reading, name: &[u8]) {
     text.show(b"window until ", reading.section().to_s);
     text.show(b", connections ", reading.connections().len());
@@ -33,7 +33,7 @@ fn write_taken<R: Rows>(text: &mut Text, reading: &mut R, name: &Name) {
     text.put(b"\n");
 }
 
-/// Copies of a reading's cut, and of its answer.
+// Copies of a reading's cut, and of its answer.
 pub(crate) fn write_copies(alloc: Global, text: &mut Text, reading: &mut Reading) {
     match reading.whole().copy(alloc) {
         Ok(copy) => put_size(text, &copy),

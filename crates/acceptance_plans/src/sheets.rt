@@ -4,7 +4,7 @@ use row_text::{Sheet, Written};
 use small_lines::Text;
 use std::alloc::Global;
 
-/// The text of a sheet with three rows, after which a field is dropped.
+// The text of a sheet with three rows, after which a field is dropped.
 pub(crate) fn write_sheet(alloc: Global, text: &mut Text) {
     let mut sheet = Sheet::new(alloc);
     if push_rows(alloc, &mut sheet).is_err() {

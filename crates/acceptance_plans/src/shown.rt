@@ -12,9 +12,9 @@ use small_lines::{
 };
 use std::alloc::Global;
 
-/// Whether the numbers of a case show a cycle of a section: its period; the entries, with a colon
-/// between them, or a dash where there is none; and the steps, each of two trains, a place, and
-/// whether the second train is one of the same pattern or of the next.
+// Whether the numbers of a case show a cycle of a section: its period; the entries, with a colon
+// between them, or a dash where there is none; and the steps, each of two trains, a place, and
+// whether the second train is one of the same pattern or of the next.
 pub(crate) fn write_shown(alloc: Global, text: &mut Text, line: &[u8], cut: &Cut)
     requires sound { IsSoundCut cut.now }
     requires few { member_count cut.now ≤ MEMBERS }

@@ -6,8 +6,8 @@ use row_text::{Fields, Line, RowList, Sheet, has_times_in, read_row, spell, spel
 use small_lines::{Text, word};
 use std::alloc::Global;
 
-/// The lines of rows in version 1, as their rows in a version; a line with a time that the version
-/// can't write is left out.
+// The lines of rows in version 1, as their rows in a version; a line with a time that the version
+// can't write is left out.
 pub(crate) fn write_spelled(alloc: Global, text: &mut Text, version: u32, rows: &RowList<'_>) {
     let mut sheet = Sheet::new(alloc);
     for i in 0..rows.len() {
@@ -50,8 +50,8 @@ fn spell_line(
     sheet.write_row(&row)
 }
 
-/// A line of two fields, pushed one by one: how many fields its row has when it is spelled again,
-/// as fields and as a row, and the second of them.
+// A line of two fields, pushed one by one: how many fields its row has when it is spelled again,
+// as fields and as a row, and the second of them.
 pub(crate) fn write_again(alloc: Global, text: &mut Text, line: &[u8]) {
     let mut fields = Fields::new(alloc);
     if push_two(&mut fields, word(line, 1), word(line, 2)).is_err() {

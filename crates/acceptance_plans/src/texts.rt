@@ -5,8 +5,8 @@ use small_lines::{Text, after_pieces, number_of, word};
 use std::alloc::Global;
 use std::thread::Threads;
 
-/// The bytes that a case's line has, after its word and where it has one its number. A long row has
-/// so many times a piece after its start and before its end.
+// The bytes that a case's line has, after its word and where it has one its number. A long row has
+// so many times a piece after its start and before its end.
 pub(crate) fn bytes_of(alloc: Global, line: &[u8]) -> Text {
     match word(line, 0) {
         b"?long" => long_row(alloc, line),
@@ -25,8 +25,8 @@ fn long_row(alloc: Global, line: &[u8]) -> Text {
     row
 }
 
-/// The rows of a text: a bar after each field, and a slash after each row. A double quote changes
-/// how a text is read, and not what its other rows are.
+// The rows of a text: a bar after each field, and a slash after each row. A double quote changes
+// how a text is read, and not what its other rows are.
 pub(crate) fn write_rows(text: &mut Text, rows: &RowList<'_>) {
     for i in 0..rows.len() {
         put_row(text, &rows.get(i));
@@ -42,8 +42,8 @@ fn put_row(text: &mut Text, row: &Row<'_>) {
     text.put(b"/");
 }
 
-/// The version of a text's rows, the place of the first that is to spell a line, and how many rows
-/// there are.
+// The version of a text's rows, the place of the first that is to spell a line, and how many rows
+// there are.
 pub(crate) fn write_version(text: &mut Text, rows: &RowList<'_>) {
     text.show_all(b"", &rows.version());
     text.show(b", first line ", rows.first_line());
@@ -51,8 +51,8 @@ pub(crate) fn write_version(text: &mut Text, rows: &RowList<'_>) {
     text.put(b"\n");
 }
 
-/// A long text, with some bytes after its rows, of which several threads cut parts: how many rows
-/// they find, and whether these are those that one thread reads.
+// A long text, with some bytes after its rows, of which several threads cut parts: how many rows
+// they find, and whether these are those that one thread reads.
 pub(crate) fn write_parts<R: AllocGlobal + Threads + Sync>(rt: &R, text: &mut Text, line: &[u8]) {
     let bytes = long_text(rt.alloc(), after_pieces(line, b' ', 1));
     match rows_by_threads(rt, rt.alloc(), bytes.bytes()) {

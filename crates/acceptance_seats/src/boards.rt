@@ -13,7 +13,7 @@ use small_lines::{Text, small_line};
 use std::alloc::Global;
 use std::sync::Wait;
 
-/// A book of the line with its two runs and its section, opened at 8.
+// A book of the line with its two runs and its section, opened at 8.
 pub(crate) fn opened(alloc: Global, text: &mut Text) -> Result<Option<Book>, OutOfMemory>
     ensures { IfOk result (λ book. IfSome book IsJustOpened) }
 {
@@ -23,7 +23,7 @@ pub(crate) fn opened(alloc: Global, text: &mut Text) -> Result<Option<Book>, Out
     Ok(Some(Book::start(alloc, tables, 8, Scripts::new(alloc))?))
 }
 
-/// Makes an edit, and tells what is answered.
+// Makes an edit, and tells what is answered.
 pub(crate) fn edited<R: Wait, B: Board>(
     rt: &R,
     text: &mut Text,
@@ -38,7 +38,7 @@ pub(crate) fn edited<R: Wait, B: Board>(
     Ok(())
 }
 
-/// Tells what an edit is answered.
+// Tells what an edit is answered.
 pub(crate) fn push_edited(text: &mut Text, answer: Result<u64, Rule>) {
     match answer {
         Ok(at) => text.show(b"edited,", at),
@@ -46,7 +46,7 @@ pub(crate) fn push_edited(text: &mut Text, answer: Result<u64, Rule>) {
     }
 }
 
-/// Asks for S, and tells what is answered.
+// Asks for S, and tells what is answered.
 pub(crate) fn asked<R: Wait, B: Board>(rt: &R, text: &mut Text, board: &mut B) {
     let Ok(section) = Name::read(b"S") else {
         return text.put(b"no name");
@@ -57,7 +57,7 @@ pub(crate) fn asked<R: Wait, B: Board>(rt: &R, text: &mut Text, board: &mut B) {
     }
 }
 
-/// Tells what a question is answered.
+// Tells what a question is answered.
 pub(crate) fn push_asked(text: &mut Text, answer: &Asked) {
     match answer {
         Asked::Ready { at, .. } => text.show(b"ready,", *at),
@@ -70,7 +70,7 @@ pub(crate) fn push_asked(text: &mut Text, answer: &Asked) {
     }
 }
 
-/// One turn of a worker. Tells what came of it.
+// One turn of a worker. Tells what came of it.
 pub(crate) fn turned<R: Wait, B: Board, G: Gate>(
     rt: &R,
     text: &mut Text,

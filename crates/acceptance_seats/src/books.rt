@@ -15,7 +15,7 @@ use rail_model::{Name, OutOfMemory};
 use small_lines::{Text, edit_of, parts_of};
 use std::alloc::Global;
 
-/// Makes the calls of a line, with semicolons between them, of a new book.
+// Makes the calls of a line, with semicolons between them, of a new book.
 pub(crate) fn write_book(alloc: Global, text: &mut Text, calls: &[u8]) {
     match opened(alloc, text) {
         Ok(Some(mut book)) => write_calls(alloc, text, &mut book, calls),

@@ -10,7 +10,7 @@ use small_lines::{Text, number_of, parts_of};
 use std::sync::Wait;
 use std::thread::Threads;
 
-/// Adds the line of each case and what comes of it. An empty line and a remark are none.
+// Adds the line of each case and what comes of it. An empty line and a remark are none.
 pub(crate) fn write_cases<R: AllocGlobal + Threads + Wait + Sync>(
     rt: &R,
     text: &mut Text,

@@ -103,8 +103,8 @@ struct Found {
     orders: u64,
 }
 
-/// Draws edits from a number on. Tells after how many edits the repair gave the answer from scratch,
-/// and whether there were many orders and many others.
+// Draws edits from a number on. Tells after how many edits the repair gave the answer from scratch,
+// and whether there were many orders and many others.
 pub(crate) fn write_drawn(alloc: Global, text: &mut Text, first: u64) {
     match line_of_trains(alloc, text) {
         Ok(Some(mut book)) => write_held(alloc, text, &mut book, first),

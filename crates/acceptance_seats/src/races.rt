@@ -29,9 +29,9 @@ enum Part<'a> {
     Planner(&'a [u8]),
 }
 
-/// Holds a worker at a point until another thread has played its part, or is held there too; then
-/// asks for S. What the two threads told comes in the order of letters. The line has the point, and
-/// `worker` or the planner's rows with semicolons between them.
+// Holds a worker at a point until another thread has played its part, or is held there too; then
+// asks for S. What the two threads told comes in the order of letters. The line has the point, and
+// `worker` or the planner's rows with semicolons between them.
 pub(crate) fn write_race<R: Threads + Wait + Sync>(
     rt: &R,
     alloc: Global,
@@ -107,7 +107,7 @@ impl Gate for Meeting {
     }
 }
 
-/// A desk over the book, its first pass, and two that this pass has drawn.
+// A desk over the book, its first pass, and two that this pass has drawn.
 pub(crate) fn started<R: Wait>(
     rt: &R,
     alloc: Global,

@@ -20,7 +20,7 @@ use std::alloc::Global;
 // The most uses of the first reading.
 const FIRST_USES: u64 = 4;
 
-/// Makes the steps with a new book, and tells of each repair.
+// Makes the steps with a new book, and tells of each repair.
 pub(crate) fn write_repairs(alloc: Global, text: &mut Text, steps: &[u8]) {
     match opened(alloc, text) {
         Ok(Some(mut book)) => write_steps(alloc, text, &mut book, steps),
@@ -75,7 +75,7 @@ fn stepped(
     Ok(next)
 }
 
-/// The next reading of a book, if a section is left.
+// The next reading of a book, if a section is left.
 pub(crate) fn next_reading(book: &Book) -> Result<Option<Reading>, OutOfMemory>
     ensures { IfOk result (λ r. IfSome r (IsNextReading 0 1 book.now)) }
 {
@@ -85,7 +85,7 @@ pub(crate) fn next_reading(book: &Book) -> Result<Option<Reading>, OutOfMemory>
     }
 }
 
-/// What is kept of the first reading of a book, if that takes at most so many uses.
+// What is kept of the first reading of a book, if that takes at most so many uses.
 pub(crate) fn first_kept(alloc: Global, book: &Book, most: u64) -> Result<Option<Keep>, OutOfMemory>
     ensures { IfOk result (λ keep. IfSome keep (IsKept book.now)) }
 {
@@ -117,7 +117,7 @@ fn reading_of(book: &Book, keep: &Keep) -> Result<Option<Reading>, OutOfMemory>
     }
 }
 
-/// Makes the edit of a row.
+// Makes the edit of a row.
 pub(crate) fn edited(
     alloc: Global,
     text: &mut Text,
@@ -135,7 +135,7 @@ pub(crate) fn edited(
     Ok(())
 }
 
-/// What is kept after a repair by the next reading. Tells of the answer.
+// What is kept after a repair by the next reading. Tells of the answer.
 pub(crate) fn repaired(
     alloc: Global,
     text: &mut Text,

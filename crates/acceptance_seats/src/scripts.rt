@@ -11,7 +11,7 @@ use small_lines::{Text, edit_of, small_line};
 use std::alloc::Global;
 use std::sync::Wait;
 
-/// Does the only task of planner 1, the edit of a row, and then asks for S. Tells of both.
+// Does the only task of planner 1, the edit of a row, and then asks for S. Tells of both.
 pub(crate) fn write_script<R: Wait>(rt: &R, alloc: Global, text: &mut Text, row: &[u8]) {
     let Some(edit) = edit_of(alloc, text, row) else {
         return text.put(b"no edit");

@@ -56,8 +56,8 @@ impl<B: Board> Board for Noting<B> {
     }
 }
 
-/// Makes a turn of a new worker, an edit and a further turn. Tells of them, and whether the two turns
-/// took at most so many uses as the line says.
+// Makes a turn of a new worker, an edit and a further turn. Tells of them, and whether the two turns
+// took at most so many uses as the line says.
 pub(crate) fn write_takings<R: Wait>(rt: &R, alloc: Global, text: &mut Text, line: &[u8]) {
     let (first, rest) = parts_of(line, b' ');
     let (second, row) = parts_of(rest, b' ');

@@ -3,7 +3,7 @@ use plan_model::{Answer, Link, Placed, Plan, Reading, Tie};
 use rail_model::Name;
 use small_lines::Text;
 
-/// How much is told of an answer.
+// How much is told of an answer.
 #[derive(Clone, Copy)]
 pub(crate) enum Telling {
     /// The number of the reading and the stamps of its rows, the trains' entries and their
@@ -13,7 +13,7 @@ pub(crate) enum Telling {
     Whole,
 }
 
-/// Tells of the answer of a reading.
+// Tells of the answer of a reading.
 pub(crate) fn tell(text: &mut Text, reading: &Reading, answer: &Answer, telling: Telling) {
     match telling {
         Telling::Brief { most } if reading.taken() > most => text.put(b"too many uses"),
@@ -45,7 +45,7 @@ fn tell_entry(text: &mut Text, placed: &Placed) {
     }
 }
 
-/// Tells of an answer all names and numbers that depend on the rows of the cut.
+// Tells of an answer all names and numbers that depend on the rows of the cut.
 pub(crate) fn tell_answer(text: &mut Text, answer: &Answer) {
     match answer {
         Answer::Ordered(plan) => tell_plan(text, plan),

@@ -10,8 +10,8 @@ use std::alloc::Global;
 use std::sync::Wait;
 use turn_desk::{Desk, Pass};
 
-/// What the first drawn pass finds that tries to take the turn while the main pass has it, and then
-/// again; and the book once the desk is closed.
+// What the first drawn pass finds that tries to take the turn while the main pass has it, and then
+// again; and the book once the desk is closed.
 pub(crate) fn write_turns<R: Wait>(rt: &R, alloc: Global, text: &mut Text) {
     match started(rt, alloc, text) {
         Ok(Some((desk, main, one, _two))) => write_passed(rt, text, desk, (main, one)),

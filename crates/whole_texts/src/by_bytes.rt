@@ -3,7 +3,7 @@ use small_lines::Text;
 use std::io;
 use std::io::{Read, Write};
 
-/// Gives the bytes of a text one by one.
+// Gives the bytes of a text one by one.
 #[derive(Drop)]
 pub(crate) struct ByteReader<'a> {
     pub(crate) rest: &'a [u8],
@@ -18,7 +18,7 @@ impl Read for ByteReader<'_> {
     }
 }
 
-/// Adds one byte of each piece to a text, and a bar after it; at a flush, a line's end.
+// Adds one byte of each piece to a text, and a bar after it; at a flush, a line's end.
 #[derive(Drop)]
 pub(crate) struct ByteWriter<'a> {
     pub(crate) text: &'a mut Text,

@@ -9,7 +9,7 @@ use small_lines::Text;
 use std::sync::Wait;
 use std::thread::Threads;
 
-/// A call: its words, its input and its outside.
+// A call: its words, its input and its outside.
 #[derive(Clone, Copy)]
 pub(crate) struct Call<'a> {
     pub(crate) words: &'a [String],
@@ -17,7 +17,7 @@ pub(crate) struct Call<'a> {
     pub(crate) outside: Outside,
 }
 
-/// A call that has ended: its status, and what it leaves of its source and its sink.
+// A call that has ended: its status, and what it leaves of its source and its sink.
 #[derive(Drop)]
 pub(crate) struct Ended {
     pub(crate) status: Status,
@@ -25,7 +25,7 @@ pub(crate) struct Ended {
     pub(crate) sink: MemorySink,
 }
 
-/// Makes a call.
+// Makes a call.
 pub(crate) fn made<R: AllocGlobal + Threads + Wait + Sync, G: Gate>(
     rt: &R,
     call: Call<'_>,
@@ -41,8 +41,8 @@ pub(crate) fn made<R: AllocGlobal + Threads + Wait + Sync, G: Gate>(
     })
 }
 
-/// Makes a call. Adds the number of its status and its text. Where a line says something of the
-/// outside, it adds all that the status says, and what two more reads answer.
+// Makes a call. Adds the number of its status and its text. Where a line says something of the
+// outside, it adds all that the status says, and what two more reads answer.
 pub(crate) fn write_call<R: AllocGlobal + Threads + Wait + Sync>(
     rt: &R,
     text: &mut Text,

@@ -10,7 +10,7 @@ use small_lines::{Text, line_at};
 use std::sync::Wait;
 use std::thread::Threads;
 
-/// Makes the calls of a script, one after the other, and adds what each ends with.
+// Makes the calls of a script, one after the other, and adds what each ends with.
 pub(crate) fn write_calls<R: AllocGlobal + Threads + Wait + Sync>(
     rt: &R,
     text: &mut Text,

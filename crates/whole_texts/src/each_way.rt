@@ -98,7 +98,7 @@ enum Counts {
     Worn,
 }
 
-/// Makes a call in all ways, and adds how it ends.
+// Makes a call in all ways, and adds how it ends.
 pub(crate) fn write_each_way<R: AllocGlobal + Threads + Wait + Sync>(
     rt: &R,
     text: &mut Text,

@@ -8,30 +8,30 @@ use std::alloc::Global;
 // The room for the text of one call.
 const ROOM: usize = 65_536;
 
-/// How the outside of a call behaves.
+// How the outside of a call behaves.
 #[derive(Clone, Copy)]
 pub(crate) struct Outside {
-    /// Whether a line says something of it.
+    // Whether a line says something of it.
     pub(crate) is_set: bool,
-    /// The most bytes of one read and of one write.
+    // The most bytes of one read and of one write.
     pub(crate) source_piece: usize,
     pub(crate) sink_piece: usize,
-    /// The bytes that the sink has room for.
+    // The bytes that the sink has room for.
     pub(crate) room: usize,
-    /// The numbers of the reads that fail, from 1. 0 for none.
+    // The numbers of the reads that fail, from 1. 0 for none.
     pub(crate) failing_reads: (u32, u32),
-    /// The number of the write or flush that fails. 0 for none.
+    // The number of the write or flush that fails. 0 for none.
     pub(crate) failing_write: u32,
-    /// Of how many last lines of its text, after the first, a call tells alone. 0 for all.
+    // Of how many last lines of its text, after the first, a call tells alone. 0 for all.
     pub(crate) last_lines: usize,
-    /// How often the call is made.
+    // How often the call is made.
     pub(crate) times: u32,
-    /// How often worker 1 reads before planner 1 makes its first task, and how often planner 1
-    /// comes to a task before the worker goes on.
+    // How often worker 1 reads before planner 1 makes its first task, and how often planner 1
+    // comes to a task before the worker goes on.
     pub(crate) race: Option<(u32, u32)>,
 }
 
-/// An outside that works, in small pieces.
+// An outside that works, in small pieces.
 pub(crate) const WORKING: Outside = Outside {
     is_set: false,
     source_piece: 16,
@@ -44,7 +44,7 @@ pub(crate) const WORKING: Outside = Outside {
     race: None,
 };
 
-/// An outside that works, in one piece.
+// An outside that works, in one piece.
 pub(crate) const WHOLE: Outside = Outside {
     source_piece: ROOM,
     sink_piece: ROOM,
@@ -53,7 +53,7 @@ pub(crate) const WHOLE: Outside = Outside {
 };
 
 impl Outside {
-    /// The outside of which a line says more: a word for what, and numbers.
+    // The outside of which a line says more: a word for what, and numbers.
     pub(crate) fn and(self, line: &[u8]) -> Outside {
         let (what, numbers) = parts_of(line, b' ');
         let number = small_number(word(numbers, 0));
@@ -73,14 +73,14 @@ impl Outside {
         outside
     }
 
-    /// A source of these bytes.
+    // A source of these bytes.
     pub(crate) fn source(self, alloc: Global, bytes: &[u8]) -> Result<MemorySource, OutOfMemory> {
         let fails = numbers(alloc, self.failing_reads)?;
         let bytes = List::from_vec(Vec::from_slice(alloc, bytes)?);
         Ok(MemorySource::new(bytes, self.source_piece.max(1), fails))
     }
 
-    /// A sink without bytes.
+    // A sink without bytes.
     pub(crate) fn sink(self, alloc: Global) -> Result<MemorySink, OutOfMemory> {
         let fails = numbers(alloc, (self.failing_write, 0))?;
         let mut sink = MemorySink::new(alloc, self.sink_piece.max(1), fails);

@@ -6,7 +6,7 @@ use small_lines::{Text, after_pieces};
 // The most lines of a text that are written.
 const MOST_LINES: usize = 1_000;
 
-/// Adds the number that a call of the outside answers, or that it failed.
+// Adds the number that a call of the outside answers, or that it failed.
 pub(crate) fn put_answer(text: &mut Text, answer: Result<usize, Failed>) {
     match answer {
         Ok(count) => text.show(b"", count),
@@ -14,7 +14,7 @@ pub(crate) fn put_answer(text: &mut Text, answer: Result<usize, Failed>) {
     }
 }
 
-/// Adds the number of a status, all that it says, and what the cause of a refusal says of itself.
+// Adds the number of a status, all that it says, and what the cause of a refusal says of itself.
 pub(crate) fn put_whole_status(text: &mut Text, status: Status) {
     text.show(b"=", status.number());
     text.show_all(b" ", &status);
@@ -24,8 +24,8 @@ pub(crate) fn put_whole_status(text: &mut Text, status: Status) {
     text.put(b"\n");
 }
 
-/// Adds what a call wrote: of more lines than `MOST_LINES` the first, their number and the last two.
-/// Where it doesn't end in a line end, a backslash and a line end come after it.
+// Adds what a call wrote: of more lines than `MOST_LINES` the first, their number and the last two.
+// Where it doesn't end in a line end, a backslash and a line end come after it.
 pub(crate) fn put_written(text: &mut Text, written: &[u8]) {
     let lines = lines_of(written);
     if lines > MOST_LINES {
@@ -37,7 +37,7 @@ pub(crate) fn put_written(text: &mut Text, written: &[u8]) {
     }
 }
 
-/// How many lines end in a text.
+// How many lines end in a text.
 pub(crate) fn lines_of(written: &[u8]) -> usize {
     let mut lines = 0usize;
     for byte in written {
@@ -53,14 +53,14 @@ fn put_long(text: &mut Text, written: &[u8], lines: usize) {
     text.put(last_lines(written, 2));
 }
 
-/// Adds of what a call wrote the first line and so many of the last.
+// Adds of what a call wrote the first line and so many of the last.
 pub(crate) fn put_ends(text: &mut Text, written: &[u8], last: usize) {
     text.put(first_lines(written, 1));
     text.put(b"..\n");
     text.put(last_lines(written, last));
 }
 
-/// The first lines of a text.
+// The first lines of a text.
 pub(crate) fn first_lines(text: &[u8], count: usize) -> &[u8] {
     let rest = after_pieces(text, b'\n', count).len();
     &text[..text.len().saturating_sub(rest)]

@@ -8,8 +8,8 @@ use std::thread::yield_now;
 // How often an actor that waits for another looks whether it has come.
 const LOOKS: u32 = 1_000_000;
 
-/// A gate that holds planner 1 before its first task until worker 1 has read so often, and worker 1
-/// after its first reading until planner 1 has come so often to a task.
+// A gate that holds planner 1 before its first task until worker 1 has read so often, and worker 1
+// after its first reading until planner 1 has come so often to a task.
 #[derive(Drop)]
 pub(crate) struct Race {
     readings_first: u64,
@@ -41,7 +41,7 @@ impl Race {
         self.ran_out.store(1, SeqCst);
     }
 
-    /// Whether both came as often as they were waited for, and nobody was let go for want of looks.
+    // Whether both came as often as they were waited for, and nobody was let go for want of looks.
     pub(crate) fn was_run(&self) -> bool {
         self.ran_out.load(SeqCst) == 0
             && self.readings.load(SeqCst) >= self.readings_first

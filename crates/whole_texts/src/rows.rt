@@ -13,14 +13,14 @@ const MOST_LINE_ENDS: usize = 20_000_000;
 
 const LINE_ENDS: [u8; 1_024] = [b'\n'; 1_024];
 
-/// The rows after the line that starts at a place, up to the next line of another kind.
+// The rows after the line that starts at a place, up to the next line of another kind.
 pub(crate) fn rows_at(alloc: Global, script: &[u8], at: usize) -> Text {
     let mut rows = Text::new(alloc);
     put_rows(alloc, &mut rows, script, after_line(script, at));
     rows
 }
 
-/// What stands after these rows.
+// What stands after these rows.
 pub(crate) fn after_rows(script: &[u8], at: usize) -> &[u8] {
     let lines = after_line(script, at);
     let mut rest = lines;
@@ -38,7 +38,7 @@ fn ends_rows(lines: &[u8]) -> bool {
     matches!(lines, [b'=' | b'?' | b'%' | b'>' | b'|' | b'~' | b':', ..])
 }
 
-/// Adds the rows that lines start with.
+// Adds the rows that lines start with.
 pub(crate) fn put_rows(alloc: Global, rows: &mut Text, script: &[u8], lines: &[u8]) {
     let mut rest = lines;
     for _ in 0..lines.len() {
@@ -142,7 +142,7 @@ fn put_repeated(alloc: Global, rows: &mut Text, line: &[u8]) {
     }
 }
 
-/// Adds bytes that are spelled, of which some by two digits after a backslash.
+// Adds bytes that are spelled, of which some by two digits after a backslash.
 pub(crate) fn put_spelled(bytes: &mut Text, spelled: &[u8]) {
     let (plain, mut rest) = parts_of(spelled, b'\\');
     bytes.put(plain);

@@ -6,7 +6,7 @@ use rail_model::OutOfMemory;
 use small_lines::Text;
 use std::thread::Threads;
 
-/// Makes a call that waits for nobody. Adds the number of its status, and what people are told.
+// Makes a call that waits for nobody. Adds the number of its status, and what people are told.
 pub(crate) fn write_told<R: AllocGlobal + Threads + Sync>(
     rt: &R,
     text: &mut Text,

@@ -10,8 +10,8 @@ use small_lines::{Text, after_line};
 use std::sync::Wait;
 use std::thread::Threads;
 
-/// Makes a call so often as its outside says. Adds how many calls were done with one of the texts
-/// that stand in `texts`; where there is a race, also how many were run in its order.
+// Makes a call so often as its outside says. Adds how many calls were done with one of the texts
+// that stand in `texts`; where there is a race, also how many were run in its order.
 pub(crate) fn write_times<R: AllocGlobal + Threads + Wait + Sync>(
     rt: &R,
     text: &mut Text,

@@ -31,7 +31,7 @@ const BYTES: &[u8] = b"abcde";
 
 const TEXT: &[u8] = b"0123456789abcdefghij";
 
-/// Makes such a call. Adds its line, and what it answers.
+// Makes such a call. Adds its line, and what it answers.
 pub(crate) fn write_try(alloc: Global, text: &mut Text, line: &[u8]) {
     text.put(b":");
     text.put_line(line);
