@@ -15,6 +15,7 @@ use indexmap::IndexMap;
 use rail_model::{Name, Named, OutOfMemory};
 use slab::Slab;
 use std::alloc::Global;
+use std::collections::VecDeque;
 use std::marker::Model;
 use std::mem;
 
@@ -29,8 +30,9 @@ pub(crate) struct NamedTable<T: TableItem> {
     by_name: IndexMap<Name, usize>,
     // The item under each key.
     slots: Slab<T>,
-    // The keys in the order of their items' names.
-    order: Vec<usize>,
+    // The keys in the order of their items' names. A key that is put in moves those on the shorter
+    // side of it.
+    order: VecDeque<usize>,
 }
 
 impl<T: TableItem> Drop for NamedTable<T> {
@@ -68,7 +70,7 @@ impl<T: TableItem> NamedTable<T> {
         NamedTable {
             by_name: IndexMap::new(alloc),
             slots: Slab::new(alloc),
-            order: Vec::new(alloc),
+            order: VecDeque::new(alloc),
         }
     }
 
@@ -171,7 +173,7 @@ impl<T: TableItem> NamedTable<T> {
     {
         let position = position_at(&self.order, &self.slots, name);
         self.by_name.swap_remove(name);
-        let key = self.order.remove(position);
+        let key = self.order.remove(position).unwrap();
         self.slots.remove(key)
     }
 
@@ -234,30 +236,34 @@ fn name_at<T: TableItem>(slots: &Slab<T>, key: usize) -> &[u8]
 
 // The position of the key of the item of a name in the order, or the position at which such a key
 // is to be put in.
-fn position_of<T: TableItem>(order: &[usize], slots: &Slab<T>, name: &Name) -> Result<usize, usize>
-    requires stored { All (λ k. IsSome (slot slots.now k)) order.now }
-    requires rise { NamesRise (tables.named T.label) (tables.filed (slot slots.now) order.now) }
+fn position_of<T: TableItem>(
+    order: &VecDeque<usize>,
+    slots: &Slab<T>,
+    name: &Name,
+) -> Result<usize, usize>
+    requires stored { All (λ k. IsSome (slot slots.now k)) order.now.items }
+    requires rise { NamesRise (tables.named T.label) (tables.filed (slot slots.now) order.now.items) }
     ensures { MatchResult result
-        (IsPositionOf T.label (slot slots.now) order.now name.now)
-        (IsPositionFor T.label (slot slots.now) order.now name.now) }
+        (IsPositionOf T.label (slot slots.now) order.now.items name.now)
+        (IsPositionFor T.label (slot slots.now) order.now.items name.now) }
 {
     order.binary_search_by(|key| name_at(slots, *key).cmp(name.bytes()))
 }
 
-fn position_at<T: TableItem>(order: &[usize], slots: &Slab<T>, name: &Name) -> usize
-    requires stored { All (λ k. IsSome (slot slots.now k)) order.now }
-    requires rise { NamesRise (tables.named T.label) (tables.filed (slot slots.now) order.now) }
-    requires there { is_named (tables.named T.label) (tables.filed (slot slots.now) order.now) name.now ≡ true }
-    ensures { IsPositionOf T.label (slot slots.now) order.now name.now result }
+fn position_at<T: TableItem>(order: &VecDeque<usize>, slots: &Slab<T>, name: &Name) -> usize
+    requires stored { All (λ k. IsSome (slot slots.now k)) order.now.items }
+    requires rise { NamesRise (tables.named T.label) (tables.filed (slot slots.now) order.now.items) }
+    requires there { is_named (tables.named T.label) (tables.filed (slot slots.now) order.now.items) name.now ≡ true }
+    ensures { IsPositionOf T.label (slot slots.now) order.now.items name.now result }
 {
     position_of(order, slots, name).unwrap()
 }
 
-fn position_for<T: TableItem>(order: &[usize], slots: &Slab<T>, name: &Name) -> usize
-    requires stored { All (λ k. IsSome (slot slots.now k)) order.now }
-    requires rise { NamesRise (tables.named T.label) (tables.filed (slot slots.now) order.now) }
-    requires new { is_named (tables.named T.label) (tables.filed (slot slots.now) order.now) name.now ≡ false }
-    ensures { IsPositionFor T.label (slot slots.now) order.now name.now result }
+fn position_for<T: TableItem>(order: &VecDeque<usize>, slots: &Slab<T>, name: &Name) -> usize
+    requires stored { All (λ k. IsSome (slot slots.now k)) order.now.items }
+    requires rise { NamesRise (tables.named T.label) (tables.filed (slot slots.now) order.now.items) }
+    requires new { is_named (tables.named T.label) (tables.filed (slot slots.now) order.now.items) name.now ≡ false }
+    ensures { IsPositionFor T.label (slot slots.now) order.now.items name.now result }
 {
     position_of(order, slots, name).unwrap_err()
 }

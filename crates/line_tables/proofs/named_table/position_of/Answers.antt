@@ -1,4 +1,5 @@
-use Rattle.std.proofs.Common.{rules}
+use Rattle.std.proofs.Common.{rules, subst}
+use Rattle.std.specs.List.Sorted.{IsSearchInRange}
 use Rattle.std.specs.Cmp.Lexicographic.{slice_cmp}
 use Rattle.std.specs.Ordering.{nat_cmp}
 use Rattle.std.proofs.lemmas.Fn.{always_returns_same}
@@ -13,5 +14,6 @@ returns g c =
     let label = g.T.Named.label in
     let at = slot c.args.slots.now in
     let n = c.args.name.now in
-    searched_is label at c.args.order.now n c.binary_search_by.result c.requires.stored c.requires.rise c.binary_search_by.ensures.bound
+    let within = subst (IsSearchInRange c.binary_search_by.result) c.args.order.now.ok.0 c.binary_search_by.ensures.bound in
+    searched_is label at c.args.order.now.items n c.binary_search_by.result c.requires.stored c.requires.rise within
     (c.binary_search_by.ensures.position (λ k. slice_cmp nat_cmp (name_at label at k) n) (always_returns_same _ _ _ (λ a r q k. search rules)))

@@ -17,10 +17,10 @@ in_range name at order n (Err i) long h = tt
 
 pub returns-clause-number : goal.returns-clause-number
 returns-clause-number g c =
-    rw (c.ok.ensures.value, ← c.self.view_is) (number g.T.Named.label (slot c.self.inside.slots) c.self.inside.order.items c.args.name.now c.position_of.result (rw c.deref.ensures.value at c.position_of.ensures))
+    rw (c.ok.ensures.value, ← c.self.view_is) (number g.T.Named.label (slot c.self.inside.slots) c.self.inside.order.items c.args.name.now c.position_of.result c.position_of.ensures)
 
 pub returns-clause-in_range : goal.returns-clause-in_range
 returns-clause-in_range g c =
     let at = slot c.self.inside.slots in
     let order = c.self.inside.order.items in
-    rw (c.ok.ensures.value, ← c.self.view_is) (in_range g.T.Named.label at order c.args.name.now c.position_of.result (length-filed at order c.self.invariant.stored) (rw c.deref.ensures.value at c.position_of.ensures))
+    rw (c.ok.ensures.value, ← c.self.view_is) (in_range g.T.Named.label at order c.args.name.now c.position_of.result (length-filed at order c.self.invariant.stored) c.position_of.ensures)

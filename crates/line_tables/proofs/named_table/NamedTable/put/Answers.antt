@@ -1,4 +1,5 @@
 use Rattle.std.proofs.Common.{◌≡◌, ℕ, Some, None, insert, subst, sym, ◌∙◌, refl}
+use Rattle.std.specs.Prelude.{OnOk}
 use Rattle.slab.specs.Slab.{get as slot, Updates}
 use Rattle.line_tables.specs.Table.{IsPositionFor}
 use Rattle.line_tables.proofs.Filed.{under_vacant}
@@ -7,7 +8,7 @@ use Rattle.line_tables.proofs.named_table.NamedTable.put.Given.{Over}
 use Rattle.line_tables.proofs.named_table.NamedTable.put.Goals as goal
 
 place : (g : Over) (c : goal.After-unwrap g) → IsPositionFor g.T.Named.label (slot c.self.inside.slots) c.self.inside.order.items (g.T.Named.label c.args.item) c.position_for-position.result
-place g c = rw (c.deref.ensures.value, c.name.ensures) at c.position_for-position.ensures
+place g c = rw c.name.ensures at c.position_for-position.ensures
 
 -- room alone changes nothing that stands under a key
 same : (g : Over) (c : goal.After-unwrap g) (k : ℕ) → slot c.reserve.new.self k ≡ slot c.self.inside.slots k
@@ -23,10 +24,9 @@ vacant : (g : Over) (c : goal.After-unwrap g) → slot c.self.inside.slots c.vac
 vacant g c = sym (same g c c.vacant_key-key.result) ∙ c.vacant_key-key.ensures.vacant
 
 order : (g : Over) (c : goal.After-unwrap g) → c.insert-2.new.self.items ≡ insert c.self.inside.order.items c.position_for-position.result c.vacant_key-key.result
-order g c = c.insert-2.ensures.items ∙ rw (c.unwrap.ensures, c.reserve-2.ensures.items) refl
-
-pub position_for-position-requires-clause-rise : goal.position_for-position-requires-clause-rise
-position_for-position-requires-clause-rise g c = rw c.deref.ensures.value c.self.invariant.rise
+order g c =
+    let put = subst (λ r. OnOk r (c.insert-2.new.self.items ≡ insert c.reserve-2.new.self.items c.position_for-position.result c.vacant_key-key.result)) c.unwrap.ensures c.insert-2.ensures.items in
+    put ∙ rw (c.reserve-2.ensures.items) refl
 
 pub invariant_of-self-in_err-insert : goal.invariant_of-self-in_err-insert
 invariant_of-self-in_err-insert g c =
