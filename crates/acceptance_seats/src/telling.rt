@@ -6,10 +6,10 @@ use small_lines::Text;
 // How much is told of an answer.
 #[derive(Clone, Copy)]
 pub(crate) enum Telling {
-    /// The number of the reading and the stamps of its rows, the trains' entries and their
-    /// occupancy, where the reading took at most so many uses.
+    // The number of the reading and the stamps of its rows, the trains' entries and their
+    // occupancy, where the reading took at most so many uses.
     Brief { most: u64 },
-    /// All names and numbers that depend on the rows of the cut.
+    // All names and numbers that depend on the rows of the cut.
     Whole,
 }
 

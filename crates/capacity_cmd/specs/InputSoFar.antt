@@ -86,7 +86,7 @@ TakesRow planners row (Ok line) made more taken = TakesLine planners row line ma
 TakesRow planners row (Err fault) made more None = ⊥
 TakesRow planners row (Err fault) made more (Some why) = why ≡ cause.Form fault
 
--- all rows are taken, so many, by what the whole says
+-- all rows, so many, are taken, and give what the whole input gives
 pub record TakesAll (planners rows : ℕ) (whole : Result Content Refusal) (made : InputSoFar) : Type 0 where
   pub is : accepted_in whole ≡ accepted_so_far made
   pub scripts : length made.scripts ≤ planners
@@ -98,7 +98,7 @@ TakesRows planners rows whole (Ok made) = TakesAll planners rows whole made
 TakesRows planners rows whole (Err (Refused refusal)) = whole ≡ Err refusal
 TakesRows planners rows whole (Err OutOfMemory) = Unit {0}
 
--- rows are taken one by one into what is there, which ends so
+-- the same where rows are added one by one to what was taken before them
 abbrev pub TakesEach : {U : Type 0} → ℕ → ℕ → Result Content Refusal → InputSoFar → Result U (Stopped Refusal) → Type 0
 TakesEach planners rows whole made (Ok done) = TakesRows planners rows whole (Ok made)
 TakesEach planners rows whole made (Err why) = TakesRows planners rows whole (Err why)

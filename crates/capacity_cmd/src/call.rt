@@ -36,7 +36,8 @@ pub fn alone(words: &[String]) -> bool
 /// Runs a command, or makes a line and counts it. The words are those after the program's name. A
 /// session with workers has a thread for each planner and each worker, where one can be made; its
 /// planners and workers wait for one another, and pass the gate at the points of their work.
-/// Nothing is read of the source where a line is made.
+/// Nothing is read of the source where a line is made. The program itself calls `run_telling`; this
+/// is for tests and other programs.
 pub fn run<R: AllocGlobal + Threads + Wait + Sync, S: Source, K: Sink, G: Gate>(
     rt: &R,
     words: &[String],

@@ -32,6 +32,7 @@ use std::alloc::Global;
 use std::sync::Wait;
 use std::thread::Threads;
 
+// What a call writes to its sink, and the status with which it ends.
 #[derive(Drop)]
 pub(crate) struct CallReply {
     pub(crate) text: Text,

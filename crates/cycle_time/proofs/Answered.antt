@@ -9,7 +9,7 @@ use Rattle.cycle_time.specs.declared.found.Step.{Step}
 use Rattle.cycle_time.specs.declared.found.Cycle.{Cycle}
 use Rattle.cycle_time.specs.declared.least_period.LeastPeriod.{LeastPeriod}
 use Rattle.cycle_time.specs.Cycle.{IsRepeating, Shows, IsStill, IsShownOf, IsCycle}
-use Rattle.cycle_time.specs.Rings.{IsTurned, IsFound}
+use Rattle.cycle_time.specs.Rings.{IsTurned, IsLeastPeriod}
 use Rattle.cycle_time.proofs.Refused.{no_lesser_period}
 
 shown_of : (cut : Cut) (cycle : Cycle) (n : ℕ) → 0 < n → Shows cut cycle → IsShownOf n cut cycle
@@ -24,7 +24,7 @@ still_is cut cycle none still = record {
 }
 
 -- the cycle of a cut with members
-pub found_is : (cut : Cut) → 0 < member_count cut → (found : LeastPeriod) → IsFound cut found → (steps : List Step)
+pub found_is : (cut : Cut) → 0 < member_count cut → (found : LeastPeriod) → IsLeastPeriod cut found → (steps : List Step)
     → IsTurned found.ring steps
     → IsCycle cut (record { period = found.period; entries = found.entries; ring = steps })
 found_is cut some found is steps turned = record {
@@ -35,7 +35,7 @@ found_is cut some found is steps turned = record {
   least = is.least.least;
 }
 
-pub ring_there : (cut : Cut) (found : LeastPeriod) → IsFound cut found → 0 < length found.ring
+pub ring_there : (cut : Cut) (found : LeastPeriod) → IsLeastPeriod cut found → 0 < length found.ring
 ring_there cut found is =
     omega (arith, is.limit.is_loop.some, count_by-le-length (λ (e : Demand). e.step.next) found.ring)
 

@@ -17,7 +17,7 @@ use Rattle.cycle_time.specs.Cycle.{IsRepeating, IsLeastRepeating}
 use Rattle.cycle_time.specs.Demands.{IsLight}
 use Rattle.cycle_time.proofs.Refused.{nat_times}
 use Rattle.cycle_time.proofs.Allowed.{greater}
-use Rattle.cycle_time.specs.Rings.{weights, laps, IsRefusal, IsLimit, IsFound}
+use Rattle.cycle_time.specs.Rings.{weights, laps, IsRefusal, IsLimit, IsLeastPeriod}
 
 -- a train doesn't repeat at once
 pub not_at_once : (cut : Cut) → IsSoundCut cut → 0 < member_count cut → (entries : List ℤ) → IsRepeating cut 0 entries → ⊥
@@ -44,7 +44,7 @@ at_first cut ring = record { limit = inl refl; most = omega arith }
 
 pub found_it : (cut : Cut) → IsSoundCut cut → 0 < member_count cut → (period : ℕ) (ring : List Demand)
     → (period ≡ 0) ⊎ IsLimit cut period ring → (entries : List ℤ) → IsLeastRepeating cut period entries
-    → IsFound cut (record { period = period; entries = entries; ring = ring })
+    → IsLeastPeriod cut (record { period = period; entries = entries; ring = ring })
 found_it cut sound some period ring limit entries least = record {
   limit = elim limit [
     | inl z ↦ absurd (not_at_once cut sound some entries (subst (λ t. IsRepeating cut t entries) z least.repeats))

@@ -21,7 +21,7 @@ use Rattle.cycle_time.specs.declared.least_period.LeastPeriod.{LeastPeriod}
 use Rattle.cycle_time.specs.Demands.{asks}
 use Rattle.cycle_time.specs.Cycle.{IsLeastRepeating}
 use Rattle.cycle_time.specs.Raising.{cause_at, AreRaised, IsRaisedBy}
-use Rattle.cycle_time.specs.Rings.{to_of, step_of, no_demand, AreCauses, IsBehind, IsTurned, weights, laps, IsLoop, IsLimit, IsFound}
+use Rattle.cycle_time.specs.Rings.{to_of, step_of, no_demand, AreCauses, IsBehind, IsTurned, weights, laps, IsLoop, IsLimit, IsLeastPeriod}
 use Rattle.cycle_time.specs.Laws.{CycleIsThere}
 use Rattle.cycle_time.proofs.Refused.{nat_times, mono}
 use Rattle.cycle_time.proofs.Raised.{least, raised_more}
@@ -165,11 +165,11 @@ within cut period ring asks =
     omega (arith, ints, asks.1, asks.0.few, most, least, times, turned)
 
 module _ (cut : Cut) (sound : IsSoundCut cut) (none : remaining cut ≡ []) (some : 0 < member_count cut) where
-  abbrev SomeFound : Type 0
-  SomeFound = (found : LeastPeriod) × IsFound cut found
+  abbrev SomeLeastPeriod : Type 0
+  SomeLeastPeriod = (found : LeastPeriod) × IsLeastPeriod cut found
 
   tried : (period : ℕ) (ring : List Demand) → (period ≡ 0) ⊎ IsLimit cut period ring
-      → SomeFound ⊎ ((ring : List Demand) × AsksFor cut period ring)
+      → SomeLeastPeriod ⊎ ((ring : List Demand) × AsksFor cut period ring)
   tried period ring limit =
       elim (comes cut sound none period) [
         | inr refused ↦ inr refused
@@ -183,7 +183,7 @@ module _ (cut : Cut) (sound : IsSoundCut cut) (none : remaining cut ≡ []) (som
       record { is_loop = asks.0; more = subst (λ t. (pos (laps ring) *ℤ t) <ℤ weights ring) same asks.1 }
 
   search : (fuel period : ℕ) (ring : List Demand) → (period ≡ 0) ⊎ IsLimit cut period ring
-      → member_count cut * 200000000 ≤ fuel + period → SomeFound
+      → member_count cut * 200000000 ≤ fuel + period → SomeLeastPeriod
   search zero period ring limit l =
       elim (tried period ring limit) [
         | inl found ↦ found
@@ -195,7 +195,7 @@ module _ (cut : Cut) (sound : IsSoundCut cut) (none : remaining cut ≡ []) (som
         | inr refused ↦ search fuel (period + 1) refused.0 (inr (next_limit period refused.0 refused.1)) (omega (arith, l))
       ]
 
-  found : SomeFound
+  found : SomeLeastPeriod
   found = search (member_count cut * 200000000) 0 [] (inl refl) (omega arith)
 
 -- ---- its ring

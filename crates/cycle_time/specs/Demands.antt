@@ -1,4 +1,4 @@
--- Steps with their weights, and entries that keep them.
+-- Demands: steps with their weights. A demand asks that the second train enters so much after the first; entries keep it if it does.
 use Rattle.std.specs.Prelude.{◌≡◌, ℕ, ◌<◌, ℤ, pos, ◌+ℤ◌, ◌-ℤ◌, ◌≤ℤ◌, Bool, if◌then◌else◌, List, All, IsTrue}
 use Rattle.plan_model.specs.declared.cut.Cut.{Cut}
 use Rattle.plan_model.specs.Members.{block_count, place_count, member, member_count, uses_place, precedes}

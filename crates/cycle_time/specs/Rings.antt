@@ -95,6 +95,6 @@ pub record IsLimit (cut : Cut) (period : ℕ) (ring : List Demand) : Type 0 wher
   pub more : (pos (laps ring) *ℤ (pos period -ℤ pos 1)) <ℤ weights ring
 
 -- the least period, with its least entries, and a ring that refuses each lesser one
-pub record IsFound (cut : Cut) (found : LeastPeriod) : Type 0 where
+pub record IsLeastPeriod (cut : Cut) (found : LeastPeriod) : Type 0 where
   pub limit : IsLimit cut found.period found.ring
   pub least : IsLeastRepeating cut found.period found.entries

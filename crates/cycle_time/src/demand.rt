@@ -1,4 +1,4 @@
-//! Steps with their weights.
+//! Demands: steps with their weights. A demand asks that the second train enters so much after the first.
 ghost use Rattle.std.specs.Prelude.{◌≡◌, ◌+ℤ◌, ◌-ℤ◌, pos};
 ghost use Rattle.plan_model.specs.Cut.{IsMoment};
 ghost use Rattle.cycle_time.specs.Demands.{demand_on, IsLight, IsSpan};

@@ -19,7 +19,11 @@ use std::alloc::Global;
 // Demands that are enough: entries that keep them keep all places, whatever the period. They stand
 // in the order of the trains to which they lead, an order of the cut, and those to the next
 // pattern last.
-pub(crate) fn laid(alloc: Global, cut: &FitCut, order: &[u32]) -> Result<Vec<Demand>, OutOfMemory>
+pub(crate) fn demands_along(
+    alloc: Global,
+    cut: &FitCut,
+    order: &[u32],
+) -> Result<Vec<Demand>, OutOfMemory>
     requires { IsOrder cut.now order.now }
     ensures { IfOk result (λ demands. AreEnough cut.now demands.items) }
 {

@@ -4,7 +4,7 @@ ghost use Rattle.plan_model.specs.Cut.{IsSoundCut};
 ghost use Rattle.plan_model.specs.Disorder.{remaining};
 ghost use Rattle.plan_model.specs.Members.{member_count};
 ghost use Rattle.cycle_time.specs.Demands.{AreEnough};
-ghost use Rattle.cycle_time.specs.Rings.{IsFound};
+ghost use Rattle.cycle_time.specs.Rings.{IsLeastPeriod};
 
 use crate::demand::Demand;
 use crate::refusal::allowed;
@@ -32,7 +32,7 @@ pub(crate) fn least_period(
     requires none { remaining cut.now ≡ [] }
     requires some { 0 < member_count cut.now }
     requires enough { AreEnough cut.now demands.now }
-    ensures { IfOk result (IsFound cut.now) }
+    ensures { IfOk result (IsLeastPeriod cut.now) }
 {
     let mut period = 0;
     let mut ring = List::new(alloc);

@@ -8,7 +8,7 @@ ghost use Rattle.train_order.specs.Ordering.{IsOrder};
 ghost use Rattle.cycle_time.specs.Cycle.{IsAnswered, IsCycle, IsStill, HasNoLesserPeriod};
 
 use crate::found::Cycle;
-use crate::laying::laid;
+use crate::laying::demands_along;
 use crate::least_period::{LeastPeriod, least_period};
 use crate::turning::told;
 use plan_model::{Cut, Disorder, FitCut};
@@ -42,7 +42,7 @@ fn cycle_of(alloc: Global, cut: &FitCut, order: &[u32]) -> Result<Cycle, OutOfMe
     if cut.member_count() == 0 {
         return Ok(still(alloc));
     }
-    let demands = laid(alloc, cut, order)?;
+    let demands = demands_along(alloc, cut, order)?;
     let LeastPeriod {
         period,
         entries,

@@ -8,7 +8,7 @@ ghost use Rattle.line_cutter.specs.Laws.{IsLongest, IsCutAmong, AreDisjoint};
 ghost use Rattle.line_cutter.specs.Search.{AreCutTo};
 
 use crate::found::{Cutting, Stretch};
-use crate::line::CutLine;
+use crate::line::LineToCut;
 use crate::longest::longest_from;
 use plan_model::{Cut, FitCut};
 use rail_model::{List, OutOfMemory};
@@ -35,7 +35,7 @@ pub fn cut_line(alloc: Global, cut: &Cut) -> Result<Cutting, OutOfMemory>
         ends: List::new(alloc),
         stretches: List::new(alloc),
     };
-    let line = CutLine::of(alloc, FitCut::of(cut))?;
+    let line = LineToCut::of(alloc, FitCut::of(cut))?;
     cut_from(alloc, &line, 0, true, none)
 }
 
@@ -43,7 +43,7 @@ pub fn cut_line(alloc: Global, cut: &Cut) -> Result<Cutting, OutOfMemory>
 // piece's end is trusted makes no difference to what is found.
 fn cut_from(
     alloc: Global,
-    line: &CutLine,
+    line: &LineToCut,
     first: u32,
     trusted: bool,
     mut cutting: Cutting,

@@ -10,10 +10,10 @@ use rail_model::{OutOfMemory, Use};
 use std::alloc::Global;
 use std::marker::Model;
 
-// A line is a cut that is to be cut into pieces, with what is known of its trains' ways and guessed
-// of its pieces. Contracts see the cut.
+// A cut whose line is to be cut into pieces, with what is known of its trains' ways and guessed of
+// its pieces. Contracts see the cut.
 #[derive(Drop)]
-pub(crate) struct CutLine<'a> {
+pub(crate) struct LineToCut<'a> {
     cut: FitCut<'a>,
     // For each train, whether the blocks of its uses are known to rise all along or to fall.
     one_way: Vec<bool>,
@@ -21,7 +21,7 @@ pub(crate) struct CutLine<'a> {
     breaks: Vec<bool>,
 }
 
-impl<'a> Model for CutLine<'a> {
+impl<'a> Model for LineToCut<'a> {
     ghost use Rattle.plan_model.specs.declared.cut.Cut.{Cut};
 
     ghost Value = { Cut };
@@ -33,15 +33,15 @@ impl<'a> Model for CutLine<'a> {
     ghost invariant = { λ l. AreOneWay l.cut.rows l.one_way.items };
 }
 
-impl<'a> CutLine<'a> {
+impl<'a> LineToCut<'a> {
     // The line of this cut.
-    pub(crate) fn of(alloc: Global, cut: FitCut<'a>) -> Result<CutLine<'a>, OutOfMemory>
+    pub(crate) fn of(alloc: Global, cut: FitCut<'a>) -> Result<LineToCut<'a>, OutOfMemory>
         ensures { IfOk result (λ line. line ≡ cut.entry) }
     {
         let rows = cut.sound().rows();
         let one_way = one_ways(alloc, rows)?;
         let breaks = breaks_of(alloc, rows, cut.sound().block_count())?;
-        Ok(CutLine {
+        Ok(LineToCut {
             cut,
             one_way,
             breaks,

@@ -5,7 +5,7 @@ ghost use Rattle.train_order.specs.Ordering.{IsOrdering};
 ghost use Rattle.line_cutter.specs.Cutting as pieces;
 ghost use Rattle.line_cutter.specs.Search.{IsFitting, IsLongestFrom, IsTried};
 
-use crate::line::CutLine;
+use crate::line::LineToCut;
 use crate::opposed::soon_opposite;
 use crate::piece::piece;
 use plan_model::{Disorder, SoundCut};
@@ -31,7 +31,7 @@ pub(crate) struct Longest {
 // before.
 pub(crate) fn longest_from(
     alloc: Global,
-    line: &CutLine,
+    line: &LineToCut,
     a: u32,
     likely: u32,
 ) -> Result<Longest, OutOfMemory>
@@ -77,7 +77,7 @@ fn further(a: u32, fits: u32, count: u32, likely: u32) -> u32
 // What is tried ends half way between, and is at most twice as long as the one that fits.
 fn narrowed(
     alloc: Global,
-    line: &CutLine,
+    line: &LineToCut,
     a: u32,
     fits: u32,
     over: u32,
@@ -106,7 +106,7 @@ fn narrowed(
 // looked for before an order is.
 fn disorder_in(
     alloc: Global,
-    line: &CutLine,
+    line: &LineToCut,
     a: u32,
     b: u32,
     likely_over: bool,

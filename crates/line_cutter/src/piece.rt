@@ -6,7 +6,7 @@ ghost use Rattle.plan_model.specs.Members.{member_count, block_count};
 ghost use Rattle.line_cutter.specs.Cutting as pieces;
 ghost use Rattle.line_cutter.specs.Ways.{IsOneWay, AreOneWay, IsBeginning};
 
-use crate::line::CutLine;
+use crate::line::LineToCut;
 use plan_model::{Cut, CutRow, least_start};
 use rail_model::{GREATEST_MOMENT_S, List, OutOfMemory, Section, Use};
 use std::alloc::Global;
@@ -16,7 +16,7 @@ use std::alloc::Global;
 const WINDOW_END_S: u32 = GREATEST_MOMENT_S as u32 + 1;
 
 // The cut of the piece from block a to before block b.
-pub(crate) fn piece(alloc: Global, line: &CutLine, a: u32, b: u32) -> Result<Cut, OutOfMemory>
+pub(crate) fn piece(alloc: Global, line: &LineToCut, a: u32, b: u32) -> Result<Cut, OutOfMemory>
     requires from { a ≤ b }
     requires to { b ≤ block_count line.now }
     ensures part { IfOk result (λ part. part ≡ pieces.piece line.now a b) }

@@ -71,11 +71,11 @@ TrackTables = List (ℕ × Block) × List (ℕ × Linked Signal) × List (ℕ ×
 abbrev pub TrainTables : Type 0
 TrainTables = List (ℕ × Linked Run) × List (ℕ × Linked Section) × List (ℕ × Linked Connection)
 
-abbrev pub KindCounts : Type 0
-KindCounts = List ℕ × List ℕ × List ℕ × List ℕ
+abbrev pub ReferenceCounts : Type 0
+ReferenceCounts = List ℕ × List ℕ × List ℕ × List ℕ
 
 -- the inside of these tables and counts
-abbrev pub parts : Global → TrackTables → TrainTables → KindCounts → RouteSets → Inside
+abbrev pub parts : Global → TrackTables → TrainTables → ReferenceCounts → RouteSets → Inside
 parts alloc track trains counts sets = record {
   alloc = alloc;
   blocks = track.0;

@@ -225,7 +225,7 @@ impl LineTables {
     }
 }
 
-// The tables of a line's track and of its trains, and their counts.
+// The tables of a line's track and of its trains.
 type TrackTables = (
     NamedTable<Block>,
     NamedTable<Linked<Signal>>,
@@ -238,7 +238,8 @@ type TrainTables = (
     NamedTable<Linked<Connection>>,
 );
 
-type KindCounts = (KeyCounts, KeyCounts, KeyCounts, KeyCounts);
+// How often items of four kinds are referred to, by their keys.
+type ReferenceCounts = (KeyCounts, KeyCounts, KeyCounts, KeyCounts);
 
 fn copy_track(
     blocks: &NamedTable<Block>,
@@ -265,7 +266,7 @@ fn copy_counts(
     signals: &KeyCounts,
     routes: &KeyCounts,
     runs: &KeyCounts,
-) -> Result<KindCounts, OutOfMemory>
+) -> Result<ReferenceCounts, OutOfMemory>
     ensures { IfOk result (λ copies. copies ≡ (blocks.now, signals.now, routes.now, runs.now)) }
 {
     Ok((
@@ -281,7 +282,7 @@ fn from_parts(
     alloc: Global,
     track: TrackTables,
     trains: TrainTables,
-    counts: KindCounts,
+    counts: ReferenceCounts,
     sets: RouteSets,
 ) -> LineTables
     requires { IsJoined (parts alloc track trains counts sets) }

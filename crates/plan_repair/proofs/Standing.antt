@@ -9,7 +9,7 @@ use Rattle.plan_model.specs.declared.cut.CutRow.{CutRow}
 use Rattle.plan_model.specs.declared.cut.Cut.{Cut}
 use Rattle.plan_model.specs.Members.{no_member, place_names}
 use Rattle.train_net.specs.Mended.{stood, IsOrigin}
-use Rattle.plan_repair.specs.declared.held.KeptNet.{KeptNet}
+use Rattle.plan_repair.specs.declared.held.HeldNet.{HeldNet}
 use Rattle.plan_repair.specs.Left.{EndsWith, StoodAt}
 use Rattle.plan_repair.specs.Origin.{StoodAmong, StoodBefore}
 use Rattle.plan_repair.specs.Held.{IsHeld, IsHeldBefore}
@@ -137,7 +137,7 @@ is_origin old later origin from places = record {
         ]
 
 -- what is held beside kept rows was held before a cut whose rows stood among them
-pub held_before : (kept : List CutRow) (later : Cut) (origin : List (Option ℕ)) (beside : Option KeptNet)
+pub held_before : (kept : List CutRow) (later : Cut) (origin : List (Option ℕ)) (beside : Option HeldNet)
     → StoodAmong kept later.rows origin → IfSome beside (IsHeld kept) → IfSome beside (IsHeldBefore later origin)
 held_before kept later origin beside from held =
     IfSome_then beside held (λ one is. record {

@@ -16,7 +16,7 @@ use train_order::order;
 
 // A net, and the names of its cut's places.
 #[derive(Drop)]
-pub(crate) struct KeptNet {
+pub(crate) struct HeldNet {
     net: Net,
     places: List<Name>,
 }
@@ -30,9 +30,9 @@ pub(crate) struct KeptNet {
 pub(crate) fn answer_held(
     alloc: Global,
     cut: &Cut,
-    held: Option<KeptNet>,
+    held: Option<HeldNet>,
     origin: &[Option<u32>],
-) -> Result<(Answer, Option<KeptNet>), OutOfMemory>
+) -> Result<(Answer, Option<HeldNet>), OutOfMemory>
     requires sound { IsSoundCut cut.now }
     requires few { member_count cut.now ≤ MEMBERS }
     requires count { length origin.now ≡ member_count cut.now }
@@ -47,7 +47,7 @@ pub(crate) fn answer_held(
 }
 
 // The answer by a net that is made anew, if there is an order.
-fn anew(alloc: Global, cut: &Cut) -> Result<(Answer, Option<KeptNet>), OutOfMemory>
+fn anew(alloc: Global, cut: &Cut) -> Result<(Answer, Option<HeldNet>), OutOfMemory>
     requires sound { IsSoundCut cut.now }
     requires few { member_count cut.now ≤ MEMBERS }
     ensures answer { IfOk result (λ both. IsAnswer cut.now both.0) }
@@ -58,14 +58,14 @@ fn anew(alloc: Global, cut: &Cut) -> Result<(Answer, Option<KeptNet>), OutOfMemo
             let sound = SoundCut::of(cut);
             let places = sound.place_names(alloc)?;
             let net = net_of(alloc, &sound, found.positions)?;
-            by_net(alloc, cut, KeptNet { net, places })
+            by_net(alloc, cut, HeldNet { net, places })
         }
         Err(disorder) => Ok((disorder.into_answer(), None)),
     }
 }
 
 // The answer by a net that is held.
-fn by_net(alloc: Global, cut: &Cut, held: KeptNet) -> Result<(Answer, Option<KeptNet>), OutOfMemory>
+fn by_net(alloc: Global, cut: &Cut, held: HeldNet) -> Result<(Answer, Option<HeldNet>), OutOfMemory>
     requires sound { IsSoundCut cut.now }
     requires few { member_count cut.now ≤ MEMBERS }
     requires order { IsOrdering cut.now (Ok (record { positions = held.net.order })) }
@@ -82,9 +82,9 @@ fn by_net(alloc: Global, cut: &Cut, held: KeptNet) -> Result<(Answer, Option<Kep
 fn mended(
     alloc: Global,
     cut: &SoundCut,
-    held: Option<KeptNet>,
+    held: Option<HeldNet>,
     origin: &[Option<u32>],
-) -> Result<Option<KeptNet>, OutOfMemory>
+) -> Result<Option<HeldNet>, OutOfMemory>
     requires few { member_count cut.now ≤ MEMBERS }
     requires count { length origin.now ≡ member_count cut.now }
     requires held { IfSome held (IsHeldBefore cut.now origin.now) }
@@ -97,9 +97,9 @@ fn mended(
             if 4 * fresh_count(origin) > origin.len() || !are_places(cut, held.places.slice()) {
                 return Ok(None);
             }
-            let KeptNet { net, places } = held;
+            let HeldNet { net, places } = held;
             match mend(alloc, cut, &net, origin)? {
-                Some(net) => Ok(Some(KeptNet { net, places })),
+                Some(net) => Ok(Some(HeldNet { net, places })),
                 None => Ok(None),
             }
         }

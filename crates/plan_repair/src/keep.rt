@@ -5,7 +5,7 @@ ghost use Rattle.plan_model.specs.Cut.{IsSoundCut};
 ghost use Rattle.plan_model.specs.Members.{member_count};
 ghost use Rattle.plan_repair.specs.Held.{IsHeldOf};
 
-use crate::held::{KeptNet, answer_held};
+use crate::held::{HeldNet, answer_held};
 use crate::renewed::{RenewedCut, renewed};
 use plan_model::{Answer, Cut, CutRow, Rows, is_crowded};
 use rail_model::{List, Name, OutOfMemory};
@@ -19,7 +19,7 @@ pub struct Keep {
     section: Name,
     rows: List<CutRow>,
     // The net of these rows, by which a later cut is answered where few rows change.
-    held: Option<KeptNet>,
+    held: Option<HeldNet>,
 }
 
 impl Model for Keep {
@@ -99,7 +99,7 @@ fn nothing(alloc: Global, section: Name) -> Keep
 }
 
 // What is kept of a cut that isn't crowded, with the net that is held of it.
-fn keep_of(cut: Cut, held: Option<KeptNet>) -> Keep
+fn keep_of(cut: Cut, held: Option<HeldNet>) -> Keep
     requires sound { IsSoundCut cut }
     requires few { member_count cut ≤ MEMBERS }
     requires held { IfSome held (IsHeldOf cut) }

@@ -163,8 +163,8 @@ impl Worker {
             (R.shown reading.old) (R.shown reading.new) }
     {
         let section = reading.section().name;
-        let held = self.kept.remove(&section);
-        let (keep, answer) = answer_by(self.alloc, held, reading)?;
+        let kept = self.kept.remove(&section);
+        let (keep, answer) = answer_by(self.alloc, kept, reading)?;
         let at = reading.at();
         self.kept.insert(section, KeptReading { at, keep })?;
         Ok(answer)
@@ -182,17 +182,17 @@ impl Worker {
 // The answer of a reading by what is kept of its section, and what is kept of it from then on.
 fn answer_by<R: Rows>(
     alloc: Global,
-    held: Option<KeptReading>,
+    kept: Option<KeptReading>,
     reading: &mut R,
 ) -> Result<(Keep, Answer), OutOfMemory>
-    requires { IfSome held (λ h. AgreesWith h.keep (R.shown reading.old).cut) }
+    requires { IfSome kept (λ k. AgreesWith k.keep (R.shown reading.old).cut) }
     ensures answer { IfOk result (λ both. IsAnswer (R.shown reading.old).cut both.1) }
     ensures keep { IfOk result (λ both. both.0 ≡ kept_of (R.shown reading.old).cut) }
-    ensures reading { TakesAtMost (uses_missing held (R.shown reading.old).cut)
+    ensures reading { TakesAtMost (uses_missing kept (R.shown reading.old).cut)
         (R.shown reading.old) (R.shown reading.new) }
 {
-    match held {
-        Some(held) => held.keep.repair(alloc, reading),
+    match kept {
+        Some(kept) => kept.keep.repair(alloc, reading),
         None => Keep::first(alloc, reading),
     }
 }

@@ -13,7 +13,7 @@ use section_worker::{Turned, Worker};
 use std::sync::Wait;
 use timetable_desk::Seat;
 
-// An actor's duty in the session: the planner of this number, or a worker.
+// What an actor does: the steps of the planner of this number, or a worker's turns.
 #[derive(Drop)]
 pub(crate) enum Duty {
     Planner(u32),
