@@ -130,7 +130,7 @@ pub fn same_names(some: &[Name], others: &[Name]) -> bool
     some == others
 }
 
-/// Whether a list of names is two others, one after the other.
+/// Whether some names are the first, and then the others.
 pub fn are_joined(names: &[Name], first: &[Name], then: &[Name]) -> bool
     ensures { IsTrue result ↔ (names.now ≡ first.now ++ then.now) }
 {
