@@ -1,5 +1,5 @@
-//! The program: its words, standard input and standard output, and one line on standard error where
-//! it doesn't end with status 0.
+//! The program: its words, standard input and standard output, and lines for people on standard
+//! error, mostly where it doesn't end with status 0.
 //!
 //! `end_of_call` makes the one call and turns its status into the exit code. `main` can't end
 //! otherwise, since an `Ended` comes from nowhere else.
