@@ -6,6 +6,7 @@ pub mod Whole
 pub mod Room
 pub mod Joins
 pub mod BlockByBlock
+pub mod ByNumber
 pub mod Moves
 pub mod InParts
 pub mod Unique

@@ -1,5 +1,5 @@
 -- The conflicts that are listed, and the number of the rest.
-use Rattle.std.specs.Prelude.{◌≡◌, ◌-◌, ℕ, ◌+◌, List, length, map, take}
+use Rattle.std.specs.Prelude.{◌≡◌, ◌-◌, List, length, map, take}
 use Rattle.rail_model.specs.declared.stair.Stair.{Stair}
 use Rattle.rail_model.specs.Conflict as whole
 use Rattle.rail_model.specs.Conflict.{AreConflicts}
@@ -17,12 +17,3 @@ pub record IsFound (stairs : List Stair) (found : Conflicts) : Type 0 where
   pub are : AreConflicts stairs all
   pub list : found.list ≡ map as_listed (take LISTED all)
   pub more : found.more ≡ length all - LISTED
-
--- of these conflicts, the first are listed and the rest are counted
-abbrev pub IsListed : List whole.Conflict → Conflicts → Type 0
-IsListed all found =
-    (found.list ≡ map as_listed (take LISTED all)) × (found.more ≡ length all - LISTED)
-
--- how many conflicts were found
-abbrev pub count_of : Conflicts → ℕ
-count_of found = length found.list + found.more

@@ -3,4 +3,5 @@ pub mod Found
 pub mod Runs
 pub mod ByBlock
 pub mod Sweep
+pub mod ByNumber
 pub mod Laws

@@ -1,12 +1,11 @@
 -- The sweep over the uses.
 use Rattle.std.specs.Prelude.{◌≡◌, ◌⊎◌, ℕ, ◌+◌, ◌<◌, ◌<ℤ◌, Bool, ◌&&◌, ◌==◌, List, Vec, All, length, map, drop, slice_index_or, AllPairs, pos, int_lt}
 use Rattle.std.specs.Int.{int_min}
-use Rattle.std.specs.List.{AllZip, flat_map, range_with_len, take_while}
+use Rattle.std.specs.List.{flat_map, range_with_len, take_while}
 use Rattle.std.specs.declared.alloc.Global.{Global}
 use Rattle.rail_model.specs.Conflict as whole
-use Rattle.conflict_finder.specs.Types.{Ranked, RunUse, Conflicts}
+use Rattle.conflict_finder.specs.Types.{Ranked, RunUse}
 use Rattle.conflict_finder.specs.Runs.{no_ranked}
-use Rattle.conflict_finder.specs.Found.{IsListed}
 
 -- the order of the sweep: by block, then by start, then by the run's number
 abbrev pub IsSweptBefore : RunUse → RunUse → Type 0
@@ -43,24 +42,11 @@ conflicts_at runs run_uses i =
     map (conflict_of runs (slice_index_or run_uses i no_run_use))
     (take_while (meets (slice_index_or run_uses i no_run_use)) (drop (i + 1) run_uses))
 
--- what is found by the first n
-abbrev pub conflicts_upto : List Ranked → List RunUse → ℕ → List whole.Conflict
-conflicts_upto runs run_uses n = flat_map (conflicts_at runs run_uses) (range_with_len 0 n)
-
 -- what the whole sweep finds: the conflicts of all uses
 abbrev pub all_conflicts : List Ranked → List RunUse → List whole.Conflict
-all_conflicts runs run_uses = conflicts_upto runs run_uses (length run_uses)
+all_conflicts runs run_uses =
+    flat_map (conflicts_at runs run_uses) (range_with_len 0 (length run_uses))
 
--- what the sweeps over one list after the other find
-abbrev pub found_in_turn : List Ranked → List (Vec RunUse Global) → List whole.Conflict
-found_in_turn runs by_block = flat_map (λ s. all_conflicts runs s.items) by_block
-
--- each list is in the order of the sweep, and its uses are those of these runs
-abbrev pub AreReady : List Ranked → List (Vec RunUse Global) → Type 0
-AreReady runs by_block = All (λ s. IsSwept s.items × All (λ b. b.run < length runs) s.items) by_block
-
--- the lists come in parts, and what the sweeps over each part find is listed and counted
-abbrev pub AreFoundInParts : List Ranked → List (Vec RunUse Global) → List Conflicts → Type 0
-AreFoundInParts runs by_block found =
-    (parts : List (List (Vec RunUse Global))) × (flat_map (λ part. part) parts ≡ by_block)
-    × AllZip (λ part. IsListed (found_in_turn runs part)) parts found
+-- each list is in the order of the sweep
+abbrev pub AreSwept : List (Vec RunUse Global) → Type 0
+AreSwept by_block = All (λ s. IsSwept s.items) by_block

@@ -29,3 +29,21 @@ pub struct Conflicts {
     /// How many more there are.
     pub more: u64,
 }
+
+// What two uses make, by the numbers of their runs in the order of names.
+#[derive(Clone, Copy)]
+pub(crate) struct Met {
+    pub(crate) block: u32,
+    pub(crate) first: u32,
+    pub(crate) second: u32,
+    pub(crate) from: i64,
+    pub(crate) to: i64,
+}
+
+// The first `LISTED` of what is found in a part of the lists, and how many more there are. Each
+// part may list as much as the whole, and with names a conflict is five times as large.
+#[derive(Drop)]
+pub(crate) struct MetInPart {
+    pub(crate) list: Vec<Met>,
+    pub(crate) more: u64,
+}

@@ -7,7 +7,8 @@
 //! Each list is then swept by itself. What conflicts with a blocking follows it, up to the first
 //! that starts at its end or later. That end is found by a few tests, and else by halving, so
 //! conflicts that are not listed are counted without a walk over them. Where there are many runs,
-//! threads share the lists.
+//! threads share the lists. Each thread lists conflicts by the numbers of the runs, and the first of
+//! all are then given their names.
 //!
 //! ```text
 //! let found = conflicts(rt, alloc, &stairways)?;

@@ -4,14 +4,15 @@ ghost use Rattle.std.specs.Prelude.{All, map, take, length, IfOk, OnOk};
 ghost use Rattle.std.specs.List.{take_while, prefix_len};
 ghost use Rattle.std.specs.List.Sorted.{IsPartitionedBy};
 ghost use Rattle.rail_model.specs.Conflict.{IsTimetable};
-ghost use Rattle.conflict_finder.specs.Found.{IsFound, IsListed, as_listed};
+ghost use Rattle.conflict_finder.specs.Found.{IsFound};
 ghost use Rattle.conflict_finder.specs.ByBlock.{one_after_another};
+ghost use Rattle.conflict_finder.specs.ByNumber.{IsListed, met_of, all_met, met_in_turn};
 ghost use Rattle.conflict_finder.specs.Sweep as swept;
 ghost use Rattle.rail_model.specs.declared.limits.TheConstants.{RUNS, PATH_HOPS};
 
-use crate::found::{Conflict, Conflicts, LISTED};
+use crate::found::{Conflicts, LISTED, Met, MetInPart};
 use crate::parts::sweep_in_parts;
-use crate::ranked::{Ranked, by_name};
+use crate::ranked::by_name;
 use crate::run_uses::{RunUse, run_uses_in_order};
 use rail_model::{List, OutOfMemory, Stair};
 use std::alloc::Global;
@@ -32,46 +33,36 @@ pub fn conflicts(
 }
 
 // Walks over the lists of uses, one after another.
-pub(crate) fn sweep(
-    alloc: Global,
-    runs: &[Ranked],
-    by_block: &[Vec<RunUse>],
-) -> Result<Conflicts, OutOfMemory>
+pub(crate) fn sweep(alloc: Global, by_block: &[Vec<RunUse>]) -> Result<MetInPart, OutOfMemory>
     requires most { length (one_after_another by_block.now) ≤ RUNS * PATH_HOPS }
-    requires ready { swept.AreReady runs.now by_block.now }
-    ensures { IfOk result (IsListed (swept.found_in_turn runs.now by_block.now)) }
+    requires order { swept.AreSwept by_block.now }
+    ensures { IfOk result (IsListed (met_in_turn by_block.now)) }
 {
-    let mut list = List::new(alloc);
+    let mut list = Vec::new(alloc);
     let mut count: u64 = 0;
     for run_uses in by_block {
-        count += sweep_block(&mut list, runs, run_uses)?;
+        count += sweep_block(&mut list, run_uses)?;
     }
     let more = count - list.len() as u64;
-    Ok(Conflicts { list, more })
+    Ok(MetInPart { list, more })
 }
 
 // Walks over the uses of one block, in order. Each overlaps some of those next to it, and none
 // past the first that it doesn't overlap. The conflicts are listed as long as there is room, and
 // all of them are counted.
-fn sweep_block(
-    list: &mut List<Conflict>,
-    runs: &[Ranked],
-    run_uses: &[RunUse],
-) -> Result<u64, OutOfMemory>
-    requires room { length list.old ≤ LISTED }
+fn sweep_block(list: &mut Vec<Met>, run_uses: &[RunUse]) -> Result<u64, OutOfMemory>
+    requires room { length list.old.items ≤ LISTED }
     requires most { length run_uses.now ≤ RUNS * PATH_HOPS }
-    requires there { All (λ b. b.run < length runs.now) run_uses.now }
     requires order { swept.IsSwept run_uses.now }
-    ensures list { OnOk result (list.new ≡ list.old ++
-        map as_listed (take (LISTED - length list.old) (swept.all_conflicts runs.now run_uses.now))) }
-    ensures count { IfOk result
-        (λ count. count ≡ length (swept.all_conflicts runs.now run_uses.now)) }
+    ensures list { OnOk result (list.new.items ≡ list.old.items
+        ++ take (LISTED - length list.old.items) (all_met run_uses.now)) }
+    ensures count { IfOk result (λ count. count ≡ length (all_met run_uses.now)) }
     ensures most { IfOk result (λ count. count ≤ length run_uses.now * (RUNS * PATH_HOPS)) }
 {
     let mut count: u64 = 0;
     for (i, one) in run_uses.iter().enumerate() {
         let met = met_by(one, &run_uses[i + 1..]);
-        list_met(list, runs, one, met)?;
+        list_met(list, one, met)?;
         count += met.len() as u64;
     }
     Ok(count)
@@ -125,18 +116,10 @@ fn meets(one: &RunUse, other: &RunUse) -> bool
 }
 
 // Lists the conflicts of one use with those that it meets, as long as there is room.
-fn list_met(
-    list: &mut List<Conflict>,
-    runs: &[Ranked],
-    one: &RunUse,
-    met: &[RunUse],
-) -> Result<(), OutOfMemory>
-    requires room { length list.old ≤ LISTED }
-    requires one { one.now.run < length runs.now }
-    requires there { All (λ b. b.run < length runs.now) met.now }
-    ensures { OnOk result (list.new ≡ list.old
-        ++ map (λ other. as_listed (swept.conflict_of runs.now one.now other))
-        (take (LISTED - length list.old) met.now)) }
+fn list_met(list: &mut Vec<Met>, one: &RunUse, met: &[RunUse]) -> Result<(), OutOfMemory>
+    requires { length list.old.items ≤ LISTED }
+    ensures { OnOk result (list.new.items ≡ list.old.items
+        ++ map (met_of one.now) (take (LISTED - length list.old.items) met.now)) }
 {
     // Mostly it meets none.
     if met.is_empty() {
@@ -144,20 +127,18 @@ fn list_met(
     }
     let room = LISTED - list.len();
     for other in &met[..room.min(met.len())] {
-        list.push(conflict_of(runs, one, other))?;
+        list.push(met_of(one, other))?;
     }
     Ok(())
 }
 
-fn conflict_of(runs: &[Ranked], one: &RunUse, other: &RunUse) -> Conflict
-    requires one { one.now.run < length runs.now }
-    requires other { other.now.run < length runs.now }
-    ensures { result ≡ as_listed (swept.conflict_of runs.now one.now other.now) }
+fn met_of(one: &RunUse, other: &RunUse) -> Met
+    ensures { result ≡ met_of one.now other.now }
 {
-    Conflict {
+    Met {
         block: one.block,
-        first: runs[one.run as usize].name,
-        second: runs[other.run as usize].name,
+        first: one.run,
+        second: other.run,
         from: other.start,
         to: one.end.min(other.end),
     }
