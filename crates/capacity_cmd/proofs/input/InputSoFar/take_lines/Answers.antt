@@ -1,5 +1,10 @@
-use Rattle.std.proofs.Common.{◌≡◌, ◌+◌, [], ◌∷◌, ◌++◌, ap, ◌∙◌, sym, subst, append_assoc, append-nil, length-append, arith, rules}
+use Rattle.std.proofs.Common.{◌≡◌, ℕ, List, Result, Ok, Err, ◌+◌, [], ◌∷◌, ◌++◌, ap, ◌∙◌, sym, subst, append_assoc, append-nil, length, length-append, arith, rules}
+use Rattle.std.specs.Prelude.{IsErrAnd}
+use Rattle.row_text.specs.SheetRows.{Row}
+use Rattle.capacity_cmd.specs.Types.{Refusal, InputSoFar, Stopped}
+use Rattle.capacity_cmd.specs.declared.stopped.Stopped.TheVariants.{OutOfMemory}
 use Rattle.capacity_cmd.specs.InputSoFar.{TakesRow}
+use Rattle.capacity_cmd.specs.ReadAhead.{TakenTo}
 use Rattle.capacity_cmd.proofs.ReadingAhead.{takes_none, takes_more, takes_not, takes_all, no_lines}
 use Rattle.capacity_cmd.proofs.input.InputSoFar.take_lines.Goals as goal
 
@@ -44,3 +49,13 @@ returns c =
     let none : rest.items ≡ [] = no_lines rest.items (sym rest.ok.0 ∙ c.in-None.ensures.steps.0) in
     takes_all c.args.planners c.args.at c.args.lines.items before c.args.self c.loop-found.self
     (so_far.1 ∙ ap (λ xs. before ++ xs) none ∙ append-nil before) so_far.4
+
+-- of want of memory nothing is said
+no_memory : (planners version i : ℕ) (rows : List Row) (taken : Result InputSoFar (Stopped Refusal)) → IsErrAnd taken (λ why. why ≡ OutOfMemory)
+    → TakenTo planners version rows i taken
+no_memory planners version i rows (Ok made) is = absurd is
+no_memory planners version i rows (Err why) is = subst (λ w. TakenTo planners version rows i (Err w)) (sym is) tt
+
+pub returns-in_err-cause : goal.returns-in_err-cause
+returns-in_err-cause c version rows taken read =
+    no_memory c.args.planners version (c.args.at + length c.args.lines.items) rows c.from_residual.result c.from_residual.ensures.1
