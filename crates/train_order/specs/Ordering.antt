@@ -5,7 +5,8 @@ use Rattle.std.specs.List.Sorted.{IsPermutation}
 use Rattle.plan_model.specs.declared.cut.Cut.{Cut}
 use Rattle.plan_model.specs.Members.{member_count, members, precedes_somewhere}
 use Rattle.plan_model.specs.Disorder.{opposite, opposite_pair, remaining, link_of, ring, ring_members}
-use Rattle.train_order.specs.Types.{Order, Disordered, MemberSet}
+use Rattle.train_order.specs.Types.{Order, Disordered, MemberSet, ByTurn}
+use Rattle.train_order.specs.declared.ordering.ByTurn.TheVariants as by_turn
 use Rattle.plan_model.specs.declared.answer.Disorder.{Disorder}
 use Rattle.plan_model.specs.declared.answer.Disorder.TheVariants as disorder
 use Rattle.train_order.specs.declared.found.Disordered.TheVariants as disordered
@@ -37,6 +38,12 @@ IsOrdering cut (Err (disorder.Opposite first second block1 block2)) =
     opposite cut ≡ Some (record { first = first; second = second; block1 = block1; block2 = block2 })
 IsOrdering cut (Err (disorder.Ring links)) =
     (opposite cut ≡ None) × (remaining cut ≢ []) × (links ≡ ring cut)
+
+-- what is told by turn is what the cut is answered
+abbrev pub TellsByTurn : Cut → ByTurn → Type 0
+TellsByTurn cut (by_turn.Order order) = IsOrdering cut (Ok order)
+TellsByTurn cut (by_turn.Opposite told) = IsOrdering cut (Err told)
+TellsByTurn cut by_turn.Unknown = Unit {0}
 
 -- why a cut's members have no order: there is no reason where no members are opposite and none remain; else its
 -- opposite members; else its ring, where members remain

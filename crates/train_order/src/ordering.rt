@@ -1,11 +1,11 @@
 //! The order of a cut's trains, or their disorder.
-ghost use Rattle.std.specs.Prelude.{◌≡◌, ◌≤◌, IfOk, IfSome, Some, Err};
+ghost use Rattle.std.specs.Prelude.{◌≡◌, ◌≤◌, IfOk, Some, Err};
 ghost use Rattle.std.specs.List.Sorted.{IsPermutation};
 ghost use Rattle.plan_model.specs.declared.limits.TheConstants.{MEMBERS};
 ghost use Rattle.plan_model.specs.Members.{member_count, members};
 ghost use Rattle.plan_model.specs.Cut.{IsSoundCut};
 ghost use Rattle.plan_model.specs.Disorder.{opposite_pair};
-ghost use Rattle.train_order.specs.Ordering.{IsOrdering};
+ghost use Rattle.train_order.specs.Ordering.{IsOrdering, TellsByTurn};
 ghost use Rattle.train_order.specs.OutOfTurn.{KeepTurn};
 
 use crate::disorder::find_disorder;
@@ -21,6 +21,15 @@ use plan_model::{Cut, Disorder, FitCut, MEMBERS, SoundCut};
 use rail_model::{List, OutOfMemory};
 use std::alloc::Global;
 
+// What the order of entries tells: the cut's order, that two trains are opposite, or nothing, so that
+// the slow way follows.
+#[derive(Drop)]
+pub(crate) enum ByTurn {
+    Order(Order),
+    Opposite(Disorder),
+    Unknown,
+}
+
 /// The order in time of a cut's trains: each position once, and each train after all that precede
 /// it at some place.
 ///
@@ -34,8 +43,10 @@ pub fn order(alloc: Global, cut: &Cut) -> Result<Result<Order, Disorder>, OutOfM
 {
     let cut = FitCut::of(cut);
     // Where few trains are out of turn, it takes no sets to find the order, or an opposite pair.
-    if let Some(answer) = answer_by_turn(alloc, cut.sound())? {
-        return Ok(answer);
+    match answer_by_turn(alloc, cut.sound())? {
+        ByTurn::Order(order) => return Ok(Ok(order)),
+        ByTurn::Opposite(told) => return Ok(Err(told)),
+        ByTurn::Unknown => {}
     }
     let sets = precedence_sets(alloc, &cut)?;
     let taken = take_up_all(&sets);
@@ -48,41 +59,38 @@ pub fn order(alloc: Global, cut: &Cut) -> Result<Result<Order, Disorder>, OutOfM
 }
 
 // The order of the trains by their entries, where each place keeps it; or that two are opposite,
-// where few trains are out of turn and it is so. `None` says nothing: the slow way follows.
-fn answer_by_turn(
-    alloc: Global,
-    cut: &SoundCut,
-) -> Result<Option<Result<Order, Disorder>>, OutOfMemory>
+// where few trains are out of turn and it is so.
+fn answer_by_turn(alloc: Global, cut: &SoundCut) -> Result<ByTurn, OutOfMemory>
     requires { member_count cut.now ≤ MEMBERS }
-    ensures { IfOk result (λ found. IfSome found (λ answer. IsOrdering cut.now answer)) }
+    ensures { IfOk result (TellsByTurn cut.now) }
 {
     let positions = by_entry(alloc, cut)?;
     match out_of_turn(alloc, cut, &positions)? {
         Some(apart) => by_turn(alloc, cut, positions, &apart),
-        None => Ok(None),
+        None => Ok(ByTurn::Unknown),
     }
 }
 
 // The order, where no member is out of turn along it; else that two trains are opposite, if it is
-// so. `None` says nothing: the slow way follows.
+// so.
 fn by_turn(
     alloc: Global,
     cut: &SoundCut,
     positions: Vec<u32>,
     apart: &MemberSet,
-) -> Result<Option<Result<Order, Disorder>>, OutOfMemory>
+) -> Result<ByTurn, OutOfMemory>
     requires few { member_count cut.now ≤ MEMBERS }
     requires once { IsPermutation (members cut.now) positions.items }
     requires turn { KeepTurn cut.now positions.items apart.now.words }
-    ensures { IfOk result (λ found. IfSome found (λ answer. IsOrdering cut.now answer)) }
+    ensures { IfOk result (TellsByTurn cut.now) }
 {
     if apart.is_above(cut.member_count()) {
         let positions = List::from_vec(positions);
-        return Ok(Some(Ok(Order { positions })));
+        return Ok(ByTurn::Order(Order { positions }));
     }
     match first_pair(alloc, cut, apart)? {
-        Some(pair) => Ok(Some(Err(told_pair(cut, pair)))),
-        None => Ok(None),
+        Some(pair) => Ok(ByTurn::Opposite(told_pair(cut, pair))),
+        None => Ok(ByTurn::Unknown),
     }
 }
 
