@@ -29,7 +29,7 @@ use Rattle.section_cut.specs.Positions.{uses_in}
 use Rattle.section_cut.specs.declared.cut_changes.CutChange.TheVariants as change
 use Rattle.section_cut.specs.declared.cut_changes.StoredCut.{StoredCut}
 use Rattle.section_cut.specs.Stored.{IsStored, IsChangeOfStored}
-use Rattle.section_cut.specs.RowsAfter.{AreBeside, AllStay, IsKept, AreRowsAfter, IsOwnOf}
+use Rattle.section_cut.specs.RowsAfter.{on_blocks, member_after, AreBeside, AllStay, IsKept, AreRowsAfter, IsOwnOf}
 use Rattle.section_cut.specs.Stamps.{AreBefore, IsReached, IsStamped, IsStampedBy}
 use Rattle.section_cut.specs.ReachedRuns.{IsStairIfReached, AreReachedRuns, IsOwnRow, IsRowAfter, row_after, uses_if_there}
 use Rattle.section_cut.specs.Spans.{AreSpans, IsLookedAt, IsSpan, blocks_of, part_of}
@@ -40,6 +40,7 @@ use Rattle.section_cut.proofs.OldRows.{row_if, row_at_name, old_row}
 use Rattle.section_cut.proofs.OneRun.{map_one}
 use Rattle.section_cut.proofs.Stored.{stored_names, stored_rows, stored_section}
 use Rattle.section_cut.proofs.Parts.{part_in, part_all}
+use Rattle.section_cut.proofs.RowsKept.{tells}
 use Rattle.section_cut.proofs.Rows.{before_later}
 use Rattle.section_cut.proofs.SameRuns.{arrival_same, binding_same, row_same, cuts_same}
 use Rattle.section_cut.proofs.SameValue.{sound_cut_of}
@@ -227,6 +228,28 @@ module _ {earlier later : Tables} {stairs : List (Option Stair)} {s : Section} {
               → IfSome o (λ t. IfSome own (IsOwnRow s t.run))
           by_stair None is bare = tt
           by_stair (Some t) is bare = subst (λ (u : Stair). IfSome own (IsOwnRow s u.run)) (sym is) bare
+
+      pub own_blocks_first : IfSome own (λ (r : CutRow). AreBlocksFirst (length s.blocks) r.uses)
+      own_blocks_first = by_row own (own_row own (is_member earlier s run) refl own_is)
+        where
+          by_row : (o : Option CutRow) → IfSome o (IsOwnRow s run.name) → IfSome o (λ (r : CutRow). AreBlocksFirst (length s.blocks) r.uses)
+          by_row None is = tt
+          by_row (Some row) is = is.first
+
+      -- what is made of its uses of blocks alone is the member's
+      pub member_is : (stamp : ℕ) → member_after s positions stair stamp own ≡ member_row s (run_at later n).name stamp (section_uses later s (run_at later n))
+      member_is stamp = by_stair stair reached_is
+        where
+          by_stair : (o : Option Stair) → IsStairIfReached earlier later (run_at later n) o
+              → member_after s positions o stamp own ≡ member_row s (run_at later n).name stamp (section_uses later s (run_at later n))
+          by_stair None is =
+              ap (option_map (on_blocks s stamp)) (found ∙ ap (λ (r : Run). find (λ (o : CutRow). is_same o.name r.name) old) same_run)
+              ∙ tells earlier beside.earlier_sound s old beside.rows stamp n below_earlier
+              ∙ ap (member_row s run.name stamp) (sym (unreached is))
+              ∙ ap (λ (r : Run). member_row s r.name stamp (section_uses later s r)) (sym same_run)
+          by_stair (Some t) is =
+              ap (λ (u : Stair). member_row s u.run stamp (uses_in positions (length s.blocks) u.uses)) is
+              ∙ ap (member_row s (run_at later n).name stamp) (uses_by_table later s beside.later_sound positions beside.table n below)
 
       entry_if : (b : Bool) → option_map (λ (r : CutRow). r.entry) (cond b (Some (row_of earlier s run)) None) ≡ cond b (Some (entry_of earlier s run)) None
       entry_if true = refl

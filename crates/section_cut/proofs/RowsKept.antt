@@ -26,7 +26,7 @@ first_found s rows first test (Some row) e = (find_some test rows row (sym e)).1
 
 module _ (tables : Tables) (sound : IsSound tables) (s : Section) (old : List CutRow) (are : map (stamped_row 0) old ≡ map (row_of tables s) (filter (is_member tables s) tables.runs)) where
   -- the rows of a cut have the members' uses of blocks
-  tells : TellsMembers tables s old
+  pub tells : TellsMembers tables s old
   tells stamp n below =
       let run = run_at tables n in
       let found = find (λ (r : CutRow). is_same r.name run.name) old in

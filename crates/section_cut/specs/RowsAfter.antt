@@ -1,5 +1,5 @@
 -- The rows of a section's cut before and after an edit that changes the paths of some runs.
-use Rattle.std.specs.Prelude.{◌≡◌, ◌⊎◌, ℕ, ◌<◌, false, List, length, map, filter, find, slice_index_or, All, Option, None, option_map}
+use Rattle.std.specs.Prelude.{◌≡◌, ◌⊎◌, ℕ, ◌<◌, false, List, length, map, filter, find, slice_index_or, All, Option, Some, None, option_map}
 use Rattle.rail_model.specs.declared.items.Section.{Section}
 use Rattle.rail_model.specs.declared.stair.Stair.{Stair}
 use Rattle.rail_model.specs.declared.tables.Tables.{Tables}
@@ -10,13 +10,19 @@ use Rattle.plan_model.specs.declared.cut.CutRow.{CutRow}
 use Rattle.plan_model.specs.Cut.{stamped_row, AreBlocksFirst, section_uses, is_member, row_of}
 use Rattle.section_cut.specs.Connected.{is_joined, entry_in, block_part}
 use Rattle.section_cut.specs.Members.{member_row}
-use Rattle.section_cut.specs.Positions.{IsPositions}
+use Rattle.section_cut.specs.Positions.{IsPositions, uses_in}
 use Rattle.section_cut.specs.ReachedRuns.{AreReachedRuns, StaysRow}
 use Rattle.section_cut.specs.Stamps.{IsStampedBy}
 
 -- a row with this stamp and its uses of blocks alone
 abbrev pub on_blocks : Section → ℕ → CutRow → CutRow
 on_blocks section stamp row = record row { stamp = stamp; uses = block_part section row.uses }
+
+-- a run's row with this stamp and its uses of blocks alone: by its stair, if that is reached, and otherwise by the row
+-- that it had, if it had one
+abbrev pub member_after : Section → List ℕ → Option Stair → ℕ → Option CutRow → Option CutRow
+member_after section positions (Some stair) stamp own = member_row section stair.run stamp (uses_in positions (length section.blocks) stair.uses)
+member_after section positions None stamp own = option_map (on_blocks section stamp) own
 
 -- among these rows each run of the tables has one with its entry and its uses of blocks, if it is a member
 abbrev pub TellsMembers : Tables → Section → List CutRow → Type 0

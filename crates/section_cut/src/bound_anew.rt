@@ -32,26 +32,29 @@ pub(crate) fn cut_bound_anew(
     requires members { AreOfMembers stored.both.after.now stored.cut.now.section rows.now }
     ensures { IfOk result (IsChangeOfStored stored.entry) }
 {
-    let old = stored.cut;
-    let later = cut_by_rows(alloc, stored.both.after, &old.section, rows, stored.number)?;
-    Ok(compared(old, later, stored.number))
+    let after = stored.both.after;
+    let members = members_by_rows(alloc, after, &stored.cut.section, rows, stored.number)?;
+    cut_by_members(alloc, stored, members)
 }
 
-// The cut of a section, each row with this stamp, by rows with the uses of blocks of its members.
-fn cut_by_rows(
+// What the edit of a number makes of the cut of a section that stays, by its members after the
+// edit, whose rows are still without uses of connections.
+pub(crate) fn cut_by_members(
     alloc: Global,
-    tables: &LineTables,
-    section: &Section,
-    rows: &[CutRow],
-    stamp: u64,
-) -> Result<Cut, OutOfMemory>
-    requires blocks { length section.now.blocks ≤ PATH_HOPS }
-    requires members { AreOfMembers tables.now section.now rows.now }
-    ensures { IfOk result
-        (λ cut. cut ≡ stamped stamp (cuts.section_cut tables.now section.now)) }
+    stored: StoredCut<'_>,
+    members: MemberRows,
+) -> Result<CutChange, OutOfMemory>
+    requires stored { IsStored stored }
+    requires sections { stored.both.after.now.sections ≡ stored.both.before.now.sections }
+    requires rows { members.rows
+        ≡ rows_on_blocks stored.both.after.now stored.cut.now.section stored.number }
+    requires of_run { members.of_run.items
+        ≡ members_by_run stored.both.after.now stored.cut.now.section }
+    ensures { IfOk result (IsChangeOfStored stored.entry) }
 {
-    let members = members_by_rows(alloc, tables, section, rows, stamp)?;
-    cut_of_members(alloc, tables, section, members)
+    let old = stored.cut;
+    let later = cut_of_members(alloc, stored.both.after, &old.section, members)?;
+    Ok(compared(old, later, stored.number))
 }
 
 // The members' rows without their uses of connections, and for each run which of them is its.
@@ -82,7 +85,7 @@ fn members_by_rows(
 }
 
 // A row, if it is there, with this stamp and without its uses of connections.
-fn on_blocks(
+pub(crate) fn on_blocks(
     alloc: Global,
     section: &Section,
     own: Option<&CutRow>,

@@ -8,9 +8,11 @@ ghost use Rattle.section_cut.specs.Connected.{with_rest};
 ghost use Rattle.section_cut.specs.Members.{member_row};
 ghost use Rattle.section_cut.specs.Positions.{uses_in};
 ghost use Rattle.section_cut.specs.ReachedRuns.{IsOwnRow, IsRowAfter, StaysRow, row_after};
+ghost use Rattle.section_cut.specs.RowsAfter.{member_after};
 ghost use Rattle.section_cut.specs.Spans.{IsLookedAt};
 ghost use Rattle.section_cut.specs.Starts.{EntersEarly};
 
+use crate::bound_anew::on_blocks;
 use crate::connected::block_part;
 use crate::members::{member_row, row_with};
 use crate::positions::{SectionTable, gather, placed, same_first, same_placed};
@@ -248,4 +250,27 @@ fn enters_early(table: SectionTable<'_>, stair: &TimedStair) -> bool
         return false;
     };
     table.positions[block as usize] < table.section.blocks.len() as u32
+}
+
+// A run's row after the edit without its uses of connections: by its stair, if the edit reaches it,
+// and otherwise by its own before it, if that is there.
+pub(crate) fn member_anew(
+    alloc: Global,
+    table: SectionTable<'_>,
+    stair: &Option<TimedStair>,
+    uses: &[Use],
+    own: Option<&CutRow>,
+    stamp: u64,
+) -> Result<Option<CutRow>, OutOfMemory>
+    requires uses { IfSome stair.now
+        (IsLookedAt table.positions.now (length table.section.now.blocks) uses.now) }
+    requires own { IfSome (option_copied own)
+        (λ r. AreBlocksFirst (length table.section.now.blocks) r.uses) }
+    ensures { IfOk result (λ row. row ≡ member_after table.entry.section.now
+        table.entry.positions.now stair.now stamp (option_copied own.entry)) }
+{
+    match stair {
+        Some(stair) => row_made(alloc, table, stair, uses, stamp),
+        None => on_blocks(alloc, table.section, own, stamp),
+    }
 }

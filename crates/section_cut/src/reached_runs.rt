@@ -1,11 +1,12 @@
 //! What a change of a block, a signal or a route makes of a section's cut. It reaches the rows of the
-//! runs that pass what is edited, and no other. Those of these runs that have connections are to enter
-//! the section as before, so that the same connections bind; else its cut is made anew.
+//! runs that pass what is edited, and no other. Where those of these runs that have connections enter
+//! the section as before, the same connections bind; else they are bound anew.
 ghost use Rattle.std.specs.Prelude.{◌≡◌, ◌↔◌, ◌<◌, ◌++◌, IsTrue, Bool, if◌then◌else◌, true, All, length, map, slice_index_or, IfOk, IfSome, OnOk, Some, None, option_map};
 ghost use Rattle.std.specs.Option.{option_to_list, option_copied};
 ghost use Rattle.line_tables.specs.Paths.{paths_of};
 ghost use Rattle.rail_model.specs.Tables.{run_at, path_in};
 ghost use Rattle.section_cut.specs.Stored.{IsStored, IsChangeOfStored};
+ghost use Rattle.section_cut.specs.Members.{rows_on_blocks, members_by_run};
 ghost use Rattle.section_cut.specs.Positions.{IsPositions};
 ghost use Rattle.section_cut.specs.ReachedRuns.{IsSameTraffic, KeepsBlocks, IsTold, AreReachedRuns, uses_if_there};
 ghost use Rattle.section_cut.specs.Reach.{AreRunsOf};
@@ -19,9 +20,11 @@ ghost use Rattle.rail_model.specs.Name.{NamesRise};
 ghost use Rattle.rail_model.specs.Blocking.{Fits, stair_of};
 ghost use Rattle.section_cut.specs.ReachedRuns as reached;
 
-use crate::cut_changes::{BothTables, CutChange, StoredCut, stored_made_anew};
+use crate::bound_anew::cut_by_members;
+use crate::cut_changes::{BothTables, CutChange, StoredCut};
+use crate::members::{MemberRows, add_run};
 use crate::positions::{SectionTable, positions};
-use crate::reached_rows::{row_anew, row_stays};
+use crate::reached_rows::{member_anew, row_anew, row_stays};
 use crate::same_value::same_name;
 use crate::spans::{BlockLists, BlockRange, part};
 use crate::stamps::next_row;
@@ -274,7 +277,8 @@ fn cut_by_table(
         return Ok(CutChange::Untouched);
     }
     let Some(rows) = rows_after(alloc, stored.both, runs, table, old, stored.number)? else {
-        return stored_made_anew(alloc, stored);
+        let members = members_after(alloc, stored.both, runs, table, old, stored.number)?;
+        return cut_by_members(alloc, stored, members);
     };
     Ok(CutChange::Touched(Some(cut_of_rows(alloc, stored.cut, rows)?)))
 }
@@ -346,6 +350,39 @@ fn rows_after(
         push_row(&mut rows, row)?;
     }
     Ok(Some(rows))
+}
+
+// The members' rows after the edit, each with this stamp and without its uses of connections, and
+// for each run which of them is its.
+fn members_after(
+    alloc: Global,
+    both: BothTables<'_>,
+    runs: &ReachedRuns,
+    table: SectionTable<'_>,
+    old: &[CutRow],
+    stamp: u64,
+) -> Result<MemberRows, OutOfMemory>
+    requires beside { AreBeside both.before.now both.after.now runs.now.stairs.items
+        table.section.now table.positions.now old.now }
+    requires spans { AreSpans table.positions.now (length table.section.now.blocks)
+        (map uses_if_there runs.now.stairs.items) table.spans.now }
+    ensures rows { IfOk result (λ all. all.rows
+        ≡ rows_on_blocks both.entry.after.now table.entry.section.now stamp) }
+    ensures of_run { IfOk result (λ all. all.of_run.items
+        ≡ members_by_run both.entry.after.now table.entry.section.now) }
+{
+    let mut all = MemberRows {
+        rows: List::new(alloc),
+        of_run: Vec::with_capacity(alloc, both.after.runs() as usize)?,
+    };
+    let mut at = 0;
+    for n in 0..both.after.runs() {
+        let own = row_of(both.after, n, old, &mut at);
+        let uses = looked_at(&runs.stairs, table.spans, n as usize);
+        let row = member_anew(alloc, table, &runs.stairs[n as usize], uses, own, stamp)?;
+        add_run(&mut all, row)?;
+    }
+    Ok(all)
 }
 
 // Whether a row has the entry of another, or neither is there. `false` says nothing.

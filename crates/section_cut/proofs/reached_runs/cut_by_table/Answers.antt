@@ -27,6 +27,9 @@ rows_stay-requires-clause-beside c =
 pub rows_after-requires-clause-beside : goal.rows_after-requires-clause-beside
 rows_after-requires-clause-beside c = rw (c.requires.section, c.slice-old.ensures) (beside (goal.at.rows_after-requires-clause-beside c).After-slice-old)
 
+pub members_after-requires-clause-beside : goal.members_after-requires-clause-beside
+members_after-requires-clause-beside c = rw (c.requires.section, c.slice-old.ensures) (beside (goal.at.members_after-requires-clause-beside c).After-slice-old)
+
 pub returns-then-branch : goal.returns-then-branch
 returns-then-branch c =
     cut_same c.requires.stored (beside (goal.at.returns-then-branch c).After-slice-old)
