@@ -23,9 +23,9 @@
 //!   changes one use of the first run's row.
 //! - An edit of a block, a signal or a route compares the row of each run that passes it with the
 //!   run's new stairway. A row that differs is copied, and its uses that differ are written anew.
-//!   Its uses of connections stay, where each such run enters the section as before.
-//! - Where an edit of a run or of its path makes other connections bind, the section's cut is made
-//!   anew.
+//!   Its uses of connections stay, where each such run enters the section as before; else the
+//!   connections are bound anew among these rows.
+//! - Where an edit of a run makes other connections bind, the section's cut is made anew.
 //! - Rows that stand as before keep their stamps.
 //!
 //! ```text
