@@ -5,6 +5,8 @@ mod SessionExamples
 mod RefusedEntries
 mod WrongCalls
 mod CallExamples
+pub mod NameAdded
+pub mod TrainAdded
 pub mod Growing
 pub mod Changing
 pub mod Legality

@@ -1,3 +1,5 @@
+pub mod Names
+pub mod PlacedList
 pub mod Types
 pub mod Members
 pub mod Cut

@@ -1,4 +1,5 @@
 //! The answer of a section: its compressed timetable, or why it has none.
+use crate::{Names, PlacedList};
 use rail_model::{List, Name};
 
 /// Why a train enters no earlier in the compressed timetable.
@@ -37,9 +38,9 @@ pub struct Plan {
     /// The additional time rate: per cent of the occupancy time.
     pub add_percent: u32,
     /// The names of the cut's places: the section's blocks, then the connections.
-    pub blocks: List<Name>,
+    pub blocks: Names,
     /// In the order of the trains' names.
-    pub placed: List<Placed>,
+    pub placed: PlacedList,
     /// The occupancy time: seconds.
     pub occupancy: u64,
     /// The position of the busiest block, the first by name of several, if there is a train.

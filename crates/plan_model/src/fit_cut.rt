@@ -1,13 +1,13 @@
 //! A cut that carries its facts.
-ghost use Rattle.std.specs.Prelude.{◌≡◌, ◌<◌, ◌≤◌, ◌==◌, IfOk, IfSome, All, IsTrue, find, ◌++◌, ◌-ℤ◌, ◌+ℤ◌};
+ghost use Rattle.std.specs.Prelude.{◌≡◌, ◌<◌, ◌≤◌, ◌==◌, ◌↔◌, IfOk, IfSome, All, IsTrue, find, ◌-ℤ◌, ◌+ℤ◌};
 ghost use Rattle.plan_model.specs.declared.limits.TheConstants.{MEMBERS};
 ghost use Rattle.rail_model.specs.declared.limits.TheConstants.{RUNS, PATH_HOPS};
 ghost use Rattle.plan_model.specs.Cut.{IsSoundCut, IsSoundUse, IsMoment, IsBounded, IsUsable, AreOfOtherPlaces, AreBlocksFirst};
 ghost use Rattle.plan_model.specs.Members as members;
 ghost use Rattle.plan_model.specs.Schedule as schedule;
 
-use crate::{Cut, CutRow};
-use rail_model::{List, Name, OutOfMemory, Use};
+use crate::{Cut, CutRow, Names};
+use rail_model::{Name, OutOfMemory, Use};
 use std::alloc::Global;
 use std::marker::Model;
 
@@ -114,14 +114,30 @@ impl<'a> SoundCut<'a> {
     }
 
     /// The names of all places.
-    pub fn place_names(&self, alloc: Global) -> Result<List<Name>, OutOfMemory>
+    pub fn place_names(&self, alloc: Global) -> Result<Names, OutOfMemory>
         ensures { IfOk result (λ names. names ≡ members.place_names self.now) }
     {
-        joined(
-            alloc,
-            &self.cut.section.blocks,
-            self.cut.connections.slice(),
-        )
+        let count = self.place_count();
+        let mut names = Names::with_capacity(alloc, count as usize)?;
+        for place in 0..count {
+            names.push(self.place_name(place))?;
+        }
+        Ok(names)
+    }
+
+    /// Whether these are the names of all places, in their order.
+    pub fn are_places(&self, names: &Names) -> bool
+        ensures { IsTrue result ↔ (names.now ≡ members.place_names self.now) }
+    {
+        if names.len() != self.place_count() as usize {
+            return false;
+        }
+        for place in 0..self.place_count() {
+            if names.bytes(place as usize) != self.place_name(place).bytes() {
+                return false;
+            }
+        }
+        true
     }
 
     /// The use of a place by the member at a position, if it uses it.
@@ -283,17 +299,6 @@ pub fn comes_before(start: i64, name: &Name, other: i64, next: &Name) -> bool
     ensures { result ≡ members.comes_before start name.now other next.now }
 {
     start < other || start == other && name < next
-}
-
-// The first names and then the others, in one list.
-fn joined(alloc: Global, first: &List<Name>, then: &[Name]) -> Result<List<Name>, OutOfMemory>
-    ensures { IfOk result (λ names. names ≡ first.now ++ then.now) }
-{
-    let mut names = first.copy(alloc)?;
-    for name in then {
-        names.push(*name)?;
-    }
-    Ok(names)
 }
 
 /// A row's use of a place, if it uses it: looked for from the front.

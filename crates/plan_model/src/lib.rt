@@ -33,7 +33,9 @@ mod journal;
 mod journal_laws;
 mod laws;
 mod limits;
+mod names;
 mod outcome;
+mod placed_list;
 mod reading;
 mod rows;
 mod scripts;
@@ -58,7 +60,9 @@ pub use laws::{
     remaining_is_left, ring_is_true, tied_is_least, uses_are_apart,
 };
 pub use limits::{MEMBERS, is_crowded};
+pub use names::Names;
 pub use outcome::{Asked, Next, NotTaken, Stepped};
+pub use placed_list::PlacedList;
 pub use reading::Reading;
 pub use rows::Rows;
 pub use scripts::{Scripts, Task};

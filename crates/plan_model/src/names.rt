@@ -1,0 +1,108 @@
+//! Lists of names that take little memory.
+ghost use Rattle.std.specs.Prelude.{◌≡◌, ◌+◌, ◌<◌, ◌++◌, [], ◌∷◌, length, slice_index_or, IfOk, OnOk, OnErr};
+ghost use Rattle.rail_model.specs.Name.{IsName};
+ghost use Rattle.plan_model.specs.Names.{name_at, IsNameAt};
+
+use rail_model::{Name, OutOfMemory};
+use std::alloc::Global;
+use std::marker::Model;
+
+/// Names in order. Contracts see their list.
+///
+/// Their bytes stand one after another: a name takes its own bytes and four more, not the 72 of a
+/// `Name`. A list that has grown may have room for twice its bytes. It has fewer than 2^32 of them:
+/// a push past that finds no memory.
+#[derive(Drop)]
+pub struct Names {
+    bytes: Vec<u8>,
+    // Where each name starts among the bytes, and then where the last one ends.
+    starts: Vec<u32>,
+}
+
+impl Model for Names {
+    ghost use Rattle.std.specs.Prelude.{ℕ, List};
+
+    ghost Value = { List (List ℕ) };
+
+    ghost use Rattle.plan_model.specs.Names.{names_of, AreNames};
+
+    ghost view = { λ n. names_of n.starts.items n.bytes.items };
+
+    ghost invariant = { λ n. AreNames n.starts.items n.bytes.items };
+}
+
+impl Names {
+    /// No names, with room for so many but for their bytes.
+    pub fn with_capacity(alloc: Global, count: usize) -> Result<Names, OutOfMemory>
+        ensures { IfOk result (λ names. names ≡ []) }
+    {
+        let mut starts = Vec::with_capacity(alloc, count.saturating_add(1))?;
+        starts.push(0)?;
+        Ok(Names {
+            bytes: Vec::new(alloc),
+            starts,
+        })
+    }
+
+    /// Puts a name at the end. Without memory the names stay as they were.
+    pub fn push(&mut self, name: &Name) -> Result<(), OutOfMemory>
+        ensures ok { OnOk result (self.new ≡ self.old ++ name.now ∷ []) }
+        ensures err { OnErr result (self.new ≡ self.old) }
+    {
+        let own = name.bytes();
+        let start = self.starts[self.starts.len() - 1];
+        let Some(end) = start.checked_add(own.len() as u32) else {
+            return Err(OutOfMemory);
+        };
+        self.starts.reserve(1)?;
+        self.bytes.extend_from_slice(own)?;
+        self.starts.push_reserved(end);
+        Ok(())
+    }
+
+    /// How many names there are.
+    pub fn len(&self) -> usize
+        ensures { result ≡ length self.now }
+    {
+        self.starts.len() - 1
+    }
+
+    /// The bytes of the name at `i`.
+    pub fn bytes(&self, i: usize) -> &[u8]
+        requires { i < length self.now }
+        ensures same { result.now ≡ slice_index_or self.now i [] }
+        ensures named { ∥ IsName result.now ∥₁ }
+    {
+        name_at(&self.bytes, &self.starts, i)
+    }
+
+    /// The name at `i`.
+    pub fn get(&self, i: usize) -> Name
+        requires { i < length self.now }
+        ensures { result ≡ slice_index_or self.now i [] }
+    {
+        Name::read(self.bytes(i)).unwrap()
+    }
+
+    /// The same names.
+    pub fn copy(&self, alloc: Global) -> Result<Names, OutOfMemory>
+        ensures { IfOk result (λ other. other ≡ self.now) }
+    {
+        Ok(Names {
+            bytes: Vec::from_slice(alloc, &self.bytes)?,
+            starts: Vec::from_slice(alloc, &self.starts)?,
+        })
+    }
+}
+
+// The bytes of the name at `i`, of names that start at these places.
+#[inline]
+fn name_at<'a>(bytes: &'a [u8], starts: &[u32], i: usize) -> &'a [u8]
+    requires at { i + 1 < length starts.now }
+    requires name { IsNameAt starts.now bytes.now i }
+    ensures { result.now ≡ name_at starts.now bytes.now i }
+{
+    let from = starts[i] as usize;
+    let to = starts[i + 1] as usize;
+    &bytes[from..to]
+}

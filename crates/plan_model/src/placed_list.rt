@@ -1,0 +1,111 @@
+//! The trains of a compressed timetable, in little memory.
+ghost use Rattle.std.specs.Prelude.{◌≡◌, ◌<◌, ◌++◌, [], ◌∷◌, length, slice_index_or, IfOk, OnOk, OnErr};
+ghost use Rattle.plan_model.specs.PlacedList.{no_train};
+
+use crate::names::Names;
+use crate::{Placed, Tie};
+use rail_model::OutOfMemory;
+use std::alloc::Global;
+use std::marker::Model;
+
+/// Trains in order. Contracts see their list.
+///
+/// A train takes 32 bytes beside its name in `Names`, not the 104 of a `Placed`.
+#[derive(Drop)]
+pub struct PlacedList {
+    names: Names,
+    // What is beside the names, in the same order.
+    numbers: Vec<PlacedNumbers>,
+}
+
+// A train without its name.
+#[derive(Clone, Copy)]
+struct PlacedNumbers {
+    planned: i64,
+    entry: i64,
+    tie: Tie,
+}
+
+impl Model for PlacedList {
+    ghost use Rattle.std.specs.Prelude.{◌≡◌, List, length};
+    ghost use Rattle.std.specs.Simd.Lanes.{zip2};
+    ghost use Rattle.plan_model.specs.declared.answer.Placed.{Placed};
+
+    ghost Value = { List Placed };
+
+    ghost use Rattle.plan_model.specs.PlacedList.{with_name};
+
+    ghost view = { λ p. zip2 with_name p.names p.numbers.items };
+
+    ghost invariant = { λ p. length p.names ≡ length p.numbers.items };
+}
+
+impl PlacedList {
+    /// No trains, with room for so many but for the bytes of their names.
+    pub fn with_capacity(alloc: Global, count: usize) -> Result<PlacedList, OutOfMemory>
+        ensures { IfOk result (λ list. list ≡ []) }
+    {
+        Ok(PlacedList {
+            names: Names::with_capacity(alloc, count)?,
+            numbers: Vec::with_capacity(alloc, count)?,
+        })
+    }
+
+    /// Puts a train at the end. Without memory the trains stay as they were.
+    pub fn push(&mut self, placed: &Placed) -> Result<(), OutOfMemory>
+        ensures ok { OnOk result (self.new ≡ self.old ++ placed.now ∷ []) }
+        ensures err { OnErr result (self.new ≡ self.old) }
+    {
+        self.numbers.reserve(1)?;
+        self.names.push(&placed.train)?;
+        self.numbers.push_reserved(PlacedNumbers {
+            planned: placed.planned,
+            entry: placed.entry,
+            tie: placed.tie,
+        });
+        Ok(())
+    }
+
+    /// How many trains there are.
+    pub fn len(&self) -> usize
+        ensures { result ≡ length self.now }
+    {
+        self.numbers.len()
+    }
+
+    /// The train at `i`.
+    pub fn get(&self, i: usize) -> Placed
+        requires { i < length self.now }
+        ensures { result ≡ slice_index_or self.now i no_train }
+    {
+        let PlacedNumbers {
+            planned,
+            entry,
+            tie,
+        } = self.numbers[i];
+        Placed {
+            train: self.names.get(i),
+            planned,
+            entry,
+            tie,
+        }
+    }
+
+    /// The tie of the train at `i`.
+    pub fn tie(&self, i: usize) -> Tie
+        requires { i < length self.now }
+        ensures { result ≡ (slice_index_or self.now i no_train).tie }
+    {
+        self.numbers[i].tie
+    }
+
+    /// The same trains.
+    pub fn copy(&self, alloc: Global) -> Result<PlacedList, OutOfMemory>
+        ensures { IfOk result (λ other. other ≡ self.now) }
+    {
+        Ok(PlacedList {
+            names: self.names.copy(alloc)?,
+            numbers: Vec::from_slice(alloc, &self.numbers)?,
+        })
+    }
+}
