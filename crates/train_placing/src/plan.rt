@@ -8,8 +8,8 @@ ghost use Rattle.train_placing.specs.Laid.{AreAllPlaced, HasBoundedTimes, placed
 
 use crate::last::Last;
 use occupancy_rate::occupancy;
-use plan_model::{CutRow, FitCut, Placed, Plan, Tie};
-use rail_model::{List, OutOfMemory};
+use plan_model::{CutRow, FitCut, Placed, PlacedList, Plan, Tie};
+use rail_model::OutOfMemory;
 use std::alloc::Global;
 
 /// The plan of trains that are placed, none before the window: it tells where they stand, and what
@@ -74,15 +74,15 @@ fn placed(
     rows: &[CutRow],
     entries: &[i64],
     ties: &[Tie],
-) -> Result<List<Placed>, OutOfMemory>
+) -> Result<PlacedList, OutOfMemory>
     requires entries { length entries.now ≡ length rows.now }
     requires ties { length ties.now ≡ length rows.now }
     ensures { IfOk result (λ list. list
         ≡ map (placed_with rows.now entries.now ties.now) (range_with_len 0 (length rows.now))) }
 {
-    let mut list = List::new(alloc);
+    let mut list = PlacedList::with_capacity(alloc, rows.len())?;
     for (i, row) in rows.iter().enumerate() {
-        list.push(placed_at(row, entries[i], ties[i]))?;
+        list.push(&placed_at(row, entries[i], ties[i]))?;
     }
     Ok(list)
 }
