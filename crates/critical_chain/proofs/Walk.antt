@@ -5,7 +5,6 @@ use Rattle.std.proofs.lemmas.List.FromFn.{length-map-range_with_len, get_or-map-
 use Rattle.std.proofs.lemmas.List.{append_assoc, append-nil, reverse-append, get_or_default}
 use Rattle.rail_model.specs.declared.limits.TheConstants.{RUNS}
 use Rattle.plan_model.specs.declared.cut.Cut.{Cut}
-use Rattle.plan_model.specs.declared.answer.Tie.{Tie}
 use Rattle.plan_model.specs.declared.answer.Tie.TheVariants.{Start, After}
 use Rattle.plan_model.specs.declared.answer.Placed.{Placed}
 use Rattle.plan_model.specs.declared.answer.Plan.{Plan}
@@ -43,12 +42,6 @@ module _ (cut : Cut) (plan : Plan) (of : IsPlanOf cut plan) where
 pub read : {X : Type 0} (items list : List X) (at : ℕ) (d e : X) → items ≡ list → at < length list
     → slice_index_or items at d ≡ slice_index_or list at e
 read items list at d e same l = ap (λ xs. slice_index_or xs at d) same ∙ get_or_default list at d e l
-
--- the tie that is read at a position
-pub tie_read : (plan : Plan) (items : List Placed) (at : ℕ) (d : Placed) (tie : Tie) → items ≡ plan.placed
-    → at < length plan.placed → (slice_index_or items at d).tie ≡ tie → tie_at plan at ≡ tie
-tie_read plan items at d tie e l is =
-    sym (ap (λ (p : Placed). p.tie) (read items plan.placed at d no_train e l)) ∙ is
 
 -- the links behind a train end there where it has no tie, and else with the one of its tie
 pub none_behind : (plan : Plan) (n j : ℕ) → tie_at plan j ≡ Start → chain_back plan n j ≡ []

@@ -1,15 +1,12 @@
 -- Chains: which trains, each touched by the next, make a train enter no earlier.
-use Rattle.std.specs.Prelude.{◌≡◌, ℕ, zero, suc, ◌<◌, pos, List, [], ◌∷◌, ◌++◌, length, slice_index_or}
+use Rattle.std.specs.Prelude.{◌≡◌, ℕ, zero, suc, ◌<◌, List, [], ◌∷◌, ◌++◌, length, slice_index_or}
 use Rattle.plan_model.specs.declared.answer.Tie.{Tie}
 use Rattle.plan_model.specs.declared.answer.Tie.TheVariants.{Start, After}
 use Rattle.plan_model.specs.declared.answer.Placed.{Placed}
 use Rattle.plan_model.specs.declared.answer.Plan.{Plan}
 use Rattle.plan_model.specs.declared.answer.Link.{Link}
 pub use Rattle.plan_model.specs.Answer.{IsPlanOf, IsPlan}
-
--- stands where a plan has no train
-abbrev pub no_train : Placed
-no_train = record { train = []; planned = pos 0; entry = pos 0; tie = Start }
+pub use Rattle.plan_model.specs.PlacedList.{no_train}
 
 -- the train at a position of a plan, from 0, and its tie
 abbrev pub train_at : Plan → ℕ → Placed

@@ -13,7 +13,7 @@ use crate::last::critical_train;
 use crate::touched::has_tie;
 use crate::trains::{has_frame, has_trains};
 use occupancy_rate::occupancy;
-use plan_model::{Cut, FitCut, MEMBERS, Placed, Plan};
+use plan_model::{Cut, FitCut, MEMBERS, PlacedList, Plan};
 
 // Whether a plan is what its entries make of a cut, these are a schedule, and each train whose tie
 // is `Start` enters at the window's start.
@@ -23,9 +23,7 @@ pub(crate) fn is_checked(cut: &Cut, plan: &Plan) -> bool
     requires order { remaining cut.now ≡ [] }
     ensures { IsTrue result ↔ IsChecked cut.now plan.now }
 {
-    has_frame(cut, plan)
-        && has_trains(cut, plan.placed.slice())
-        && keeps_all(&FitCut::of(cut), plan)
+    has_frame(cut, plan) && has_trains(cut, &plan.placed) && keeps_all(&FitCut::of(cut), plan)
 }
 
 // Whether the trains of a plan have their ties, keep all places one after the other, and occupy as
@@ -34,7 +32,7 @@ fn keeps_all(cut: &FitCut, plan: &Plan) -> bool
     requires trains { parts.HasTrains cut.now plan.now.placed }
     ensures { IsTrue result ↔ parts.KeepsAll cut.now (entries_of plan.now) plan.now }
 {
-    let placed = plan.placed.slice();
+    let placed = &plan.placed;
     let mut room = [0i64; MEMBERS];
     let count = cut.member_count() as usize;
     let entries = &mut room[..count];
@@ -45,24 +43,24 @@ fn keeps_all(cut: &FitCut, plan: &Plan) -> bool
 }
 
 // Puts the entries of a plan's trains into a list, in the order of the trains.
-fn lay_out(entries: &mut [i64], placed: &[Placed])
+fn lay_out(entries: &mut [i64], placed: &PlacedList)
     requires { length entries.old ≡ length placed.now }
     ensures { entries.new ≡ map (λ p. p.entry) placed.now }
 {
-    for (i, one) in placed.iter().enumerate() {
-        entries[i] = one.entry;
+    for i in 0..placed.len() {
+        entries[i] = placed.get(i).entry;
     }
 }
 
 // Whether each train enters at the window's start or is touched, as its tie says.
-fn has_ties(cut: &FitCut, entries: &[i64], placed: &[Placed]) -> bool
+fn has_ties(cut: &FitCut, entries: &[i64], placed: &PlacedList) -> bool
     requires entries { length entries.now ≡ member_count cut.now }
     requires bounded { All IsBounded entries.now }
     requires placed { length placed.now ≡ member_count cut.now }
     ensures { IsTrue result ↔ parts.HaveTies cut.now entries.now placed.now }
 {
     for j in 0..cut.member_count() {
-        if !has_tie(cut, entries, j, placed[j as usize].tie) {
+        if !has_tie(cut, entries, j, placed.tie(j as usize)) {
             return false;
         }
     }
@@ -70,7 +68,7 @@ fn has_ties(cut: &FitCut, entries: &[i64], placed: &[Placed]) -> bool
 }
 
 // Whether the trains keep all places one after the other.
-fn keeps_places(cut: &FitCut, entries: &[i64], placed: &[Placed]) -> bool
+fn keeps_places(cut: &FitCut, entries: &[i64], placed: &PlacedList) -> bool
     requires entries { length entries.now ≡ member_count cut.now }
     requires bounded { All IsBounded entries.now }
     requires placed { length placed.now ≡ member_count cut.now }

@@ -6,12 +6,12 @@ ghost use Rattle.train_order.specs.Visits.{AreInTurn};
 ghost use Rattle.critical_chain.specs.Parts as parts;
 
 use crate::moved::{end_of, start_of};
-use plan_model::{FitCut, MEMBERS, Placed, Tie};
+use plan_model::{FitCut, MEMBERS, PlacedList, Tie};
 use train_order::{Visit, visits_at};
 
 // Whether each train ends its use of a place by the time that the next starts there and, where it
 // ends just then, does not come before the next train's tie, by name.
-pub(crate) fn keeps_place(cut: &FitCut, entries: &[i64], placed: &[Placed], place: u32) -> bool
+pub(crate) fn keeps_place(cut: &FitCut, entries: &[i64], placed: &PlacedList, place: u32) -> bool
     requires entries { length entries.now ≡ member_count cut.now }
     requires bounded { All IsBounded entries.now }
     requires placed { length placed.now ≡ member_count cut.now }
@@ -33,7 +33,7 @@ pub(crate) fn keeps_place(cut: &FitCut, entries: &[i64], placed: &[Placed], plac
 fn follow_in_turn(
     cut: &FitCut,
     entries: &[i64],
-    placed: &[Placed],
+    placed: &PlacedList,
     place: u32,
     visits: &[Visit],
 ) -> bool
@@ -52,7 +52,7 @@ fn follow_in_turn(
         let next = visits[k];
         let until = end_of(cut, entries, visit);
         let from = start_of(cut, entries, next);
-        let tie = placed[next.member as usize].tie;
+        let tie = placed.tie(next.member as usize);
         if !may_follow(cut, until, from, (visit.member, place), tie) {
             return false;
         }

@@ -23,7 +23,7 @@ pub fn chain(alloc: Global, plan: &Plan, train: u32) -> Result<List<Link>, OutOf
     while let Tie::After {
         train: before,
         block,
-    } = plan.placed.slice()[next as usize].tie
+    } = plan.placed.tie(next as usize)
     {
         links.push(link(plan, before, block, next))?;
         next = before;
@@ -48,10 +48,9 @@ fn link(plan: &Plan, train: u32, block: u32, next: u32) -> Link
     requires next { next < length plan.now.placed }
     ensures { result ≡ link_at plan.now train block next }
 {
-    let placed = plan.placed.slice();
     Link {
-        train: placed[train as usize].train,
-        block: plan.blocks.slice()[block as usize],
-        next: placed[next as usize].train,
+        train: plan.placed.get(train as usize).train,
+        block: plan.blocks.get(block as usize),
+        next: plan.placed.get(next as usize).train,
     }
 }

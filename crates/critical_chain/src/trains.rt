@@ -1,33 +1,30 @@
 //! Whether a plan has the window, the places and the trains of a cut.
 ghost use Rattle.std.specs.Prelude.{◌↔◌, IsTrue};
+ghost use Rattle.plan_model.specs.Cut.{IsSoundCut};
 ghost use Rattle.critical_chain.specs.Parts as parts;
 
-use plan_model::{Cut, CutRow, Placed, Plan};
-use rail_model::are_joined;
+use plan_model::{Cut, CutRow, Placed, PlacedList, Plan, SoundCut};
 
 // Whether a plan has a cut's window, additional time rate and places.
 pub(crate) fn has_frame(cut: &Cut, plan: &Plan) -> bool
+    requires { IsSoundCut cut.now }
     ensures { IsTrue result ↔ parts.HasFrame cut.now plan.now }
 {
     plan.from_s == cut.section.from_s
         && plan.to_s == cut.section.to_s
         && plan.add_percent == cut.section.add_percent
-        && are_joined(
-            plan.blocks.slice(),
-            cut.section.blocks.slice(),
-            cut.connections.slice(),
-        )
+        && SoundCut::of(cut).are_places(&plan.blocks)
 }
 
 // Whether there is a train for each member, which enters within the limits.
-pub(crate) fn has_trains(cut: &Cut, placed: &[Placed]) -> bool
+pub(crate) fn has_trains(cut: &Cut, placed: &PlacedList) -> bool
     ensures { IsTrue result ↔ parts.HasTrains cut.now placed.now }
 {
     if placed.len() != cut.rows.len() {
         return false;
     }
     for (i, row) in cut.rows.slice().iter().enumerate() {
-        if !is_train(row, &placed[i], cut.section.from_s) {
+        if !is_train(row, &placed.get(i), cut.section.from_s) {
             return false;
         }
     }

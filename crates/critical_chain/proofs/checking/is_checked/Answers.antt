@@ -13,8 +13,7 @@ returns-then-has_trains c =
     elim c.if-has_frame.branch [
       | then-has_frame w ↦
           let frame_is = c.has_frame.ensures.0 w.if-has_frame.true in
-          let there : HasTrains cut plan.placed =
-          subst (HasTrains cut) w.slice.ensures (w.has_trains.ensures.0 (sym w.value-is ∙ c.if-has_trains.true)) in (
+          let there : HasTrains cut plan.placed = w.has_trains.ensures.0 (sym w.value-is ∙ c.if-has_trains.true) in (
             λ t. checked cut plan c.requires.sound frame_is there
                 (subst (λ k. KeepsAll k (entries_of plan) plan) c.of.ensures (c.keeps_all.ensures.0 t)),
             λ k. c.keeps_all.ensures.1 (subst (λ m. KeepsAll m (entries_of plan) plan) (sym c.of.ensures)
@@ -33,8 +32,7 @@ returns-else-has_trains c =
         λ t. absurd (both_ways c.if-has_frame.value c.if-has_trains.false t),
         λ k.
             w.value-is
-            ∙ w.has_trains.ensures.1 (subst (HasTrains cut) (sym w.slice.ensures)
-            (trains cut plan c.requires.sound c.requires.order c.requires.few k)),
+            ∙ w.has_trains.ensures.1 (trains cut plan c.requires.sound c.requires.order c.requires.few k),
       )
       | else-has_frame w ↦ (
         λ t. absurd (both_ways c.if-has_frame.value c.if-has_trains.false t),

@@ -12,4 +12,4 @@ returns c =
     (c.loop-i.invariant.count ∙ sym (length-map placed (λ (p : Placed). p.entry)))
     (λ k l.
     let lk : k < length placed = omega (arith, l, c.loop-i.invariant.count) in
-    c.loop-i.invariant.each k (omega (arith, lk, c.loop-i-test.false)) ∙ sym (get_or-map (λ (p : Placed). p.entry) placed k no_train (pos 0) lk))
+    c.loop-i.invariant.each k (omega (arith, lk, c.loop-i-test.false, c.len-i-end.ensures)) ∙ sym (get_or-map (λ (p : Placed). p.entry) placed k no_train (pos 0) lk))

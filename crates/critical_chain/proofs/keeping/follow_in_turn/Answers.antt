@@ -1,11 +1,9 @@
-use Rattle.std.proofs.Common.{◌≡◌, ◌+◌, ◌-◌, ◌<◌, ◌∙◌, ap, false, length, refl, subst, inl, inr, get_or, rules, arith, to_z, of_z, w64}
+use Rattle.std.proofs.Common.{◌≡◌, ◌+◌, ◌-◌, ◌<◌, ◌∙◌, false, length, refl, sym, subst, inl, inr, get_or, rules, arith, to_z, of_z, w64}
 use Rattle.std.proofs.lemmas.Bool.{cases_eq, both_ways}
-use Rattle.std.proofs.lemmas.List.{get_or_default}
-use Rattle.plan_model.specs.declared.answer.Placed.{Placed}
 use Rattle.train_order.specs.Visits.{no_visit}
 use Rattle.train_order.proofs.InTurn.{is_visit}
 use Rattle.critical_chain.specs.Chain.{no_train}
-use Rattle.critical_chain.specs.Parts.{MayFollowAt}
+use Rattle.critical_chain.specs.Parts.{MayFollowAt, IsWithin}
 use Rattle.critical_chain.proofs.Visited.{starts_within, may, may_back}
 use Rattle.critical_chain.proofs.keeping.follow_in_turn.Goals as goal
 
@@ -29,16 +27,8 @@ start_of-from-requires-clause-moment c =
     starts_within c.args.cut.now c.args.entries.now c.args.place (get_or c.args.visits.now c.loop-k.k no_visit)
     (is_visit c.args.cut.now c.args.place c.args.visits.now c.requires.visits c.loop-k.k c.loop-k-test.true) c.requires.sound
 
-pub bounds-placed-next : goal.bounds-placed-next
-bounds-placed-next c =
-    omega (
-      arith,
-      (is_visit c.args.cut.now c.args.place c.args.visits.now c.requires.visits c.loop-k.k c.loop-k-test.true).there,
-      c.requires.placed,
-    )
-
-pub bounds-placed-next-in-loop-k : goal.bounds-placed-next-in-loop-k
-bounds-placed-next-in-loop-k c =
+pub tie-tie-requires : goal.tie-tie-requires
+tie-tie-requires c =
     omega (
       arith,
       (is_visit c.args.cut.now c.args.place c.args.visits.now c.requires.visits c.loop-k.k c.loop-k-test.true).there,
@@ -48,8 +38,8 @@ bounds-placed-next-in-loop-k c =
 pub may_follow-requires-clause-tie : goal.may_follow-requires-clause-tie
 may_follow-requires-clause-tie c =
     let next = is_visit c.args.cut.now c.args.place c.args.visits.now c.requires.visits c.loop-k.k c.loop-k-test.true in
-    c.requires.ties (get_or c.args.visits.now c.loop-k.k no_visit).member c.index-placed-next.result
-    (omega (arith, next.there, c.requires.placed))
+    subst (IsWithin c.args.cut.now) (sym c.tie-tie.ensures)
+    (c.requires.ties (get_or c.args.visits.now c.loop-k.k no_visit).member no_train (omega (arith, next.there, c.requires.placed)))
 
 pub returns-then-not-may_follow : goal.returns-then-not-may_follow
 returns-then-not-may_follow c =
@@ -58,8 +48,6 @@ returns-then-not-may_follow c =
     let placed = c.args.placed.now in
     let first = c.loop-k.auto.k in
     let before : k - 1 + 1 ≡ k = omega (arith, first) in
-    let next = is_visit c.args.cut.now c.args.place visits c.requires.visits k c.loop-k-test.true in
-    let there : (get_or visits k no_visit).member < length placed = omega (arith, next.there, c.requires.placed) in
     let until : to_z w64 (of_z w64 c.end_of-until.result) ≡ c.end_of-until.result = search rules in
     let from : to_z w64 (of_z w64 c.start_of-from.result) ≡ c.start_of-from.result = search rules in (
       λ t. absurd (both_ways false refl t),
@@ -67,7 +55,7 @@ returns-then-not-may_follow c =
           absurd (both_ways c.may_follow.result c.if-not-may_follow.true (c.may_follow.ensures.1
           (may_back c.args.cut.now c.args.entries.now placed c.args.place c.requires.sound visits c.requires.visits (k - 1) k
           before c.loop-k-test.true _ _ _ (until ∙ c.end_of-until.ensures) (from ∙ c.start_of-from.ensures)
-          (ap (λ (p : Placed). p.tie) (get_or_default placed (get_or visits k no_visit).member c.index-placed-next.result no_train there))
+          c.tie-tie.ensures
           (turn (k - 1) (omega (arith, before, c.loop-k-test.true)))))),
     )
 
@@ -76,8 +64,6 @@ loop-k-preserved c m l =
     let k = c.loop-k.k in
     let visits = c.args.visits.now in
     let placed = c.args.placed.now in
-    let next = is_visit c.args.cut.now c.args.place visits c.requires.visits k c.loop-k-test.true in
-    let there : (get_or visits k no_visit).member < length placed = omega (arith, next.there, c.requires.placed) in
     let until : to_z w64 (of_z w64 c.end_of-until.result) ≡ c.end_of-until.result = search rules in
     let from : to_z w64 (of_z w64 c.start_of-from.result) ≡ c.start_of-from.result = search rules in
     elim (cases_eq (m + 1) k) [
@@ -89,6 +75,6 @@ loop-k-preserved c m l =
           subst (MayFollowAt c.args.cut.now c.args.entries.now placed c.args.place visits) same
           (may c.args.cut.now c.args.entries.now placed c.args.place c.requires.sound visits c.requires.visits (k - 1) k before
           c.loop-k-test.true _ _ _ (until ∙ c.end_of-until.ensures) (from ∙ c.start_of-from.ensures)
-          (ap (λ (p : Placed). p.tie) (get_or_default placed (get_or visits k no_visit).member c.index-placed-next.result no_train there))
+          c.tie-tie.ensures
           (c.may_follow.ensures.0 c.if-not-may_follow.false))
     ]
