@@ -100,7 +100,7 @@ fn busiest(plan: &Plan) -> Field<'_>
     ensures { text_of result ≡ rows.busiest_text plan.now plan.now.busiest }
 {
     match plan.busiest {
-        Some(block) => Field::Name(&plan.blocks.slice()[block as usize]),
+        Some(block) => Field::Text(plan.blocks.bytes(block as usize)),
         None => Field::Text(b""),
     }
 }
@@ -111,8 +111,8 @@ fn train_rows(sheet: &mut Sheet, plan: &Plan) -> Result<(), OutOfMemory>
     ensures { Adds result sheet.old sheet.new (rows.train_rows plan.now) }
 {
     sheet.drop_row();
-    for placed in plan.placed.slice() {
-        train_row(sheet, plan, placed)?;
+    for i in 0..plan.placed.len() {
+        train_row(sheet, plan, &plan.placed.get(i))?;
     }
     Ok(())
 }
@@ -140,8 +140,8 @@ fn push_tie(sheet: &mut Sheet, plan: &Plan, tie: Tie) -> Result<(), OutOfMemory>
     match tie {
         Tie::Start => push_start(sheet),
         Tie::After { train, block } => {
-            let train = &plan.placed.slice()[train as usize].train;
-            push_after(sheet, train, &plan.blocks.slice()[block as usize])
+            let train = plan.placed.get(train as usize).train;
+            push_after(sheet, &train, &plan.blocks.get(block as usize))
         }
     }
 }
@@ -166,8 +166,8 @@ fn chain_rows(alloc: Global, sheet: &mut Sheet, plan: &Plan, train: u32) -> Resu
     ensures { Adds result sheet.old sheet.new (rows.critical_rows plan.now (Some train)) }
 {
     let links = chain(alloc, plan, train)?;
-    let name = &plan.placed.slice()[train as usize].train;
-    critical_row(sheet, name, links.len() as u64)?;
+    let name = plan.placed.get(train as usize).train;
+    critical_row(sheet, &name, links.len() as u64)?;
     link_rows(sheet, links.slice())
 }
 

@@ -1,7 +1,5 @@
-use Rattle.std.proofs.Common.{◌≡◌, [], ◌∷◌, length, map, get_or, refl, ap, ◌∙◌}
-use Rattle.plan_model.specs.declared.answer.Placed.{Placed}
-use Rattle.critical_chain.specs.Chain.{no_train, train_at, chain_of}
-use Rattle.critical_chain.proofs.Walk.{read}
+use Rattle.std.proofs.Common.{◌≡◌, [], ◌∷◌, length, map, refl, ap, ◌∙◌}
+use Rattle.critical_chain.specs.Chain.{chain_of}
 use Rattle.row_text.specs.Adds.{AddsAll}
 use Rattle.row_text.proofs.Adds.{adds_none, adds_stopped}
 use Rattle.answer_parts.proofs.Added.{all_one, then_adds}
@@ -18,14 +16,8 @@ returns-in_err-critical_row c =
 
 pub returns : goal.returns
 returns c =
-    let plan = c.args.plan.now in
-    let d = c.index-slice-train.result in
-    let all = chain_of plan c.args.train in
-    let read_there = get_or c.slice.result.now c.args.train d in
-    let name : read_there.train ≡ (train_at plan c.args.train).train =
-    ap (λ (p : Placed). p.train) (read c.slice.result.now plan.placed c.args.train d no_train c.slice.ensures c.requires.there) in
+    let all = chain_of c.args.plan.now c.args.train in
     let count : c.len.result ≡ length all = c.len.ensures.count ∙ ap length c.in_ok-links.ensures.same in
-    let row : critical_row read_there.train c.len.result ≡ critical_row (train_at plan c.args.train).train (length all) = rw (name, count) refl in
-    let one : AddsAll c.args.sheet.now c.critical_row.new.sheet (critical_row read_there.train c.len.result ∷ []) = all_one {before = c.args.sheet.now} c.in_ok-critical_row.ensures in
-    let first = rw row at one in
-    then_adds c.link_rows.new.sheet (map link_row all) c.link_rows.result first (rw (c.slice-2.ensures, c.in_ok-links.ensures.same) at c.link_rows.ensures)
+    let one : AddsAll c.args.sheet.now c.critical_row.new.sheet (critical_row c.get-name.result.train c.len.result ∷ []) = all_one {before = c.args.sheet.now} c.in_ok-critical_row.ensures in
+    let first = rw (c.get-name.ensures, count) at one in
+    then_adds c.link_rows.new.sheet (map link_row all) c.link_rows.result first (rw (c.slice.ensures, c.in_ok-links.ensures.same) at c.link_rows.ensures)

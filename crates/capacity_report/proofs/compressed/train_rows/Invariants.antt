@@ -3,5 +3,5 @@ use Rattle.row_text.specs.Adds.{AddsAll}
 use Rattle.capacity_report.specs.Answers.{train_row}
 use Rattle.capacity_report.proofs.compressed.train_rows.Given as goal
 
-abbrev pub invariant-loop-placed : goal.invariant-loop-placed
-invariant-loop-placed l = AddsAll l.fn.sheet l.sheet (map (train_row l.plan) (take l.placed-index l.plan.placed))
+abbrev pub invariant-loop-i : goal.invariant-loop-i
+invariant-loop-i l = AddsAll l.fn.sheet l.sheet (map (train_row l.plan) (take l.i l.plan.placed))
