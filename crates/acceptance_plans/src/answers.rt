@@ -2,7 +2,8 @@
 //! the answer.
 use compression::answer;
 use critical_chain::is_answer;
-use plan_model::{Answer, Plan, Reading, Rows, Tie};
+use plan_model::{Answer, PlacedList, Plan, Reading, Rows, Tie};
+use rail_model::OutOfMemory;
 use small_lines::{Text, piece_at, signed_number, small_number, word};
 use std::alloc::Global;
 
@@ -38,17 +39,22 @@ pub(crate) fn put_kind(text: &mut Text, answer: &Answer) {
 // the moment of the case, with its tie: `start`, or the positions of a train and a block.
 pub(crate) fn write_is_answer(alloc: Global, text: &mut Text, line: &[u8], reading: &mut Reading) {
     match answer(alloc, reading) {
-        Ok(Answer::Ordered(plan)) => write_moved(text, line, reading, plan),
+        Ok(Answer::Ordered(plan)) => write_moved(alloc, text, line, reading, plan),
         Ok(_) => text.put_line(b"no plan"),
         Err(_) => text.lose(),
     }
 }
 
-fn write_moved(text: &mut Text, line: &[u8], reading: &mut Reading, plan: Plan) {
+fn write_moved(alloc: Global, text: &mut Text, line: &[u8], reading: &mut Reading, plan: Plan) {
     let mut plan = plan;
     let tie = tie_of(word(line, 2));
-    move_last(&mut plan, signed_number(word(line, 1)), tie);
-    write_taken(text, reading, &Answer::Ordered(plan));
+    match moved_last(alloc, &plan.placed, signed_number(word(line, 1)), tie) {
+        Ok(placed) => {
+            plan.placed = placed;
+            write_taken(text, reading, &Answer::Ordered(plan));
+        }
+        Err(_) => text.lose(),
+    }
 }
 
 fn write_taken(text: &mut Text, reading: &mut Reading, answer: &Answer) {
@@ -59,13 +65,24 @@ fn write_taken(text: &mut Text, reading: &mut Reading, answer: &Answer) {
     }
 }
 
-fn move_last(plan: &mut Plan, entry: i64, tie: Tie) {
-    let count = plan.placed.len();
-    if count > 0 {
-        let last = plan.placed.get_mut(count - 1);
-        last.entry = entry;
-        last.tie = tie;
+// The trains, of which the last one enters at the moment, with the tie.
+fn moved_last(
+    alloc: Global,
+    placed: &PlacedList,
+    entry: i64,
+    tie: Tie,
+) -> Result<PlacedList, OutOfMemory> {
+    let count = placed.len();
+    let mut moved = PlacedList::with_capacity(alloc, count)?;
+    for i in 0..count {
+        let mut one = placed.get(i);
+        if i + 1 == count {
+            one.entry = entry;
+            one.tie = tie;
+        }
+        moved.push(&one)?;
     }
+    Ok(moved)
 }
 
 fn tie_of(word: &[u8]) -> Tie {

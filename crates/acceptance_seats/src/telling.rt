@@ -28,8 +28,8 @@ fn tell_reading(text: &mut Text, reading: &Reading, answer: &Answer) {
         text.show(b",", reading.stamp(i));
     }
     if let Answer::Ordered(plan) = answer {
-        for placed in plan.placed.slice() {
-            tell_entry(text, placed);
+        for i in 0..plan.placed.len() {
+            tell_entry(text, &plan.placed.get(i));
         }
         text.show(b"; ", plan.occupancy);
     }
@@ -83,8 +83,8 @@ fn tell_plan(text: &mut Text, plan: &Plan) {
     text.show(b" ", plan.occupancy);
     text.show(b" ", plan.busiest.unwrap_or(99));
     text.show(b" ", plan.critical.unwrap_or(99));
-    for placed in plan.placed.slice() {
-        tell_placed(text, placed);
+    for i in 0..plan.placed.len() {
+        tell_placed(text, &plan.placed.get(i));
     }
 }
 

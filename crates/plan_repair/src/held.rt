@@ -1,15 +1,15 @@
 //! The net that is held beside kept rows, with the names of the places of which it speaks.
-ghost use Rattle.std.specs.Prelude.{◌≡◌, ◌≤◌, length, IfOk, IfSome, IsTrue, ◌↔◌, Ok};
+ghost use Rattle.std.specs.Prelude.{◌≡◌, ◌≤◌, length, IfOk, IfSome, Ok};
 ghost use Rattle.std.specs.Prelude.{count_by, is_none};
 ghost use Rattle.plan_model.specs.declared.limits.TheConstants.{MEMBERS};
 ghost use Rattle.plan_model.specs.Cut.{IsSoundCut};
-ghost use Rattle.plan_model.specs.Members.{member_count, place_names};
+ghost use Rattle.plan_model.specs.Members.{member_count};
 ghost use Rattle.plan_model.specs.Answer.{IsAnswer};
 ghost use Rattle.train_order.specs.Ordering.{IsOrdering};
 ghost use Rattle.plan_repair.specs.Held.{IsHeldOf, IsHeldBefore};
 
-use plan_model::{Answer, Cut, FitCut, SoundCut};
-use rail_model::{List, Name, OutOfMemory, are_joined};
+use plan_model::{Answer, Cut, FitCut, Names, SoundCut};
+use rail_model::OutOfMemory;
 use std::alloc::Global;
 use train_net::{Net, mend, net_of, plan_by};
 use train_order::order;
@@ -18,7 +18,7 @@ use train_order::order;
 #[derive(Drop)]
 pub(crate) struct HeldNet {
     net: Net,
-    places: List<Name>,
+    places: Names,
 }
 
 // The answer of a cut, and the net that is held of it. `origin` has, for each row of the cut,
@@ -94,7 +94,7 @@ fn mended(
 {
     match held {
         Some(held) => {
-            if 4 * fresh_count(origin) > origin.len() || !are_places(cut, held.places.slice()) {
+            if 4 * fresh_count(origin) > origin.len() || !cut.are_places(&held.places) {
                 return Ok(None);
             }
             let HeldNet { net, places } = held;
@@ -105,14 +105,6 @@ fn mended(
         }
         None => Ok(None),
     }
-}
-
-// Whether some names are those of a cut's places: of its blocks, and then of its connections.
-fn are_places(cut: &SoundCut, names: &[Name]) -> bool
-    ensures { IsTrue result ↔ (names.now ≡ place_names cut.now) }
-{
-    let cut = cut.cut();
-    are_joined(names, cut.section.blocks.slice(), cut.connections.slice())
 }
 
 // How many rows are fresh.
