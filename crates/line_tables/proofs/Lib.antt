@@ -1,5 +1,4 @@
 pub mod Labels
-pub mod Split
 pub mod Filed
 pub mod Entries
 pub mod Kept

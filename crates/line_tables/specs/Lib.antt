@@ -1,5 +1,4 @@
 pub mod Table
-pub mod Names
 pub mod KeyCounts
 pub mod KeySet
 pub mod Links

@@ -1,8 +1,7 @@
 //! Routes as the tables keep them.
 ghost use Rattle.std.specs.Prelude.{◌≡◌, length, IfOk};
 
-use crate::names::Names;
-use rail_model::{Name, Named, OutOfMemory, Route};
+use rail_model::{Name, Named, Names, OutOfMemory, Route};
 use std::alloc::{AllocError, Global};
 use std::marker::Model;
 

@@ -33,7 +33,6 @@ mod key_sets;
 mod line_tables;
 mod linked;
 mod named_table;
-mod names;
 mod passing;
 mod path;
 mod remove;

@@ -5,7 +5,6 @@ mod SessionExamples
 mod RefusedEntries
 mod WrongCalls
 mod CallExamples
-pub mod NameAdded
 pub mod TrainAdded
 pub mod Growing
 pub mod Changing

@@ -1,4 +1,3 @@
-pub mod Names
 pub mod PlacedList
 pub mod Types
 pub mod Members

@@ -1,6 +1,6 @@
 //! The answer of a section: its compressed timetable, or why it has none.
-use crate::{Names, PlacedList};
-use rail_model::{List, Name};
+use crate::PlacedList;
+use rail_model::{List, Name, Names};
 
 /// Why a train enters no earlier in the compressed timetable.
 #[derive(Clone, Copy)]

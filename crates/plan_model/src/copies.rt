@@ -50,7 +50,7 @@ impl Plan {
             from_s: self.from_s,
             to_s: self.to_s,
             add_percent: self.add_percent,
-            blocks: self.blocks.copy(alloc)?,
+            blocks: self.blocks.clone()?,
             placed: self.placed.copy(alloc)?,
             occupancy: self.occupancy,
             busiest: self.busiest,

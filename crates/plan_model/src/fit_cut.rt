@@ -6,8 +6,8 @@ ghost use Rattle.plan_model.specs.Cut.{IsSoundCut, IsSoundUse, IsMoment, IsBound
 ghost use Rattle.plan_model.specs.Members as members;
 ghost use Rattle.plan_model.specs.Schedule as schedule;
 
-use crate::{Cut, CutRow, Names};
-use rail_model::{Name, OutOfMemory, Use};
+use crate::{Cut, CutRow};
+use rail_model::{Name, Names, OutOfMemory, Use};
 use std::alloc::Global;
 use std::marker::Model;
 
@@ -122,6 +122,7 @@ impl<'a> SoundCut<'a> {
         for place in 0..count {
             names.push(self.place_name(place))?;
         }
+        names.shrink_to_fit();
         Ok(names)
     }
 

@@ -33,7 +33,6 @@ mod journal;
 mod journal_laws;
 mod laws;
 mod limits;
-mod names;
 mod outcome;
 mod placed_list;
 mod reading;
@@ -60,7 +59,6 @@ pub use laws::{
     remaining_is_left, ring_is_true, tied_is_least, uses_are_apart,
 };
 pub use limits::{MEMBERS, is_crowded};
-pub use names::Names;
 pub use outcome::{Asked, Next, NotTaken, Stepped};
 pub use placed_list::PlacedList;
 pub use reading::Reading;

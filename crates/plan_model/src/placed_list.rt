@@ -2,9 +2,8 @@
 ghost use Rattle.std.specs.Prelude.{◌≡◌, ◌<◌, ◌++◌, [], ◌∷◌, length, slice_index_or, IfOk, OnOk, OnErr};
 ghost use Rattle.plan_model.specs.PlacedList.{no_train};
 
-use crate::names::Names;
 use crate::{Placed, Tie};
-use rail_model::OutOfMemory;
+use rail_model::{Names, OutOfMemory};
 use std::alloc::Global;
 use std::marker::Model;
 
@@ -104,7 +103,7 @@ impl PlacedList {
         ensures { IfOk result (λ other. other ≡ self.now) }
     {
         Ok(PlacedList {
-            names: self.names.copy(alloc)?,
+            names: self.names.clone()?,
             numbers: Vec::from_slice(alloc, &self.numbers)?,
         })
     }

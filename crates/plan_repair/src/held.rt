@@ -8,8 +8,8 @@ ghost use Rattle.plan_model.specs.Answer.{IsAnswer};
 ghost use Rattle.train_order.specs.Ordering.{IsOrdering};
 ghost use Rattle.plan_repair.specs.Held.{IsHeldOf, IsHeldBefore};
 
-use plan_model::{Answer, Cut, FitCut, Names, SoundCut};
-use rail_model::OutOfMemory;
+use plan_model::{Answer, Cut, FitCut, SoundCut};
+use rail_model::{Names, OutOfMemory};
 use std::alloc::Global;
 use train_net::{Net, mend, net_of, plan_by};
 use train_order::order;

@@ -5,6 +5,7 @@ pub mod Numbers
 pub mod Lists
 pub mod Collected
 pub mod NameOrder
+pub mod NameAdded
 pub mod Places
 pub mod Members
 pub mod Sound

@@ -1,5 +1,6 @@
 pub mod Types
 pub mod Name
+pub mod Names
 pub mod List
 pub mod Moment
 pub mod Blocking

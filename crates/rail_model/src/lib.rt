@@ -23,6 +23,7 @@ mod list;
 mod memory;
 mod name;
 mod named;
+mod names;
 mod path;
 mod range;
 mod stair;
@@ -37,8 +38,9 @@ pub use limits::{
 };
 pub use list::List;
 pub use memory::OutOfMemory;
-pub use name::{BadName, NAME_BYTES, Name, are_joined, same_names};
+pub use name::{BadName, NAME_BYTES, Name, same_names};
 pub use named::Named;
+pub use names::Names;
 pub use path::{Hop, Path};
 pub use range::is_within;
 pub use stair::{Stair, Use};

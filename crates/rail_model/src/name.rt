@@ -130,15 +130,6 @@ pub fn same_names(some: &[Name], others: &[Name]) -> bool
     some == others
 }
 
-/// Whether some names are the first, and then the others.
-pub fn are_joined(names: &[Name], first: &[Name], then: &[Name]) -> bool
-    ensures { IsTrue result ↔ (names.now ≡ first.now ++ then.now) }
-{
-    names.len() >= first.len()
-        && same_names(&names[..first.len()], first)
-        && same_names(&names[first.len()..], then)
-}
-
 impl PartialEq for Name {
     ghost eq = { pointwise nat_eq };
 

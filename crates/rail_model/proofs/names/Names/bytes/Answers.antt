@@ -1,5 +1,5 @@
-use Rattle.plan_model.proofs.NameAdded.{is_there, name_is}
-use Rattle.plan_model.proofs.names.Names.bytes.Goals as goal
+use Rattle.rail_model.proofs.NameAdded.{is_there, name_is}
+use Rattle.rail_model.proofs.names.Names.bytes.Goals as goal
 
 pub name_at-requires-clause-at : goal.name_at-requires-clause-at
 name_at-requires-clause-at c = rw c.deref-2.ensures.value (is_there _ _ _ c.self.view_is c.args.i c.requires)

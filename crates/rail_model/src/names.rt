@@ -1,17 +1,17 @@
 //! Lists of names that take little memory.
-ghost use Rattle.std.specs.Prelude.{◌≡◌, ◌+◌, ◌<◌, ◌++◌, [], ◌∷◌, length, slice_index_or, IfOk, OnOk, OnErr};
+ghost use Rattle.std.specs.Prelude.{◌≡◌, ◌+◌, ◌<◌, ◌++◌, [], ◌∷◌, length, take, slice_index_or, IfOk, OnOk, OnErr};
 ghost use Rattle.rail_model.specs.Name.{IsName};
-ghost use Rattle.plan_model.specs.Names.{name_at, IsNameAt};
+ghost use Rattle.rail_model.specs.Names.{name_at, IsNameAt};
 
-use rail_model::{Name, OutOfMemory};
-use std::alloc::Global;
+use crate::{List, Name, OutOfMemory};
+use std::alloc::{AllocError, Global};
 use std::marker::Model;
 
 /// Names in order. Contracts see their list.
 ///
 /// Their bytes stand one after another: a name takes its own bytes and four more, not the 72 of a
-/// `Name`. A list that has grown may have room for twice its bytes. It has fewer than 2^32 of them:
-/// a push past that finds no memory.
+/// `Name`. A list that has grown may have room for twice its bytes, until it is shrunk. It has fewer
+/// than 2^32 of them: a push past that finds no memory.
 #[derive(Drop)]
 pub struct Names {
     bytes: Vec<u8>,
@@ -24,7 +24,7 @@ impl Model for Names {
 
     ghost Value = { List (List ℕ) };
 
-    ghost use Rattle.plan_model.specs.Names.{names_of, AreNames};
+    ghost use Rattle.rail_model.specs.Names.{names_of, AreNames};
 
     ghost view = { λ n. names_of n.starts.items n.bytes.items };
 
@@ -42,6 +42,18 @@ impl Names {
             bytes: Vec::new(alloc),
             starts,
         })
+    }
+
+    /// The names of a list, in their order.
+    pub fn of(alloc: Global, list: &[Name]) -> Result<Names, OutOfMemory>
+        ensures { IfOk result (λ names. names ≡ list.now) }
+    {
+        let mut names = Names::with_capacity(alloc, list.len())?;
+        for name in list {
+            names.push(name)?;
+        }
+        names.shrink_to_fit();
+        Ok(names)
     }
 
     /// Puts a name at the end. Without memory the names stay as they were.
@@ -84,10 +96,31 @@ impl Names {
         Name::read(self.bytes(i)).unwrap()
     }
 
-    /// The same names.
-    pub fn copy(&self, alloc: Global) -> Result<Names, OutOfMemory>
-        ensures { IfOk result (λ other. other ≡ self.now) }
+    /// The names as a list.
+    pub fn to_list(&self, alloc: Global) -> Result<List<Name>, OutOfMemory>
+        ensures { IfOk result (λ list. list ≡ self.now) }
     {
+        let mut list = List::from_vec(Vec::with_capacity(alloc, self.len())?);
+        for i in 0..self.len() {
+            list.push(self.get(i))?;
+        }
+        Ok(list)
+    }
+
+    /// Gives back the room that no name takes.
+    pub fn shrink_to_fit(&mut self)
+        ensures { self.new ≡ self.old }
+    {
+        self.bytes.shrink_to_fit();
+        self.starts.shrink_to_fit();
+    }
+}
+
+impl Clone for Names {
+    ghost is_clone = { λ names other. other ≡ names };
+
+    fn clone(&self) -> Result<Names, AllocError> {
+        let alloc = *self.bytes.allocator();
         Ok(Names {
             bytes: Vec::from_slice(alloc, &self.bytes)?,
             starts: Vec::from_slice(alloc, &self.starts)?,

@@ -6,7 +6,7 @@ use Rattle.std.proofs.lemmas.Bool.{cases_eq}
 use Rattle.std.proofs.lemmas.List.{length_push, get_or_push, get_or_default, get_or_append_left, take-append-le, drop-append-le, drop_at, take_all, length-append, length-drop}
 use Rattle.std.proofs.lemmas.List.FromFn.{length-map-range_with_len, get_or-map-range_with_len, fill_by_all}
 use Rattle.rail_model.specs.Name.{IsName}
-use Rattle.plan_model.specs.Names.{start_at, name_at, names_of, AreNames}
+use Rattle.rail_model.specs.Names.{start_at, name_at, names_of, AreNames}
 
 -- a name has at most 64 bytes
 pub is_short : (name : List ℕ) → ∥ IsName name ∥₁ → length name ≤ 64

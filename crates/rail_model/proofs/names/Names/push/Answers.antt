@@ -1,6 +1,6 @@
 use Rattle.std.proofs.Common.{◌≡◌, ℕ, ◌+◌, List, [], ◌∷◌, ◌++◌, length, sym, ap, ◌∙◌, arith}
-use Rattle.plan_model.proofs.NameAdded.{is_short, last_is, added, are_still}
-use Rattle.plan_model.proofs.names.Names.push.Goals as goal
+use Rattle.rail_model.proofs.NameAdded.{is_short, last_is, added, are_still}
+use Rattle.rail_model.proofs.names.Names.push.Goals as goal
 
 -- the name ends where the bytes then do
 end_is : (c : goal.After-push_reserved) → c.in-Some.end ≡ length c.self.inside.bytes.items + length c.args.name.now
