@@ -14,8 +14,7 @@ use Rattle.rail_model.specs.declared.stair.Stair.{Stair}
 use Rattle.rail_model.specs.Name.{IsBefore}
 use Rattle.rail_model.proofs.NameOrder.{same_name, is_same-equal, IsBefore-flip}
 use Rattle.conflict_finder.specs.declared.ranked.Ranked.{Ranked}
-use Rattle.rail_model.specs.Conflict.{IsTimetable}
-use Rattle.rail_model.proofs.NoStair.{no_stair}
+use Rattle.rail_model.specs.Conflict.{IsTimetable, no_stair}
 use Rattle.conflict_finder.specs.Runs.{no_ranked, ranked_at, runs_of}
 use Rattle.conflict_finder.proofs.Lists.{Apart, apart_at, apart_from_pairs, Apart-permutation}
 

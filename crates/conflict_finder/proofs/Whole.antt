@@ -13,8 +13,7 @@ use Rattle.rail_model.specs.declared.stair.Use.{Use}
 use Rattle.rail_model.specs.declared.stair.Stair.{Stair}
 use Rattle.rail_model.specs.Name.{IsBefore}
 use Rattle.rail_model.specs.Conflict as whole
-use Rattle.rail_model.specs.Conflict.{IsConflict, IsListedBefore, AreConflicts, Makes, Overlap, IsTimetable}
-use Rattle.rail_model.proofs.NoStair.{no_stair}
+use Rattle.rail_model.specs.Conflict.{IsConflict, IsListedBefore, AreConflicts, Makes, Overlap, IsTimetable, no_stair}
 use Rattle.rail_model.proofs.NameOrder.{never_before_itself, IsBefore-trans}
 use Rattle.conflict_finder.specs.declared.ranked.Ranked.{Ranked}
 use Rattle.conflict_finder.specs.declared.run_uses.RunUse.{RunUse}

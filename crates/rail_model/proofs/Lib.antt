@@ -12,5 +12,4 @@ pub mod Sound
 pub mod Edited
 pub mod Facts
 pub mod Paths
-pub mod NoStair
 pub mod Timetables

@@ -15,9 +15,13 @@ timetable tables = map (λ run. stair_of (path_in tables run)) tables.runs
 abbrev pub no_use : Use
 no_use = record { block = 0; start = pos 0; «end» = pos 0 }
 
+-- a placeholder where a run hasn't a stairway
+abbrev pub no_stair : Stair
+no_stair = record { run = []; uses = [] }
+
 -- the stairway at a place
 abbrev pub stair_at : List Stair → ℕ → Stair
-stair_at stairs n = slice_index_or stairs n (record { run = []; uses = [] })
+stair_at stairs n = slice_index_or stairs n no_stair
 
 -- a run's stairway: it has no more blocks than a path may have, each once, and each for some time
 pub record IsStairway (stair : Stair) : Type 0 where

@@ -10,7 +10,7 @@ use Rattle.rail_model.specs.declared.items.Section.{Section}
 use Rattle.rail_model.specs.declared.stair.Use.{Use}
 use Rattle.rail_model.specs.declared.stair.Stair.{Stair}
 use Rattle.section_cut.specs.declared.all_stairways.Starts.{Starts}
-use Rattle.rail_model.proofs.NoStair.{no_stair}
+use Rattle.rail_model.specs.Conflict.{no_stair}
 use Rattle.section_cut.specs.Starts.{StartsBetween, AreStartsOf, StartsOutside}
 use Rattle.line_tables.proofs.Leads.{all_more}
 

@@ -4,7 +4,7 @@ use Rattle.std.proofs.lemmas.List.{get_or_default}
 use Rattle.std.proofs.lemmas.List.FromFn.{map-range_with_len_more}
 use Rattle.rail_model.specs.declared.stair.Stair.{Stair}
 use Rattle.std.proofs.lemmas.Fn.{always_returns_same}
-use Rattle.rail_model.proofs.NoStair.{no_stair}
+use Rattle.rail_model.specs.Conflict.{no_stair}
 use Rattle.conflict_finder.specs.Runs.{ranked_at}
 use Rattle.conflict_finder.proofs.ranked.by_name.Goals as goal
 

@@ -7,8 +7,7 @@ use Rattle.rail_model.specs.declared.items.Run.{Run}
 use Rattle.rail_model.specs.declared.stair.Stair.{Stair}
 use Rattle.rail_model.specs.Tables.{run_at}
 use Rattle.plan_model.specs.Cut.{section_uses, is_member}
-use Rattle.rail_model.specs.Conflict.{stair_at}
-use Rattle.rail_model.proofs.NoStair.{no_stair}
+use Rattle.rail_model.specs.Conflict.{stair_at, no_stair}
 use Rattle.section_cut.specs.Positions.{uses_in}
 use Rattle.section_cut.specs.Spans.{IsSpan, blocks_of}
 use Rattle.section_cut.specs.Members.{member_row, member_of, row_on_blocks, member_at}

@@ -1,7 +1,7 @@
 use Rattle.std.proofs.Common.{◌≡◌, ◌<◌, [], ◌∷◌, ◌++◌, length, map, get_or, take, sym, ap, ◌∙◌, subst, arith}
 use Rattle.std.proofs.lemmas.List.{map_more, get_or_default}
 use Rattle.rail_model.specs.declared.stair.Stair.{Stair}
-use Rattle.rail_model.proofs.NoStair.{no_stair}
+use Rattle.rail_model.specs.Conflict.{no_stair}
 use Rattle.section_cut.specs.Starts.{StartsBetween}
 use Rattle.section_cut.specs.Spans.{AreOver}
 use Rattle.section_cut.proofs.Starts.{starts_more}
