@@ -1,5 +1,5 @@
 -- The items under a list of keys: what a search along the keys finds, and what stands there after an edit.
-use Rattle.std.proofs.Common.{◌≡◌, ℕ, zero, suc, ◌<◌, ◌==◌, if◌then◌else◌, List, [], ◌∷◌, ◌++◌, length, get_or, Option, Some, None, refl, sym, ap, ◌∙◌, subst, inl, inr, arith}
+use Rattle.std.proofs.Common.{◌≡◌, ℕ, zero, suc, ◌<◌, ◌==◌, if◌then◌else◌, List, [], ◌∷◌, ◌++◌, length, map, get_or, Option, Some, None, refl, sym, ap, ◌∙◌, subst, inl, inr, arith}
 use Rattle.std.specs.Prelude.{option_map, IsSome, All}
 use Rattle.std.specs.List.{list_any}
 use Rattle.std.proofs.lemmas.Bool.{cases_Bool, eqb-true}
@@ -32,6 +32,12 @@ module _ {X : Type 0} where
   length-filed at (k ∷ ks) s =
       let here = stored_at (at k) (All-head (IsStored at) k ks s) in
       rw here.1 (ap suc (length-filed at ks (All-tail (IsStored at) k ks s)))
+
+  pub keys-filed : (at : ℕ → Option X) (ks : List ℕ) → All (IsStored at) ks → map (λ (e : ℕ × X). e.0) (filed at ks) ≡ ks
+  keys-filed at [] s = refl
+  keys-filed at (k ∷ ks) s =
+      let here = stored_at (at k) (All-head (IsStored at) k ks s) in
+      rw here.1 (ap (λ l. k ∷ l) (keys-filed at ks (All-tail (IsStored at) k ks s)))
 
   -- the item at a place is what stands under the key there
   pub filed-at : (at : ℕ → Option X) (ks : List ℕ) (i d : ℕ) → All (IsStored at) ks → i < length ks → (x : X) × (at (get_or ks i d) ≡ Some x) × ((e : ℕ × X) → get_or (filed at ks) i e ≡ (get_or ks i d, x))

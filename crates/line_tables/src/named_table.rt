@@ -1,6 +1,6 @@
 //! A table of named items. An item stands under a key that stays its own until it is taken out, so
 //! what refers to it by its key needs no change while others come and go.
-ghost use Rattle.std.specs.Prelude.{◌≡◌, ◌<◌, false, true, length, take, drop, All, slice_get, is_some, IfSome, IsSome, IfOk, OnOk, OnErr, Some, None, MatchResult, [], nat_eq};
+ghost use Rattle.std.specs.Prelude.{◌≡◌, ◌<◌, false, true, length, map, take, drop, All, slice_get, is_some, IfSome, IsSome, IfOk, OnOk, OnErr, Some, None, MatchResult, [], nat_eq};
 ghost use Rattle.std.specs.Option.{option_map};
 ghost use Rattle.std.specs.Cmp.Lexicographic.{pointwise};
 ghost use Rattle.indexmap.specs.IndexMap.{get};
@@ -142,6 +142,17 @@ impl<T: TableItem> NamedTable<T> {
         ensures table { tables.IsTable T.label self.now }
     {
         self.order[number]
+    }
+
+    // The keys of the items, in their order.
+    pub(crate) fn keys(&self, alloc: Global) -> Result<Vec<usize>, OutOfMemory>
+        ensures { IfOk result (λ keys. keys.items ≡ map (λ e. e.0) self.now) }
+    {
+        let (first, others) = self.order.as_slices();
+        let mut keys = Vec::with_capacity(alloc, self.order.len())?;
+        keys.extend_from_slice(first)?;
+        keys.extend_from_slice(others)?;
+        Ok(keys)
     }
 
     // Puts an item of a new name in, and gives its key. Without memory the table stays as it was.

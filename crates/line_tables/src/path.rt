@@ -21,11 +21,12 @@ pub(crate) fn numbers_by_key(
 ) -> Result<Vec<usize>, OutOfMemory>
     ensures { IfOk result (λ numbers. AreNumbered (length blocks.now) blocks.now numbers.items) }
 {
-    let mut numbers = Vec::with_capacity(alloc, blocks.len())?;
-    for number in 0..blocks.len() {
-        let key = blocks.key_at(number);
-        grow(&mut numbers, key)?;
-        numbers[key] = number;
+    blocks.learn_order();
+    let keys = blocks.keys(alloc)?;
+    let mut numbers = Vec::with_capacity(alloc, keys.len())?;
+    for (number, key) in keys.iter().enumerate() {
+        grow(&mut numbers, *key)?;
+        numbers[*key] = number;
     }
     Ok(numbers)
 }
