@@ -1,8 +1,9 @@
 //! The rows of a compressed timetable.
-ghost use Rattle.std.specs.Prelude.{◌≡◌, ◌<◌, ◌++◌, ◌∷◌, [], length, Some};
+ghost use Rattle.std.specs.Prelude.{◌≡◌, ◌<◌, ◌++◌, ◌∷◌, [], length, slice_index_or, Some};
 ghost use Rattle.row_text.specs.FieldText.{text_of};
 ghost use Rattle.row_text.specs.Adds.{Adds};
 ghost use Rattle.answer_parts.specs.Adding.{AddsFields, AddsRow};
+ghost use Rattle.plan_model.specs.PlacedList.{no_train};
 ghost use Rattle.critical_chain.specs.Chain.{IsPlan};
 ghost use Rattle.capacity_report.specs.Answers as rows;
 ghost use Rattle.capacity_report.specs.Shown.{IsShown, IsTrainOf, IsTieOf};
@@ -11,7 +12,7 @@ use crate::answers::Detail;
 use crate::rates::rate_row;
 use answer_parts::{link_rows, push_after, push_start};
 use critical_chain::chain;
-use plan_model::{Placed, Plan, Tie};
+use plan_model::{Plan, Tie};
 use rail_model::{Name, OutOfMemory};
 use row_text::{Field, Sheet};
 use std::alloc::Global;
@@ -112,23 +113,28 @@ fn train_rows(sheet: &mut Sheet, plan: &Plan) -> Result<(), OutOfMemory>
 {
     sheet.drop_row();
     for i in 0..plan.placed.len() {
-        train_row(sheet, plan, &plan.placed.get(i))?;
+        train_row(sheet, plan, i)?;
     }
     Ok(())
 }
 
 // Adds the row `train,NAME,PLANNED,ENTRY,SHIFT` with its tie. A row that is open is dropped first.
 // Where memory runs out, no row is added.
-fn train_row(sheet: &mut Sheet, plan: &Plan, placed: &Placed) -> Result<(), OutOfMemory>
-    requires { IsTrainOf plan.now placed.now }
-    ensures { AddsRow result sheet.old sheet.new (rows.train_row plan.now placed.now) }
+fn train_row(sheet: &mut Sheet, plan: &Plan, i: usize) -> Result<(), OutOfMemory>
+    requires there { i < length plan.now.placed }
+    requires train { IsTrainOf plan.now (slice_index_or plan.now.placed i no_train) }
+    ensures { AddsRow result sheet.old sheet.new
+        (rows.train_row plan.now (slice_index_or plan.now.placed i no_train)) }
 {
+    let placed = &plan.placed;
     sheet.drop_row();
     sheet.push_field(b"train")?;
-    sheet.push_field(placed.train.bytes())?;
-    let shift = placed.entry - placed.planned;
-    sheet.push_numbers(&[placed.planned, placed.entry, shift])?;
-    push_tie(sheet, plan, placed.tie)?;
+    sheet.push_field(placed.name(i))?;
+    let planned = placed.planned(i);
+    let entry = placed.entry(i);
+    let shift = entry - planned;
+    sheet.push_numbers(&[planned, entry, shift])?;
+    push_tie(sheet, plan, placed.tie(i))?;
     sheet.end_row()
 }
 
@@ -140,8 +146,8 @@ fn push_tie(sheet: &mut Sheet, plan: &Plan, tie: Tie) -> Result<(), OutOfMemory>
     match tie {
         Tie::Start => push_start(sheet),
         Tie::After { train, block } => {
-            let train = plan.placed.get(train as usize).train;
-            push_after(sheet, &train, &plan.blocks.get(block as usize))
+            let train = plan.placed.name(train as usize);
+            push_after(sheet, train, plan.blocks.bytes(block as usize))
         }
     }
 }
@@ -166,18 +172,18 @@ fn chain_rows(alloc: Global, sheet: &mut Sheet, plan: &Plan, train: u32) -> Resu
     ensures { Adds result sheet.old sheet.new (rows.critical_rows plan.now (Some train)) }
 {
     let links = chain(alloc, plan, train)?;
-    let name = plan.placed.get(train as usize).train;
-    critical_row(sheet, &name, links.len() as u64)?;
+    let name = plan.placed.name(train as usize);
+    critical_row(sheet, name, links.len() as u64)?;
     link_rows(sheet, links.slice())
 }
 
 // Adds the row `critical,TRAIN,LINKS`.
-fn critical_row(sheet: &mut Sheet, train: &Name, links: u64) -> Result<(), OutOfMemory>
+fn critical_row(sheet: &mut Sheet, train: &[u8], links: u64) -> Result<(), OutOfMemory>
     ensures { AddsRow result sheet.old sheet.new (rows.critical_row train.now links) }
 {
     sheet.write(&[
         Field::Text(b"critical"),
-        Field::Name(train),
+        Field::Text(train),
         Field::Count(links),
     ])
 }

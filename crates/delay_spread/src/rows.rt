@@ -65,7 +65,11 @@ fn push_tie(sheet: &mut Sheet, cut: &SoundCut, tie: Tie) -> Result<(), OutOfMemo
     match tie {
         Tie::Start => push_start(sheet),
         Tie::After { train, block } => {
-            push_after(sheet, &cut.row(train).name, cut.place_name(block))
+            push_after(
+                sheet,
+                cut.row(train).name.bytes(),
+                cut.place_name(block).bytes(),
+            )
         }
     }
 }

@@ -1,7 +1,10 @@
 -- Trains by position, and one train more behind the others.
 use Rattle.std.proofs.Common.{◌≡◌, ℕ, ◌<◌, List, [], ◌∷◌, ◌++◌, length, get_or, refl, sym, ap, ◌∙◌, arith}
+use Rattle.std.specs.Prelude.{pos}
 use Rattle.std.specs.Simd.Lanes.{zip2}
+use Rattle.std.proofs.lemmas.List.{get_or_default}
 use Rattle.std.proofs.lemmas.Simd.{length-zip2, get_or-zip2}
+use Rattle.plan_model.specs.declared.answer.Tie.TheVariants.{Start}
 use Rattle.plan_model.specs.declared.answer.Placed.{Placed}
 use Rattle.plan_model.specs.declared.placed_list.PlacedNumbers.{PlacedNumbers}
 use Rattle.plan_model.specs.PlacedList.{no_train, with_name}
@@ -23,3 +26,9 @@ module _ (names : List (List ℕ)) (numbers : List PlacedNumbers) (trains : List
       ap (with_name (get_or names i [])) is
       ∙ sym (get_or-zip2 with_name names numbers i [] n no_train (omega (arith, l, counted, e)) (omega (arith, l, counted)))
       ∙ ap (λ ts. get_or ts i no_train) same
+
+  pub name_is : (i : ℕ) → i < length trains → get_or names i [] ≡ (get_or trains i no_train).train
+  name_is i l =
+      let none : PlacedNumbers = record { planned = pos 0; entry = pos 0; tie = Start } in
+      let n = get_or numbers i none in
+      ap (λ (p : Placed). p.train) (train_is i n l (get_or_default numbers i none n (omega (arith, l, counted))))

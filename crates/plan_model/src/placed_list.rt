@@ -72,7 +72,8 @@ impl PlacedList {
         self.numbers.len()
     }
 
-    /// The train at `i`.
+    /// The train at `i`. Its name is made anew, so what goes through all trains takes the parts of each:
+    /// `name`, `planned`, `entry` and `tie`.
     pub fn get(&self, i: usize) -> Placed
         requires { i < length self.now }
         ensures { result ≡ slice_index_or self.now i no_train }
@@ -90,12 +91,44 @@ impl PlacedList {
         }
     }
 
+    /// The bytes of the name of the train at `i`.
+    pub fn name(&self, i: usize) -> &[u8]
+        requires { i < length self.now }
+        ensures { result.now ≡ (slice_index_or self.now i no_train).train }
+    {
+        self.names.bytes(i)
+    }
+
+    /// The entry of the train at `i` in the given timetable.
+    pub fn planned(&self, i: usize) -> i64
+        requires { i < length self.now }
+        ensures { result ≡ (slice_index_or self.now i no_train).planned }
+    {
+        self.numbers[i].planned
+    }
+
+    /// The entry of the train at `i` in the compressed timetable.
+    pub fn entry(&self, i: usize) -> i64
+        requires { i < length self.now }
+        ensures { result ≡ (slice_index_or self.now i no_train).entry }
+    {
+        self.numbers[i].entry
+    }
+
     /// The tie of the train at `i`.
     pub fn tie(&self, i: usize) -> Tie
         requires { i < length self.now }
         ensures { result ≡ (slice_index_or self.now i no_train).tie }
     {
         self.numbers[i].tie
+    }
+
+    /// Gives back the room that no train takes.
+    pub fn shrink_to_fit(&mut self)
+        ensures { self.new ≡ self.old }
+    {
+        self.names.shrink_to_fit();
+        self.numbers.shrink_to_fit();
     }
 
     /// The same trains.

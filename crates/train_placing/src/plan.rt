@@ -84,6 +84,7 @@ fn placed(
     for (i, row) in rows.iter().enumerate() {
         list.push(&placed_at(row, entries[i], ties[i]))?;
     }
+    list.shrink_to_fit();
     Ok(list)
 }
 

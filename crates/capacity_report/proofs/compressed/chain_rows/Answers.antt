@@ -18,6 +18,6 @@ pub returns : goal.returns
 returns c =
     let all = chain_of c.args.plan.now c.args.train in
     let count : c.len.result ≡ length all = c.len.ensures.count ∙ ap length c.in_ok-links.ensures.same in
-    let one : AddsAll c.args.sheet.now c.critical_row.new.sheet (critical_row c.get-name.result.train c.len.result ∷ []) = all_one {before = c.args.sheet.now} c.in_ok-critical_row.ensures in
-    let first = rw (c.get-name.ensures, count) at one in
+    let one : AddsAll c.args.sheet.now c.critical_row.new.sheet (critical_row c.name-name.result.now c.len.result ∷ []) = all_one {before = c.args.sheet.now} c.in_ok-critical_row.ensures in
+    let first = rw (c.name-name.ensures, count) at one in
     then_adds c.link_rows.new.sheet (map link_row all) c.link_rows.result first (rw (c.slice.ensures, c.in_ok-links.ensures.same) at c.link_rows.ensures)
