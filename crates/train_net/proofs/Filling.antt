@@ -14,7 +14,7 @@ use Rattle.plan_model.specs.Members.{uses_place, use_of, use_at, no_use}
 use Rattle.plan_model.proofs.Uses.{used}
 use Rattle.train_net.specs.declared.near.Near.{Near}
 use Rattle.train_net.specs.Net.{standing}
-use Rattle.train_net.specs.Near.{near_by, filled, IsNearFrom}
+use Rattle.train_net.specs.Near.{near_by, filled, IsNear, IsNearFrom}
 
 -- ---- use after use
 
@@ -23,6 +23,11 @@ filled_twice : (before : Option Near) (train : ℕ) (o p : Option Use)
 filled_twice (Some near) train o p = refl
 filled_twice None train None p = refl
 filled_twice None train (Some u) p = refl
+
+-- nobody more leaves who was found
+pub filled_none : (near : Option Near) → near ≡ filled near None
+filled_none None = refl
+filled_none (Some near) = refl
 
 filled_at : (near : List (Option Near)) (train : ℕ) (u : Use) (p : ℕ) → u.block < length near
     → slice_index_or (slice_set near u.block (filled (slice_index_or near u.block None) (Some (record { train = train; one = u })))) p None
@@ -34,11 +39,8 @@ filled_at near train u p l =
           rw (eq-eqb u.block p e) (get_or-set_at near u.block p x None (sym e) l
           ∙ ap (λ q. filled (slice_index_or near q None) (Some (record { train = train; one = u }))) e)
       | inr ne ↦
-          rw (ne_eqb u.block p ne) (get_or-set_other near u.block p x None (λ e. ne (sym e)) ∙ kept (slice_index_or near p None))
-    ] where
-      kept : (o : Option Near) → o ≡ filled o None
-      kept None = refl
-      kept (Some near) = refl
+          rw (ne_eqb u.block p ne) (get_or-set_other near u.block p x None (λ e. ne (sym e)) ∙ filled_none (slice_index_or near p None))
+    ]
 
 pub filled_more : (first near : List (Option Near)) (train : ℕ) (uses : List Use) (k p : ℕ) → k < length uses
     → (get_or uses k no_use).block < length near
@@ -97,3 +99,10 @@ module _ (cut : Cut) (order : List ℕ) (at place : ℕ) where
     train = refl;
     one = sym (ap (λ o. unwrap_or o no_use) e);
   }
+
+  -- who stands nearest stays when a row further back is put in
+  pub near_stays : (from : ℕ) → from < at → (near : Option Near) → IsNear cut order at place near → (o : Option Use)
+      → use_of (standing cut order from) place ≡ o → IsNear cut order at place (filled near (near_by (slice_index order from) o None))
+  near_stays from lt (Some near) is o e = is
+  near_stays from lt None none None e = none
+  near_stays from lt None none (Some u) e = with_row from lt None (λ k after before. none k (omega arith) before) (Some u) e

@@ -10,6 +10,7 @@ mod Read
 mod Spanned
 mod Compared
 mod Filling
+mod Connections
 mod Gathering
 mod Ahead
 mod Entered

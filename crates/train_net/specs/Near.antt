@@ -2,7 +2,7 @@
 use Rattle.std.specs.Prelude.{◌≡◌, ℕ, ◌<◌, ◌≤◌, true, false, List, All, slice_index, slice_index_or, Option, None, Some}
 use Rattle.rail_model.specs.declared.stair.Use.{Use}
 use Rattle.plan_model.specs.declared.cut.Cut.{Cut}
-use Rattle.plan_model.specs.Members.{uses_place, use_at}
+use Rattle.plan_model.specs.Members.{uses_place, use_at, block_count, place_count}
 use Rattle.train_net.specs.declared.near.Near.{Near}
 use Rattle.train_net.specs.Net.{standing, IsNearest}
 
@@ -32,6 +32,15 @@ IsNearFrom cut order from at place (Some near) = IsNearAt cut order at place nea
 -- or nobody before it uses the place
 abbrev pub IsNear : Cut → List ℕ → ℕ → ℕ → Option Near → Type 0
 IsNear cut order at place near = IsNearFrom cut order 0 at place near
+
+-- the table has who stands nearest, from a position on, at each place
+abbrev pub AreNearFrom : Cut → List ℕ → ℕ → ℕ → List (Option Near) → Type 0
+AreNearFrom cut order from at near =
+    (place : ℕ) → place < place_count cut → IsNearFrom cut order from at place (slice_index_or near place None)
+
+-- a place of a connection
+abbrev pub IsConnectionOf : Cut → ℕ → Type 0
+IsConnectionOf cut place = (block_count cut ≤ place) × (place < place_count cut)
 
 -- the table has who stands nearest at each of these places
 abbrev pub AreNear : Cut → List ℕ → ℕ → List ℕ → List (Option Near) → Type 0
