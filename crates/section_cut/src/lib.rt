@@ -47,6 +47,7 @@ mod laws;
 mod members;
 mod one_connection;
 mod one_run;
+mod passing_runs;
 mod positions;
 mod reach;
 mod reached_rows;

@@ -1,38 +1,35 @@
 //! What a change of a block, a signal or a route makes of a section's cut. It reaches the rows of the
 //! runs that pass what is edited, and no other. Where those of these runs that have connections enter
 //! the section as before, the same connections bind; else they are bound anew.
-ghost use Rattle.std.specs.Prelude.{◌≡◌, ◌↔◌, ◌<◌, ◌++◌, IsTrue, Bool, if◌then◌else◌, true, All, length, map, slice_index_or, IfOk, IfSome, OnOk, Some, None, option_map};
+ghost use Rattle.std.specs.Prelude.{◌≡◌, ◌↔◌, ◌<◌, ◌++◌, IsTrue, if◌then◌else◌, true, All, length, map, slice_index_or, IfOk, IfSome, OnOk, Some, None, option_map};
 ghost use Rattle.std.specs.Option.{option_to_list, option_copied};
 ghost use Rattle.line_tables.specs.Paths.{paths_of};
 ghost use Rattle.rail_model.specs.Tables.{run_at, path_in};
 ghost use Rattle.section_cut.specs.Stored.{IsStored, IsChangeOfStored};
 ghost use Rattle.section_cut.specs.Members.{rows_on_blocks, members_by_run};
 ghost use Rattle.section_cut.specs.Positions.{IsPositions};
-ghost use Rattle.section_cut.specs.ReachedRuns.{IsSameTraffic, KeepsBlocks, IsTold, AreReachedRuns, uses_if_there};
+ghost use Rattle.section_cut.specs.ReachedRuns.{IsSameTraffic, KeepsBlocks, AreReachedRuns, uses_if_there};
 ghost use Rattle.section_cut.specs.Reach.{AreRunsOf};
 ghost use Rattle.section_cut.specs.Spans.{AreOver, AreSpans, part_of};
 ghost use Rattle.section_cut.specs.RowsAfter.{AreBeside, AllStay, AreRowsAfter, IsOwnOf};
 ghost use Rattle.section_cut.specs.Stamps.{AreBefore, IsReached};
-ghost use Rattle.line_tables.specs.Passing.{passes_block, passes_signal};
-ghost use Rattle.rail_model.specs.declared.items.Run.{Run};
 ghost use Rattle.rail_model.specs.Rules as rules;
 ghost use Rattle.rail_model.specs.Name.{NamesRise};
 ghost use Rattle.rail_model.specs.Blocking.{Fits, stair_of};
-ghost use Rattle.section_cut.specs.ReachedRuns as reached;
 
 use crate::bound_anew::cut_by_members;
 use crate::cut_changes::{BothTables, CutChange, StoredCut};
 use crate::members::{MemberRows, add_run};
+use crate::passing_runs::passing_runs;
 use crate::positions::{SectionTable, positions};
 use crate::reached_rows::{member_anew, row_anew, row_stays};
-use crate::same_value::same_name;
 use crate::spans::{BlockLists, BlockRange, part};
 use crate::stamps::next_row;
 use crate::timed_stair::TimedStair;
 use blocking_time::stairs;
 use line_tables::{LineTables, Paths};
 use plan_model::{Cut, CutRow};
-use rail_model::{Edit, Item, Kind, List, Name, OutOfMemory, Path, Use};
+use rail_model::{Edit, List, OutOfMemory, Path, Use};
 use std::alloc::Global;
 
 // How many reached runs each get a path of their own: for more, the paths of all runs are made.
@@ -106,72 +103,6 @@ fn uses_if_there(stair: &Option<TimedStair>) -> &[Use]
         Some(stair) => stair.stair().uses.slice(),
         None => &[],
     }
-}
-
-// For each run whether it passes what an edit puts or changes; `true` where that isn't looked up.
-fn passing_runs(alloc: Global, after: &LineTables, edit: &Edit) -> Result<Vec<bool>, OutOfMemory>
-    ensures { IfOk result
-        (λ told. IsTold (reached.passes after.now edit.now) after.now.runs told.items) }
-{
-    match edit {
-        Edit::Put(item) => passing_item(alloc, after, item),
-        Edit::Change(item) => passing_item(alloc, after, item),
-        Edit::Drop(..) => all_runs(alloc, after),
-    }
-}
-
-fn passing_item(alloc: Global, after: &LineTables, item: &Item) -> Result<Vec<bool>, OutOfMemory>
-    ensures { IfOk result
-        (λ told. IsTold (reached.passes_item after.now item.now) after.now.runs told.items) }
-{
-    match item {
-        Item::Block(block) => runs_past_block(alloc, after, &block.name),
-        Item::Signal(signal) => runs_past_signal(alloc, after, &signal.name),
-        Item::Route(route) => runs_on_route(alloc, after, &route.name),
-        Item::Run(_) | Item::Section(_) | Item::Connection(_) => all_runs(alloc, after),
-    }
-}
-
-fn runs_past_block(alloc: Global, after: &LineTables, name: &Name) -> Result<Vec<bool>, OutOfMemory>
-    ensures { IfOk result
-        (λ told. IsTold (passes_block after.now name.now) after.now.runs told.items) }
-{
-    if !after.has(Kind::Block, name) {
-        return all_runs(alloc, after);
-    }
-    after.runs_past_block(name)
-}
-
-fn runs_past_signal(
-    alloc: Global,
-    after: &LineTables,
-    name: &Name,
-) -> Result<Vec<bool>, OutOfMemory>
-    ensures { IfOk result
-        (λ told. IsTold (passes_signal after.now name.now) after.now.runs told.items) }
-{
-    if !after.has(Kind::Signal, name) {
-        return all_runs(alloc, after);
-    }
-    after.runs_past_signal(name)
-}
-
-fn runs_on_route(alloc: Global, after: &LineTables, name: &Name) -> Result<Vec<bool>, OutOfMemory>
-    ensures { IfOk result
-        (λ told. IsTold (reached.is_on name.now) after.now.runs told.items) }
-{
-    let mut told = Vec::with_capacity(alloc, after.runs() as usize)?;
-    for run in 0..after.runs() {
-        told.push(same_name(&after.run(run).route, name))?;
-    }
-    Ok(told)
-}
-
-fn all_runs(alloc: Global, after: &LineTables) -> Result<Vec<bool>, OutOfMemory>
-    ensures { IfOk result (λ told. (test : Run → Bool) → IsTold test after.now.runs told.items) }
-{
-    let told = vec![in alloc; true; after.runs() as usize]?;
-    Ok(told)
 }
 
 // The paths of all runs, where more than a few of them are wanted. `None` says nothing: each run

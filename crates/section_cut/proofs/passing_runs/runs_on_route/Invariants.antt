@@ -1,6 +1,6 @@
 use Rattle.section_cut.specs.ReachedRuns.{is_on}
 use Rattle.section_cut.proofs.PathsStay.{IsToldTo}
-use Rattle.section_cut.proofs.reached_runs.runs_on_route.Given as goal
+use Rattle.section_cut.proofs.passing_runs.runs_on_route.Given as goal
 
 -- the runs so far
 abbrev pub invariant-loop-run : goal.invariant-loop-run

@@ -7,7 +7,7 @@ use Rattle.rail_model.specs.Tables.{no_run, run_at}
 use Rattle.rail_model.proofs.NameOrder as names
 use Rattle.section_cut.specs.ReachedRuns.{is_on}
 use Rattle.section_cut.proofs.PathsStay.{told_more}
-use Rattle.section_cut.proofs.reached_runs.runs_on_route.Goals as goal
+use Rattle.section_cut.proofs.passing_runs.runs_on_route.Goals as goal
 
 pub loop-run-preserved : goal.loop-run-preserved
 loop-run-preserved c =

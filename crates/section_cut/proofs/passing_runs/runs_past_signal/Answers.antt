@@ -1,6 +1,6 @@
 use Rattle.line_tables.specs.Passing.{passes_signal}
 use Rattle.section_cut.proofs.PathsStay.{read_told, any_told}
-use Rattle.section_cut.proofs.reached_runs.runs_past_signal.Goals as goal
+use Rattle.section_cut.proofs.passing_runs.runs_past_signal.Goals as goal
 
 pub returns : goal.returns
 returns c = read_told (passes_signal c.args.after.now c.args.name.now) c.args.after.now.runs c.runs_past_signal.result c.runs_past_signal.ensures
