@@ -1,5 +1,5 @@
 //! Lists of names that take little memory.
-ghost use Rattle.std.specs.Prelude.{◌≡◌, ◌+◌, ◌<◌, ◌++◌, [], ◌∷◌, length, take, slice_index_or, IfOk, OnOk, OnErr};
+ghost use Rattle.std.specs.Prelude.{◌≡◌, ◌+◌, ◌<◌, ◌++◌, [], ◌∷◌, length, slice_index_or, IfOk, OnOk, OnErr};
 ghost use Rattle.rail_model.specs.Name.{IsName};
 ghost use Rattle.rail_model.specs.Names.{name_at, IsNameAt};
 
@@ -9,9 +9,9 @@ use std::marker::Model;
 
 /// Names in order. Contracts see their list.
 ///
-/// Their bytes stand one after another: a name takes its own bytes and four more, not the 72 of a
-/// `Name`. A list that has grown may have room for twice its bytes, until it is shrunk. It has fewer
-/// than 2^32 of them: a push past that finds no memory.
+/// Their bytes stand one after another. A name takes its own bytes and four more, not the 72 of a
+/// `Name`. A list that has grown may have room for twice its bytes, until it is shrunk. All names
+/// together have fewer than 2^32 bytes: a push past that answers as if memory ran out.
 #[derive(Drop)]
 pub struct Names {
     bytes: Vec<u8>,
@@ -31,17 +31,18 @@ impl Model for Names {
     ghost invariant = { λ n. AreNames n.starts.items n.bytes.items };
 }
 
+// For so many bytes of each name room is asked for at once. Longer names ask for more.
+const USUAL_BYTES: usize = 8;
+
 impl Names {
-    /// No names, with room for so many but for their bytes.
+    /// No names, with room for so many of eight bytes.
     pub fn with_capacity(alloc: Global, count: usize) -> Result<Names, OutOfMemory>
         ensures { IfOk result (λ names. names ≡ []) }
     {
+        let bytes = Vec::with_capacity(alloc, count.saturating_mul(USUAL_BYTES))?;
         let mut starts = Vec::with_capacity(alloc, count.saturating_add(1))?;
         starts.push(0)?;
-        Ok(Names {
-            bytes: Vec::new(alloc),
-            starts,
-        })
+        Ok(Names { bytes, starts })
     }
 
     /// The names of a list, in their order.
