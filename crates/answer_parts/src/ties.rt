@@ -13,8 +13,8 @@ pub fn push_start(sheet: &mut Sheet) -> Result<(), OutOfMemory>
     sheet.push_field(b"start")
 }
 
-/// Adds that it touches a train that precedes it at a place: `after,TRAIN,PLACE`. It takes memory;
-/// where that runs out, the row that is open is unknown.
+/// Adds that it touches a train that precedes it at a place, by the bytes of their names:
+/// `after,TRAIN,PLACE`. It takes memory; where that runs out, the row that is open is unknown.
 pub fn push_after(sheet: &mut Sheet, train: &[u8], place: &[u8]) -> Result<(), OutOfMemory>
     ensures { AddsFields result sheet.old sheet.new (after_fields train.now place.now) }
 {

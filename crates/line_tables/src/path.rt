@@ -22,6 +22,7 @@ pub(crate) fn numbers_by_key(
     ensures { IfOk result (λ numbers. AreNumbered (length blocks.now) blocks.now numbers.items) }
 {
     blocks.learn_order();
+    // The keys are copied in one piece, which is quicker than to ask for each.
     let keys = blocks.keys(alloc)?;
     let mut numbers = Vec::with_capacity(alloc, keys.len())?;
     for (number, key) in keys.iter().enumerate() {

@@ -8,6 +8,6 @@ use Rattle.plan_model.specs.declared.placed_list.PlacedNumbers.{PlacedNumbers}
 abbrev pub no_train : Placed
 no_train = record { train = []; planned = pos 0; entry = pos 0; tie = Start }
 
--- a train by its name and what is beside it
+-- the train of a name and of the numbers beside it
 abbrev pub with_name : List ℕ → PlacedNumbers → Placed
 with_name name n = record { train = name; planned = n.planned; entry = n.entry; tie = n.tie }

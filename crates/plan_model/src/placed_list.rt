@@ -40,7 +40,7 @@ impl Model for PlacedList {
 }
 
 impl PlacedList {
-    /// No trains, with room for so many but for the bytes of their names.
+    /// No trains, with room for so many.
     pub fn with_capacity(alloc: Global, count: usize) -> Result<PlacedList, OutOfMemory>
         ensures { IfOk result (λ list. list ≡ []) }
     {
@@ -72,7 +72,7 @@ impl PlacedList {
         self.numbers.len()
     }
 
-    /// The train at `i`. Its name is made anew, so what goes through all trains takes the parts of each:
+    /// The train at `i`, with a `Name` made of its bytes. A loop over all trains is faster with
     /// `name`, `planned`, `entry` and `tie`.
     pub fn get(&self, i: usize) -> Placed
         requires { i < length self.now }
@@ -99,7 +99,7 @@ impl PlacedList {
         self.names.bytes(i)
     }
 
-    /// The entry of the train at `i` in the given timetable.
+    /// The entry of the train at `i` in the given timetable: seconds from the timetable's origin.
     pub fn planned(&self, i: usize) -> i64
         requires { i < length self.now }
         ensures { result ≡ (slice_index_or self.now i no_train).planned }
@@ -107,7 +107,8 @@ impl PlacedList {
         self.numbers[i].planned
     }
 
-    /// The entry of the train at `i` in the compressed timetable.
+    /// The entry of the train at `i` in the compressed timetable: seconds from the timetable's
+    /// origin.
     pub fn entry(&self, i: usize) -> i64
         requires { i < length self.now }
         ensures { result ≡ (slice_index_or self.now i no_train).entry }

@@ -23,8 +23,8 @@
 //!   changes one use of the first run's row.
 //! - An edit of a block, a signal or a route compares the row of each run that passes it with the
 //!   run's new stairway. A row that differs is copied, and its uses that differ are written anew.
-//!   Its uses of connections stay, where each such run enters the section as before; else the
-//!   connections are bound anew among these rows.
+//!   Uses of connections stay, where each of these runs that has a connection enters the section as
+//!   before. Otherwise the connections are bound anew among all members.
 //! - Where an edit of a run makes other connections bind, the section's cut is made anew.
 //! - Rows that stand as before keep their stamps.
 //!

@@ -37,6 +37,7 @@ pub(crate) fn next_row<'a>(rows: &'a [CutRow], name: &Name, at: &mut usize) -> O
     ensures at { IsReached rows.now name.now at.new }
     ensures own { option_copied result ≡ find (λ r. is_same r.name name.now) rows.now }
 {
+    // Rows are asked for in the order of names, so the row mostly stands at the place itself.
     if let Some(row) = own_row(rows, name, *at) {
         return Some(row);
     }

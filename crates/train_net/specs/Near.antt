@@ -33,7 +33,7 @@ IsNearFrom cut order from at place (Some near) = IsNearAt cut order at place nea
 abbrev pub IsNear : Cut → List ℕ → ℕ → ℕ → Option Near → Type 0
 IsNear cut order at place near = IsNearFrom cut order 0 at place near
 
--- the table has who stands nearest, from a position on, at each place
+-- the table has at each place who stands nearest, of those from a position of the order on
 abbrev pub AreNearFrom : Cut → List ℕ → ℕ → ℕ → List (Option Near) → Type 0
 AreNearFrom cut order from at near =
     (place : ℕ) → place < place_count cut → IsNearFrom cut order from at place (slice_index_or near place None)

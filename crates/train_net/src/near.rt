@@ -36,8 +36,8 @@ pub(crate) fn nearest_before(
     Ok(near)
 }
 
-// Fills the table, which is empty: with all uses, until somebody is found at each wanted place but
-// the connections behind the others, and then with those of connections.
+// Fills the table, which is empty. All uses are put in until somebody is found at each wanted place
+// but the connections at the end of the list; further back only uses of connections are.
 fn find_near(near: &mut [Option<Near>], cut: &SoundCut, order: &[u32], at: usize, wanted: &[u32])
     requires there { All (λ i. i < member_count cut.now) order.now }
     requires within { at ≤ length order.now }
@@ -118,7 +118,7 @@ fn look_back(
 }
 
 // Fills the table further back, from a position up to which it is filled, with uses of connections
-// alone: few use one of them, so that one may be looked for through the whole order.
+// alone. Only two trains use a connection, so its nearest user may stand far back, or nowhere.
 fn look_further(
     near: &mut [Option<Near>],
     cut: &SoundCut,
