@@ -135,8 +135,9 @@ impl PartialEq for Name {
 
     ghost laws = { Cmp.partial_equiv_from_equiv nat_list_eq_equiv };
 
+    // All 64 bytes are compared at once: past a name's own bytes they are 0.
     fn eq(&self, other: &Name) -> bool {
-        self.bytes() == other.bytes()
+        self.len == other.len && self.bytes == other.bytes
     }
 }
 
