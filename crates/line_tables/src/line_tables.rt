@@ -1,7 +1,7 @@
 //! The tables of a line: what they hold, and looking it up.
 ghost use Rattle.std.specs.Prelude.{◌≡◌, ◌<◌, length, map, Some, IfOk, IfSome, is_some, slice_get};
-ghost use Rattle.rail_model.specs.Tables.{number_of};
-ghost use Rattle.rail_model.specs.Rules.{has_block, has_run, has_section, no_tables, IsSound};
+ghost use Rattle.rail_model.specs.Tables.{number_of, signal_named};
+ghost use Rattle.rail_model.specs.Rules.{has_block, has_run, has_section, has_signal, no_tables, IsSound};
 ghost use Rattle.line_tables.specs.Inside.{tables_of, parts, IsJoined};
 
 use crate::kept_route::KeptRoute;
@@ -186,6 +186,17 @@ impl LineTables {
         ensures { slice_get self.now.connections n ≡ Some result.now }
     {
         &self.connections.nth(n as usize).item
+    }
+
+    /// The signal of a name, if there is one.
+    pub fn signal(&self, name: &Name) -> Option<&Signal>
+        ensures there { is_some result ≡ has_signal self.now name.now }
+        ensures signal { IfSome result (λ s. s.now ≡ signal_named self.now name.now) }
+    {
+        match self.signals.key_of(name) {
+            Some(key) => Some(&self.signals.get(key).item),
+            None => None,
+        }
     }
 
     /// The number of the block of a name, if there is one.
