@@ -49,7 +49,7 @@ module _ {stored : StoredCut} (is : IsStored stored) (name : List ℕ) (its : Op
   s = old.section
 
   -- a run of another name is there before the edit, if it is there after it
-  other_there : (m : List ℕ) → (name ≡ m → ⊥) → has_run later m ≡ true → has_run earlier m ≡ true
+  pub other_there : (m : List ℕ) → (name ≡ m → ⊥) → has_run later m ≡ true → has_run earlier m ≡ true
   other_there m other there =
       elim (cases_Bool (has_run earlier m)) [
         | inl e ↦ e
@@ -60,7 +60,7 @@ module _ {stored : StoredCut} (is : IsStored stored) (name : List ℕ) (its : Op
             absurd (cc)
       ]
 
-  other_run : (m : List ℕ) → (name ≡ m → ⊥) → run_named later m ≡ run_named earlier m
+  pub other_run : (m : List ℕ) → (name ≡ m → ⊥) → run_named later m ≡ run_named earlier m
   other_run m other = named_still (λ (r : Run). r.name) name earlier.runs later.runs one.front one.back no_run m other
 
   other_entry : (m : List ℕ) → (name ≡ m → ⊥) → entry_in later s (run_named later m) ≡ entry_in earlier s (run_named earlier m)

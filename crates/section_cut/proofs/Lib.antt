@@ -43,13 +43,16 @@ pub mod AnotherMinimum
 pub mod Reached
 pub mod NoRun
 pub mod ReachedRuns
+pub mod Beside
 pub mod RowsAfter
 pub mod KeptBlocks
 pub mod PathsStay
+pub mod OneBlock
 pub mod PassedBy
 mod RowTimes
 mod Whole
 mod WholeRow
 pub mod JoinedRuns
 pub mod RowsKept
+pub mod PutAmong
 pub mod SameRows

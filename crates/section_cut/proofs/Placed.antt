@@ -17,7 +17,7 @@ use Rattle.plan_model.specs.Members.{no_member}
 use Rattle.section_cut.specs.declared.cut_changes.CutChange.{CutChange}
 use Rattle.section_cut.specs.declared.cut_changes.CutChange.TheVariants as change
 use Rattle.section_cut.specs.Change.{IsRestamped, IsChange}
-use Rattle.section_cut.specs.EditedRun.{IsPut}
+use Rattle.section_cut.specs.EditedRun.{IsPut, rows_put}
 use Rattle.section_cut.specs.Stamps.{IsReached, IsThere, IsOwn, IsStamped}
 use Rattle.section_cut.specs.OneRun.{before, behind, with_one, cut_with}
 use Rattle.section_cut.proofs.Rows.{found_at, after_there, none_found}
@@ -115,6 +115,13 @@ module _ (old : Cut) (n : List ℕ) (at number : ℕ) (sound : IsSoundCut old) (
 
   set_is : IsThere old.rows n at → (row : CutRow) → with_one name_of n (Some row) old.rows ≡ set old.rows at row
   set_is there row = with_there old.rows n at sound.names_rise reached there (Some row) ∙ sym (set_split old.rows at row there.0)
+
+  -- the rows with one of this name, or without one
+  pub rows_put_is : (own row : Option CutRow) → IsOwn old.rows n at own → with_one name_of n row old.rows ≡ rows_put old.rows at own row
+  rows_put_is None None gone = with_gone old.rows n at sound.names_rise reached gone None ∙ take-append-drop at old.rows
+  rows_put_is None (Some row) gone = with_gone old.rows n at sound.names_rise reached gone (Some row)
+  rows_put_is (Some own) None is = with_there old.rows n at sound.names_rise reached is.0 None
+  rows_put_is (Some own) (Some row) is = set_is is.0 row
 
   same_there : IsThere old.rows n at → (row : CutRow) → stamped_row 0 (get_or old.rows at no_member) ≡ stamped_row 0 row
       → stamped 0 (cut_with n (Some row) old) ≡ stamped 0 old

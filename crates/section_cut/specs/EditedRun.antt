@@ -1,5 +1,5 @@
 -- What is known of the run that an edit puts, changes or drops, and what becomes of a cut by it.
-use Rattle.std.specs.Prelude.{◌≡◌, ◌≢◌, ◌⊎◌, ◌<◌, ◌≤◌, true, List, ℕ, length, filter, insert, remove, slice_index_or, Option, Some, None, IfSome}
+use Rattle.std.specs.Prelude.{◌≡◌, ◌≢◌, ◌⊎◌, ◌<◌, ◌≤◌, true, List, ℕ, length, filter, insert, remove, slice_index_or, slice_set, Option, Some, None, IfSome}
 use Rattle.rail_model.specs.declared.items.Section.{Section}
 use Rattle.rail_model.specs.declared.stair.Stair.{Stair}
 use Rattle.rail_model.specs.declared.stair.Use.{Use}
@@ -48,3 +48,11 @@ IsPut old at (Some own) None result = result ≡ change.Touched (Some (record ol
 IsPut old at (Some own) (Some row) result =
     ((stamped_row 0 own ≡ stamped_row 0 row) × (result ≡ change.Untouched))
     ⊎ ((stamped_row 0 own ≢ stamped_row 0 row) × (result ≡ change.Row at row))
+
+-- rows of which the one at a place, if it is a run's own, is replaced by this one, or gone; and with this one at the
+-- place, where the run has none
+abbrev pub rows_put : List CutRow → ℕ → Option CutRow → Option CutRow → List CutRow
+rows_put rows at None None = rows
+rows_put rows at None (Some row) = insert rows at row
+rows_put rows at (Some own) None = remove rows at
+rows_put rows at (Some own) (Some row) = slice_set rows at row

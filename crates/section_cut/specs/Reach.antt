@@ -1,5 +1,5 @@
 -- Which rows of cuts an edit can reach.
-use Rattle.std.specs.Prelude.{◌≡◌, ◌≢◌, ⊤, false, All, ℕ, List, map, Option, Some, None}
+use Rattle.std.specs.Prelude.{◌≡◌, ◌≢◌, ⊤, false, All, ℕ, List, map, Option, Some, None, IfSome}
 use Rattle.rail_model.specs.declared.items.Item.{Item}
 use Rattle.rail_model.specs.declared.items.Item.TheVariants as item
 use Rattle.rail_model.specs.declared.edit.Kind.{Kind}
@@ -15,7 +15,7 @@ use Rattle.section_cut.specs.declared.reach.Reach.TheVariants as reach
 use Rattle.section_cut.specs.declared.reach.RowReach.{RowReach}
 use Rattle.section_cut.specs.declared.reach.RowReach.TheVariants as rows
 use Rattle.section_cut.specs.Connected.{is_joined}
-use Rattle.section_cut.specs.ReachedRuns.{AreReachedRuns, IsTold, uses_if_there}
+use Rattle.section_cut.specs.ReachedRuns.{AreReachedRuns, IsTold, StayBeside, uses_if_there}
 use Rattle.section_cut.specs.Spans.{AreOver}
 use Rattle.section_cut.specs.declared.reached_runs.ReachedRuns.{ReachedRuns}
 use Rattle.section_cut.specs.OneRun.{before, behind}
@@ -79,11 +79,13 @@ ReachesNoRun tables (edit.Drop k n) = DropReachesNoRun k
 abbrev pub AreSameCuts : Tables → Tables → Type 0
 AreSameCuts earlier later = (section : List ℕ) → cut_of later section ≡ cut_of earlier section
 
--- the runs whose paths the tables tell apart: their stairs, the lists of blocks of these, and what is told of connections
+-- the runs whose paths the tables tell apart: their stairs, the lists of blocks of these, and what is told of
+-- connections; and the block whose uses alone move, where it is known
 pub record AreRunsOf (earlier later : Tables) (runs : ReachedRuns) : Type 0 where
   pub stairs : AreReachedRuns earlier later runs.stairs.items
   pub over : AreOver (map uses_if_there runs.stairs.items) runs.over
   pub joined : IsTold (is_joined earlier) earlier.runs runs.joined.items
+  pub block : IfSome runs.block (StayBeside earlier later)
 
 -- no other rows can differ between cuts by earlier tables and by later ones
 abbrev pub IsRowReach : Tables → Tables → RowReach → Type 0

@@ -1,7 +1,8 @@
 -- Changes of blocks, signals and routes: the runs whose paths they change, and these runs' rows.
-use Rattle.std.specs.Prelude.{◌≡◌, ℕ, ◌<◌, ⊤, Bool, true, false, List, [], length, slice_index_or, Option, Some, None, option_map, IfSome}
+use Rattle.std.specs.Prelude.{◌≡◌, ℕ, ◌<◌, ◌≤◌, ⊤, Bool, true, false, List, [], length, slice_index, slice_index_or, Option, Some, None, option_map, IfSome}
 use Rattle.rail_model.specs.declared.items.Run.{Run}
 use Rattle.rail_model.specs.declared.items.Section.{Section}
+use Rattle.rail_model.specs.declared.items.Signal.{Signal}
 use Rattle.rail_model.specs.declared.items.Item.{Item}
 use Rattle.rail_model.specs.declared.items.Item.TheVariants as item
 use Rattle.rail_model.specs.declared.edit.Edit.{Edit}
@@ -10,11 +11,12 @@ use Rattle.rail_model.specs.declared.stair.Use.{Use}
 use Rattle.rail_model.specs.declared.stair.Stair.{Stair}
 use Rattle.rail_model.specs.declared.tables.Tables.{Tables}
 use Rattle.rail_model.specs.Blocking.{stair_of}
+use Rattle.rail_model.specs.Rules.{after_change}
 use Rattle.rail_model.specs.Name.{is_same}
 use Rattle.rail_model.specs.Tables.{no_run, run_at, block_name, path_in}
 use Rattle.line_tables.specs.Passing.{passes_block, passes_signal}
 use Rattle.plan_model.specs.declared.cut.CutRow.{CutRow}
-use Rattle.plan_model.specs.Cut.{stamped_row, AreBlocksFirst}
+use Rattle.plan_model.specs.Cut.{stamped_row, AreBlocksFirst, position_in_section, section_uses}
 use Rattle.section_cut.specs.Connected.{block_part, with_rest}
 use Rattle.section_cut.specs.Members.{member_row}
 use Rattle.section_cut.specs.Stamps.{IsStamped}
@@ -53,6 +55,12 @@ pub record IsSameTraffic (earlier later : Tables) : Type 0 where
 abbrev pub IsStairIfReached : Tables → Tables → Run → Option Stair → Type 0
 IsStairIfReached earlier later run (Some stair) = stair ≡ stair_of (path_in later run)
 IsStairIfReached earlier later run None = path_in later run ≡ path_in earlier run
+
+-- all runs have the uses that they had in each section that hasn't this block
+abbrev pub StayBeside : Tables → Tables → ℕ → Type 0
+StayBeside earlier later block =
+    (section : Section) → length section.blocks ≤ position_in_section later section block
+    → (run : Run) → section_uses later section run ≡ section_uses earlier section run
 
 -- this for each run, in the order of the runs' names
 pub record AreReachedRuns (earlier later : Tables) (stairs : List (Option Stair)) : Type 0 where
@@ -114,3 +122,14 @@ passes tables (edit.Drop k n) run = true
 pub record IsTold (test : Run → Bool) (runs : List Run) (told : List Bool) : Type 0 where
   pub count : length told ≡ length runs
   pub each : (n : ℕ) (d : Bool) → n < length runs → slice_index_or told n d ≡ false → test (slice_index_or runs n no_run) ≡ false
+
+-- ---- the block whose uses alone an edit moves
+
+-- tables with another signal in the place of the one of its name
+abbrev pub changed_signal : Tables → Signal → Tables
+changed_signal tables s = after_change tables (item.Signal s)
+
+-- a block is given that isn't in a section of so many blocks, by the table of positions
+abbrev pub IsBeside : Option ℕ → List ℕ → ℕ → Type 0
+IsBeside None positions blocks = ⊥
+IsBeside (Some block) positions blocks = (block < length positions) × (blocks ≤ slice_index positions block)

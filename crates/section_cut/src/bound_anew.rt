@@ -1,10 +1,8 @@
 //! A section's cut whose connections are bound anew, where it is known which runs are its members,
 //! and their uses of its blocks.
-ghost use Rattle.std.specs.Prelude.{◌≡◌, ◌≤◌, length, IfOk, IfSome, option_map};
+ghost use Rattle.std.specs.Prelude.{◌≡◌, length, IfOk, IfSome, option_map};
 ghost use Rattle.std.specs.Option.{option_copied};
-ghost use Rattle.plan_model.specs.Cut.{stamped, AreBlocksFirst};
-ghost use Rattle.plan_model.specs.Cut as cuts;
-ghost use Rattle.rail_model.specs.declared.limits.TheConstants.{PATH_HOPS};
+ghost use Rattle.plan_model.specs.Cut.{AreBlocksFirst};
 ghost use Rattle.section_cut.specs.Members.{rows_on_blocks, members_by_run};
 ghost use Rattle.section_cut.specs.RowsAfter.{AreOfMembers};
 ghost use Rattle.section_cut.specs.RowsAfter as bare;

@@ -1,13 +1,13 @@
 //! What an edit of one run makes of a section's cut. It reaches the run's own row alone, where each of
-//! the run's connections binds after the edit exactly where it does before; else the cut is made
-//! anew.
+//! the run's connections binds after the edit exactly where it does before; else connections are
+//! bound anew among the members.
 ghost use Rattle.std.specs.Prelude.{◌≡◌, ◌<◌, ◌≤◌, true, false, All, length, IfOk, IfSome, Some, filter, find, option_map, insert, remove};
 ghost use Rattle.std.specs.Option.{option_copied};
 ghost use Rattle.section_cut.specs.Stored.{IsStored, IsChangeOfStored};
 ghost use Rattle.section_cut.specs.Members.{member_row};
 ghost use Rattle.section_cut.specs.OneRun.{run_edited, uses_of_section, PassesBy};
 ghost use Rattle.section_cut.specs.Connected.{joins};
-ghost use Rattle.section_cut.specs.EditedRun.{KeepsRoute, IsEditedRun, KeepsPlaces, StandsAt, IsPut};
+ghost use Rattle.section_cut.specs.EditedRun.{KeepsRoute, IsEditedRun, KeepsPlaces, StandsAt, IsPut, rows_put};
 ghost use Rattle.section_cut.specs.OneRun as one;
 ghost use Rattle.section_cut.specs.Times.{with_times};
 ghost use Rattle.plan_model.specs.Cut.{position_in_section};
@@ -16,8 +16,9 @@ ghost use Rattle.rail_model.specs.Tables.{number_of, path_in, section_at};
 ghost use Rattle.rail_model.specs.Name.{is_same};
 ghost use Rattle.section_cut.specs.Starts.{EntersEarly};
 
+use crate::bound_anew::cut_bound_anew;
 use crate::connected::{bind_as_before, joined_by, uses_of_blocks, with_joined};
-use crate::cut_changes::{CutChange, StoredCut, stored_made_anew};
+use crate::cut_changes::{CutChange, StoredCut};
 use crate::members::{member_row, row_with};
 use crate::positions::{SectionTable, gather, positions};
 use crate::same_value::{same_name, same_row};
@@ -277,7 +278,8 @@ pub(crate) fn cut_after_run(
     let row = row_after_run(alloc, after, &old.section, run, places, stored.number)?;
     let joined = run.joined.slice();
     if !bind_as_before(after, old, &run.name, row.as_ref(), joined) {
-        return stored_made_anew(alloc, stored);
+        let put = cut_with(alloc, old, at, own, row)?;
+        return cut_bound_anew(alloc, stored, put.rows.slice());
     }
     let row = with_joined(after, old, &run.name, joined, row)?;
     with_row(alloc, old, at, own, row)
@@ -308,6 +310,32 @@ pub(crate) fn with_row(
         return Ok(CutChange::Untouched);
     }
     Ok(CutChange::Row { place: at, row })
+}
+
+// A copy of a cut whose row at a place, if the run has one there, is replaced by this row, or is gone
+// where no row is given. Where the run has none there, this row is inserted.
+fn cut_with(
+    alloc: Global,
+    old: &Cut,
+    at: usize,
+    own: Option<&CutRow>,
+    row: Option<CutRow>,
+) -> Result<Cut, OutOfMemory>
+    requires { StandsAt old.now.rows at (option_copied own) }
+    ensures { IfOk result (λ cut. cut.rows ≡ rows_put old.now.rows at (option_copied own.entry) row) }
+{
+    let Some(row) = row else {
+        if own.is_none() {
+            return old.copy(alloc);
+        }
+        return row_removed(alloc, old, at);
+    };
+    if own.is_none() {
+        return row_inserted(alloc, old, at, row);
+    }
+    let mut cut = old.copy(alloc)?;
+    *cut.rows.get_mut(at) = row;
+    Ok(cut)
 }
 
 // A copy of a cut without the row at a place.

@@ -5,16 +5,17 @@
 //! connections join. An edit of a connection reaches the rows of its two runs, or that of the first
 //! where only the minimum changes. A put or drop of a block, a signal or a route reaches none, and a
 //! change of one reaches the rows of the runs that pass it.
-ghost use Rattle.std.specs.Prelude.{◌≡◌, ◌≢◌, true, false, All, IfOk, Some, None};
+ghost use Rattle.std.specs.Prelude.{◌≡◌, ◌≢◌, true, false, All, IfOk, IfSome, Some, None};
 ghost use Rattle.rail_model.specs.Rules as rules;
 ghost use Rattle.section_cut.specs.EditedConnection.{connection_edited};
-ghost use Rattle.section_cut.specs.ReachedRuns.{KeepsBlocks, AreReachedRuns};
+ghost use Rattle.section_cut.specs.ReachedRuns.{KeepsBlocks, AreReachedRuns, StayBeside};
 ghost use Rattle.section_cut.specs.Reach.{IsReach, IsRowReach, ReachesNoRun, section_edited};
 ghost use Rattle.rail_model.specs.Rules.{IsSound};
 ghost use Rattle.rail_model.specs.Conflict.{timetable};
 
 use crate::all_stairways::{AllStairways, stairways};
 use crate::connected::joined_runs;
+use crate::one_block::block_moved;
 use crate::one_connection::{EditedConnection, connection_edited, connection_named, keeps_runs};
 use crate::one_run::{EditedRun, edited_run, run_edited};
 use crate::reached_runs::{ReachedRuns, lists_over, reached_runs};
@@ -77,7 +78,8 @@ pub(crate) fn reach_of(
     }
     if keeps_blocks(edit) {
         let stairs = reached_runs(alloc, before, after, edit)?;
-        return Ok(Reach::Rows(reach_of_runs(alloc, before, after, stairs)?));
+        let block = block_moved(before, edit);
+        return Ok(Reach::Rows(reach_of_runs(alloc, before, after, stairs, block)?));
     }
     Ok(Reach::All(stairs_of_all(alloc, after)?))
 }
@@ -157,17 +159,19 @@ fn keeps_blocks(edit: &Edit) -> bool
     }
 }
 
-// What rows an edit can reach by the stairs of the runs that it reaches: none, where no run is
-// reached.
+// What rows an edit can reach by the stairs of the runs that it reaches, and the block whose uses
+// alone it moves, where that is known: none, where no run is reached.
 fn reach_of_runs(
     alloc: Global,
     before: &LineTables,
     after: &LineTables,
     stairs: Vec<Option<TimedStair>>,
+    block: Option<u32>,
 ) -> Result<RowReach, OutOfMemory>
     requires before { IsSound before.now }
     requires after { IsSound after.now }
     requires reached { AreReachedRuns before.now after.now stairs.items }
+    requires block { IfSome block (StayBeside before.now after.now) }
     ensures { IfOk result (IsRowReach before.now after.now) }
 {
     if !reaches_some(&stairs) {
@@ -179,6 +183,7 @@ fn reach_of_runs(
         stairs,
         over,
         joined,
+        block,
     }))
 }
 

@@ -20,6 +20,7 @@ ghost use Rattle.rail_model.specs.Blocking.{Fits, stair_of};
 use crate::bound_anew::cut_by_members;
 use crate::cut_changes::{BothTables, CutChange, StoredCut};
 use crate::members::{MemberRows, add_run};
+use crate::one_block::is_beside;
 use crate::passing_runs::passing_runs;
 use crate::positions::{SectionTable, positions};
 use crate::reached_rows::{member_anew, row_anew, row_stays};
@@ -36,12 +37,14 @@ use std::alloc::Global;
 const FEW: usize = 32;
 
 // The runs that an edit reaches: for each run its stair after the edit, if it is one of them; the
-// lists of blocks that these stairs are over; and of each run whether it has a connection.
+// lists of blocks that these stairs are over; of each run whether it has a connection; and the block
+// whose uses alone the edit moves, where it is known.
 #[derive(Drop)]
 pub(crate) struct ReachedRuns {
     pub(crate) stairs: Vec<Option<TimedStair>>,
     pub(crate) over: BlockLists,
     pub(crate) joined: Vec<bool>,
+    pub(crate) block: Option<u32>,
 }
 
 // For each run, in the order of the runs' names, its stair after an edit, where the edit may change
@@ -178,6 +181,9 @@ pub(crate) fn cut_after_runs(
         unreachable!();
     };
     let positions = positions(alloc, stored.both.after, place)?;
+    if is_beside(runs.block, &positions, section.blocks.len()) {
+        return Ok(CutChange::Untouched);
+    }
     let spans = runs.over.spans(alloc, &positions, section.blocks.len())?;
     let table = SectionTable {
         section,

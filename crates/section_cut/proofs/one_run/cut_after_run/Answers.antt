@@ -13,11 +13,14 @@ use Rattle.plan_model.specs.declared.cut.CutRow.{CutRow}
 use Rattle.plan_model.specs.Cut.{binds, binding_connections}
 use Rattle.section_cut.specs.Connected.{IsOfRuns, TellsEntries, row_beside}
 use Rattle.section_cut.specs.EditedRun.{IsPut, KeepsPlaces}
+use Rattle.section_cut.specs.RowsAfter.{AreOfMembers}
 use Rattle.section_cut.specs.Stamps.{IsReached, IsOwn}
 use Rattle.section_cut.specs.Stored.{IsChangeOfStored}
 use Rattle.section_cut.proofs.BlockPart.{own_blocks_first}
 use Rattle.section_cut.proofs.JoinedRun.{binding_as_listed, entries_told, bare_entry, bare_there, joined_there}
 use Rattle.section_cut.proofs.OneRun.{run_changes}
+use Rattle.section_cut.proofs.Placed.{rows_put_is}
+use Rattle.section_cut.proofs.PutAmong.{put_of_members}
 use Rattle.section_cut.proofs.Rows.{own_found, own_stands}
 use Rattle.section_cut.proofs.Stored.{sound_stored, stored_names, stored_names_rise, stored_section}
 use Rattle.section_cut.proofs.WholeRow.{keeps_places}
@@ -75,6 +78,30 @@ pub bind_as_before-requires-clause-there : goal.bind_as_before-requires-clause-t
 bind_as_before-requires-clause-there c =
     let later = c.args.stored.both.after.now in
     subst (All (IsOfRuns later)) (sym (c.slice-joined.ensures ∙ c.requires.edited.joined)) (joined_there later c.requires.stored.later_sound c.args.run.now.name)
+
+pub cut_with-requires : goal.cut_with-requires
+cut_with-requires c =
+    let name = c.args.run.now.name in
+    let at = c.place_of-at.result in
+    let own = option_copied c.own_row-own.result in
+    own_stands c.args.stored.cut.now.rows name at (sound_stored c.requires.stored).names_rise (subst (λ rs. IsReached rs name at) c.slice-rows.ensures c.place_of-at.ensures) own
+    (subst (λ rs. IsOwn rs name at own) c.slice-rows.ensures c.own_row-own.ensures)
+
+pub cut_bound_anew-requires-clause-members : goal.cut_bound_anew-requires-clause-members
+cut_bound_anew-requires-clause-members c =
+    let stored = c.args.stored in
+    let old = stored.cut.now in
+    let run = c.args.run.now in
+    let at = c.place_of-at.result in
+    let own = option_copied c.own_row-own.result in
+    let row = c.in_ok-row.row in
+    let put = rows_put_is old run.name at stored.number (sound_stored c.requires.stored) (subst (λ rs. IsReached rs run.name at) c.slice-rows.ensures c.place_of-at.ensures) own row
+    (subst (λ rs. IsOwn rs run.name at own) c.slice-rows.ensures c.own_row-own.ensures) in
+    subst (AreOfMembers stored.both.after.now old.section) (put ∙ sym c.in_ok-put.ensures ∙ sym c.slice.ensures)
+    (put_of_members c.requires.stored run.name run.stair c.requires.edited.one row c.in_ok-row.ensures)
+
+pub cut_bound_anew-requires-clause-sections : goal.cut_bound_anew-requires-clause-sections
+cut_bound_anew-requires-clause-sections c = ap (λ (t : Tables). t.sections) c.requires.edited.one.others
 
 -- the connections that bind stay
 binding : (c : Else-not-bind_as_before) → binding_connections c.args.stored.both.after.now c.args.stored.cut.now.section ≡ binding_connections c.args.stored.both.before.now c.args.stored.cut.now.section

@@ -1,7 +1,8 @@
 use Rattle.std.proofs.Common.{sym, ap, ◌∙◌, subst}
-use Rattle.std.specs.Prelude.{filter}
+use Rattle.std.specs.Prelude.{filter, IfSome}
 use Rattle.section_cut.specs.Connected.{joins}
 use Rattle.section_cut.specs.OneRun.{IsOneRun}
+use Rattle.section_cut.specs.ReachedRuns.{StayBeside}
 use Rattle.section_cut.specs.EditedRun.{KeepsRoute}
 use Rattle.section_cut.proofs.KeptBlocks.{same_traffic}
 use Rattle.section_cut.proofs.NoRun.{cuts_stay}
@@ -35,3 +36,7 @@ returns-then-reaches_no_run c =
 pub reached_runs-requires-clause-same : goal.reached_runs-requires-clause-same
 reached_runs-requires-clause-same c =
     same_traffic c.args.before.now c.args.after.now c.args.edit.now c.requires (c.keeps_blocks.ensures c.if-keeps_blocks.true)
+
+pub reach_of_runs-requires-clause-block : goal.reach_of_runs-requires-clause-block
+reach_of_runs-requires-clause-block c =
+    subst (λ t. IfSome c.block_moved-block.result (StayBeside c.args.before.now t)) (sym c.requires) c.block_moved-block.ensures

@@ -15,4 +15,5 @@ returns c = record {
   stairs = c.requires.reached;
   over = subst (λ ss. AreOver (map uses_if_there ss) c.in_ok-over.over) c.deref-2.ensures.value c.in_ok-over.ensures;
   joined = c.in_ok-joined.ensures;
+  block = c.requires.block;
 }
