@@ -60,6 +60,7 @@ module _ {stored : StoredCut} (is : IsStored stored) (name : List ℕ) (its : Op
             absurd (cc)
       ]
 
+  -- and it is the same run
   pub other_run : (m : List ℕ) → (name ≡ m → ⊥) → run_named later m ≡ run_named earlier m
   other_run m other = named_still (λ (r : Run). r.name) name earlier.runs later.runs one.front one.back no_run m other
 

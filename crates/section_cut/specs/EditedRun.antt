@@ -49,8 +49,8 @@ IsPut old at (Some own) (Some row) result =
     ((stamped_row 0 own ≡ stamped_row 0 row) × (result ≡ change.Untouched))
     ⊎ ((stamped_row 0 own ≢ stamped_row 0 row) × (result ≡ change.Row at row))
 
--- rows of which the one at a place, if it is a run's own, is replaced by this one, or gone; and with this one at the
--- place, where the run has none
+-- the rows with this one in place of a run's own at a place; without the own one, where none is given; and with this
+-- one inserted, where the run has none
 abbrev pub rows_put : List CutRow → ℕ → Option CutRow → Option CutRow → List CutRow
 rows_put rows at None None = rows
 rows_put rows at None (Some row) = insert rows at row

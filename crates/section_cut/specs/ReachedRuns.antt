@@ -62,7 +62,7 @@ StayBeside earlier later block =
     (section : Section) → length section.blocks ≤ position_in_section later section block
     → (run : Run) → section_uses later section run ≡ section_uses earlier section run
 
--- this for each run, in the order of the runs' names
+-- of each run, in the order of the runs' names, its stair or none
 pub record AreReachedRuns (earlier later : Tables) (stairs : List (Option Stair)) : Type 0 where
   pub same : IsSameTraffic earlier later
   pub count : length stairs ≡ length later.runs

@@ -22,9 +22,9 @@
 //! - An edit of a connection touches the sections in which it binds before or after it. There the
 //!   connections are bound anew, while the members and their uses of blocks stay. Another minimum
 //!   changes one use of the first run's row.
-//! - A change of a signal that keeps its block touches no section without the block.
-//! - An edit of a block, a signal or a route compares else the row of each run that passes it with the
-//!   run's new stairway. A row that differs is copied, and its uses that differ are written anew.
+//! - A change of a signal that keeps its block touches no section without the block. Otherwise an
+//!   edit of a block, a signal or a route compares the row of each run that passes it with the run's
+//!   new stairway. A row that differs is copied, and its uses that differ are written anew.
 //!   Uses of connections stay, where each of these runs that has a connection enters the section as
 //!   before. Otherwise the connections are bound anew among all members.
 //! - Rows that stand as before keep their stamps.

@@ -1,6 +1,6 @@
 //! What an edit of one run makes of a section's cut. It reaches the run's own row alone, where each of
-//! the run's connections binds after the edit exactly where it does before; else connections are
-//! bound anew among the members.
+//! the run's connections binds after the edit exactly where it does before; otherwise the
+//! connections are bound anew among the members.
 ghost use Rattle.std.specs.Prelude.{◌≡◌, ◌<◌, ◌≤◌, true, false, All, length, IfOk, IfSome, Some, filter, find, option_map, insert, remove};
 ghost use Rattle.std.specs.Option.{option_copied};
 ghost use Rattle.section_cut.specs.Stored.{IsStored, IsChangeOfStored};

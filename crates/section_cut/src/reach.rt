@@ -4,7 +4,8 @@
 //! An edit of a section reaches its own rows, and an edit of a run its row, and those that its
 //! connections join. An edit of a connection reaches the rows of its two runs, or that of the first
 //! where only the minimum changes. A put or drop of a block, a signal or a route reaches none, and a
-//! change of one reaches the rows of the runs that pass it.
+//! change of one reaches the rows of the runs that pass it. Where a changed signal keeps its block,
+//! only sections with the block are reached.
 ghost use Rattle.std.specs.Prelude.{◌≡◌, ◌≢◌, true, false, All, IfOk, IfSome, Some, None};
 ghost use Rattle.rail_model.specs.Rules as rules;
 ghost use Rattle.section_cut.specs.EditedConnection.{connection_edited};
@@ -159,8 +160,8 @@ fn keeps_blocks(edit: &Edit) -> bool
     }
 }
 
-// What rows an edit can reach by the stairs of the runs that it reaches, and the block whose uses
-// alone it moves, where that is known: none, where no run is reached.
+// What rows an edit can reach, by the stairs of the runs that it reaches and, where it is known, the
+// block whose uses alone it moves. Where no run is reached, no row is.
 fn reach_of_runs(
     alloc: Global,
     before: &LineTables,
