@@ -23,11 +23,36 @@ const TIME_BYTES: usize = 4;
 
 const NAME_BYTES: usize = 72;
 
-// Whether the rows are more than are read at once. No clause says so: read ahead or not, they say
-// the same.
+// How many rows are looked at, here and there, to see what most are.
+const LOOKED_AT: usize = 64;
+
+// Whether the rows are more than are read at once, and it pays to read ahead. No clause says so: read
+// ahead or not, they say the same.
 pub(crate) fn are_many(rows: &RowList<'_>) -> bool {
     let first = rows.first_line();
-    first < rows.len() && end_of_batch(rows, first) < rows.len()
+    first < rows.len() && end_of_batch(rows, first) < rows.len() && are_mostly_runs(rows)
+}
+
+// Whether most fields, by rows here and there, are of runs. A run takes far longer to be read than to
+// be taken; rows of other kinds would wait for threads that are made for each batch.
+fn are_mostly_runs(rows: &RowList<'_>) -> bool {
+    let step = rows.len() / LOOKED_AT + 1;
+    let mut of_runs = 0usize;
+    let mut others = 0usize;
+    for n in 0..rows.len() / step {
+        let row = rows.get(n * step);
+        if is_run(&row) {
+            of_runs = of_runs.saturating_add(row.len());
+        } else {
+            others = others.saturating_add(row.len());
+        }
+    }
+    of_runs > others
+}
+
+// Whether a row is of a run.
+fn is_run(row: &Row<'_>) -> bool {
+    !row.is_empty() && row.get(0) == b"run".as_slice()
 }
 
 // The lines of the rows from a place on that are read at once, at least one where one is left. As
@@ -93,7 +118,6 @@ fn end_of_batch(rows: &RowList<'_>, from: usize) -> usize
 
 // About how many bytes the line of a row takes.
 fn line_bytes(row: &Row<'_>) -> usize {
-    let is_run = !row.is_empty() && row.get(0) == b"run".as_slice();
-    let field = if is_run { TIME_BYTES } else { NAME_BYTES };
+    let field = if is_run(row) { TIME_BYTES } else { NAME_BYTES };
     row.len().saturating_mul(field).saturating_add(LINE_BYTES)
 }
