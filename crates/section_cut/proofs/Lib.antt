@@ -29,6 +29,7 @@ pub mod Anew
 pub mod Around
 pub mod BindsBy
 pub mod Listed
+pub mod Alike
 pub mod Numberless
 pub mod Placed
 pub mod OldRows

@@ -17,4 +17,4 @@ returns c = by_number c.block_number.result c.block_number.ensures.number
         let x = c.args.signal.now in
         let keeps : (signal_named before x.name).block ≡ x.block =
         ap (λ (s : Signal). s.block) (sym c.in_ok-old.ensures.signal) ∙ c.same_name.ensures.0 c.if-not-same_name.false in
-        subst (StayBeside before (changed_signal before x)) (sym is) (stay_beside before x keeps)
+        subst (StayBeside before (changed_signal before x)) (sym is) (stay_beside before x (sym c.in_ok-old.ensures.there) keeps)
