@@ -1,12 +1,15 @@
 -- What the rows that were read so far give to a command.
-use Rattle.std.specs.Prelude.{◌≡◌, ℕ, ◌+◌, ◌≤◌, Bool, true, false, List, length, drop, sum_by, Option, Some, None, Result, Ok, Err}
+use Rattle.std.specs.Prelude.{◌≡◌, ℕ, ◌+◌, ◌≤◌, Bool, true, false, List, length, drop, sum_by, Option, Some, None, Result, Ok, Err, IsErr}
 use Rattle.std.specs.Result.{result_map_both}
 use Rattle.rail_model.specs.declared.edit.Edit.{Edit}
 use Rattle.rail_model.specs.declared.edit.Rule.{Rule}
 use Rattle.rail_model.specs.declared.form.Form.{Form}
+use Rattle.rail_model.specs.declared.memory.OutOfMemory as memory
 use Rattle.rail_model.specs.declared.tables.Tables.{Tables}
 use Rattle.rail_model.specs.Rules.{no_tables, after, rule_of}
 use Rattle.row_text.specs.declared.line.Line.{Line}
+use Rattle.row_text.specs.declared.unread.Unread.{Unread}
+use Rattle.row_text.specs.declared.unread.Unread.TheVariants as unread
 use Rattle.row_text.specs.SheetRows.{Row}
 use Rattle.row_text.specs.Lines.{◌>>=◌, first_line}
 use Rattle.plan_model.specs.declared.scripts.Task.{Task}
@@ -40,6 +43,11 @@ tables_so_far made = or_refused made.refused made.tables
 abbrev pub by_rule : ℕ → Tables → Option Rule → Result Tables Refusal
 by_rule row tables None = Ok tables
 by_rule row tables (Some rule) = refused row (cause.Rule rule)
+
+-- what a rule's answer to the edit in the row of this number leaves to say
+abbrev pub refusal_of : {U : Type 0} → ℕ → Result U Rule → Option Refusal
+refusal_of row (Ok u) = None
+refusal_of row (Err rule) = Some (record { row = row; cause = cause.Rule rule })
 
 abbrev pub after_one_more : ℕ → Result Tables Refusal → Edit → Result Tables Refusal
 after_one_more row (Ok tables) e = by_rule row (after tables e) (rule_of tables e)
@@ -85,6 +93,11 @@ abbrev pub TakesRow : ℕ → ℕ → Result Line Form → InputSoFar → InputS
 TakesRow planners row (Ok line) made more taken = TakesLine planners row line made more taken
 TakesRow planners row (Err fault) made more None = ⊥
 TakesRow planners row (Err fault) made more (Some why) = why ≡ cause.Form fault
+
+-- why an item is not read: a fault of its form, of which the row is told, or want of memory
+abbrev pub IsFormFault : Unread → Result (Option Cause) memory.OutOfMemory → Type 0
+IsFormFault (unread.Fault fault) told = told ≡ Ok (Some (cause.Form fault))
+IsFormFault unread.OutOfMemory told = IsErr told
 
 -- all rows, so many, are taken, and give what the whole input gives
 pub record TakesAll (planners rows : ℕ) (whole : Result Content Refusal) (made : InputSoFar) : Type 0 where

@@ -1,12 +1,14 @@
 //! From the rows of an input to tables and scripts, or to the row at which it is refused.
 ghost use Rattle.std.specs.Prelude.{◌≡◌, ◌+◌, ◌-◌, ◌≤◌, ◌<◌, ◌^◌, length, sum_by, slice_index_or, [], IfOk, OnOk, Ok, Some};
 ghost use Rattle.plan_book.specs.declared.book.TheConstants.{TASKS};
+ghost use Rattle.rail_model.specs.declared.edit.Edit.TheVariants as edits;
 ghost use Rattle.rail_model.specs.Rules.{no_tables};
 ghost use Rattle.row_text.specs.Lines.{read_in};
 ghost use Rattle.capacity_cmd.specs.Input.{content_of_rows, content_in};
 ghost use Rattle.capacity_cmd.specs.InputSoFar.{accepted_in, tables_so_far, accepted_so_far};
 ghost use Rattle.capacity_cmd.specs.InputSoFar.{after_one_more, IsWithin, IsNothing};
 ghost use Rattle.capacity_cmd.specs.InputSoFar.{TakesLine, TakesRow, TakesEach, TakesRows};
+ghost use Rattle.capacity_cmd.specs.InputSoFar.{refusal_of, IsFormFault};
 ghost use Rattle.capacity_cmd.specs.ReadAhead.{IsBatch, TakesLines};
 ghost use Rattle.capacity_cmd.specs.Stopped.{Gives};
 
@@ -18,9 +20,9 @@ use crate::script_rows::ScriptRows;
 use crate::stopped::Stopped;
 use line_tables::LineTables;
 use plan_model::Task;
-use rail_model::{Edit, Form, OutOfMemory};
+use rail_model::{Edit, Form, Item, Kind, Name, OutOfMemory, Rule};
 use rayon::current_num_threads;
-use row_text::{Line, RowList};
+use row_text::{Line, RowList, Unread, Word};
 use std::alloc::Global;
 use std::thread::{Threads, join};
 
@@ -71,17 +73,70 @@ impl BaseSoFar {
             ≡ after_one_more row (tables_so_far self.old) edit) }
         ensures edits { OnOk result (self.new.edits ≡ self.old.edits + 1) }
     {
-        self.edits += 1;
-        if self.refused.is_some() {
-            return Ok(());
+        match edit {
+            Edit::Put(item) => self.put(row, item),
+            Edit::Change(item) => self.change(row, item),
+            Edit::Drop(kind, name) => {
+                self.drop_named(row, kind, &name);
+                Ok(())
+            }
         }
-        if let Err(rule) = self.tables.take(edit)? {
-            self.refused = Some(Refusal {
-                row,
-                cause: Cause::Rule(rule),
-            });
+    }
+
+    #[inline]
+    fn put(&mut self, row: u64, item: Item) -> Result<(), OutOfMemory>
+        requires { self.old.edits < 2 ^ 64 - 1 }
+        ensures tables { OnOk result (tables_so_far self.new
+            ≡ after_one_more row (tables_so_far self.old) (edits.Put item)) }
+        ensures edits { OnOk result (self.new.edits ≡ self.old.edits + 1) }
+    {
+        self.edits += 1;
+        if self.refused.is_none() {
+            let answer = self.tables.put(item)?;
+            self.refused = refusal_of(row, answer);
         }
         Ok(())
+    }
+
+    #[inline]
+    fn change(&mut self, row: u64, item: Item) -> Result<(), OutOfMemory>
+        requires { self.old.edits < 2 ^ 64 - 1 }
+        ensures tables { OnOk result (tables_so_far self.new
+            ≡ after_one_more row (tables_so_far self.old) (edits.Change item)) }
+        ensures edits { OnOk result (self.new.edits ≡ self.old.edits + 1) }
+    {
+        self.edits += 1;
+        if self.refused.is_none() {
+            let answer = self.tables.change(item)?;
+            self.refused = refusal_of(row, answer);
+        }
+        Ok(())
+    }
+
+    #[inline]
+    fn drop_named(&mut self, row: u64, kind: Kind, name: &Name)
+        requires { self.old.edits < 2 ^ 64 - 1 }
+        ensures tables { tables_so_far self.new
+            ≡ after_one_more row (tables_so_far self.old) (edits.Drop kind name.now) }
+        ensures edits { self.new.edits ≡ self.old.edits + 1 }
+    {
+        self.edits += 1;
+        if self.refused.is_none() {
+            self.refused = refusal_of(row, self.tables.drop_named(kind, name));
+        }
+    }
+}
+
+// The refusal of the edit in a row, if a rule refuses it.
+fn refusal_of(row: u64, answer: Result<(), Rule>) -> Option<Refusal>
+    ensures { result ≡ refusal_of row answer }
+{
+    match answer {
+        Ok(()) => None,
+        Err(rule) => Some(Refusal {
+            row,
+            cause: Cause::Rule(rule),
+        }),
     }
 }
 
@@ -215,8 +270,40 @@ impl InputSoFar {
         ensures { IfOk result (TakesRow
             planners (i + 1) (read_in version (slice_index_or rows.now i [])) self.old self.new) }
     {
-        let found = rows.line(alloc, version, i)?;
-        self.take_read(planners, i as u64 + 1, found)
+        let number = i as u64 + 1;
+        if !self.scripts.is_empty() {
+            let found = rows.line(alloc, version, i)?;
+            return self.take_read(planners, number, found);
+        }
+        let row = rows.get(i);
+        match row.does() {
+            Ok(Word::Put(kind)) => match row.item(alloc, version, kind) {
+                Ok(item) => {
+                    self.base.put(number, item)?;
+                    Ok(None)
+                }
+                Err(why) => form_fault(why),
+            },
+            Ok(Word::Change(kind)) => match row.item(alloc, version, kind) {
+                Ok(item) => {
+                    self.base.change(number, item)?;
+                    Ok(None)
+                }
+                Err(why) => form_fault(why),
+            },
+            Ok(Word::Drop(kind)) => match row.name() {
+                Ok(name) => {
+                    self.base.drop_named(number, kind, &name);
+                    Ok(None)
+                }
+                Err(form) => Ok(Some(Cause::Form(form))),
+            },
+            Ok(Word::Ask) | Ok(Word::Planner) => {
+                let found = rows.line(alloc, version, i)?;
+                self.take_read(planners, number, found)
+            }
+            Err(form) => Ok(Some(Cause::Form(form))),
+        }
     }
 
     // Takes the line that a row was read as, unless the row has a fault.
@@ -280,5 +367,15 @@ impl InputSoFar {
                 scripts,
             }),
         }
+    }
+}
+
+// Why a row is not taken whose item is not read.
+fn form_fault(why: Unread) -> Result<Option<Cause>, OutOfMemory>
+    ensures { IsFormFault why result }
+{
+    match why {
+        Unread::Fault(form) => Ok(Some(Cause::Form(form))),
+        Unread::OutOfMemory => Err(OutOfMemory),
     }
 }

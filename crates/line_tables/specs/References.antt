@@ -2,12 +2,10 @@
 use Rattle.std.specs.Prelude.{ℕ, List, if◌then◌else◌, not, nat_lt, Option, Some, None, ⊤}
 use Rattle.rail_model.specs.declared.items.Item.{Item}
 use Rattle.rail_model.specs.declared.items.Item.TheVariants as item
-use Rattle.rail_model.specs.declared.edit.Edit.{Edit}
-use Rattle.rail_model.specs.declared.edit.Edit.TheVariants as edit
 use Rattle.rail_model.specs.declared.edit.Rule.{Rule}
 use Rattle.rail_model.specs.declared.edit.Rule.TheVariants.{Range, Limit, Unknown, Twice, Count, InUse}
 use Rattle.rail_model.specs.declared.tables.Tables.{Tables}
-use Rattle.rail_model.specs.Rules.{is_taken, is_full, refers_to_known, repeats, miscounts_legs, rule_of_put, rule_of_change, rule_of_drop}
+use Rattle.rail_model.specs.Rules.{is_taken, is_full, refers_to_known, repeats, miscounts_legs, rule_of_put, rule_of_change}
 use Rattle.rail_model.specs.Within.{is_within}
 use Rattle.line_tables.specs.KeyCounts.{count_of}
 
@@ -48,8 +46,8 @@ abbrev pub rule_of_key : List ℕ → Option ℕ → Option Rule
 rule_of_key uses None = Some Unknown
 rule_of_key uses (Some k) = if nat_lt 0 (count_of uses k) then Some InUse else None
 
--- the rule of an edit that is told before it is made: what a route refers to is looked up when it is put or changed, and a
--- signal and its block when the signal is changed
+-- the rule that is told before an item is put or changed: what a route refers to is looked up when it is put or changed,
+-- and a signal and its block when the signal is changed
 abbrev pub rule_before_put : Tables → Item → Option Rule
 rule_before_put tables (item.Block b) = rule_of_put tables (item.Block b)
 rule_before_put tables (item.Signal s) = rule_of_put tables (item.Signal s)
@@ -65,8 +63,3 @@ rule_before_change tables (item.Route r) = if not (is_within (item.Route r)) the
 rule_before_change tables (item.Run r) = rule_of_change tables (item.Run r)
 rule_before_change tables (item.Section s) = rule_of_change tables (item.Section s)
 rule_before_change tables (item.Connection c) = rule_of_change tables (item.Connection c)
-
-abbrev pub rule_before : Tables → Edit → Option Rule
-rule_before tables (edit.Put x) = rule_before_put tables x
-rule_before tables (edit.Change x) = rule_before_change tables x
-rule_before tables (edit.Drop k n) = rule_of_drop tables k n

@@ -1,8 +1,9 @@
 //! Edits of the tables.
-ghost use Rattle.std.specs.Prelude.{◌≡◌, Some, None, OnOk, OnErr, IfOk, IfErr};
+ghost use Rattle.std.specs.Prelude.{◌≡◌, Ok, Some, None, OnOk, OnErr, IfOk, IfErr};
+ghost use Rattle.rail_model.specs.declared.edit.Edit.TheVariants as edit;
 ghost use Rattle.rail_model.specs.Rules.{rule_of, rule_of_put, rule_of_change, rule_of_drop, after, after_put, after_change, after_drop};
 ghost use Rattle.line_tables.specs.AnswersEdit.{AnswersEdit};
-ghost use Rattle.line_tables.specs.References.{rule_before, rule_before_put, rule_before_change};
+ghost use Rattle.line_tables.specs.References.{rule_before_put, rule_before_change};
 
 use crate::LineTables;
 use rail_model::{Edit, Item, Kind, Name, OutOfMemory, Rule};
@@ -31,29 +32,50 @@ impl LineTables {
         ensures kept { IfOk result (λ answer. OnErr answer (self.new ≡ self.old)) }
         ensures kept_without_memory { OnErr result (self.new ≡ self.old) }
     {
-        if let Some(rule) = self.rule_before(&edit)? {
-            // One call lets the edit go, whatever it holds.
-            drop(edit);
-            return Ok(Err(rule));
+        match edit {
+            Edit::Put(item) => self.put(item),
+            Edit::Change(item) => self.change(item),
+            Edit::Drop(kind, name) => Ok(self.drop_named(kind, &name)),
         }
-        self.make(edit)
     }
 
-    // Makes an edit that no rule refuses, save one of what a put or changed route refers to, or of
-    // a changed signal and its block: that is told here.
-    fn make(&mut self, edit: Edit) -> Result<Result<(), Rule>, OutOfMemory>
-        requires { rule_before self.old edit ≡ None }
-        ensures { AnswersEdit (rule_of self.old edit) (after self.old edit)
+    /// Puts an item, which moves into the tables, as the edit does that puts it.
+    #[inline]
+    pub fn put(&mut self, item: Item) -> Result<Result<(), Rule>, OutOfMemory>
+        ensures { AnswersEdit (rule_of self.old (edit.Put item)) (after self.old (edit.Put item))
             result self.old self.new }
     {
-        match edit {
-            Edit::Put(item) => self.add(item),
-            Edit::Change(item) => self.replace(item),
-            Edit::Drop(kind, name) => {
-                self.remove(kind, &name);
-                Ok(Ok(()))
-            }
+        if let Some(rule) = self.rule_before_put(&item)? {
+            // One call lets the item go, whatever it holds.
+            drop(item);
+            return Ok(Err(rule));
         }
+        self.add(item)
+    }
+
+    /// Changes an item, which moves into the tables, as the edit does that changes it.
+    #[inline]
+    pub fn change(&mut self, item: Item) -> Result<Result<(), Rule>, OutOfMemory>
+        ensures { AnswersEdit (rule_of self.old (edit.Change item)) (after self.old (edit.Change item))
+            result self.old self.new }
+    {
+        if let Some(rule) = self.rule_before_change(&item)? {
+            drop(item);
+            return Ok(Err(rule));
+        }
+        self.replace(item)
+    }
+
+    /// Drops the item of a kind and a name, as the edit does that drops it.
+    pub fn drop_named(&mut self, kind: Kind, name: &Name) -> Result<(), Rule>
+        ensures { AnswersEdit (rule_of self.old (edit.Drop kind name.now))
+            (after self.old (edit.Drop kind name.now)) (Ok result) self.old self.new }
+    {
+        if let Some(rule) = self.rule_of_drop(kind, name) {
+            return Err(rule);
+        }
+        self.remove(kind, name);
+        Ok(())
     }
 
     fn add(&mut self, item: Item) -> Result<Result<(), Rule>, OutOfMemory>

@@ -6,7 +6,7 @@ ghost use Rattle.rail_model.specs.Tables.{route_named};
 ghost use Rattle.rail_model.specs.declared.edit.Rule.TheVariants as rule;
 ghost use Rattle.rail_model.specs.Rules as rules;
 ghost use Rattle.line_tables.specs.References.{IsNoRoute, rule_of_item, rule_of_references, rule_of_parts, rule_of_key};
-ghost use Rattle.line_tables.specs.References.{rule_before_put, rule_before_change, rule_before};
+ghost use Rattle.line_tables.specs.References.{rule_before_put, rule_before_change};
 ghost use Rattle.rail_model.specs.Rules.{IsSound};
 
 use crate::LineTables;
@@ -14,24 +14,14 @@ use crate::key_counts::KeyCounts;
 use crate::key_set::repeats;
 use crate::linked::known_keys;
 use rail_model::{
-    BLOCKS, CONNECTIONS, Connection, Edit, Item, Kind, Name, OutOfMemory, ROUTES, RUNS, Route,
-    Rule, Run, SECTIONS, SIGNALS, Section, is_within,
+    BLOCKS, CONNECTIONS, Connection, Item, Kind, Name, OutOfMemory, ROUTES, RUNS, Route, Rule, Run,
+    SECTIONS, SIGNALS, Section, is_within,
 };
 
 impl LineTables {
-    // The first rule that refuses an edit, if one does, but for what a put or changed route refers
-    // to, and for a changed signal and its block: they are looked up when the edit is made.
-    pub(crate) fn rule_before(&self, edit: &Edit) -> Result<Option<Rule>, OutOfMemory>
-        ensures { IfOk result (λ rule. rule ≡ rule_before self.now edit.now) }
-    {
-        match edit {
-            Edit::Put(item) => self.rule_before_put(item),
-            Edit::Change(item) => self.rule_before_change(item),
-            Edit::Drop(kind, name) => Ok(self.rule_of_drop(*kind, name)),
-        }
-    }
-
-    fn rule_before_put(&self, item: &Item) -> Result<Option<Rule>, OutOfMemory>
+    // The first rule that refuses to put an item, if one does, but for what a route refers to: that is
+    // looked up when the route is put.
+    pub(crate) fn rule_before_put(&self, item: &Item) -> Result<Option<Rule>, OutOfMemory>
         ensures { IfOk result (λ rule. rule ≡ rule_before_put self.now item.now) }
     {
         match item {
@@ -44,7 +34,9 @@ impl LineTables {
         }
     }
 
-    fn rule_before_change(&self, item: &Item) -> Result<Option<Rule>, OutOfMemory>
+    // The first rule that refuses to change an item, if one does, but for a signal and its block, and
+    // for what a route refers to: they are looked up when the item is changed.
+    pub(crate) fn rule_before_change(&self, item: &Item) -> Result<Option<Rule>, OutOfMemory>
         ensures { IfOk result (λ rule. rule ≡ rule_before_change self.now item.now) }
     {
         match item {
@@ -97,7 +89,7 @@ impl LineTables {
         self.rule_of_parts(item)
     }
 
-    fn rule_of_drop(&self, kind: Kind, name: &Name) -> Option<Rule>
+    pub(crate) fn rule_of_drop(&self, kind: Kind, name: &Name) -> Option<Rule>
         ensures { result ≡ rules.rule_of_drop self.now kind name.now }
     {
         match kind {

@@ -33,6 +33,7 @@ pub(crate) fn item_of(
 }
 
 // block,NAME,LENGTH
+#[inline(never)]
 fn block_of(row: &Row<'_>) -> Result<Item, Unread>
     requires { 2 < length row.now }
     ensures { Reads result (item_in 1 kind.Block row.now) }
@@ -43,6 +44,7 @@ fn block_of(row: &Row<'_>) -> Result<Item, Unread>
 }
 
 // signal,NAME,BLOCK,APPROACH,WATCH,FORM,OVERLAP,RELEASE
+#[inline(never)]
 fn signal_of(row: &Row<'_>) -> Result<Item, Unread>
     requires { 7 < length row.now }
     ensures { Reads result (item_in 1 kind.Signal row.now) }
@@ -66,6 +68,7 @@ fn signal_of(row: &Row<'_>) -> Result<Item, Unread>
 }
 
 // route,NAME,SIGNAL_1,..,SIGNAL_n
+#[inline(never)]
 fn route_of(alloc: Global, row: &Row<'_>) -> Result<Item, Unread>
     requires { IsTrue (allows (kind_shape kind.Route) (length row.now)) }
     ensures { Reads result (item_in 1 kind.Route row.now) }
@@ -78,6 +81,7 @@ fn route_of(alloc: Global, row: &Row<'_>) -> Result<Item, Unread>
 // run,NAME,ROUTE,LENGTH,TAIL,START,RUNNING_1,DWELL_1,..,RUNNING_n, or in version 2
 // run,NAME,ROUTE,LENGTH,TAIL,D_0,A_1,D_1,..,A_n: the departure at the start, and each arrival and
 // departure after it
+#[inline(never)]
 fn run_of(alloc: Global, version: u32, row: &Row<'_>) -> Result<Item, Unread>
     requires { IsTrue (allows (kind_shape kind.Run) (length row.now)) }
     ensures { Reads result (item_in version kind.Run row.now) }
@@ -99,6 +103,7 @@ fn run_of(alloc: Global, version: u32, row: &Row<'_>) -> Result<Item, Unread>
 }
 
 // section,NAME,FROM,TO,RATE,BLOCK_1,..,BLOCK_n
+#[inline(never)]
 fn section_of(alloc: Global, version: u32, row: &Row<'_>) -> Result<Item, Unread>
     requires { IsTrue (allows (kind_shape kind.Section) (length row.now)) }
     ensures { Reads result (item_in version kind.Section row.now) }
@@ -118,6 +123,7 @@ fn section_of(alloc: Global, version: u32, row: &Row<'_>) -> Result<Item, Unread
 }
 
 // connect,NAME,FIRST,SECOND,MINIMUM
+#[inline(never)]
 fn connection_of(row: &Row<'_>) -> Result<Item, Unread>
     requires { 4 < length row.now }
     ensures { Reads result (item_in 1 kind.Connection row.now) }

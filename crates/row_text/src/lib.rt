@@ -56,6 +56,7 @@ pub use row_list::{RowList, rows};
 pub use sheet::Sheet;
 pub use text::Text;
 pub use time_text::GREATEST_CLOCK_S;
+pub use unread::Unread;
 pub use word::{Word, word_of};
 pub use write_field::Field;
 pub use written::Written;

@@ -1,15 +1,16 @@
 //! Rows to lines.
-ghost use Rattle.std.specs.Prelude.{◌≡◌, length, IfOk, IsTrue};
+ghost use Rattle.std.specs.Prelude.{◌≡◌, ℕ, ◌<◌, length, IfOk, IsTrue};
 ghost use Rattle.row_text.specs.Words as words;
 ghost use Rattle.row_text.specs.Lines as lines;
-ghost use Rattle.row_text.specs.Reads.{Reads};
+ghost use Rattle.row_text.specs.SheetRows.{field};
+ghost use Rattle.row_text.specs.Reads.{Reads, SpellsBy};
 
 use crate::fields::{Fields, Row};
 use crate::item_row::item_of;
 use crate::read_field::{name_at, number_at};
 use crate::unread::Unread;
 use crate::word::{Word, word_of};
-use rail_model::{Edit, Form, Name, OutOfMemory};
+use rail_model::{Edit, Form, Item, Kind, Name, OutOfMemory};
 use std::alloc::Global;
 
 /// What a row of a planner's text says.
@@ -61,13 +62,45 @@ pub(crate) fn read_line(
 fn line_in(alloc: Global, version: u32, row: &Row<'_>) -> Result<Line, Unread>
     ensures { Reads result (lines.read_in version row.now) }
 {
-    let Some(word) = word_of(row.word()) else {
-        return Err(Unread::Fault(Form::Kind));
-    };
-    if !word.allows(row.len()) {
-        return Err(Unread::Fault(Form::Fields));
-    }
+    let word = row.does()?;
     line_of(alloc, version, word, row)
+}
+
+// What one row says in parts, for who takes them at once: so no line is made of them.
+impl<'a> Row<'a> {
+    /// What the row does, by its word; or its fault, where it has no word or a number of fields that
+    /// the word doesn't allow.
+    pub fn does(&self) -> Result<Word, Form>
+        ensures line { (version : ℕ) → SpellsBy version self.now result }
+        ensures fields { IfOk result (λ w. IsTrue (words.allows (words.shape_of w) (length self.now))) }
+    {
+        let Some(word) = word_of(self.word()) else {
+            return Err(Form::Kind);
+        };
+        if !word.allows(self.len()) {
+            return Err(Form::Fields);
+        }
+        Ok(word)
+    }
+
+    /// The item of a kind that the row puts or changes in a version of the rows, or the first fault
+    /// of its fields.
+    #[inline]
+    pub fn item(&self, alloc: Global, version: u32, kind: Kind) -> Result<Item, Unread>
+        requires { IsTrue (words.allows (words.kind_shape kind) (length self.now)) }
+        ensures { Reads result (lines.item_in version kind self.now) }
+    {
+        item_of(alloc, version, kind, self)
+    }
+
+    /// The name that the row drops or asks for, or the fault of its field.
+    #[inline]
+    pub fn name(&self) -> Result<Name, Form>
+        requires { 1 < length self.now }
+        ensures { result ≡ words.name_in (field self.now 1) }
+    {
+        name_at(self, 1)
+    }
 }
 
 // The line of a row of a word.

@@ -2,10 +2,12 @@
 use rail_model::{Form, OutOfMemory};
 use std::alloc::{AllocError, AllocFailed};
 
-// Why a row or a part of it is not read.
+/// Why a row or a part of it is not read.
 #[derive(Clone, Copy)]
-pub(crate) enum Unread {
+pub enum Unread {
+    /// It has a fault of its form.
     Fault(Form),
+    /// Memory ran out.
     OutOfMemory,
 }
 

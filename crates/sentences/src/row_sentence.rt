@@ -5,7 +5,7 @@ ghost use Rattle.sentences.specs.Told.{IsOfRow, of_row};
 
 use crate::Told;
 use crate::form_sentence::form_sentence;
-use crate::line_number::line_of;
+use crate::line_number::{has_only_rows, line_of};
 use crate::piece::Added;
 use crate::row_at::RowAt;
 use crate::rule_sentence::rule_sentence;
@@ -36,7 +36,12 @@ pub fn told_of_row(
 ) -> Told
     ensures { IsOfRow number result }
 {
-    Told::of(row_text(alloc, rows, number, line_of(input, number), fault))
+    let line = if has_only_rows(input, rows.len()) {
+        None
+    } else {
+        line_of(input, number)
+    };
+    Told::of(row_text(alloc, rows, number, line, fault))
 }
 
 fn row_text(
