@@ -149,6 +149,14 @@ base_taken planners row e made base none tables edits = λ first s holds at.
       },
     )
 
+-- the same of a row that spells such an edit
+pub base_row_taken : (planners row : ℕ) (read : Result Line Form) (e : Edit) (made : InputSoFar) (base : BaseSoFar) → read ≡ Ok (line.Edit e)
+    → length made.scripts ≡ 0 → tables_so_far base ≡ after_one_more row (tables_so_far made.base) e → base.edits ≡ made.base.edits + 1
+    → TakesRow planners row read made (record made { base = base }) None
+base_row_taken planners row read e made base is none tables edits =
+    subst (λ r. TakesRow planners row r made (record made { base = base }) None) (sym is)
+    (base_taken planners row e made base none tables edits)
+
 -- ---- how far a spelling grows by one line
 
 record Grows (planners : ℕ) (s next : Spelling) : Type 0 where

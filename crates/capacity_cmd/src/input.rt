@@ -14,7 +14,7 @@ ghost use Rattle.capacity_cmd.specs.Stopped.{Gives};
 
 use crate::Cause;
 use crate::accepted::Accepted;
-use crate::lines::{are_many, lines_from};
+use crate::lines::{lines_from, pays_to_read_ahead};
 use crate::refusal::Refusal;
 use crate::script_rows::ScriptRows;
 use crate::stopped::Stopped;
@@ -149,8 +149,8 @@ struct InputSoFar {
 }
 
 impl InputSoFar {
-    // Takes all rows, up to the first that has a fault. Where they are many and there are several
-    // processors, other threads read the next of them while some are taken.
+    // Takes all rows, up to the first that has a fault. Where there are several processors, and it
+    // pays, other threads read the next of them while some are taken.
     fn take_rows(
         mut self,
         rt: &(impl Threads + Sync),
@@ -163,7 +163,7 @@ impl InputSoFar {
         ensures { TakesRows
             planners (length rows.now) (content_in planners (Ok version) rows.now) result }
     {
-        if are_many(rows) && current_num_threads(rt) > 1 {
+        if pays_to_read_ahead(rows) && current_num_threads(rt) > 1 {
             return self.take_while_reading(rt, alloc, planners, rows, version);
         }
         self.take_each(alloc, planners, rows, version)?;
@@ -255,7 +255,8 @@ impl InputSoFar {
         Ok(self)
     }
 
-    // Takes the row at a place, unless it has a fault.
+    // Takes the row at a place, unless it has a fault. A base edit is taken in parts, so that no line
+    // is made and moved for it.
     fn take_row(
         &mut self,
         alloc: Global,

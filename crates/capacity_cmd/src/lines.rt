@@ -26,9 +26,9 @@ const NAME_BYTES: usize = 72;
 // How many rows are looked at, here and there, to see what most are.
 const LOOKED_AT: usize = 64;
 
-// Whether the rows are more than are read at once, and it pays to read ahead. No clause says so: read
-// ahead or not, they say the same.
-pub(crate) fn are_many(rows: &RowList<'_>) -> bool {
+// Whether it pays to read rows ahead: they are more than are read at once, and mostly of runs. No
+// clause says so: read ahead or not, they say the same.
+pub(crate) fn pays_to_read_ahead(rows: &RowList<'_>) -> bool {
     let first = rows.first_line();
     first < rows.len() && end_of_batch(rows, first) < rows.len() && are_mostly_runs(rows)
 }
@@ -52,7 +52,11 @@ fn are_mostly_runs(rows: &RowList<'_>) -> bool {
 
 // Whether a row is of a run.
 fn is_run(row: &Row<'_>) -> bool {
-    !row.is_empty() && row.get(0) == b"run".as_slice()
+    if row.is_empty() {
+        return false;
+    }
+    let word = row.get(0);
+    word == b"run".as_slice() || word == b"change-run".as_slice()
 }
 
 // The lines of the rows from a place on that are read at once, at least one where one is left. As
