@@ -46,6 +46,7 @@ CASES = [
     ("hard-falling", "stairs", "make_hard falling", "names in falling order"),
     ("hard-changes", "stairs", "make_hard changes", "500,000 changes of a signal of 4,096 routes"),
     ("hard-moves", "stairs", "make_hard moves", "400,000 changes of its block"),
+    ("hard-names", "stairs", "make_hard names", "300,000 blocks put and dropped, the last row refused"),
     ("report-32", "report", "make_session mid base", "32 sections of 500 trains and 128 blocks"),
     ("compress", "compress q00", "make_session mid base", "one of them"),
     ("headways", "headways q00", "make_session mid base", "the same"),

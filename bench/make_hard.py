@@ -1,10 +1,11 @@
 #!/usr/bin/env python3
-"""Writes a hard input: make_hard.py together | falling | changes | moves
+"""Writes a hard input: make_hard.py together | falling | changes | moves | names
 
 together: 2,048 runs over the same 256 blocks, all at one moment.
 falling: 4,096 blocks, 8,192 signals and 4,096 routes, names in falling order.
 changes: 500,000 changes of one signal that 4,096 routes list; its block stays.
-moves: 400,000 changes of it, each to the other of two blocks."""
+moves: 400,000 changes of it, each to the other of two blocks.
+names: 300,000 blocks, each put and dropped again; the last row is refused."""
 import sys
 
 
@@ -49,6 +50,13 @@ def moves():
         yield "change-signal,S0,B%d,1000,10,5,0,5" % (3 * (k % 2))
 
 
-KINDS = {"together": together, "falling": falling, "changes": changes, "moves": moves}
+def names():
+    for k in range(300_000):
+        yield "block,block-%07d,1000" % (k * 7919 % 10_000_000)
+        yield "drop-block,block-%07d" % (k * 7919 % 10_000_000)
+    yield "block,last,0"
+
+
+KINDS = {"together": together, "falling": falling, "changes": changes, "moves": moves, "names": names}
 
 sys.stdout.writelines(row + "\n" for row in KINDS[sys.argv[1]]())
