@@ -9,49 +9,47 @@ use Rattle.capacity_cmd.specs.declared.command.Command.TheVariants as command
 use Rattle.capacity_cmd.specs.Command.{are_delays, delays_of, IsRead, command_of, short_command_of, workers_asked}
 use Rattle.capacity_cmd.proofs.GivenDelays.{rest}
 
-pub none_read : (E : Type 0) (found : Option Command) → found ≡ None → IsRead {E = E} found None
-none_read E None is = refl
-none_read E (Some command) is = absurd (cc)
-
 -- words that spell no delays spell what short words spell
 or_short : (test are : Bool) (delays short : Option Command) → are ≡ false → (if test && are then delays else short) ≡ short
 or_short true are delays short is = rw is refl
 or_short false are delays short is = refl
 
-pub none_of_few : {X : Type 0} (f : X → List ℕ) (words : List X) (read : Option Command) → read ≡ short_command_of (map f words)
-    → read ≡ None → length words < 2 → command_of (map f words) ≡ None
-none_of_few f [] read short none few = sym short ∙ none
-none_of_few f (word ∷ []) read short none few = sym short ∙ none
-none_of_few f (word ∷ section ∷ given) read short none few = absurd (omega (arith, few))
+pub few_are_short : {X : Type 0} (f : X → List ℕ) (words : List X) → length words < 2
+    → command_of (map f words) ≡ short_command_of (map f words)
+few_are_short f [] few = refl
+few_are_short f (word ∷ []) few = refl
+few_are_short f (word ∷ section ∷ given) few = absurd (omega (arith, few))
 
-pub none_of_others : {X : Type 0} (f : X → List ℕ) (words : List X) (read : Option Command)
-    → read ≡ short_command_of (map f words) → read ≡ None → are_delays (map f (rest words)) ≡ false
-    → command_of (map f words) ≡ None
-none_of_others f [] read short none others = sym short ∙ none
-none_of_others f (word ∷ []) read short none others = sym short ∙ none
-none_of_others {X = X} f (word ∷ section ∷ given) read short none others =
+pub others_are_short : {X : Type 0} (f : X → List ℕ) (words : List X) → are_delays (map f (rest words)) ≡ false
+    → command_of (map f words) ≡ short_command_of (map f words)
+others_are_short f [] others = refl
+others_are_short f (word ∷ []) others = refl
+others_are_short {X = X} f (word ∷ section ∷ given) others =
     let all : rest (word ∷ section ∷ given) ≡ given = take_all _ given (omega arith) in
     or_short (is_same (f word) (codes "delays")) (are_delays (map f given)) _ _
     (ap (λ (more : List X). are_delays (map f more)) (sym all) ∙ others)
-    ∙ sym short ∙ none
 
-pub read_none : {E : Type 0} (found : Option Command) (read : Option (Result Command E)) → IsRead found read → read ≡ None
+-- what short words spell is read of them
+pub read_short : (E : Type 0) (found short : Option Command) → found ≡ short → IsRead {E = E} found (Ok short)
+read_short E None short is = ap Ok (sym is)
+read_short E (Some command) short is = sym is
+
+pub read_none : {E : Type 0} (found : Option Command) (read : Result (Option Command) E) → IsRead found read → read ≡ Ok None
     → found ≡ None
 read_none None read h is = refl
-read_none (Some command) None h is = absurd h
-read_none (Some command) (Some made) h is = absurd (cc)
+read_none (Some command) (Ok made) h is = absurd (cc)
+read_none (Some command) (Err why) h is = absurd (cc)
 
-pub read_some : {E : Type 0} (found : Option Command) (read : Option (Result Command E)) (made : Result Command E)
-    → IsRead found read → read ≡ Some made → (command : Command) × (found ≡ Some command)
-read_some None read made h is = let it : None ≡ Some made = sym h ∙ is in absurd (cc)
-read_some (Some command) read made h is = (command, refl)
+pub read_some : {E : Type 0} (found : Option Command) (read : Result (Option Command) E) (why : E) → IsRead found read
+    → read ≡ Err why → (command : Command) × (found ≡ Some command)
+read_some None read why h is = let it : Ok None ≡ Err why = sym h ∙ is in absurd (cc)
+read_some (Some command) read why h is = (command, refl)
 
-pub read_command : {E : Type 0} (found : Option Command) (read : Option (Result Command E)) (command : Command)
-    → IsRead found read → read ≡ Some (Ok command) → found ≡ Some command
-read_command None read command h is = let it : None ≡ Some (Ok command) = sym h ∙ is in absurd (cc)
-read_command (Some c) None command h is = absurd h
-read_command (Some c) (Some (Ok made)) command h is = let same : made ≡ command = cc in ap Some (sym h ∙ same)
-read_command (Some c) (Some (Err why)) command h is = absurd (cc)
+pub read_command : {E : Type 0} (found : Option Command) (read : Result (Option Command) E) (command : Command)
+    → IsRead found read → read ≡ Ok (Some command) → found ≡ Some command
+read_command None read command h is = let it : Ok None ≡ Ok (Some command) = sym h ∙ is in absurd (cc)
+read_command (Some c) (Ok made) command h is = cc
+read_command (Some c) (Err why) command h is = absurd (cc)
 
 -- ---- how many workers words ask for
 

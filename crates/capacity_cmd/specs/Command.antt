@@ -1,5 +1,5 @@
 -- Which command the words of a call spell.
-use Rattle.std.specs.Prelude.{ℕ, ◌+◌, ◌*◌, ◌/◌, Bool, true, false, not, ◌&&◌, ◌||◌, nat_lt, nat_le, if◌then◌else◌, List, [], ◌∷◌, length, map, slice_index_or, Option, Some, None, is_some, unwrap_or, option_map, ◌≡◌, codes, Result, IfOk}
+use Rattle.std.specs.Prelude.{ℕ, ◌+◌, ◌*◌, ◌/◌, Bool, true, false, not, ◌&&◌, ◌||◌, nat_lt, nat_le, if◌then◌else◌, List, [], ◌∷◌, length, map, slice_index_or, Option, Some, None, is_some, unwrap_or, option_map, ◌≡◌, codes, Result, Ok, IfOk}
 use Rattle.std.specs.List.{range_with_len}
 use Rattle.rail_model.specs.Name.{is_same, name_of}
 use Rattle.row_text.specs.Words.{number_of, value_of, is_number}
@@ -82,10 +82,9 @@ command_of (word ∷ section ∷ given) =
 command_of words = short_command_of words
 
 -- a command is read, or memory ran out for it; where there is none, none is read
-abbrev pub IsRead : {E : Type 0} → Option Command → Option (Result Command E) → Type 0
-IsRead None read = read ≡ None
-IsRead (Some command) None = ⊥
-IsRead (Some command) (Some made) = IfOk made (λ c. c ≡ command)
+abbrev pub IsRead : {E : Type 0} → Option Command → Result (Option Command) E → Type 0
+IsRead None read = read ≡ Ok None
+IsRead (Some command) read = IfOk read (λ made. made ≡ Some command)
 
 -- how many workers a command has: a session as many as are asked for, any other none
 abbrev pub workers_of : Command → ℕ

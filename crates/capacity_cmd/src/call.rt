@@ -178,12 +178,12 @@ fn run_spelled_alone<R: AllocGlobal + Threads + Sync, S: Source, K: Sink>(
         (sink_call K.taken K.written K.flushed K.faults sink.old sink.new) }
 {
     match command_of(rt.alloc(), words) {
-        None => {
+        Ok(None) => {
             *told = told_of_words(rt.alloc(), words);
             Status::BadWords
         }
-        Some(Err(OutOfMemory)) => Status::OutOfMemory,
-        Some(Ok(command)) => run_command(rt, &command, source, sink, told),
+        Ok(Some(command)) => run_command(rt, &command, source, sink, told),
+        Err(OutOfMemory) => Status::OutOfMemory,
     }
 }
 

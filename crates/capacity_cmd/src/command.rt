@@ -73,19 +73,17 @@ impl Command {
     }
 }
 
-// The command that the words spell, if they spell one. It is without a value where memory runs out
-// for it.
-pub(crate) fn command_of(alloc: Global, words: &[String]) -> Option<Result<Command, OutOfMemory>>
+// The command that the words spell, if they spell one. Only for one that they spell memory may run
+// out.
+pub(crate) fn command_of(alloc: Global, words: &[String]) -> Result<Option<Command>, OutOfMemory>
     ensures { IsRead (command_of (map string_bytes words.now)) result }
 {
     match words {
         [word, section, given @ ..] if word.as_str() == "delays" && are_delays(given) => {
-            Some(delays_command(alloc, name_of(section), given))
+            let command = delays_command(alloc, name_of(section), given)?;
+            Ok(Some(command))
         }
-        _ => match short_command_of(words) {
-            Some(command) => Some(Ok(command)),
-            None => None,
-        },
+        _ => Ok(short_command_of(words)),
     }
 }
 

@@ -83,7 +83,7 @@ fn row_sentence(
     let place = number.saturating_sub(1) as usize;
     let version = rows.version().unwrap_or(1);
     let said = said_by(alloc, rows, place)?;
-    let above = if let Fault::Rule(_) = fault { place } else { 0 };
+    let above = if names_others(fault) { place } else { 0 };
     let tables = tables_above(alloc, rows, version, above)?;
     let row = RowAt {
         rows,
@@ -95,6 +95,15 @@ fn row_sentence(
     let mut text = String::new(alloc);
     fault_sentence(&mut text, &row, fault)?;
     Ok(text)
+}
+
+// Whether the sentence on a fault may name what stands above the row: the rows there are then read
+// once more.
+fn names_others(fault: Fault) -> bool {
+    match fault {
+        Fault::Rule(rule) => rule != Rule::Range && rule != Rule::Limit,
+        Fault::Form(_) | Fault::Script { .. } => false,
+    }
 }
 
 fn fault_sentence(text: &mut String, row: &RowAt<'_>, fault: Fault) -> Added {
