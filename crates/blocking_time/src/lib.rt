@@ -7,7 +7,8 @@
 //!
 //! `walk` gives the blockings of all hops at once. It fills a table of marks first, in `course`:
 //! the place of each block's end, and the departure from it. A place is looked for among the
-//! nearest marks, and else by halving. The last stop is carried along.
+//! nearest marks, and else by halving. The last stop is carried along. `stair_on` gives the uses of
+//! some blocks alone.
 //!
 //! ```text
 //! let path = tables.paths()?.path(run)?;
@@ -27,4 +28,4 @@ mod walk;
 pub use approach::approach_moment;
 pub use moments::parts;
 pub use motion::{constant_speed_law, reach, reach_down};
-pub use walk::{Blocking, blockings, stairs};
+pub use walk::{Blocking, blockings, stair_on, stairs};

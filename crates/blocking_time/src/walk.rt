@@ -1,10 +1,10 @@
 //! The blockings of a whole run, in one walk along its path.
 
-ghost use Rattle.std.specs.Prelude.{◌≡◌, ◌≢◌, ◌≤◌, ◌<◌, ◌+◌, ◌-◌, ◌<ℤ◌, IfOk, map, All, AllPairs};
+ghost use Rattle.std.specs.Prelude.{◌≡◌, ◌≢◌, ◌≤◌, ◌<◌, ◌+◌, ◌-◌, ◌<ℤ◌, IfOk, map, All, AllPairs, slice_index_or, false};
 ghost use Rattle.std.specs.List.{range_with_len};
 ghost use Rattle.rail_model.specs.Blocking.{hop as hop_of, hop_count, Fits, stairway as stairway_of, stair_of, use_of};
 ghost use Rattle.blocking_time.specs.Mark.{marks_of, stop_mark};
-ghost use Rattle.blocking_time.specs.Blocking.{blocking_of, IsUseBounded};
+ghost use Rattle.blocking_time.specs.Blocking.{blocking_of, IsUseBounded, stair_on, uses_on};
 
 use crate::motion::{self, Mark};
 use crate::{approach, course, moments};
@@ -85,6 +85,49 @@ fn stairway(alloc: Global, path: &Path) -> Result<List<Use>, OutOfMemory>
         stop = course::next_stop(path, &marks, done + 1, hop, stop);
     }
     Ok(List::from_vec(uses))
+}
+
+/// A run's stair with its uses of some blocks alone: of those for whose numbers `true` stands.
+///
+/// Where few blocks are wanted, it costs much less than `stairs`.
+pub fn stair_on(alloc: Global, path: &Path, wanted: &[bool]) -> Result<Stair, OutOfMemory>
+    requires { Fits path.now }
+    ensures { IfOk result (λ s. s ≡ stair_on wanted.now path.now) }
+{
+    let uses = uses_on(alloc, path, wanted)?;
+    Ok(Stair {
+        run: path.run,
+        uses,
+    })
+}
+
+// The uses of a run's blocks that are wanted, in one walk along its path.
+fn uses_on(alloc: Global, path: &Path, wanted: &[bool]) -> Result<List<Use>, OutOfMemory>
+    requires { Fits path.now }
+    ensures { IfOk result (λ uses. uses ≡ uses_on wanted.now (stairway_of path.now)) }
+{
+    let marks = course::marks(alloc, path)?;
+    let mut stop = approach::no_stop_yet();
+    let mut uses = Vec::new(alloc);
+    for done in 0..path.hops.len() {
+        let hop = motion::hop_at(path, done + 1);
+        if is_wanted(wanted, hop.block) {
+            uses.push(use_in(path, &marks, done + 1, hop, stop))?;
+        }
+        stop = course::next_stop(path, &marks, done + 1, hop, stop);
+    }
+    Ok(List::from_vec(uses))
+}
+
+// Whether `true` stands for a block.
+#[inline]
+fn is_wanted(wanted: &[bool], block: u32) -> bool
+    ensures { result ≡ slice_index_or wanted.now block false }
+{
+    match wanted.get(block as usize) {
+        Some(wanted) => *wanted,
+        None => false,
+    }
 }
 
 // The use of the k-th block, from 1, by the last stop before it.
