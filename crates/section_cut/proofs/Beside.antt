@@ -8,7 +8,8 @@ use Rattle.section_cut.specs.declared.cut_changes.StoredCut.{StoredCut}
 use Rattle.section_cut.specs.declared.reached_runs.ReachedRuns.{ReachedRuns}
 use Rattle.section_cut.specs.Positions.{IsPositions}
 use Rattle.section_cut.specs.Reach.{AreRunsOf}
-use Rattle.section_cut.specs.ReachedRuns.{IsBeside, StayBeside}
+use Rattle.section_cut.specs.ReachedRuns.{StayBeside}
+use Rattle.section_cut.specs.Wanted.{IsBeside}
 use Rattle.section_cut.specs.Stored.{IsStored, IsChangeOfStored}
 use Rattle.section_cut.proofs.SameRuns.{cut_same}
 use Rattle.section_cut.proofs.Stored.{stored_is, stored_section}

@@ -49,6 +49,7 @@ pub mod RowsAfter
 pub mod KeptBlocks
 pub mod PathsStay
 pub mod OneBlock
+pub mod Wanted
 pub mod PassedBy
 mod RowTimes
 mod Whole

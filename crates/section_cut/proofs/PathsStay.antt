@@ -21,13 +21,13 @@ use Rattle.rail_model.specs.declared.path.Path.{Path}
 use Rattle.rail_model.specs.declared.stair.Stair.{Stair}
 use Rattle.rail_model.specs.declared.tables.Tables.{Tables}
 use Rattle.rail_model.specs.Name.{is_same}
-use Rattle.rail_model.specs.Blocking.{stair_of}
 use Rattle.rail_model.specs.Tables.{no_block, no_signal, no_route, no_run, number_of, run_at, block_number, signal_named, route_named, hop_beyond, path_in}
 use Rattle.rail_model.specs.Rules.{with_item, with_changed, after_put, after_change, after}
 use Rattle.rail_model.proofs.NameOrder.{same_name, is_same-from}
 use Rattle.rail_model.proofs.Members.{none_passes}
 use Rattle.section_cut.specs.OneRun.{before, behind}
 use Rattle.section_cut.specs.ReachedRuns.{PutKeepsBlocks, ChangeKeepsBlocks, KeepsBlocks, IsStairIfReached, passes_item, passes, IsTold}
+use Rattle.section_cut.specs.Wanted.{IsStairOf}
 use Rattle.section_cut.proofs.Around.{named_still, put_front, put_back, change_front, change_back}
 
 -- the hops of names and legs, where the names fail a test and hops of such names are the same
@@ -145,14 +145,14 @@ module _ (tables : Tables) (run : Run) where
 
 -- so a run's stair is made where it passes what is edited, and none where it doesn't
 pub stair_told : (earlier later : Tables) (x : Edit) → later ≡ after earlier x → KeepsBlocks x → (told : List Bool) → IsTold (passes later x) later.runs told
-    → (n : ℕ) → n < length later.runs → (b : Bool) → b ≡ get_or told n b → (stair : Option Stair)
-    → stair ≡ cond b (Some (stair_of (path_in later (run_at later n)))) None → IsStairIfReached earlier later (run_at later n) stair
-stair_told earlier later x is keeps told tells n below true e stair own = subst (IsStairIfReached earlier later (run_at later n)) (sym own) refl
-stair_told earlier later x is keeps told tells n below false e stair own =
+    → (block : Option ℕ) (n : ℕ) → n < length later.runs → (its : Stair) → IsStairOf later block (run_at later n) its → (b : Bool) → b ≡ get_or told n b
+    → (stair : Option Stair) → stair ≡ cond b (Some its) None → IsStairIfReached earlier later block (run_at later n) stair
+stair_told earlier later x is keeps told tells block n below its one true e stair own = subst (IsStairIfReached earlier later block (run_at later n)) (sym own) one
+stair_told earlier later x is keeps told tells block n below its one false e stair own =
     let out : passes later x (run_at later n) ≡ false = tells.each n false below (sym e) in
     let Stays : Tables → Type 0 = λ t. passes t x (run_at later n) ≡ false → path_in t (run_at later n) ≡ path_in earlier (run_at later n) in
     let stays = subst Stays (sym is) (stays_after earlier (run_at later n) x keeps) out in
-    subst (IsStairIfReached earlier later (run_at later n)) (sym own) stays
+    subst (IsStairIfReached earlier later block (run_at later n)) (sym own) stays
 
 -- ---- what is told of each run
 

@@ -15,11 +15,10 @@ use Rattle.rail_model.specs.declared.stair.Use.{Use}
 use Rattle.rail_model.specs.declared.path.Path.{Path}
 use Rattle.rail_model.specs.declared.tables.Tables.{Tables}
 use Rattle.rail_model.specs.Name.{is_same}
-use Rattle.rail_model.specs.Blocking.{stairway, stair_of}
+use Rattle.rail_model.specs.Blocking.{stairway}
 use Rattle.rail_model.specs.Tables.{no_run, number_of, run_at, block_name, path_in, last_arrival}
 use Rattle.rail_model.specs.Rules.{IsSound}
 use Rattle.rail_model.proofs.Lists.{map_same}
-use Rattle.rail_model.proofs.Timetables.{used_there}
 use Rattle.plan_model.specs.declared.cut.CutRow.{CutRow}
 use Rattle.plan_model.specs.declared.cut.Cut.{Cut}
 use Rattle.plan_model.specs.Cut.{least, stamped_row, stamped, AreBlocksFirst, use_in_section, section_uses, entry_of, is_member, binds, binding_connections, connection_use, uses_of_connections, row_of, section_cut, cut_of}
@@ -32,10 +31,11 @@ use Rattle.section_cut.specs.Stored.{IsStored, IsChangeOfStored}
 use Rattle.section_cut.specs.RowsAfter.{on_blocks, member_after, AreBeside, AllStay, IsKept, AreRowsAfter, IsOwnOf}
 use Rattle.section_cut.specs.Stamps.{AreBefore, IsReached, IsStamped, IsStampedBy}
 use Rattle.section_cut.specs.ReachedRuns.{IsStairIfReached, AreReachedRuns, IsOwnRow, IsRowAfter, row_after, uses_if_there}
+use Rattle.section_cut.specs.Wanted.{IsStairOf}
 use Rattle.section_cut.specs.Spans.{AreSpans, IsLookedAt, IsSpan, blocks_of, part_of}
 use Rattle.section_cut.specs.declared.spans.BlockRange.{BlockRange}
 use Rattle.section_cut.proofs.BindsBy.{use_by, entry_same}
-use Rattle.section_cut.proofs.MemberRows.{uses_by_table}
+use Rattle.section_cut.proofs.MemberRows.{uses_by_positions}
 use Rattle.section_cut.proofs.OldRows.{row_if, row_at_name, old_row}
 use Rattle.section_cut.proofs.OneRun.{map_one}
 use Rattle.section_cut.proofs.Stored.{stored_names, stored_rows, stored_section}
@@ -59,22 +59,21 @@ uses_by_path earlier later s run names same =
 -- ---- the rows with the next run's
 
 -- a reached stair uses blocks of the tables
-pub reached_uses : (earlier later : Tables) → IsSound later → (n : ℕ) → n < length later.runs → (stair : Option Stair)
-    → IsStairIfReached earlier later (run_at later n) stair → IfSome stair (λ (s : Stair). All (λ (u : Use). u.block < length later.blocks) s.uses)
-reached_uses earlier later sound n below None own = tt
-reached_uses earlier later sound n below (Some stair) own =
-    subst (λ (s : Stair). All (λ (u : Use). u.block < length later.blocks) s.uses) (sym own) (used_there later sound n below)
+reached_uses : (earlier later : Tables) (block : Option ℕ) (run : Run) (stair : Option Stair) → IsStairIfReached earlier later block run stair
+    → IfSome stair (λ (s : Stair). All (λ (u : Use). u.block < length later.blocks) s.uses)
+reached_uses earlier later block run None own = tt
+reached_uses earlier later block run (Some stair) own = own.there
 
 -- the stairs with the next run's
-pub stairs_more : (earlier later : Tables) (stairs more : List (Option Stair)) (run : ℕ) (stair : Option Stair) → more ≡ stairs ++ stair ∷ []
-    → (length stairs ≡ run) × ((n : ℕ) (d : Option Stair) → n < run → IsStairIfReached earlier later (run_at later n) (get_or stairs n d))
-    → IsStairIfReached earlier later (run_at later run) stair
-    → (length more ≡ run + 1) × ((n : ℕ) (d : Option Stair) → n < run + 1 → IsStairIfReached earlier later (run_at later n) (get_or more n d))
-stairs_more earlier later stairs more run stair is so_far own =
+pub stairs_more : (earlier later : Tables) (block : Option ℕ) (stairs more : List (Option Stair)) (run : ℕ) (stair : Option Stair) → more ≡ stairs ++ stair ∷ []
+    → (length stairs ≡ run) × ((n : ℕ) (d : Option Stair) → n < run → IsStairIfReached earlier later block (run_at later n) (get_or stairs n d))
+    → IsStairIfReached earlier later block (run_at later run) stair
+    → (length more ≡ run + 1) × ((n : ℕ) (d : Option Stair) → n < run + 1 → IsStairIfReached earlier later block (run_at later n) (get_or more n d))
+stairs_more earlier later block stairs more run stair is so_far own =
     let long = length-append stairs (stair ∷ []) in (
       omega (arith, ap length is, long, so_far.0),
       λ n d below.
-          let Here : ℕ → Option Stair → Type 0 = λ k o. IsStairIfReached earlier later (run_at later k) o in
+          let Here : ℕ → Option Stair → Type 0 = λ k o. IsStairIfReached earlier later block (run_at later k) o in
           subst (λ (os : List (Option Stair)). Here n (get_or os n d)) (sym is)
           (elim (cases_lt n run) [
             | inl lt ↦ subst (Here n) (sym (get_or-append stairs (stair ∷ []) d n (omega (arith, lt, so_far.0)))) (so_far.1 n d lt)
@@ -148,13 +147,16 @@ module _ {earlier later : Tables} {stairs : List (Option Stair)} {s : Section} {
       before_later old (run_at later n).name at beside.rise reached (run_at later (n + 1)).name
       (beside.later_sound.runs.names n (n + 1) no_run (omega arith) below)
 
+  abbrev block : Option ℕ
+  block = beside.block
+
   module _ (n : ℕ) (below : n < length later.runs) (stair : Option Stair) (its : stair ≡ get_or stairs n stair) where
-    reached_is : IsStairIfReached earlier later (run_at later n) stair
-    reached_is = subst (IsStairIfReached earlier later (run_at later n)) (sym its) (beside.reached.each n stair below)
+    reached_is : IsStairIfReached earlier later block (run_at later n) stair
+    reached_is = subst (IsStairIfReached earlier later block (run_at later n)) (sym its) (beside.reached.each n stair below)
 
     pub stair_uses : IfSome stair (λ (t : Stair). All (λ (u : Use). u.block < length positions) t.uses)
     stair_uses = subst (λ k. IfSome stair (λ (t : Stair). All (λ (u : Use). u.block < k) t.uses)) (sym beside.table.count)
-        (reached_uses earlier later beside.later_sound n below stair reached_is)
+        (reached_uses earlier later block (run_at later n) stair reached_is)
 
     -- the uses that are looked at
     pub uses_looked_at : (spans : List (Option BlockRange)) → AreSpans positions (length s.blocks) (map uses_if_there stairs) spans → (uses : List Use)
@@ -189,9 +191,11 @@ module _ {earlier later : Tables} {stairs : List (Option Stair)} {s : Section} {
     below_earlier = omega (arith, below, ap length beside.reached.same.runs)
 
     -- the run's uses of blocks by its stair, or as before where that isn't reached
-    by_table : uses_in positions (length s.blocks) (stairway (path_in later run)) ≡ section_uses later s run
-    by_table = subst (λ (r : Run). uses_in positions (length s.blocks) (stairway (path_in later r)) ≡ section_uses later s r) same_run
-        (uses_by_table later s beside.later_sound positions beside.table n below)
+    by_table : (t : Stair) → IsStairOf later block (run_at later n) t → uses_in positions (length s.blocks) t.uses ≡ section_uses later s run
+    by_table t is = uses_by_positions later s positions beside.table t.uses is.there ∙ is.uses s beside.touched ∙ ap (section_uses later s) same_run
+
+    its_name : (t : Stair) → IsStairOf later block (run_at later n) t → t.run ≡ run.name
+    its_name t is = is.name ∙ ap (λ (r : Run). r.name) same_run
 
     unreached : path_in later (run_at later n) ≡ path_in earlier (run_at later n) → section_uses later s run ≡ section_uses earlier s run
     unreached is =
@@ -224,10 +228,10 @@ module _ {earlier later : Tables} {stairs : List (Option Stair)} {s : Section} {
       pub own_bare : IfSome stair (λ t. IfSome own (IsOwnRow s t.run))
       own_bare = by_stair stair reached_is (subst (λ (r : Run). IfSome own (IsOwnRow s r.name)) (sym same_run) (own_row own (is_member earlier s run) refl own_is))
         where
-          by_stair : (o : Option Stair) → IsStairIfReached earlier later (run_at later n) o → IfSome own (IsOwnRow s (run_at later n).name)
+          by_stair : (o : Option Stair) → IsStairIfReached earlier later block (run_at later n) o → IfSome own (IsOwnRow s (run_at later n).name)
               → IfSome o (λ t. IfSome own (IsOwnRow s t.run))
           by_stair None is bare = tt
-          by_stair (Some t) is bare = subst (λ (u : Stair). IfSome own (IsOwnRow s u.run)) (sym is) bare
+          by_stair (Some t) is bare = subst (λ m. IfSome own (IsOwnRow s m)) (sym is.name) bare
 
       pub own_blocks_first : IfSome own (λ (r : CutRow). AreBlocksFirst (length s.blocks) r.uses)
       own_blocks_first = by_row own (own_row own (is_member earlier s run) refl own_is)
@@ -240,7 +244,7 @@ module _ {earlier later : Tables} {stairs : List (Option Stair)} {s : Section} {
       pub member_is : (stamp : ℕ) → member_after s positions stair stamp own ≡ member_row s (run_at later n).name stamp (section_uses later s (run_at later n))
       member_is stamp = by_stair stair reached_is
         where
-          by_stair : (o : Option Stair) → IsStairIfReached earlier later (run_at later n) o
+          by_stair : (o : Option Stair) → IsStairIfReached earlier later block (run_at later n) o
               → member_after s positions o stamp own ≡ member_row s (run_at later n).name stamp (section_uses later s (run_at later n))
           by_stair None is =
               ap (option_map (on_blocks s stamp)) (found ∙ ap (λ (r : Run). find (λ (o : CutRow). is_same o.name r.name) old) same_run)
@@ -248,8 +252,8 @@ module _ {earlier later : Tables} {stairs : List (Option Stair)} {s : Section} {
               ∙ ap (member_row s run.name stamp) (sym (unreached is))
               ∙ ap (λ (r : Run). member_row s r.name stamp (section_uses later s r)) (sym same_run)
           by_stair (Some t) is =
-              ap (λ (u : Stair). member_row s u.run stamp (uses_in positions (length s.blocks) u.uses)) is
-              ∙ ap (member_row s (run_at later n).name stamp) (uses_by_table later s beside.later_sound positions beside.table n below)
+              ap (λ m. member_row s m stamp (uses_in positions (length s.blocks) t.uses)) is.name
+              ∙ ap (member_row s (run_at later n).name stamp) (by_table t is ∙ sym (ap (section_uses later s) same_run))
 
       entry_if : (b : Bool) → option_map (λ (r : CutRow). r.entry) (cond b (Some (row_of earlier s run)) None) ≡ cond b (Some (entry_of earlier s run)) None
       entry_if true = refl
@@ -259,14 +263,13 @@ module _ {earlier later : Tables} {stairs : List (Option Stair)} {s : Section} {
       pub after_entry : option_map (λ (r : CutRow). r.entry) (row_after s positions stair (option_map (stamped_row 0) own)) ≡ entry_in later s run
       after_entry = by_stair stair reached_is
         where
-          by_stair : (o : Option Stair) → IsStairIfReached earlier later (run_at later n) o
+          by_stair : (o : Option Stair) → IsStairIfReached earlier later block (run_at later n) o
               → option_map (λ (r : CutRow). r.entry) (row_after s positions o (option_map (stamped_row 0) own)) ≡ entry_in later s run
           by_stair None is =
               ap (option_map (λ (r : CutRow). r.entry)) own_is ∙ entry_if (is_member earlier s run) ∙ sym (entry_same earlier later s run (unreached is))
           by_stair (Some t) is =
-              ap (λ (u : Stair). option_map (λ (r : CutRow). r.entry) (option_map (with_rest s (option_map (stamped_row 0) own)) (member_row s u.run 0 (uses_in positions (length s.blocks) u.uses)))) (is ∙ ap (λ (r : Run). stair_of (path_in later r)) same_run)
-              ∙ ap (λ us. option_map (λ (r : CutRow). r.entry) (option_map (with_rest s (option_map (stamped_row 0) own)) (member_row s run.name 0 us))) by_table
-              ∙ entered s run.name (section_uses later s run) (option_map (stamped_row 0) own) (is_member later s run) refl
+              rw (its_name t is, by_table t is)
+              (entered s run.name (section_uses later s run) (option_map (stamped_row 0) own) (is_member later s run) refl)
 
       -- and its name
       after_named : IfSome (row_after s positions stair (option_map (stamped_row 0) own)) (λ r. r.name ≡ run.name)
@@ -282,14 +285,12 @@ module _ {earlier later : Tables} {stairs : List (Option Stair)} {s : Section} {
           named_member uses (Some m) true e = rw (sym e) refl
           named_member uses o false e = rw (sym e) tt
 
-          by_stair : (o : Option Stair) → IsStairIfReached earlier later (run_at later n) o
+          by_stair : (o : Option Stair) → IsStairIfReached earlier later block (run_at later n) o
               → IfSome (row_after s positions o (option_map (stamped_row 0) own)) (λ r. r.name ≡ run.name)
           by_stair None is = subst (λ o. IfSome o (λ (r : CutRow). r.name ≡ run.name)) (sym own_is) (named_if (is_member earlier s run))
           by_stair (Some t) is =
-              let uses = λ (u : Stair). uses_in positions (length s.blocks) u.uses in
-              subst (λ (u : Stair). IfSome (option_map (with_rest s (option_map (stamped_row 0) own)) (member_row s u.run 0 (uses u))) (λ (r : CutRow). r.name ≡ run.name))
-              (sym (is ∙ ap (λ (r : Run). stair_of (path_in later r)) same_run))
-              (named_member (uses (stair_of (path_in later run))) (option_map (stamped_row 0) own) (enters s (uses (stair_of (path_in later run)))) refl)
+              let uses = uses_in positions (length s.blocks) t.uses in
+              rw (its_name t is) (named_member uses (option_map (stamped_row 0) own) (enters s uses) refl)
 
       -- where that is the entry of the row before it, the run enters as before
       pub kept_by : option_map (λ (r : CutRow). r.entry) (row_after s positions stair (option_map (stamped_row 0) own)) ≡ option_map (λ (r : CutRow). r.entry) own
@@ -344,7 +345,7 @@ module _ {earlier later : Tables} {stairs : List (Option Stair)} {s : Section} {
             joined true e = rw (sym e) (ap Some (rest_is (is_member earlier s run) refl (sym e) (row_with run.name 0 (section_uses later s run))))
             joined false e = rw (sym e) refl
 
-            by_stair : (o : Option Stair) → IsStairIfReached earlier later (run_at later n) o → row_after s positions o (option_map (stamped_row 0) own) ≡ row_if later s run
+            by_stair : (o : Option Stair) → IsStairIfReached earlier later block (run_at later n) o → row_after s positions o (option_map (stamped_row 0) own) ≡ row_if later s run
             by_stair None is =
                 let same = unreached is in
                 own_is
@@ -352,11 +353,7 @@ module _ {earlier later : Tables} {stairs : List (Option Stair)} {s : Section} {
                 ∙ ap (λ r. cond (is_member later s run) (Some r) None)
                 (sym (row_same earlier later beside.earlier_sound beside.later_sound beside.reached.same.runs beside.reached.same.connections s binding n below_earlier same))
             by_stair (Some t) is =
-                ap (λ (u : Stair). option_map (with_rest s (option_map (stamped_row 0) own)) (member_row s u.run 0 (uses_in positions (length s.blocks) u.uses)))
-                (is ∙ ap (λ (r : Run). stair_of (path_in later r)) same_run)
-                ∙ ap (λ us. option_map (with_rest s (option_map (stamped_row 0) own)) (member_row s run.name 0 us)) by_table
-                ∙ ap (λ o. option_map (with_rest s o) (member_row s run.name 0 (section_uses later s run))) own_is
-                ∙ joined (is_member later s run) refl
+                rw (its_name t is, by_table t is, own_is) (joined (is_member later s run) refl)
 
       -- the rows with the run's
       module _ (number : ℕ) (row : Option CutRow) (is : IsRowAfter (row_after s positions stair (option_map (stamped_row 0) own)) number own row) (rows : List CutRow) where
@@ -473,10 +470,10 @@ module _ {stored : StoredCut} (is : IsStored stored) {stairs : List (Option Stai
       )
 
 -- where no run is reached, no cut differs
-module _ (earlier later : Tables) (stairs : List (Option Stair)) (reached : AreReachedRuns earlier later stairs) (none : All (λ s. s ≡ None) stairs) where
+module _ (earlier later : Tables) (block : Option ℕ) (stairs : List (Option Stair)) (reached : AreReachedRuns earlier later block stairs) (none : All (λ s. s ≡ None) stairs) where
   same_path : (n : ℕ) → n < length later.runs → path_in later (run_at later n) ≡ path_in earlier (run_at later n)
   same_path n below =
-      subst (IsStairIfReached earlier later (run_at later n)) (none n None (omega (arith, below, reached.count))) (reached.each n None below)
+      subst (IsStairIfReached earlier later block (run_at later n)) (none n None (omega (arith, below, reached.count))) (reached.each n None below)
 
   pub cuts_as_before : IsSound earlier → IsSound later → (name : List ℕ) → cut_of later name ≡ cut_of earlier name
   cuts_as_before earlier_sound later_sound =

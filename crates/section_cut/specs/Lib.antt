@@ -12,6 +12,7 @@ pub mod OneRun
 pub mod EditedRun
 pub mod EditedConnection
 pub mod Times
+pub mod Wanted
 pub mod ReachedRuns
 pub mod RowsAfter
 pub mod Reach

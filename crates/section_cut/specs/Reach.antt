@@ -82,7 +82,7 @@ AreSameCuts earlier later = (section : List ℕ) → cut_of later section ≡ cu
 -- the runs whose paths the tables tell apart: their stairs, the lists of blocks of these, and what is told of
 -- connections; and the block whose uses alone move, where it is known
 pub record AreRunsOf (earlier later : Tables) (runs : ReachedRuns) : Type 0 where
-  pub stairs : AreReachedRuns earlier later runs.stairs.items
+  pub stairs : AreReachedRuns earlier later runs.block runs.stairs.items
   pub over : AreOver (map uses_if_there runs.stairs.items) runs.over
   pub joined : IsTold (is_joined earlier) earlier.runs runs.joined.items
   pub block : IfSome runs.block (StayBeside earlier later)

@@ -1,5 +1,5 @@
 -- Changes of blocks, signals and routes: the runs whose paths they change, and these runs' rows.
-use Rattle.std.specs.Prelude.{◌≡◌, ℕ, ◌<◌, ◌≤◌, ⊤, Bool, true, false, List, [], length, slice_index, slice_index_or, Option, Some, None, option_map, IfSome}
+use Rattle.std.specs.Prelude.{◌≡◌, ℕ, ◌<◌, ◌≤◌, ⊤, Bool, true, false, List, [], length, slice_index_or, Option, Some, None, option_map, IfSome}
 use Rattle.rail_model.specs.declared.items.Run.{Run}
 use Rattle.rail_model.specs.declared.items.Section.{Section}
 use Rattle.rail_model.specs.declared.items.Signal.{Signal}
@@ -10,7 +10,6 @@ use Rattle.rail_model.specs.declared.edit.Edit.TheVariants as edit
 use Rattle.rail_model.specs.declared.stair.Use.{Use}
 use Rattle.rail_model.specs.declared.stair.Stair.{Stair}
 use Rattle.rail_model.specs.declared.tables.Tables.{Tables}
-use Rattle.rail_model.specs.Blocking.{stair_of}
 use Rattle.rail_model.specs.Rules.{after_change}
 use Rattle.rail_model.specs.Name.{is_same}
 use Rattle.rail_model.specs.Tables.{no_run, run_at, block_name, path_in}
@@ -21,6 +20,7 @@ use Rattle.section_cut.specs.Connected.{block_part, with_rest}
 use Rattle.section_cut.specs.Members.{member_row}
 use Rattle.section_cut.specs.Stamps.{IsStamped}
 use Rattle.section_cut.specs.Positions.{uses_in}
+use Rattle.section_cut.specs.Wanted.{IsStairOf}
 
 -- a put of a signal or a route, or a change of a block, a signal or a route
 abbrev pub PutKeepsBlocks : Item → Type 0
@@ -52,9 +52,9 @@ pub record IsSameTraffic (earlier later : Tables) : Type 0 where
   pub names : (block : ℕ) → block_name later block ≡ block_name earlier block
 
 -- a run's stair by the later tables, or none where its path is the same by both
-abbrev pub IsStairIfReached : Tables → Tables → Run → Option Stair → Type 0
-IsStairIfReached earlier later run (Some stair) = stair ≡ stair_of (path_in later run)
-IsStairIfReached earlier later run None = path_in later run ≡ path_in earlier run
+abbrev pub IsStairIfReached : Tables → Tables → Option ℕ → Run → Option Stair → Type 0
+IsStairIfReached earlier later block run (Some stair) = IsStairOf later block run stair
+IsStairIfReached earlier later block run None = path_in later run ≡ path_in earlier run
 
 -- all runs have the uses that they had in each section that hasn't this block
 abbrev pub StayBeside : Tables → Tables → ℕ → Type 0
@@ -63,11 +63,11 @@ StayBeside earlier later block =
     → (run : Run) → section_uses later section run ≡ section_uses earlier section run
 
 -- of each run, in the order of the runs' names, its stair or none
-pub record AreReachedRuns (earlier later : Tables) (stairs : List (Option Stair)) : Type 0 where
+pub record AreReachedRuns (earlier later : Tables) (block : Option ℕ) (stairs : List (Option Stair)) : Type 0 where
   pub same : IsSameTraffic earlier later
   pub count : length stairs ≡ length later.runs
   pub each : (n : ℕ) (d : Option Stair) → n < length later.runs
-      → IsStairIfReached earlier later (run_at later n) (slice_index_or stairs n d)
+      → IsStairIfReached earlier later block (run_at later n) (slice_index_or stairs n d)
 
 -- the uses of a stair, if it is there
 abbrev pub uses_if_there : Option Stair → List Use
@@ -128,8 +128,3 @@ pub record IsTold (test : Run → Bool) (runs : List Run) (told : List Bool) : T
 -- tables with another signal in the place of the one of its name
 abbrev pub changed_signal : Tables → Signal → Tables
 changed_signal tables s = after_change tables (item.Signal s)
-
--- a block is given that isn't in a section of so many blocks, by the table of positions
-abbrev pub IsBeside : Option ℕ → List ℕ → ℕ → Type 0
-IsBeside None positions blocks = ⊥
-IsBeside (Some block) positions blocks = (block < length positions) × (blocks ≤ slice_index positions block)

@@ -13,6 +13,7 @@ use Rattle.section_cut.specs.Members.{member_row}
 use Rattle.section_cut.specs.Positions.{IsPositions, uses_in}
 use Rattle.section_cut.specs.ReachedRuns.{AreReachedRuns, StaysRow}
 use Rattle.section_cut.specs.Stamps.{IsStampedBy}
+use Rattle.section_cut.specs.Wanted.{IsTouched}
 
 -- a row with this stamp and its uses of blocks alone
 abbrev pub on_blocks : Section → ℕ → CutRow → CutRow
@@ -37,12 +38,14 @@ pub record AreOfMembers (tables : Tables) (section : Section) (rows : List CutRo
   pub first : All (λ r. AreBlocksFirst (length section.blocks) r.uses) rows
   pub each : TellsMembers tables section rows
 
--- both tables with the stairs of the runs that the edit reaches, and a section with its rows by the earlier tables and
--- the positions of its blocks by the later ones
+-- both tables with the stairs of the runs that the edit reaches, and a section that it can touch, with its rows by the
+-- earlier tables and the positions of its blocks by the later ones
 pub record AreBeside (earlier later : Tables) (stairs : List (Option Stair)) (section : Section) (positions : List ℕ) (old : List CutRow) : Type 0 where
   pub earlier_sound : IsSound earlier
   pub later_sound : IsSound later
-  pub reached : AreReachedRuns earlier later stairs
+  pub block : Option ℕ
+  pub reached : AreReachedRuns earlier later block stairs
+  pub touched : IsTouched later block section
   pub table : IsPositions later section positions
   pub rows : map (stamped_row 0) old ≡ map (row_of earlier section) (filter (is_member earlier section) earlier.runs)
   pub rise : NamesRise (λ r. r.name) old

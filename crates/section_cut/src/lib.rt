@@ -22,9 +22,9 @@
 //! - An edit of a connection touches the sections in which it binds before or after it. There the
 //!   connections are bound anew, while the members and their uses of blocks stay. Another minimum
 //!   changes one use of the first run's row.
-//! - A change of a signal that keeps its block touches no section without the block. Otherwise an
-//!   edit of a block, a signal or a route compares the row of each run that passes it with the run's
-//!   new stairway. A row that differs is copied, and its uses that differ are written anew.
+//! - A change of a signal that keeps its block touches no section without the block, and of the
+//!   runs' new stairways only the uses in sections with it are made. Otherwise an edit of a block, a
+//!   signal or a route compares the row of each run that passes it with the run's new stairway. A row that differs is copied, and its uses that differ are written anew.
 //!   Uses of connections stay, where each of these runs that has a connection enters the section as
 //!   before. Otherwise the connections are bound anew among all members.
 //! - Rows that stand as before keep their stamps.
@@ -54,11 +54,13 @@ mod positions;
 mod reach;
 mod reached_rows;
 mod reached_runs;
+mod reached_stairs;
 mod same_value;
 mod spans;
 mod stamps;
 mod timed_stair;
 mod times;
+mod wanted_blocks;
 
 pub use all_stairways::{AllStairways, stairways, stairways_in_parts};
 pub use cut_changes::{CutChange, CutChanges, cut_change};

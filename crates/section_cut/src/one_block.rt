@@ -1,8 +1,9 @@
 //! The one block whose uses an edit moves, where it moves no others: that of a signal that is changed
 //! and keeps its block. A section that hasn't the block keeps its cut.
-ghost use Rattle.std.specs.Prelude.{◌≡◌, true, IfSome};
+ghost use Rattle.std.specs.Prelude.{◌↔◌, IsTrue, IfSome};
 ghost use Rattle.rail_model.specs.Rules as rules;
-ghost use Rattle.section_cut.specs.ReachedRuns.{IsBeside, StayBeside, changed_signal};
+ghost use Rattle.section_cut.specs.ReachedRuns.{StayBeside, changed_signal};
+ghost use Rattle.section_cut.specs.Wanted.{IsBeside};
 
 use crate::same_value::same_name;
 use line_tables::LineTables;
@@ -30,9 +31,9 @@ fn block_kept(before: &LineTables, signal: &Signal) -> Option<u32>
 }
 
 // Whether a block, if one is given, isn't in a section of so many blocks, by the positions of blocks
-// in it. `false` says nothing.
+// in it.
 pub(crate) fn is_beside(block: Option<u32>, positions: &[u32], blocks: usize) -> bool
-    ensures { result ≡ true → IsBeside block positions.now blocks }
+    ensures { IsTrue result ↔ IsBeside block positions.now blocks }
 {
     let Some(block) = block else {
         return false;

@@ -19,7 +19,8 @@ use crate::connected::joined_runs;
 use crate::one_block::block_moved;
 use crate::one_connection::{EditedConnection, connection_edited, connection_named, keeps_runs};
 use crate::one_run::{EditedRun, edited_run, run_edited};
-use crate::reached_runs::{ReachedRuns, lists_over, reached_runs};
+use crate::reached_runs::{ReachedRuns, lists_over};
+use crate::reached_stairs::reached_runs;
 use crate::same_value::same_name;
 use crate::timed_stair::TimedStair;
 use line_tables::LineTables;
@@ -78,8 +79,8 @@ pub(crate) fn reach_of(
         return Ok(Reach::Rows(RowReach::Nothing));
     }
     if keeps_blocks(edit) {
-        let stairs = reached_runs(alloc, before, after, edit)?;
         let block = block_moved(before, edit);
+        let stairs = reached_runs(alloc, before, after, edit, block)?;
         return Ok(Reach::Rows(reach_of_runs(alloc, before, after, stairs, block)?));
     }
     Ok(Reach::All(stairs_of_all(alloc, after)?))
@@ -171,7 +172,7 @@ fn reach_of_runs(
 ) -> Result<RowReach, OutOfMemory>
     requires before { IsSound before.now }
     requires after { IsSound after.now }
-    requires reached { AreReachedRuns before.now after.now stairs.items }
+    requires reached { AreReachedRuns before.now after.now block stairs.items }
     requires block { IfSome block (StayBeside before.now after.now) }
     ensures { IfOk result (IsRowReach before.now after.now) }
 {

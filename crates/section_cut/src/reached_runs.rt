@@ -1,40 +1,33 @@
 //! What a change of a block, a signal or a route makes of a section's cut. It reaches the rows of the
 //! runs that pass what is edited, and no other. Where those of these runs that have connections enter
 //! the section as before, the same connections bind; else they are bound anew.
-ghost use Rattle.std.specs.Prelude.{◌≡◌, ◌↔◌, ◌<◌, ◌++◌, IsTrue, if◌then◌else◌, true, All, length, map, slice_index_or, IfOk, IfSome, OnOk, Some, None, option_map};
+ghost use Rattle.std.specs.Prelude.{◌≡◌, ◌↔◌, ◌<◌, ◌++◌, IsTrue, true, All, length, map, slice_index_or, IfOk, IfSome, OnOk, Some, None, option_map};
 ghost use Rattle.std.specs.Option.{option_to_list, option_copied};
-ghost use Rattle.line_tables.specs.Paths.{paths_of};
-ghost use Rattle.rail_model.specs.Tables.{run_at, path_in};
+ghost use Rattle.rail_model.specs.Tables.{run_at};
 ghost use Rattle.section_cut.specs.Stored.{IsStored, IsChangeOfStored};
 ghost use Rattle.section_cut.specs.Members.{rows_on_blocks, members_by_run};
 ghost use Rattle.section_cut.specs.Positions.{IsPositions};
-ghost use Rattle.section_cut.specs.ReachedRuns.{IsSameTraffic, KeepsBlocks, AreReachedRuns, uses_if_there};
+ghost use Rattle.section_cut.specs.ReachedRuns.{uses_if_there};
 ghost use Rattle.section_cut.specs.Reach.{AreRunsOf};
 ghost use Rattle.section_cut.specs.Spans.{AreOver, AreSpans, part_of};
 ghost use Rattle.section_cut.specs.RowsAfter.{AreBeside, AllStay, AreRowsAfter, IsOwnOf};
 ghost use Rattle.section_cut.specs.Stamps.{AreBefore, IsReached};
-ghost use Rattle.rail_model.specs.Rules as rules;
 ghost use Rattle.rail_model.specs.Name.{NamesRise};
-ghost use Rattle.rail_model.specs.Blocking.{Fits, stair_of};
+ghost use Rattle.section_cut.specs.Wanted.{IsTouched};
 
 use crate::bound_anew::cut_by_members;
 use crate::cut_changes::{BothTables, CutChange, StoredCut};
 use crate::members::{MemberRows, add_run};
 use crate::one_block::is_beside;
-use crate::passing_runs::passing_runs;
 use crate::positions::{SectionTable, positions};
 use crate::reached_rows::{member_anew, row_anew, row_stays};
 use crate::spans::{BlockLists, BlockRange, part};
 use crate::stamps::next_row;
 use crate::timed_stair::TimedStair;
-use blocking_time::stairs;
-use line_tables::{LineTables, Paths};
+use line_tables::LineTables;
 use plan_model::{Cut, CutRow};
-use rail_model::{Edit, List, OutOfMemory, Path, Use};
+use rail_model::{List, OutOfMemory, Use};
 use std::alloc::Global;
-
-// How many reached runs each get a path of their own: for more, the paths of all runs are made.
-const FEW: usize = 32;
 
 // The runs that an edit reaches: for each run its stair after the edit, if it is one of them; the
 // lists of blocks that these stairs are over; of each run whether it has a connection; and the block
@@ -45,30 +38,6 @@ pub(crate) struct ReachedRuns {
     pub(crate) over: BlockLists,
     pub(crate) joined: Vec<bool>,
     pub(crate) block: Option<u32>,
-}
-
-// For each run, in the order of the runs' names, its stair after an edit, where the edit may change
-// its path: only the runs that pass what is put or changed are looked at.
-pub(crate) fn reached_runs(
-    alloc: Global,
-    before: &LineTables,
-    after: &LineTables,
-    edit: &Edit,
-) -> Result<Vec<Option<TimedStair>>, OutOfMemory>
-    requires after { after.now ≡ rules.after before.now edit.now }
-    requires keeps { KeepsBlocks edit.now }
-    requires same { IsSameTraffic before.now after.now }
-    ensures { IfOk result (λ stairs. AreReachedRuns before.now after.now stairs.items) }
-{
-    let passing = passing_runs(alloc, after, edit)?;
-    let found = paths_for(after, &passing)?;
-    let paths = &found;
-    let mut all = Vec::with_capacity(alloc, after.runs() as usize)?;
-    for run in 0..after.runs() {
-        let stair = stair_if_passing(alloc, after, paths, run, passing[run as usize])?;
-        all.push(stair)?;
-    }
-    Ok(all)
 }
 
 // The lists of blocks that stairs are over.
@@ -105,64 +74,6 @@ fn uses_if_there(stair: &Option<TimedStair>) -> &[Use]
     match stair {
         Some(stair) => stair.stair().uses.slice(),
         None => &[],
-    }
-}
-
-// The paths of all runs, where more than a few of them are wanted. `None` says nothing: each run
-// then gets a path of its own.
-fn paths_for<'a>(after: &'a LineTables, passing: &[bool]) -> Result<Option<Paths<'a>>, OutOfMemory>
-    ensures { IfOk result (λ paths. IfSome paths (λ all. all ≡ paths_of after.now)) }
-{
-    if are_few(passing) {
-        return Ok(None);
-    }
-    Ok(Some(after.paths()?))
-}
-
-// Whether no more than a few of these are `true`. No clause says so: either way is right.
-fn are_few(passing: &[bool]) -> bool {
-    let mut left = FEW;
-    for passes in passing {
-        if *passes {
-            if left == 0 {
-                return false;
-            }
-            left -= 1;
-        }
-    }
-    true
-}
-
-// The stair after an edit of the run of a number, if it passes what is edited.
-fn stair_if_passing(
-    alloc: Global,
-    after: &LineTables,
-    paths: &Option<Paths<'_>>,
-    run: u32,
-    passes: bool,
-) -> Result<Option<TimedStair>, OutOfMemory>
-    requires there { run < length after.now.runs }
-    requires paths { IfSome paths.now (λ all. all ≡ paths_of after.now) }
-    ensures { IfOk result (λ stair. stair
-        ≡ (if passes then Some (stair_of (path_in after.now (run_at after.now run))) else None)) }
-{
-    if !passes {
-        return Ok(None);
-    }
-    let path = path_by(after, paths, run)?;
-    Ok(Some(TimedStair::of(stairs(alloc, &path)?)))
-}
-
-// The path of the run of a number, by the paths of all runs where these are there.
-fn path_by(after: &LineTables, paths: &Option<Paths<'_>>, run: u32) -> Result<Path, OutOfMemory>
-    requires there { run < length after.now.runs }
-    requires paths { IfSome paths.now (λ all. all ≡ paths_of after.now) }
-    ensures same { IfOk result (λ path. path ≡ path_in after.now (run_at after.now run)) }
-    ensures fits { IfOk result Fits }
-{
-    match paths {
-        Some(all) => all.path(run),
-        None => after.path(run),
     }
 }
 
@@ -204,6 +115,7 @@ fn cut_by_table(
     requires stored { IsStored stored }
     requires runs { AreRunsOf stored.both.before.now stored.both.after.now runs.now }
     requires section { table.section.now ≡ stored.cut.now.section }
+    requires touched { IsTouched stored.both.after.now runs.now.block table.section.now }
     requires positions { IsPositions stored.both.after.now table.section.now table.positions.now }
     requires spans { AreSpans table.positions.now (length table.section.now.blocks)
         (map uses_if_there runs.now.stairs.items) table.spans.now }

@@ -7,7 +7,7 @@ use Rattle.section_cut.proofs.reach.reach_of_runs.Goals as goal
 
 pub returns-then-not-reaches_some : goal.returns-then-not-reaches_some
 returns-then-not-reaches_some c =
-    cuts_as_before c.args.before.now c.args.after.now c.args.stairs.items c.requires.reached
+    cuts_as_before c.args.before.now c.args.after.now c.args.block c.args.stairs.items c.requires.reached
     (subst (All (λ s. s ≡ None)) c.deref.ensures.value (c.reaches_some.ensures c.if-not-reaches_some.true)) c.requires.before c.requires.after
 
 pub returns : goal.returns

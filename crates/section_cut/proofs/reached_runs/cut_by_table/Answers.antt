@@ -14,7 +14,9 @@ beside : (c : After-slice-old) → AreBeside c.args.stored.both.before.now c.arg
 beside c = record {
   earlier_sound = c.requires.stored.earlier_sound;
   later_sound = c.requires.stored.later_sound;
+  block = c.args.runs.now.block;
   reached = c.requires.runs.stairs;
+  touched = rw (← c.requires.section) c.requires.touched;
   table = rw (← c.requires.section) c.requires.positions;
   rows = stored_rows c.requires.stored;
   rise = (sound_stored c.requires.stored).names_rise;
