@@ -17,3 +17,4 @@ pub mod Entering
 pub mod NextTasks
 pub mod Issuing
 pub mod ByOne
+pub mod OpenReadings

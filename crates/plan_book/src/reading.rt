@@ -5,7 +5,7 @@ ghost use Rattle.plan_model.specs.Legal.{IsCurrent, IsLegal, IsJournal};
 ghost use Rattle.plan_model.specs.Outcome.{section_name, ShareIsCurrent, ReadsTo};
 ghost use Rattle.plan_book.specs.Shelves.{IsShelf};
 ghost use Rattle.plan_book.specs.Kept.{IsWithin, AreDone};
-ghost use Rattle.plan_book.specs.Reading.{HasLatest, IsNextOpen, IsReadingOf};
+ghost use Rattle.plan_book.specs.Reading.{HasLatest, IsNextOpen, IsReadingOf, AreOpen};
 
 use crate::Book;
 use crate::shelf::{Shelf, shelf_near};
@@ -24,6 +24,19 @@ impl Book {
             Some(number) => Ok(Next::Reading(self.reading(number)?)),
             None => Ok(Next::Idle { left: self.left() }),
         }
+    }
+
+    /// Reads all sections that are not current, in the order of names. Nothing is added.
+    pub fn readings(&self) -> Result<Vec<Reading>, OutOfMemory>
+        ensures { IfOk result (λ readings. AreOpen self.now readings.items) }
+    {
+        let mut readings = Vec::new(self.alloc);
+        for number in 0..self.tables().sections() {
+            if !self.is_current(number) {
+                readings.push(self.reading(number)?)?;
+            }
+        }
+        Ok(readings)
     }
 
     /// How many tasks are left in all scripts.

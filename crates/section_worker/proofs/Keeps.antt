@@ -14,13 +14,14 @@ use Rattle.rail_model.proofs.NameOrder.{same_name, is_same-from, is_same-equal}
 use Rattle.std.proofs.lemmas.List.Elements.{All-nil}
 use Rattle.plan_model.specs.declared.cut.Cut.{Cut}
 use Rattle.plan_model.specs.declared.journal.Entry.{Entry}
+use Rattle.plan_model.specs.Reading.{Shown}
 use Rattle.plan_model.specs.Call.{GoesOn}
 use Rattle.plan_model.specs.Journal.{last_number}
 use Rattle.plan_model.specs.Legal.{IsLegal, IsReading}
 use Rattle.plan_model.proofs.Stamps.{stamp_tells_row}
 use Rattle.plan_repair.specs.Kept.{kept_of, AgreesWith}
 use Rattle.section_worker.specs.declared.worker.KeptReading.{KeptReading}
-use Rattle.section_worker.specs.Keeping.{Working, kept_for, WasRead, KeepsWhatWasRead, KeepsRows, Forgets}
+use Rattle.section_worker.specs.Keeping.{Working, kept_for, kept_reading, WasRead, KeepsWhatWasRead, KeepsRows, Keeps, Forgets}
 use Rattle.plan_model.proofs.Readings.{reading_name}
 
 -- what was read of a beginning of a journal was read of the journal
@@ -144,22 +145,20 @@ module _ (share of actor : ℕ) (section : List ℕ) where
   pub forgets : (old new : BTreeMap (List ℕ) KeptReading) → Sets old new None → Forgets section (worker old) (worker new)
   forgets old new u = record { gone = u.1; others = λ other ne. u.2 other (other_key section other ne) }
 
-  -- an insertion that found no memory leaves what was forgotten so
-  pub still_forgotten : (old mid new : BTreeMap (List ℕ) KeptReading) → Sets old mid None → new.entries ≡ mid.entries
-      → Forgets section (worker old) (worker new)
-  still_forgotten old mid new u same = subst (λ es. Forgets section
-      (worker old) record { share = share; of = of; actor = actor; kept = es })
-      (sym same) (forgets old mid u)
+  pub keeps : (old new : BTreeMap (List ℕ) KeptReading) (h : KeptReading) → Sets old new (Some h)
+      → Keeps section h (worker old) (worker new)
+  keeps old new h u = record { kept = u.1; others = λ other ne. u.2 other (other_key section other ne) }
 
-  pub keeps_new : (cut : Cut) (at : ℕ) (old mid new : BTreeMap (List ℕ) KeptReading) (h : KeptReading) → section ≡ cut.section.name
-      → h ≡ record { at = at; keep = kept_of cut } → Sets old mid None → Sets mid new (Some h)
-      → KeepsRows cut at (worker old) (worker new)
-  keeps_new cut at old mid new h named is u v = record {
-    rows = ap (kept_for (worker new)) (sym named) ∙ v.1 ∙ ap (λ x. Some x) is;
-    others = λ other ne.
-        let apart = other_key section other (λ e. ne (e ∙ named)) in
-        v.2 other apart ∙ u.2 other apart;
-  }
+-- what is kept is taken, and the rows of a reading are kept in its place
+pub keeps_new : (section : List ℕ) (shown : Shown) (w mid later : Working) (h : KeptReading)
+    → section ≡ shown.cut.section.name → h ≡ kept_reading shown → Forgets section w mid → Keeps section h mid later
+    → KeepsRows shown.cut shown.at w later
+keeps_new section shown w mid later h named is f k = record {
+  rows = ap (kept_for later) (sym named) ∙ k.kept ∙ ap (λ x. Some x) is;
+  others = λ other ne.
+      let apart : other ≢ section = λ e. ne (e ∙ named) in
+      k.others other apart ∙ f.others other apart;
+}
 
 -- ---- what is kept of a section and then forgotten
 

@@ -8,6 +8,7 @@ use Rattle.plan_model.specs.declared.cut.Cut.{Cut}
 use Rattle.plan_model.specs.declared.journal.Entry.{Entry}
 use Rattle.plan_model.specs.Journal.{last_number}
 use Rattle.plan_model.specs.Legal.{IsLegal, IsReading}
+use Rattle.plan_model.specs.Reading.{Shown}
 use Rattle.plan_repair.specs.Kept.{kept_of, uses_not_kept}
 use Rattle.section_worker.specs.declared.worker.KeptReading.{KeptReading}
 
@@ -59,6 +60,15 @@ KeepsWhatWasRead w journal =
 -- of each other section there is kept what was kept
 abbrev pub KeepsOthers : List ℕ → Working → Working → Type 0
 KeepsOthers section old new = (other : List ℕ) → other ≢ section → kept_for new other ≡ kept_for old other
+
+-- this is kept of a section; of other sections what was kept
+pub record Keeps (section : List ℕ) (h : KeptReading) (old new : Working) : Type 0 where
+  pub kept : kept_for new section ≡ Some h
+  pub others : KeepsOthers section old new
+
+-- what is to be kept of a reading: its rows, with their stamps, or none where its cut is crowded
+abbrev pub kept_reading : Shown → KeptReading
+kept_reading shown = record { at = shown.at; keep = kept_of shown.cut }
 
 -- of a cut's section its rows are kept, with their stamps, or none where it is crowded; of other sections what was kept
 pub record KeepsRows (cut : Cut) (at : ℕ) (old new : Working) : Type 0 where

@@ -18,4 +18,4 @@
 
 mod worker;
 
-pub use worker::{Turned, Worker};
+pub use worker::{KeptReading, Turned, Worker, answer_by};

@@ -4,8 +4,9 @@ ghost use Rattle.plan_model.specs.Answer.{IsAnswer};
 ghost use Rattle.plan_model.specs.Board.{IsAccess, IsCall, Gives, CountsHanded};
 ghost use Rattle.plan_model.specs.Outcome.{IsNextReading, IsDone};
 ghost use Rattle.plan_repair.specs.Kept.{kept_of, AgreesWith, TakesAtMost};
-ghost use Rattle.section_worker.specs.Keeping.{new_worker, kept_for, uses_missing};
-ghost use Rattle.section_worker.specs.Keeping.{IsSameWorker, KeepsWhatWasRead, KeepsRows, Forgets};
+ghost use Rattle.section_worker.specs.Keeping.{new_worker, kept_for, kept_reading, uses_missing};
+ghost use Rattle.section_worker.specs.Keeping.{IsSameWorker, KeepsWhatWasRead, KeepsRows};
+ghost use Rattle.section_worker.specs.Keeping.{Keeps, Forgets};
 ghost use Rattle.section_worker.specs.Turn.{IsSameBoard, TurnsTo, WorksTo, TurnsOut, done_of};
 ghost use Rattle.section_worker.specs.Turn.{turned_of};
 
@@ -32,9 +33,9 @@ pub enum Turned {
     Idle { left: u64 },
 }
 
-// What a worker keeps of a section: the number of its last reading, and that reading's rows.
+/// What a worker keeps of a section: the number of its last reading, and that reading's rows.
 #[derive(Drop)]
-pub(crate) struct KeptReading {
+pub struct KeptReading {
     at: u64,
     keep: Keep,
 }
@@ -163,11 +164,29 @@ impl Worker {
             (R.shown reading.old) (R.shown reading.new) }
     {
         let section = reading.section().name;
-        let kept = self.kept.remove(&section);
-        let (keep, answer) = answer_by(self.alloc, kept, reading)?;
-        let at = reading.at();
-        self.kept.insert(section, KeptReading { at, keep })?;
+        let kept = self.take(&section);
+        let (kept, answer) = answer_by(self.alloc, kept, reading)?;
+        self.put(section, kept)?;
         Ok(answer)
+    }
+
+    /// What is kept of a section, of which nothing is kept then.
+    pub fn take(&mut self, section: &Name) -> Option<KeptReading>
+        ensures worker { IsSameWorker self.old self.new }
+        ensures taken { result ≡ kept_for self.old section.now }
+        ensures forgets { Forgets section.now self.old self.new }
+    {
+        self.kept.remove(section)
+    }
+
+    /// Keeps this of a section, in place of what was kept of it. Without memory nothing changes.
+    pub fn put(&mut self, section: Name, kept: KeptReading) -> Result<(), OutOfMemory>
+        ensures worker { IsSameWorker self.old self.new }
+        ensures ok { OnOk result (Keeps section kept self.old self.new) }
+        ensures err { OnErr result (self.new ≡ self.old) }
+    {
+        self.kept.insert(section, kept)?;
+        Ok(())
     }
 
     // Keeps nothing of a section.
@@ -179,8 +198,28 @@ impl Worker {
     }
 }
 
-// The answer of a reading by what is kept of its section, and what is kept of it from then on.
-fn answer_by<R: Rows>(
+/// The answer of a reading by what is kept of its section, and what is to be kept of it from then
+/// on. At most the uses of those rows are taken that aren't kept with their name and stamp. The
+/// condition is that of `Worker::answer`, which answers so. Readings of several sections can be
+/// answered side by side.
+pub fn answer_by<R: Rows>(
+    alloc: Global,
+    kept: Option<KeptReading>,
+    reading: &mut R,
+) -> Result<(KeptReading, Answer), OutOfMemory>
+    requires { IfSome kept (λ k. AgreesWith k.keep (R.shown reading.old).cut) }
+    ensures answer { IfOk result (λ both. IsAnswer (R.shown reading.old).cut both.1) }
+    ensures keep { IfOk result (λ both. both.0 ≡ kept_reading (R.shown reading.old)) }
+    ensures reading { TakesAtMost (uses_missing kept (R.shown reading.old).cut)
+        (R.shown reading.old) (R.shown reading.new) }
+{
+    let at = reading.at();
+    let (keep, answer) = repaired(alloc, kept, reading)?;
+    Ok((KeptReading { at, keep }, answer))
+}
+
+// The answer of a reading by what is kept of its section, and its rows as they are to be kept.
+fn repaired<R: Rows>(
     alloc: Global,
     kept: Option<KeptReading>,
     reading: &mut R,
