@@ -1,8 +1,7 @@
 -- Stairs with the uses of some blocks alone: those in the sections that an edit can touch.
-use Rattle.std.proofs.Common.{◌≡◌, ℕ, ◌+◌, ◌<◌, ◌≤◌, Bool, true, false, cond, ltb, List, [], ◌∷◌, length, map, get_or, set, Option, Some, None, refl, sym, ◌∙◌, subst, inl, inr, arith}
+use Rattle.std.proofs.Common.{◌≡◌, ℕ, ◌<◌, Bool, true, false, cond, ltb, List, [], ◌∷◌, length, map, get_or, Option, Some, None, refl, inl, inr, arith}
 use Rattle.std.specs.Prelude.{All, filter, IfSome}
-use Rattle.std.proofs.lemmas.Bool.{cases_Bool, cases_eq, cases_lt, both_ways, lt-ltb, ltb-true}
-use Rattle.std.proofs.lemmas.List.{length-set, get_or-set_same, get_or-set_other}
+use Rattle.std.proofs.lemmas.Bool.{cases_Bool, both_ways, ltb-true}
 use Rattle.std.proofs.lemmas.List.Elements.{All-head, All-tail, All-filter}
 use Rattle.rail_model.specs.declared.items.Section.{Section}
 use Rattle.rail_model.specs.declared.stair.Use.{Use}
@@ -13,40 +12,9 @@ use Rattle.rail_model.specs.Rules.{IsSound}
 use Rattle.rail_model.proofs.Timetables.{used_there}
 use Rattle.plan_model.specs.Cut.{use_in_section}
 use Rattle.section_cut.specs.Positions.{IsPositions}
-use Rattle.section_cut.specs.Wanted.{IsBeside, LacksBlock, IsStairOf, HasSection, HasAll, IsAddedTo, IsWithSection, stair_wanted}
+use Rattle.section_cut.specs.Wanted.{IsBeside, LacksBlock, IsStairOf, HasSection, HasAll, stair_wanted}
 
 -- ---- what is told of blocks
-
--- a block more
-pub added_more : (positions : List ℕ) (blocks place : ℕ) (old told new : List Bool) → place < length told
-    → new ≡ cond (ltb (get_or positions place 0) blocks) (set told place true) told
-    → IsAddedTo positions blocks place old told → IsAddedTo positions blocks (place + 1) old new
-added_more positions blocks place old told new at is so_far =
-    subst (IsAddedTo positions blocks (place + 1) old) (sym is) (by (ltb (get_or positions place 0) blocks) refl)
-  where
-    raised : (b : ℕ) → get_or told b false ≡ true → get_or (set told place true) b false ≡ true
-    raised b e = elim (cases_eq b place) [
-      | inl same ↦ rw same (get_or-set_same told place true false at)
-      | inr other ↦ get_or-set_other told place b true false other ∙ e
-    ]
-
-    by : (b : Bool) → b ≡ ltb (get_or positions place 0) blocks → IsAddedTo positions blocks (place + 1) old (cond b (set told place true) told)
-    by true e = record {
-      count = length-set told place true ∙ so_far.count;
-      kept = λ b is. raised b (so_far.kept b is);
-      added = λ b below inside. elim (cases_eq b place) [
-        | inl same ↦ rw same (get_or-set_same told place true false at)
-        | inr other ↦ raised b (so_far.added b (omega (arith, below, other)) inside)
-      ];
-    }
-    by false e = record {
-      count = so_far.count;
-      kept = so_far.kept;
-      added = λ b below inside. elim (cases_eq b place) [
-        | inl same ↦ absurd (both_ways (ltb (get_or positions place 0) blocks) (sym e) (rw (← same) (lt-ltb (get_or positions b 0) blocks inside)))
-        | inr other ↦ so_far.added b (omega (arith, below, other)) inside
-      ];
-    }
 
 -- a section without the block is so by the positions of blocks, too
 pub lacks_beside : (tables : Tables) (section : Section) (positions : List ℕ) → IsPositions tables section positions → (block : Option ℕ)
@@ -59,28 +27,6 @@ lacks_beside tables section positions table (Some block) lacks =
 pub record AreTold (tables : Tables) (block : ℕ) (n : ℕ) (told : List Bool) : Type 0 where
   pub count : length told ≡ length tables.blocks
   pub each : (k : ℕ) → k < n → (LacksBlock tables (Some block) (section_at tables k) → ⊥) → HasSection tables (section_at tables k) told
-
--- a section more
-pub told_more : (tables : Tables) (block n : ℕ) (positions : List ℕ) → IsPositions tables (section_at tables n) positions → (told new : List Bool)
-    → AreTold tables block n told → IsWithSection (Some block) positions (length (section_at tables n).blocks) told new
-    → AreTold tables block (n + 1) new
-told_more tables block n positions table told new so_far more = record {
-  count = more.count ∙ so_far.count;
-  each = λ k below has b there inside. elim (cases_lt k n) [
-    | inl lt ↦ more.kept b (so_far.each k lt has b there inside)
-    | inr ge ↦
-        let last : k ≡ n = omega (arith, ge, below) in
-        let here : LacksBlock tables (Some block) (section_at tables n) → ⊥ = rw last at has in
-        let place : get_or positions b 0 < length (section_at tables n).blocks = omega (arith, table.each b there, (rw last at inside)) in
-        more.added (λ beside. here (omega (arith, beside.0, table.count), omega (arith, beside.1, table.each block (omega (arith, beside.0, table.count)))))
-        b (omega (arith, there, so_far.count)) place
-  ];
-}
-
-pub told_all : (tables : Tables) (block n : ℕ) (told : List Bool) → length tables.sections ≤ n → AreTold tables block n told → HasAll tables (Some block) told
-told_all tables block n told long all s touched =
-    subst (λ t. HasSection tables t told) touched.at
-    (all.each touched.place (omega (arith, touched.there, long)) (rw touched.at touched.has))
 
 -- ---- a run's stair
 

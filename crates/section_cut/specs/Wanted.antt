@@ -49,15 +49,14 @@ abbrev pub stair_wanted : Option (List Bool) → Path → Stair
 stair_wanted None path = stair_of path
 stair_wanted (Some told) path = stair_on told path
 
--- of the blocks before a place those in a section of so many, by the table of positions, are told more than before
+-- told are, beside those told before, the blocks below a place that are in a section of so many, by the table of positions
 pub record IsAddedTo (positions : List ℕ) (blocks place : ℕ) (old new : List Bool) : Type 0 where
   pub count : length new ≡ length old
   pub kept : (b : ℕ) → slice_index_or old b false ≡ true → slice_index_or new b false ≡ true
   pub added : (b : ℕ) → b < place → slice_index positions b < blocks → slice_index_or new b false ≡ true
 
--- and all of them, if the section has this block
-pub record IsWithSection (block : Option ℕ) (positions : List ℕ) (blocks : ℕ) (old new : List Bool) : Type 0 where
+-- and beside those told before, all blocks of a section, if it has this block
+pub record IsWithSection (tables : Tables) (block : Option ℕ) (section : Section) (old new : List Bool) : Type 0 where
   pub count : length new ≡ length old
   pub kept : (b : ℕ) → slice_index_or old b false ≡ true → slice_index_or new b false ≡ true
-  pub added : (IsBeside block positions blocks → ⊥)
-      → (b : ℕ) → b < length old → slice_index positions b < blocks → slice_index_or new b false ≡ true
+  pub added : (LacksBlock tables block section → ⊥) → HasSection tables section new

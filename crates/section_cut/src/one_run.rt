@@ -1,7 +1,7 @@
 //! What an edit of one run makes of a section's cut. It reaches the run's own row alone, where each of
 //! the run's connections binds after the edit exactly where it does before; otherwise the
 //! connections are bound anew among the members.
-ghost use Rattle.std.specs.Prelude.{◌≡◌, ◌<◌, ◌≤◌, true, false, All, length, IfOk, IfSome, Some, filter, find, option_map, insert, remove};
+ghost use Rattle.std.specs.Prelude.{◌≡◌, IsTrue, ◌↔◌, ◌<◌, ◌≤◌, true, false, All, length, IfOk, IfSome, Some, filter, find, option_map, insert, remove};
 ghost use Rattle.std.specs.Option.{option_copied};
 ghost use Rattle.section_cut.specs.Stored.{IsStored, IsChangeOfStored};
 ghost use Rattle.section_cut.specs.Members.{member_row};
@@ -177,9 +177,9 @@ fn enters_early(tables: &LineTables, section: &Section, stair: &TimedStair) -> b
     has_name(section.blocks.slice(), &tables.block(block).name)
 }
 
-// Whether a name is one of these. `false` says nothing.
-fn has_name(names: &[Name], name: &Name) -> bool
-    ensures { result ≡ true → number_of (λ n. n) names.now name.now < length names.now }
+// Whether a name is one of these.
+pub(crate) fn has_name(names: &[Name], name: &Name) -> bool
+    ensures { IsTrue result ↔ number_of (λ n. n) names.now name.now < length names.now }
 {
     for one in names {
         if same_name(one, name) {

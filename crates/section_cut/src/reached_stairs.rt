@@ -125,8 +125,8 @@ fn wanted_for(
         return Ok(None);
     }
     match block {
-        Some(block) => Ok(Some(wanted_blocks(alloc, after, block)?)),
-        None => Ok(None),
+        Some(block) if block < after.blocks() => Ok(Some(wanted_blocks(alloc, after, block)?)),
+        _ => Ok(None),
     }
 }
 

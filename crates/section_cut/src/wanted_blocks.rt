@@ -1,9 +1,10 @@
 //! The blocks of the sections that an edit can touch, where it moves the uses of one block alone: of
 //! a run's stair no other uses are wanted.
 ghost use Rattle.std.specs.Prelude.{◌≡◌, ◌<◌, true, length, slice_set, nat_lt, if◌then◌else◌, Some, IfOk, OnOk};
+ghost use Rattle.rail_model.specs.Tables.{section_at};
 ghost use Rattle.section_cut.specs.Wanted.{HasAll, IsAddedTo, IsWithSection};
 
-use crate::one_block::is_beside;
+use crate::one_run::has_name;
 use crate::positions::positions;
 use line_tables::LineTables;
 use rail_model::OutOfMemory;
@@ -15,6 +16,7 @@ pub(crate) fn wanted_blocks(
     tables: &LineTables,
     block: u32,
 ) -> Result<Vec<bool>, OutOfMemory>
+    requires { block < length tables.now.blocks }
     ensures { IfOk result (λ told. HasAll tables.now (Some block) told.items) }
 {
     let mut told = vec![in alloc; false; tables.blocks() as usize]?;
@@ -29,25 +31,36 @@ fn add_sections(
     block: u32,
     told: &mut [bool],
 ) -> Result<(), OutOfMemory>
-    requires { length told.old ≡ length tables.now.blocks }
+    requires there { block < length tables.now.blocks }
+    requires long { length told.old ≡ length tables.now.blocks }
     ensures { OnOk result (HasAll tables.now (Some block) told.new) }
 {
     for section in 0..tables.sections() {
-        let positions = positions(alloc, tables, section)?;
-        let blocks = tables.section(section).blocks.len();
-        add_section(told, block, &positions, blocks);
+        add_section(alloc, tables, block, section, told)?;
     }
     Ok(())
 }
 
-// Adds the blocks of a section of so many, by the positions of blocks in it, if it has this block.
-fn add_section(told: &mut [bool], block: u32, positions: &[u32], blocks: usize)
-    requires { length told.old ≡ length positions.now }
-    ensures { IsWithSection (Some block) positions.now blocks told.old told.new }
+// Adds the blocks of the section of a number, if it has this block.
+fn add_section(
+    alloc: Global,
+    tables: &LineTables,
+    block: u32,
+    section: u32,
+    told: &mut [bool],
+) -> Result<(), OutOfMemory>
+    requires there { block < length tables.now.blocks }
+    requires section { section < length tables.now.sections }
+    requires long { length told.old ≡ length tables.now.blocks }
+    ensures { OnOk result
+        (IsWithSection tables.now (Some block) (section_at tables.now section) told.old told.new) }
 {
-    if !is_beside(Some(block), positions, blocks) {
-        add_blocks(told, positions, blocks);
+    let names = tables.section(section).blocks.slice();
+    if has_name(names, &tables.block(block).name) {
+        let positions = positions(alloc, tables, section)?;
+        add_blocks(told, &positions, names.len());
     }
+    Ok(())
 }
 
 // Adds the blocks of a section of so many, by the positions of blocks in it.

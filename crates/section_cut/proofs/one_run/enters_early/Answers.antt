@@ -14,5 +14,5 @@ returns c told =
     ap (λ (b : Block). b.name) (sym (get_or_from_slice_get tables.blocks block c.block.result.now no_block c.block.ensures)) in
     let inside : position_in_section tables c.args.section.now block < length names =
     subst (λ m. number_of (λ n. n) names m < length names) named
-    (subst (λ ns. number_of (λ n. n) ns c.block.result.now.name < length ns) c.slice.ensures (c.has_name.ensures told)) in
+    (subst (λ ns. number_of (λ n. n) ns c.block.result.now.name < length ns) c.slice.ensures (c.has_name.ensures.0 told)) in
     record { block = block; early = c.in-Some.ensures; inside = inside }
