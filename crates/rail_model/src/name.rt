@@ -72,6 +72,13 @@ impl Name {
     {
         &self.bytes[..self.len]
     }
+
+    // The name's bytes with the zeros behind them.
+    pub(crate) fn with_zeros(&self) -> &[u8; 64]
+        ensures { result.now ≡ self.now ++ replicate (NAME_BYTES - length self.now) 0 }
+    {
+        &self.bytes
+    }
 }
 
 ghost use Rattle.std.specs.Prelude.{IsTrue, ◌≤◌, ◌-◌, ◌++◌, ◌&&◌, nat_le, nat_lt, length, replicate};

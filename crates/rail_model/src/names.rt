@@ -3,15 +3,16 @@ ghost use Rattle.std.specs.Prelude.{◌≡◌, ◌+◌, ◌<◌, ◌++◌, [], �
 ghost use Rattle.rail_model.specs.Name.{IsName};
 ghost use Rattle.rail_model.specs.Names.{name_at, IsNameAt};
 
-use crate::{List, Name, OutOfMemory};
+use crate::{List, NAME_BYTES, Name, OutOfMemory};
 use std::alloc::{AllocError, Global};
 use std::marker::Model;
 
 /// Names in order. Contracts see their list.
 ///
 /// Their bytes stand one after another. A name takes its own bytes and four more, not the 72 of a
-/// `Name`. A list that has grown may have room for twice its bytes, until it is shrunk. All names
-/// together have fewer than 2^32 bytes: a push past that answers as if memory ran out.
+/// `Name`. Until a list is shrunk it may have more room: what it was made with, or twice its bytes
+/// where it has grown. All names together have fewer than 2^32 bytes: a push past that answers as
+/// if memory ran out.
 #[derive(Drop)]
 pub struct Names {
     bytes: Vec<u8>,
@@ -39,7 +40,9 @@ impl Names {
     pub fn with_capacity(alloc: Global, count: usize) -> Result<Names, OutOfMemory>
         ensures { IfOk result (λ names. names ≡ []) }
     {
-        let bytes = Vec::with_capacity(alloc, count.saturating_mul(USUAL_BYTES))?;
+        // The last name is copied with the zeros behind it.
+        let room = count.saturating_mul(USUAL_BYTES).saturating_add(NAME_BYTES);
+        let bytes = Vec::with_capacity(alloc, room)?;
         let mut starts = Vec::with_capacity(alloc, count.saturating_add(1))?;
         starts.push(0)?;
         Ok(Names { bytes, starts })
@@ -62,13 +65,14 @@ impl Names {
         ensures ok { OnOk result (self.new ≡ self.old ++ name.now ∷ []) }
         ensures err { OnErr result (self.new ≡ self.old) }
     {
-        let own = name.bytes();
         let start = self.starts[self.starts.len() - 1];
-        let Some(end) = start.checked_add(own.len() as u32) else {
+        let Some(end) = start.checked_add(name.bytes().len() as u32) else {
             return Err(OutOfMemory);
         };
         self.starts.reserve(1)?;
-        self.bytes.extend_from_slice(own)?;
+        // To copy as many bytes for each name takes less than to copy its own alone.
+        self.bytes.extend_from_slice(name.with_zeros())?;
+        self.bytes.truncate(end as usize);
         self.starts.push_reserved(end);
         Ok(())
     }
