@@ -16,7 +16,6 @@ use small_lines::{
     Text, halves, line_at, number_of, rows_of_case, small_number, starts_line, tables_of, word,
 };
 use std::alloc::Global;
-use std::thread::Threads;
 
 // What a case tries.
 #[derive(Clone, Copy)]
@@ -41,7 +40,6 @@ enum Case {
     Names,
     Occupancy,
     Order,
-    Parts,
     Rate,
     Reach,
     Reading,
@@ -74,7 +72,6 @@ const CASES: &[(&str, Case)] = &[
     ("?names", Case::Names),
     ("?occupancy", Case::Occupancy),
     ("?order", Case::Order),
-    ("?parts", Case::Parts),
     ("?rate", Case::Rate),
     ("?reach", Case::Reach),
     ("?reading", Case::Reading),
@@ -97,22 +94,21 @@ fn case_of(line: &[u8]) -> Option<Case> {
 }
 
 // Repeats each remark and the line of each case, and writes what comes of it.
-pub(crate) fn write_cases<R: AllocGlobal + Threads + Sync>(rt: &R, text: &mut Text, script: &[u8]) {
+pub(crate) fn write_cases(alloc: Global, text: &mut Text, script: &[u8]) {
     for at in 0..script.len() {
         if starts_line(script, at, b'#') {
             text.put_line(line_at(script, at));
         } else if starts_line(script, at, b'?') {
-            write_case(rt, text, script, at);
+            write_case(alloc, text, script, at);
         }
     }
 }
 
-fn write_case<R: AllocGlobal + Threads + Sync>(rt: &R, text: &mut Text, script: &[u8], at: usize) {
+fn write_case(alloc: Global, text: &mut Text, script: &[u8], at: usize) {
     let line = line_at(script, at);
     text.put_line(line);
     match case_of(line) {
-        Some(Case::Parts) => texts::write_parts(rt, text, line),
-        Some(case) => write_of_words(rt.alloc(), text, case, script, at, line),
+        Some(case) => write_of_words(alloc, text, case, script, at, line),
         None => text.put_line(b"no such case"),
     }
 }

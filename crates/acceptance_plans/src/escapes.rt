@@ -12,7 +12,7 @@ pub(crate) fn unescaped(alloc: Global, escaped: &[u8]) -> Text {
 }
 
 // Adds these bytes to others.
-pub(crate) fn put_unescaped(bytes: &mut Text, escaped: &[u8]) {
+fn put_unescaped(bytes: &mut Text, escaped: &[u8]) {
     let (plain, mut rest) = parts_of(escaped, b'\\');
     bytes.put(plain);
     for _ in 0..escaped.len() {

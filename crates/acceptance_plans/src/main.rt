@@ -41,6 +41,6 @@ fn main(rt: HostRuntime) -> ExitCode {
         return ExitCode::from(3);
     };
     let mut text = Text::new(rt.alloc());
-    write_cases(&rt, &mut text, script.slice());
+    write_cases(rt.alloc(), &mut text, script.slice());
     end_of(&mut StdSink::of(rt.stdout()), &text)
 }

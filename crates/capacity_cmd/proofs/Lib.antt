@@ -2,7 +2,6 @@ pub mod Outcomes
 pub mod OneOutcome
 pub mod RowCount
 pub mod Making
-pub mod ReadingAhead
 pub mod Cuts
 pub mod Commands
 pub mod Members

@@ -44,14 +44,14 @@ abbrev pub by_rule : ℕ → Tables → Option Rule → Result Tables Refusal
 by_rule row tables None = Ok tables
 by_rule row tables (Some rule) = refused row (cause.Rule rule)
 
+abbrev pub after_one_more : ℕ → Result Tables Refusal → Edit → Result Tables Refusal
+after_one_more row (Ok tables) e = by_rule row (after tables e) (rule_of tables e)
+after_one_more row (Err refusal) e = Err refusal
+
 -- what a rule's answer to the edit in the row of this number leaves to say
 abbrev pub refusal_of : {U : Type 0} → ℕ → Result U Rule → Option Refusal
 refusal_of row (Ok u) = None
 refusal_of row (Err rule) = Some (record { row = row; cause = cause.Rule rule })
-
-abbrev pub after_one_more : ℕ → Result Tables Refusal → Edit → Result Tables Refusal
-after_one_more row (Ok tables) e = by_rule row (after tables e) (rule_of tables e)
-after_one_more row (Err refusal) e = Err refusal
 
 -- ---- scripts
 
@@ -105,16 +105,11 @@ pub record TakesAll (planners rows : ℕ) (whole : Result Content Refusal) (made
   pub scripts : length made.scripts ≤ planners
   pub edits : made.base.edits ≤ rows
 
--- what taking rows ends with: all are taken, or the first fault is what the whole ends with; of a want of memory nothing is said
-abbrev pub TakesRows : ℕ → ℕ → Result Content Refusal → Result InputSoFar (Stopped Refusal) → Type 0
-TakesRows planners rows whole (Ok made) = TakesAll planners rows whole made
-TakesRows planners rows whole (Err (Refused refusal)) = whole ≡ Err refusal
-TakesRows planners rows whole (Err OutOfMemory) = Unit {0}
-
--- the same where rows are added one by one to what was taken before them
-abbrev pub TakesEach : {U : Type 0} → ℕ → ℕ → Result Content Refusal → InputSoFar → Result U (Stopped Refusal) → Type 0
-TakesEach planners rows whole made (Ok done) = TakesRows planners rows whole (Ok made)
-TakesEach planners rows whole made (Err why) = TakesRows planners rows whole (Err why)
+-- how taking rows ends: all are taken, or the first fault is how the whole ends; of a want of memory nothing is said
+abbrev pub TakesRows : {U : Type 0} → ℕ → ℕ → Result Content Refusal → InputSoFar → Result U (Stopped Refusal) → Type 0
+TakesRows planners rows whole made (Ok done) = TakesAll planners rows whole made
+TakesRows planners rows whole made (Err (Refused refusal)) = whole ≡ Err refusal
+TakesRows planners rows whole made (Err OutOfMemory) = Unit {0}
 
 -- ---- the rows before a place
 

@@ -10,7 +10,6 @@ pub mod Ends
 pub mod Stopped
 pub mod OneOutcome
 pub mod InputSoFar
-pub mod ReadAhead
 pub mod Reply
 pub mod Given
 pub mod Promise

@@ -227,7 +227,7 @@ fn reply_from<R: AllocGlobal + Threads + Sync, S: Source>(
     ensures no_fault { result ≢ Err status.ReadFault → NoReadFailed
         (source_call S.given S.left S.ended S.faults S.at_fault source.old source.new) }
 {
-    match input_from(rt, command, source, told)? {
+    match input_from(rt.alloc(), command, source, told)? {
         Ok(given) => Ok(reply_alone(rt, rt.alloc(), command, given, told)?),
         Err(refused) => Ok(refused),
     }
@@ -255,7 +255,7 @@ fn session_reply<R: AllocGlobal + Threads + Wait + Sync, S: Source, G: Gate>(
         (source_call S.given S.left S.ended S.faults S.at_fault source.old source.new) }
 {
     let command = Command::Session(workers);
-    match input_from(rt, &command, source, told)? {
+    match input_from(rt.alloc(), &command, source, told)? {
         Ok(given) => Ok(reply_on_threads(rt, rt.alloc(), given, workers, gate)?),
         Err(refused) => Ok(refused),
     }
@@ -263,8 +263,8 @@ fn session_reply<R: AllocGlobal + Threads + Wait + Sync, S: Source, G: Gate>(
 
 // Reads the input and says what it gives to a command, or the reply that refuses it. The status of
 // an error is that of a failed read or of memory that ran out.
-fn input_from<R: AllocGlobal + Threads + Sync, S: Source>(
-    rt: &R,
+fn input_from<S: Source>(
+    alloc: Global,
     command: &Command,
     source: &mut S,
     told: &mut Told,
@@ -283,9 +283,8 @@ fn input_from<R: AllocGlobal + Threads + Sync, S: Source>(
     ensures no_fault { result ≢ Err status.ReadFault → NoReadFailed
         (source_call S.given S.left S.ended S.faults S.at_fault source.old source.new) }
 {
-    let alloc = rt.alloc();
     match take_all(alloc, source, INPUT_BYTES)? {
-        Ok(input) => Ok(given_or_reply(rt, alloc, command, input.slice(), told)?),
+        Ok(input) => Ok(given_or_reply(alloc, command, input.slice(), told)?),
         Err(Taken::TooLong) => Ok(Err(refusal(alloc, 0, Cause::TooLong)?)),
         Err(Taken::Failed) => Err(Status::ReadFault),
     }

@@ -7,29 +7,24 @@ ghost use Rattle.row_text.specs.Lines.{read_in};
 ghost use Rattle.capacity_cmd.specs.Input.{content_of_rows, content_in};
 ghost use Rattle.capacity_cmd.specs.InputSoFar.{accepted_in, tables_so_far, accepted_so_far};
 ghost use Rattle.capacity_cmd.specs.InputSoFar.{after_one_more, IsWithin, IsNothing};
-ghost use Rattle.capacity_cmd.specs.InputSoFar.{TakesLine, TakesRow, TakesEach, TakesRows};
+ghost use Rattle.capacity_cmd.specs.InputSoFar.{TakesLine, TakesRow, TakesRows};
 ghost use Rattle.capacity_cmd.specs.InputSoFar.{refusal_of, IsFormFault};
-ghost use Rattle.capacity_cmd.specs.ReadAhead.{IsBatch, TakesLines};
 ghost use Rattle.capacity_cmd.specs.Stopped.{Gives};
 
 use crate::Cause;
 use crate::accepted::Accepted;
-use crate::lines::{lines_from, pays_to_read_ahead};
 use crate::refusal::Refusal;
 use crate::script_rows::ScriptRows;
 use crate::stopped::Stopped;
 use line_tables::LineTables;
 use plan_model::Task;
 use rail_model::{Edit, Form, Item, Kind, Name, OutOfMemory, Rule};
-use rayon::current_num_threads;
 use row_text::{Line, RowList, Unread, Word};
 use std::alloc::Global;
-use std::thread::{Threads, join};
 
 // What rows give to a command that takes the scripts of so many planners, or the row at which they
 // are refused.
 pub(crate) fn accepted_of_rows(
-    rt: &(impl Threads + Sync),
     alloc: Global,
     planners: usize,
     rows: &RowList<'_>,
@@ -44,7 +39,7 @@ pub(crate) fn accepted_of_rows(
             cause: Cause::Form(form),
         })),
     };
-    let so_far = InputSoFar {
+    let mut so_far = InputSoFar {
         base: BaseSoFar {
             tables: LineTables::new(alloc),
             edits: 0,
@@ -52,8 +47,8 @@ pub(crate) fn accepted_of_rows(
         },
         scripts: ScriptRows::new(alloc),
     };
-    let all = so_far.take_rows(rt, alloc, planners, rows, version)?;
-    all.end()
+    so_far.take_rows(alloc, planners, rows, version)?;
+    so_far.end()
 }
 
 // The tables after the base edits of some rows, how many these are, and the first of the rows whose
@@ -149,29 +144,8 @@ struct InputSoFar {
 }
 
 impl InputSoFar {
-    // Takes all rows, up to the first that has a fault. Where there are several processors, and it
-    // pays, other threads read the next of them while some are taken.
+    // Takes all rows, up to the first that has a fault, each as soon as it is read.
     fn take_rows(
-        mut self,
-        rt: &(impl Threads + Sync),
-        alloc: Global,
-        planners: usize,
-        rows: &RowList<'_>,
-        version: u32,
-    ) -> Result<InputSoFar, Stopped<Refusal>>
-        requires { IsNothing self }
-        ensures { TakesRows
-            planners (length rows.now) (content_in planners (Ok version) rows.now) result }
-    {
-        if pays_to_read_ahead(rows) && current_num_threads(rt) > 1 {
-            return self.take_while_reading(rt, alloc, planners, rows, version);
-        }
-        self.take_each(alloc, planners, rows, version)?;
-        Ok(self)
-    }
-
-    // Takes all rows, each as soon as it is read.
-    fn take_each(
         &mut self,
         alloc: Global,
         planners: usize,
@@ -179,7 +153,7 @@ impl InputSoFar {
         version: u32,
     ) -> Result<(), Stopped<Refusal>>
         requires { IsNothing self.old }
-        ensures { TakesEach
+        ensures { TakesRows
             planners (length rows.now) (content_in planners (Ok version) rows.now) self.new result }
     {
         for i in rows.first_line()..rows.len() {
@@ -191,68 +165,6 @@ impl InputSoFar {
             }
         }
         Ok(())
-    }
-
-    // Takes all rows, some at a time, while other threads read the next.
-    fn take_while_reading(
-        self,
-        rt: &(impl Threads + Sync),
-        alloc: Global,
-        planners: usize,
-        rows: &RowList<'_>,
-        version: u32,
-    ) -> Result<InputSoFar, Stopped<Refusal>>
-        requires { IsNothing self }
-        ensures { TakesRows
-            planners (length rows.now) (content_in planners (Ok version) rows.now) result }
-    {
-        let mut so_far = self;
-        let mut at = rows.first_line();
-        let mut lines = lines_from(rt, alloc, rows, version, at)?;
-        while at < rows.len() {
-            let next = at + lines.len();
-            if next == rows.len() {
-                return so_far.take_lines(planners, at, lines);
-            }
-            let read = move || -> Result<Vec<Result<Line, Form>>, OutOfMemory>
-                requires { (next ≤ length rows.now) × (length rows.now < 2 ^ 64) }
-                ensures { IfOk result (λ lines. IsBatch version rows.entry.now next lines.items) }
-            { lines_from(rt, alloc, rows, version, next) };
-            let take = move || -> Result<InputSoFar, Stopped<Refusal>>
-                requires { (so_far.base.edits ≤ at) × (at + length lines.items < 2 ^ 64) }
-                ensures { TakesLines planners at lines.items so_far result }
-            { so_far.take_lines(planners, at, lines) };
-            let (read, taken) = join(rt, read, take);
-            match taken {
-                Ok(more) => so_far = more,
-                Err(why) => return Err(why),
-            }
-            lines = read?;
-            at = next;
-        }
-        Ok(so_far)
-    }
-
-    // Takes the lines of rows that were read, the first of them that at a place, up to the first
-    // that has a fault.
-    fn take_lines(
-        mut self,
-        planners: usize,
-        at: usize,
-        lines: Vec<Result<Line, Form>>,
-    ) -> Result<InputSoFar, Stopped<Refusal>>
-        requires few { self.base.edits ≤ at }
-        requires counted { at + length lines.items < 2 ^ 64 }
-        ensures { TakesLines planners at lines.items self result }
-    {
-        let mut row = at as u64;
-        for found in lines {
-            row += 1;
-            if let Some(cause) = self.take_read(planners, row, found)? {
-                return Err(Stopped::Refused(Refusal { row, cause }));
-            }
-        }
-        Ok(self)
     }
 
     // Takes the row at a place, unless it has a fault. A base edit is taken in parts, so that no line

@@ -28,7 +28,6 @@ mod headways;
 mod input;
 pub mod laws;
 mod limit;
-mod lines;
 mod made;
 mod named;
 mod no_plan;

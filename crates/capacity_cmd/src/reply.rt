@@ -26,7 +26,7 @@ use capacity_report::rule_text;
 use plan_book::TASKS;
 use rail_model::{Form, OutOfMemory};
 use rail_outside::Gate;
-use row_text::{RowList, Sheet, Text, rows_by_threads};
+use row_text::{RowList, Sheet, Text, rows};
 use sentences::{Fault, told_of_row};
 use std::alloc::Global;
 use std::sync::Wait;
@@ -41,7 +41,6 @@ pub(crate) struct CallReply {
 
 // What an input that isn't too long gives to a command, or the reply that refuses it.
 pub(crate) fn given_or_reply(
-    rt: &(impl Threads + Sync),
     alloc: Global,
     command: &Command,
     input: &[u8],
@@ -50,9 +49,9 @@ pub(crate) fn given_or_reply(
     requires { length input.now ≤ INPUT_BYTES }
     ensures { IfOk result (GivesOrRefuses command.now (EndsOn command.now input.now)) }
 {
-    let rows = rows_by_threads(rt, alloc, input)?;
+    let rows = rows(alloc, input)?;
     let planners = command.planners();
-    match accepted_of_rows(rt, alloc, planners, &rows) {
+    match accepted_of_rows(alloc, planners, &rows) {
         Ok(given) => Ok(Ok(given)),
         Err(Stopped::Refused(refused)) => {
             let reply = refusal_told(alloc, input, &rows, planners, refused, told)?;

@@ -16,4 +16,3 @@ pub mod PlainFields
 pub mod PlainReads
 pub mod PlainRows
 pub mod Adds
-pub mod CutParts

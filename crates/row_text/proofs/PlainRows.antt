@@ -1,8 +1,8 @@
 -- A text that is cut byte by byte.
-use Rattle.std.proofs.Common.{◌≡◌, ◌≢◌, ℕ, ◌+◌, ◌-◌, ◌<◌, ◌≤◌, ◌==◌, ◌&&◌, true, false, List, [], ◌∷◌, ◌++◌, length, get_or, drop, map, slice_range, sym, ap, ◌∙◌, refl, arith, append_assoc}
+use Rattle.std.proofs.Common.{◌≡◌, ◌≢◌, ℕ, ◌+◌, ◌-◌, ◌<◌, ◌≤◌, ◌==◌, ◌&&◌, true, false, List, [], ◌∷◌, ◌++◌, length, get_or, take, drop, map, slice_range, sym, ap, ◌∙◌, refl, arith, append_assoc}
 use Rattle.std.proofs.lemmas.Bool.{and_parts, eq-eqb, eqb-true, ne_eqb}
 use Rattle.std.proofs.lemmas.Bool.Decides.{nat_tests}
-use Rattle.std.proofs.lemmas.List.{append-nil, drop_all, drop_more, drop-append-le, length-drop, length-take-le, length_push, map_push, take_all, take_rest}
+use Rattle.std.proofs.lemmas.List.{append-nil, drop_all, drop_more, drop-append-le, length-drop, length-take-le, length_push, map_push, take_all, take_more, take_rest}
 use Rattle.std.proofs.lemmas.List.Edits.{between_more}
 use Rattle.std.proofs.lemmas.List.Elements.{All-nil, All-push}
 use Rattle.csv.specs.Records.{Rising, last_end}
@@ -59,25 +59,24 @@ field-step text old new i ended fits order within =
     )
 
 -- nothing is cut yet
-pub HasCut-none : (text : List ℕ) (from : ℕ) (cut : CutFields) → from ≤ length text → cut.cuts.items ≡ [] → cut.ends.items ≡ [] → cut.start ≡ from → cut.first ≡ 0 → HasCut text from cut from
+pub HasCut-none : (text : List ℕ) (cut : CutFields) → cut.cuts.items ≡ [] → cut.ends.items ≡ [] → cut.start ≡ 0 → cut.first ≡ 0 → HasCut text cut 0
 unfolding pieces fields_cut_at CutsIn Rising last_end
-HasCut-none text from cut within cuts ends start first =
+HasCut-none text cut cuts ends start first =
     record {
-      rows = rw (cuts, ends, first, none-there text cut.start from start) refl;
-      no_quote = rw (none-there text from from refl) (All-nil (λ byte. byte ≢ 34));
+      rows = rw (cuts, ends, first, none-there text cut.start 0 start) refl;
+      no_quote = All-nil (λ byte. byte ≢ 34);
       fits = record { each = rw (cuts, ends) (All-nil (CutsIn (length text + 1))); line = rw (cuts, start, first) (omega arith); rise = rw (cuts, ends) (omega arith); first = rw (ends, first) refl };
       start = omega (arith, start);
-      order = omega arith;
     }
 
 -- one byte more is no double quote
-no-quote-more : (text : List ℕ) (from i : ℕ) → from ≤ i → i < length text → HasNoQuote (slice_range text from i) → get_or text i 0 ≢ 34 → HasNoQuote (slice_range text from (i + 1))
-no-quote-more text from i order there before plain =
-    rw (between_more text from i 0 order there) (All-push (λ byte. byte ≢ 34) (slice_range text from i) (get_or text i 0) before plain)
+no-quote-more : (text : List ℕ) (i : ℕ) → i < length text → HasNoQuote (take i text) → get_or text i 0 ≢ 34 → HasNoQuote (take (i + 1) text)
+no-quote-more text i there before plain =
+    rw (take_more text i 0 there) (All-push (λ byte. byte ≢ 34) (take i text) (get_or text i 0) before plain)
 
 -- a comma
-pub HasCut-comma : (text : List ℕ) (from : ℕ) (old new : CutFields) (i : ℕ) → i < length text → get_or text i 0 ≡ 44 → EndsField old new i → HasCut text from old i → HasCut text from new (i + 1)
-HasCut-comma text from old new i there is ended has =
+pub HasCut-comma : (text : List ℕ) (old new : CutFields) (i : ℕ) → i < length text → get_or text i 0 ≡ 44 → EndsField old new i → HasCut text old i → HasCut text new (i + 1)
+HasCut-comma text old new i there is ended has =
     let step = field-step text old new i ended has.fits has.start (omega arith) in
     let field = slice_range text old.start i in
     let rest = drop (i + 1) text in
@@ -85,15 +84,14 @@ HasCut-comma text from old new i there is ended has =
     ap (cut_rows (line_fields text old) field) (drop_more text i 0 there) ∙ cut-comma (line_fields text old) field (get_or text i 0) rest (eq-eqb (get_or text i 0) 44 is) in
     record {
       rows = has.rows ∙ rw (next, step.0, step.1, none-there text new.start (i + 1) ended.start) refl;
-      no_quote = no-quote-more text from i has.order there has.no_quote (λ quote. omega arith);
+      no_quote = no-quote-more text i there has.no_quote (λ quote. omega arith);
       fits = step.2;
       start = omega (arith, ended.start);
-      order = omega (arith, has.order);
     }
 
 -- the end of a line
-pub HasCut-line : (text : List ℕ) (from : ℕ) (old new : CutFields) (i : ℕ) → i < length text → ends_line (get_or text i 0) ≡ true → LineEnded text old new i → HasCut text from old i → HasCut text from new (i + 1)
-HasCut-line text from old new i there is ended has =
+pub HasCut-line : (text : List ℕ) (old new : CutFields) (i : ℕ) → i < length text → ends_line (get_or text i 0) ≡ true → LineEnded text old new i → HasCut text old i → HasCut text new (i + 1)
+HasCut-line text old new i there is ended has =
     let field = slice_range text old.start i in
     let rest = drop (i + 1) text in
     let more = cut_rows [] [] rest in
@@ -101,15 +99,14 @@ HasCut-line text from old new i there is ended has =
     ap (cut_rows (line_fields text old) field) (drop_more text i 0 there) ∙ cut-line (line_fields text old) field (get_or text i 0) rest is in
     record {
       rows = has.rows ∙ ap (λ rows. rows_cut text old ++ rows) next ∙ sym (ended.rows more) ∙ rw (ended.none, none-there text new.start (i + 1) ended.start) refl;
-      no_quote = no-quote-more text from i has.order there has.no_quote (λ quote. grind (arith, nat_tests));
+      no_quote = no-quote-more text i there has.no_quote (λ quote. grind (arith, nat_tests));
       fits = ended.fits;
       start = omega (arith, ended.start);
-      order = omega (arith, has.order);
     }
 
 -- a byte of a field
-pub HasCut-byte : (text : List ℕ) (from : ℕ) (cut : CutFields) (i : ℕ) → i < length text → get_or text i 0 ≢ 34 → get_or text i 0 ≢ 44 → ends_line (get_or text i 0) ≡ false → HasCut text from cut i → HasCut text from cut (i + 1)
-HasCut-byte text from cut i there plain comma line has =
+pub HasCut-byte : (text : List ℕ) (cut : CutFields) (i : ℕ) → i < length text → get_or text i 0 ≢ 34 → get_or text i 0 ≢ 44 → ends_line (get_or text i 0) ≡ false → HasCut text cut i → HasCut text cut (i + 1)
+HasCut-byte text cut i there plain comma line has =
     let byte = get_or text i 0 in
     let field = slice_range text cut.start i in
     let rest = drop (i + 1) text in
@@ -117,28 +114,27 @@ HasCut-byte text from cut i there plain comma line has =
     ap (cut_rows (line_fields text cut) field) (drop_more text i 0 there) ∙ cut-byte (line_fields text cut) field byte rest (ne_eqb byte 44 comma) line in
     record {
       rows = has.rows ∙ rw (next, between_more text cut.start i 0 has.start there) refl;
-      no_quote = no-quote-more text from i has.order there has.no_quote plain;
+      no_quote = no-quote-more text i there has.no_quote plain;
       fits = has.fits;
       start = omega (arith, has.start);
-      order = omega (arith, has.order);
     }
 
 -- a byte past the comma is one of a field, whatever it is
 past-comma : (byte : ℕ) → 44 < byte → ends_line byte ≡ false
 past-comma byte past = grind (arith, nat_tests)
 
-pub HasCut-past : (text : List ℕ) (from : ℕ) (cut : CutFields) (i : ℕ) → i < length text → 44 < get_or text i 0 → HasCut text from cut i → HasCut text from cut (i + 1)
-HasCut-past text from cut i there past has = HasCut-byte text from cut i there (λ quote. omega arith) (λ comma. omega arith) (past-comma (get_or text i 0) past) has
+pub HasCut-past : (text : List ℕ) (cut : CutFields) (i : ℕ) → i < length text → 44 < get_or text i 0 → HasCut text cut i → HasCut text cut (i + 1)
+HasCut-past text cut i there past has = HasCut-byte text cut i there (λ quote. omega arith) (λ comma. omega arith) (past-comma (get_or text i 0) past) has
 
 -- the end of the text ends its last line
-pub HasCut-end : (text : List ℕ) (from : ℕ) (old new : CutFields) (i : ℕ) → length text ≤ i → LineEnded text old new i → HasCut text from old i → HasCutAll text from new
-HasCut-end text from old new i end ended has =
+pub HasCut-end : (text : List ℕ) (old new : CutFields) (i : ℕ) → length text ≤ i → LineEnded text old new i → HasCut text old i → HasCutAll text new
+HasCut-end text old new i end ended has =
     let field = slice_range text old.start i in
     let next : cut_rows (line_fields text old) field (drop i text) ≡ with_line (line_fields text old) field [] =
     ap (cut_rows (line_fields text old) field) (drop_all i text end) ∙ cut-none (line_fields text old) field in
     record {
       rows = has.rows ∙ ap (λ rows. rows_cut text old ++ rows) next ∙ sym (ended.rows []) ∙ append-nil (rows_cut text new);
-      no_quote = rw (take_all (i - from) (drop from text) (omega (arith, length-drop from text))) at has.no_quote;
+      no_quote = rw (take_all i text end) at has.no_quote;
       fits = ended.fits;
       all = omega (arith, fields-long text new ended.fits, ap length ended.none);
     }

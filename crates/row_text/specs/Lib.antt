@@ -12,4 +12,3 @@ pub mod Sheet
 pub mod SheetText
 pub mod Put
 pub mod PlainRows
-pub mod Parts

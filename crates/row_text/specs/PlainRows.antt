@@ -1,5 +1,5 @@
 -- The rows of a text that has no double quote.
-use Rattle.std.specs.Prelude.{◌≡◌, ◌≢◌, ℕ, ◌==◌, ◌&&◌, ◌||◌, ◌+◌, ◌≤◌, ◌<◌, Bool, List, [], ◌∷◌, ◌++◌, length, drop, get_or, slice_range, if◌then◌else◌}
+use Rattle.std.specs.Prelude.{◌≡◌, ◌≢◌, ℕ, ◌==◌, ◌&&◌, ◌||◌, ◌+◌, ◌≤◌, ◌<◌, Bool, List, [], ◌∷◌, ◌++◌, length, take, drop, get_or, slice_range, if◌then◌else◌}
 use Rattle.std.specs.List.{All}
 use Rattle.csv.specs.Records.{Rising, last_end}
 use Rattle.row_text.specs.Types.{CutFields}
@@ -51,18 +51,17 @@ pub record Fits (text : List ℕ) (cut : CutFields) : Type 0 where
   pub rise : Rising 0 cut.ends.items (length cut.cuts.items)
   pub first : last_end 0 cut.ends.items ≡ cut.first
 
--- the bytes of a text from one place up to another were cut
-pub record HasCut (text : List ℕ) (from : ℕ) (cut : CutFields) (i : ℕ) : Type 0 where
-  pub rows : cut_rows [] [] (drop from text) ≡ rows_cut text cut ++ cut_rows (line_fields text cut) (slice_range text cut.start i) (drop i text)
-  pub no_quote : HasNoQuote (slice_range text from i)
+-- the bytes of a text before a place were cut
+pub record HasCut (text : List ℕ) (cut : CutFields) (i : ℕ) : Type 0 where
+  pub rows : cut_rows [] [] text ≡ rows_cut text cut ++ cut_rows (line_fields text cut) (slice_range text cut.start i) (drop i text)
+  pub no_quote : HasNoQuote (take i text)
   pub fits : Fits text cut
   pub start : cut.start ≤ i
-  pub order : from ≤ i
 
--- all bytes from a place on were cut
-pub record HasCutAll (text : List ℕ) (from : ℕ) (cut : CutFields) : Type 0 where
-  pub rows : cut_rows [] [] (drop from text) ≡ rows_cut text cut
-  pub no_quote : HasNoQuote (drop from text)
+-- all bytes of a text were cut
+pub record HasCutAll (text : List ℕ) (cut : CutFields) : Type 0 where
+  pub rows : cut_rows [] [] text ≡ rows_cut text cut
+  pub no_quote : HasNoQuote text
   pub fits : Fits text cut
   pub all : cut.first ≡ length cut.cuts.items
 
@@ -85,4 +84,4 @@ EndsLine old new i = (text : List ℕ) → i ≤ length text → old.start ≤ i
 
 -- one byte more was taken
 abbrev pub TakesByte : CutFields → CutFields → ℕ → ℕ → Type 0
-TakesByte old new i byte = (text : List ℕ) (from : ℕ) → i < length text → get_or text i 0 ≡ byte → HasCut text from old i → HasCut text from new (i + 1)
+TakesByte old new i byte = (text : List ℕ) → i < length text → get_or text i 0 ≡ byte → HasCut text old i → HasCut text new (i + 1)

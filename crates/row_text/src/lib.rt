@@ -5,9 +5,6 @@
 //! rows lie in the text itself. Any other text, and one that may begin with a byte order mark, is
 //! read by a `csv` reader, which copies the fields. By the contract both give the rows of CSV.
 //!
-//! `rows_by_threads` parts a long text at line feeds, at most into as many parts as there are
-//! processors. Each thread cuts one part. `rows` does the same with one thread.
-//!
 //! Rows that are written go to a `Sheet`. A `Text` is a text in pieces, so that the sheets of
 //! several threads need not be copied into one.
 //!
@@ -32,7 +29,6 @@ mod leg_times;
 mod line;
 mod line_row;
 mod lists;
-mod parts;
 mod places;
 mod plain_rows;
 mod put;
@@ -50,7 +46,6 @@ pub use fields::{Fields, Row};
 pub use laws::limits;
 pub use line::{Line, read_row, read_row_in};
 pub use line_row::{has_times_in, spell, spell_in};
-pub use parts::rows_by_threads;
 pub use read_field::{HOUR_DIGITS, NUMBER_DIGITS, number};
 pub use row_list::{RowList, rows};
 pub use sheet::Sheet;

@@ -12,11 +12,11 @@ use std::alloc::Global;
 
 // The fields and rows that were cut from a text so far.
 #[derive(Drop)]
-pub(crate) struct CutFields {
+struct CutFields {
     // Where the fields are cut. The place at which the field at hand starts isn't put yet.
-    pub(crate) cuts: Vec<u32>,
+    cuts: Vec<u32>,
     // How many places there are up to the end of each row.
-    pub(crate) ends: Vec<u32>,
+    ends: Vec<u32>,
     // Where the field at hand starts.
     start: usize,
     // How many places there are before the line at hand.
@@ -31,51 +31,45 @@ pub(crate) fn plain_rows(alloc: Global, text: &[u8]) -> Result<Option<RowList<'_
     if text.len() >= GREATEST_PLACE || starts_with_mark(text) {
         return Ok(None);
     }
-    match cut_from(alloc, text, 0)? {
+    match cut_whole(alloc, text)? {
         Some(cut) => Ok(Some(RowList::of_cuts(text, cut.cuts, cut.ends))),
         None => Ok(None),
     }
 }
 
-// What is cut from a text from a place on. `None`, as where there is a double quote, says nothing:
-// a reader of CSV follows.
-pub(crate) fn cut_from(
-    alloc: Global,
-    text: &[u8],
-    from: usize,
-) -> Result<Option<CutFields>, OutOfMemory>
-    requires small { length text.now + 1 < 2 ^ 32 }
-    requires from { from ≤ length text.now }
-    ensures { IfOk result (λ found. IfSome found (HasCutAll text.now from)) }
+// What is cut from a text. `None`, as where there is a double quote, says nothing: a reader of CSV
+// follows.
+fn cut_whole(alloc: Global, text: &[u8]) -> Result<Option<CutFields>, OutOfMemory>
+    requires { length text.now + 1 < 2 ^ 32 }
+    ensures { IfOk result (λ found. IfSome found (HasCutAll text.now)) }
 {
-    let places = places_for(alloc, &text[from..])?;
+    let places = places_for(alloc, text)?;
     let mut cut = CutFields {
         cuts: places.cuts,
         ends: places.ends,
-        start: from,
+        start: 0,
         first: 0,
     };
-    if !cut_text(&mut cut, text, from)? {
+    if !cut_text(&mut cut, text)? {
         return Ok(None);
     }
     Ok(Some(cut))
 }
 
 // Whether a text starts with the first byte of a byte order mark.
-pub(crate) fn starts_with_mark(text: &[u8]) -> bool
+fn starts_with_mark(text: &[u8]) -> bool
     ensures { IsTrue result ↔ (take 1 text.now ≡ 0xEF ∷ []) }
 {
     !text.is_empty() && text[0] == 0xEF
 }
 
-// Cuts a text from a place on. `false`, as where there is a double quote, says nothing.
-fn cut_text(cut: &mut CutFields, text: &[u8], from: usize) -> Result<bool, OutOfMemory>
+// Cuts a text. `false`, as where there is a double quote, says nothing.
+fn cut_text(cut: &mut CutFields, text: &[u8]) -> Result<bool, OutOfMemory>
     requires small { length text.now + 1 < 2 ^ 32 }
-    requires from { from ≤ length text.now }
-    requires fresh { HasCut text.now from cut.old from }
-    ensures { IfOk result (λ whole. IsTrue whole → HasCutAll text.now from cut.new) }
+    requires fresh { HasCut text.now cut.old 0 }
+    ensures { IfOk result (λ whole. IsTrue whole → HasCutAll text.now cut.new) }
 {
-    for i in from..text.len() {
+    for i in 0..text.len() {
         let byte = text[i];
         // Each byte that ends a field is a comma, or below it in ASCII.
         if byte > b',' {

@@ -178,7 +178,7 @@ pub fn rows(alloc: Global, text: &[u8]) -> Result<RowList<'_>, OutOfMemory>
 }
 
 // The rows of any text, by a reader of CSV.
-pub(crate) fn rows_read(alloc: Global, text: &[u8]) -> Result<RowList<'_>, OutOfMemory>
+fn rows_read(alloc: Global, text: &[u8]) -> Result<RowList<'_>, OutOfMemory>
     ensures { IfOk result (λ rows. rows ≡ rows_of text.now) }
 {
     let mut taken = nothing_taken(alloc, text)?;

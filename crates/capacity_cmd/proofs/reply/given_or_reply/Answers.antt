@@ -7,7 +7,7 @@ use Rattle.capacity_cmd.proofs.Outcomes.{ends_on_accepted, ends_refused, within_
 use Rattle.capacity_cmd.proofs.reply.given_or_reply.Goals as goal
 
 pub returns-in-Ok : goal.returns-in-Ok
-returns-in-Ok g c =
+returns-in-Ok c =
     let input = c.args.input.now in
     let made = ap (λ (n : ℕ). accepted_in (content_of_rows n (rows_of input))) (sym c.planners-planners.ensures)
     ∙ ap (λ rows. accepted_in (content_of_rows c.planners-planners.result rows)) (sym c.in_ok-rows.ensures)
@@ -19,7 +19,7 @@ returns-in-Ok g c =
     }
 
 pub returns-in-Err-Refused : goal.returns-in-Err-Refused
-returns-in-Err-Refused g c =
+returns-in-Err-Refused c =
     let input = c.args.input.now in
     let arm = c.in-Err-Refused in
     let refused = arm.refused in

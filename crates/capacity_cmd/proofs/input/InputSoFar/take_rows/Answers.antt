@@ -2,7 +2,7 @@ use Rattle.std.proofs.Common.{◌+◌, [], get_or, refl, subst, sym, arith}
 use Rattle.row_text.specs.Lines.{read_in}
 use Rattle.capacity_cmd.specs.InputSoFar.{TakesRow, HasTaken}
 use Rattle.capacity_cmd.proofs.Making.{taken_none, few_edits, taken_more, not_taken, taken_all}
-use Rattle.capacity_cmd.proofs.input.InputSoFar.take_each.Goals as goal
+use Rattle.capacity_cmd.proofs.input.InputSoFar.take_rows.Goals as goal
 
 pub loop-i-init : goal.loop-i-init
 loop-i-init c =

@@ -1,5 +1,5 @@
 use Rattle.capacity_cmd.specs.InputSoFar.{HasTaken}
-use Rattle.capacity_cmd.proofs.input.InputSoFar.take_each.Given as goal
+use Rattle.capacity_cmd.proofs.input.InputSoFar.take_rows.Given as goal
 
 -- the rows so far are taken
 abbrev pub invariant-loop-i : goal.invariant-loop-i
