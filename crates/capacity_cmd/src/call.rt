@@ -22,6 +22,7 @@ use crate::{Cause, Command, Status, Told};
 use rail_model::OutOfMemory;
 use rail_outside::{Gate, Sink, Source, Taken, take_all};
 use sentences::told_of_words;
+use std::alloc::Global;
 use std::sync::Wait;
 use std::thread::Threads;
 
