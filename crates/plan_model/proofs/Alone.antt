@@ -182,7 +182,7 @@ publications_one journal at (n ∷ ns) (e ∷ es) (m ∷ ms) (f ∷ fs) some is 
       ]
     ]
 
-up_to_date_one : (journal es fs : List Entry) → 0 < length journal → IsLegal (journal ++ es) → IsLegal (journal ++ fs)
+pub up_to_date_one : (journal es fs : List Entry) → 0 < length journal → IsLegal (journal ++ es) → IsLegal (journal ++ fs)
     → ByMain es → ByMain fs → BringsUpToDate journal es → BringsUpToDate journal fs → es ≡ fs
 up_to_date_one journal es fs some es_legal fs_legal es_main fs_main h k =
     publications_one journal (last_number journal) h.names es k.names fs some refl (legal_later journal es some es_legal)
