@@ -170,8 +170,8 @@ impl Worker {
         Ok(answer)
     }
 
-    /// What is kept of a section, of which nothing is kept then.
-    pub fn take(&mut self, section: &Name) -> Option<KeptReading>
+    // What is kept of a section, of which nothing is kept then.
+    fn take(&mut self, section: &Name) -> Option<KeptReading>
         ensures worker { IsSameWorker self.old self.new }
         ensures taken { result ≡ kept_for self.old section.now }
         ensures forgets { Forgets section.now self.old self.new }

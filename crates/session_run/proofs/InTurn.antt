@@ -3,7 +3,7 @@ use Rattle.std.proofs.Common.{◌≡◌, ℕ, zero, suc, ◌+◌, ◌<◌, ◌�
 use Rattle.std.specs.Prelude.{All, flat_map}
 use Rattle.std.specs.List.{enumerate_from, range_with_len}
 use Rattle.std.proofs.lemmas.Bool.{cases_Bool, eqb-true, eq-eqb}
-use Rattle.std.proofs.lemmas.List.{take_more, ext_get_or, length-take-le}
+use Rattle.std.proofs.lemmas.List.{take_more, ext_get_or, length-take-le, take_all}
 use Rattle.std.proofs.lemmas.List.Elements.{All-cons, All-append, All-weaker, filter_map-append}
 use Rattle.std.proofs.lemmas.List.FromFn.{get_or-map-range_with_len, length-map-range_with_len}
 use Rattle.std.proofs.lemmas.Grind.{flat_map-append}
@@ -19,8 +19,9 @@ use Rattle.plan_model.specs.Outcome.{IsPlanner}
 use Rattle.plan_model.proofs.Working.{script_is}
 use Rattle.plan_model.specs.Session.{opened, IsMade, AllAreCurrent, tasks_in_turn, GoesInTurn, IsSessionAlone}
 use Rattle.section_cut.proofs.Lists.{enumerate_push}
-use Rattle.session_run.specs.Turns.{IsPublication, HasCaughtUp, DoesTasks, by_planner}
-use Rattle.session_run.proofs.Turns.{tasks_for, of_planner, doer, nothing_done, all_done, tasks_more, tasks_opening, task_opening}
+use Rattle.session_run.specs.Turns.{IsPublication, HasCaughtUp, DoesTasks, by_planner, NothingIsDone, DoesScripts}
+use Rattle.session_run.proofs.Turns.{tasks_for, of_planner, doer, nothing_done, same_opening, all_done, tasks_more, tasks_opening, task_opening}
+use Rattle.session_run.proofs.CaughtUpTwice.{tasks_from}
 
 -- the tasks of scripts in turn, of which the first is that of this planner
 abbrev in_turn_from : ℕ → List (List Task) → List (ℕ × Task)
@@ -90,14 +91,13 @@ script_for (s ∷ scripts) first (suc k) planner l is =
 
 -- ---- a planner's turn
 
-done_first : (tables : Tables) (at : ℕ) (scripts : List (List Task)) (planner : ℕ) → done_by (opened tables at scripts ∷ []) planner ≡ []
-unfolding done_by
-done_first tables at scripts planner = refl
+module _ (found : List Entry) (k : ℕ) (now : List Entry) (some : 0 < length found) (nothing : NothingIsDone found)
+    (h : DoesTasks found (tasks_in_turn (take k (opening found).scripts)) now) (l : k < length (opening found).scripts) where
+  abbrev all : List (List Task)
+  all = (opening found).scripts
 
-module _ (tables : Tables) (at : ℕ) (scripts : List (List Task)) (k : ℕ) (now : List Entry)
-    (h : DoesTasks (opened tables at scripts ∷ []) (tasks_in_turn (take k scripts)) now) (l : k < length scripts) where
-  pub opening_now : opening now ≡ record { tables = tables; at = at; scripts = scripts }
-  opening_now = (tasks_opening (tasks_in_turn (take k scripts)) (opened tables at scripts ∷ []) now (omega arith) h).1
+  pub opening_now : opening now ≡ opening found
+  opening_now = (tasks_opening (tasks_in_turn (take k all)) found now some h).1
 
   pub is_planner : IsPlanner now (k + 1)
   is_planner = record {
@@ -108,30 +108,28 @@ module _ (tables : Tables) (at : ℕ) (scripts : List (List Task)) (k : ℕ) (no
   -- nothing of the next script is done yet
   pub none_done : done_by now (k + 1) ≡ []
   none_done =
-      all_done (tasks_in_turn (take k scripts)) (k + 1) (opened tables at scripts ∷ []) now h
-      ∙ ap (λ ts. ts ++ tasks_for (k + 1) (tasks_in_turn (take k scripts))) (done_first tables at scripts (k + 1))
-      ∙ none_for (take k scripts) 1 (k + 1) (inr (omega (arith, length-take-le k scripts (omega (arith, l)))))
+      all_done (tasks_in_turn (take k all)) (k + 1) found now h
+      ∙ ap (λ ts. ts ++ tasks_for (k + 1) (tasks_in_turn (take k all))) (nothing (k + 1))
+      ∙ none_for (take k all) 1 (k + 1) (inr (omega (arith, length-take-le k all (omega (arith, l)))))
 
   pub one_script_more : (after : List Entry) → DoesTasks now (by_planner (k + 1) (script_of now (k + 1))) after
-      → DoesTasks (opened tables at scripts ∷ []) (tasks_in_turn (take (k + 1) scripts)) after
+      → DoesTasks found (tasks_in_turn (take (k + 1) all)) after
   one_script_more after does =
-      let place : script_of now (k + 1) ≡ get_or scripts k [] =
-      ap (λ (o : Opening). script o.scripts (k + 1)) opening_now ∙ script_is scripts k in
-      rw (script_more scripts k l)
-      (tasks_more (tasks_in_turn (take k scripts)) (by_planner (k + 1) (get_or scripts k [])) (opened tables at scripts ∷ []) now after h
+      let place : script_of now (k + 1) ≡ get_or all k [] =
+      ap (λ (o : Opening). script o.scripts (k + 1)) opening_now ∙ script_is all k in
+      rw (script_more all k l)
+      (tasks_more (tasks_in_turn (take k all)) (by_planner (k + 1) (get_or all k [])) found now after h
       (subst (λ s. DoesTasks now (by_planner (k + 1) s) after) place does))
 
--- where the book was started, its journal is the opening
-pub started : (tables : Tables) (at : ℕ) (scripts : List (List Task)) (k : ℕ) (book now : List Entry)
-    → book ≡ opened tables at scripts ∷ [] → DoesTasks book (tasks_in_turn (take k (opening book).scripts)) now
-    → DoesTasks (opened tables at scripts ∷ []) (tasks_in_turn (take k scripts)) now
-started tables at scripts k book now is h = subst (λ j. DoesTasks j (tasks_in_turn (take k (opening j).scripts)) now) is h
-
-pub so_started : (tables : Tables) (at : ℕ) (scripts : List (List Task)) (k : ℕ) (book now : List Entry)
-    → book ≡ opened tables at scripts ∷ [] → DoesTasks (opened tables at scripts ∷ []) (tasks_in_turn (take k scripts)) now
-    → DoesTasks book (tasks_in_turn (take k (opening book).scripts)) now
-so_started tables at scripts k book now is h =
-    subst (λ j. DoesTasks j (tasks_in_turn (take k (opening j).scripts)) now) (sym is) h
+pub scripts_done : (found : List Entry) (k : ℕ) (done after : List Entry) → length (opening found).scripts ≤ k
+    → DoesTasks found (tasks_in_turn (take k (opening found).scripts)) done → HasCaughtUp done after → IsLegal after
+    → DoesScripts found after
+scripts_done found k done after all h up legal = record {
+  done = done;
+  tasks = subst (λ ss. DoesTasks found (tasks_in_turn ss) done) (take_all k (opening found).scripts all) h;
+  caught_up = up;
+  legal = legal;
+}
 
 -- ---- the session
 
@@ -204,17 +202,25 @@ rest_of planners ((planner, t) ∷ tasks) found after final some count does up =
           later.made);
     }
 
-pub is_session : (tables : Tables) (at : ℕ) (scripts : List (List Task)) (after final : List Entry)
+pub starts_untouched : (tables : Tables) (at : ℕ) (scripts : List (List Task)) (first : List Entry)
+    → first ≡ opened tables at scripts ∷ [] → NothingIsDone first
+unfolding done_by
+starts_untouched tables at scripts first is planner = ap (λ j. done_by j planner) is
+
+pub still_untouched : (first found : List Entry) → HasCaughtUp first found → NothingIsDone first → NothingIsDone found
+still_untouched first found up nothing planner = nothing_done planner first found up ∙ nothing planner
+
+session_of : (tables : Tables) (at : ℕ) (scripts : List (List Task)) (after final : List Entry)
     → DoesTasks (opened tables at scripts ∷ []) (tasks_in_turn scripts) after → HasCaughtUp after final → IsLegal final
     → IsSessionAlone tables at scripts final
-is_session tables at scripts after final does up legal =
+session_of tables at scripts after final does up legal =
     let first = opened tables at scripts ∷ [] in
     let count = length scripts in
     let it = rest_of count (tasks_in_turn scripts) first after final (omega arith) refl does up in
     let each : (k : ℕ) → k < count → done_by final (k + 1) ≡ get_or scripts k [] =
     (λ k l.
     nothing_done (k + 1) after final up ∙ all_done (tasks_in_turn scripts) (k + 1) first after does
-    ∙ ap (λ ts. ts ++ tasks_for (k + 1) (tasks_in_turn scripts)) (done_first tables at scripts (k + 1))
+    ∙ ap (λ ts. ts ++ tasks_for (k + 1) (tasks_in_turn scripts)) (starts_untouched tables at scripts first refl (k + 1))
     ∙ script_for scripts 1 k (k + 1) l (omega arith)) in
     record {
       session = record {
@@ -231,3 +237,21 @@ is_session tables at scripts after final does up legal =
       };
       in_turn = it.in_turn;
     }
+
+pub is_session : (tables : Tables) (at : ℕ) (scripts : List (List Task)) (first final : List Entry)
+    → first ≡ opened tables at scripts ∷ [] → DoesScripts first final → IsSessionAlone tables at scripts final
+is_session tables at scripts first final is does =
+    let h = subst (λ j. DoesScripts j final) is does in
+    session_of tables at scripts h.done final h.tasks h.caught_up h.legal
+
+-- the sections may be made current before the scripts
+pub is_session_after : (tables : Tables) (at : ℕ) (scripts : List (List Task)) (first found final : List Entry)
+    → first ≡ opened tables at scripts ∷ [] → HasCaughtUp first found → DoesScripts found final
+    → IsSessionAlone tables at scripts final
+is_session_after tables at scripts first found final is up does =
+    let some : 0 < length first = omega (arith, ap length is) in
+    let tasks = ap (λ (o : Opening). tasks_in_turn o.scripts) (same_opening first found some up) in
+    let h = tasks_from (tasks_in_turn (opening first).scripts) first found does.done final some does.legal up
+    (subst (λ ts. DoesTasks found ts does.done) tasks does.tasks) does.caught_up in
+    is_session tables at scripts first final is
+    (record { done = h.0; tasks = h.1; caught_up = h.2; legal = does.legal })

@@ -1,7 +1,9 @@
 pub mod Publishing
 pub mod Keeping
+pub mod AnsweredAhead
 pub mod CatchingUp
 pub mod Turns
+pub mod CaughtUpTwice
 pub mod InTurn
 pub mod NextTasks
 pub mod Entered

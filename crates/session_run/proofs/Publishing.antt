@@ -10,11 +10,12 @@ use Rattle.plan_model.specs.declared.outcome.NotTaken.TheVariants as not_taken
 use Rattle.plan_model.specs.Reading.{Shown}
 use Rattle.plan_model.specs.Journal.{last_number, publication_of, issued}
 use Rattle.plan_model.specs.Legal.{cut_at, IsCurrent, IsLegal}
-use Rattle.plan_model.specs.Outcome.{IsAnswerOf, IsNextReading, PublishesTo}
+use Rattle.plan_model.specs.Outcome.{IsNextReading, PublishesTo}
 use Rattle.plan_model.proofs.Growing.{others_keep_tables, last_publication-more}
 use Rattle.plan_model.proofs.Changing.{stays_at}
 use Rattle.plan_model.proofs.Readings.{next_name}
 use Rattle.plan_model.proofs.Touching.{current_since}
+use Rattle.session_run.specs.Ahead.{IsDoneNow}
 use Rattle.session_run.specs.Turns.{PublishesNow}
 
 -- pass 0 is issued
@@ -24,7 +25,7 @@ main_issued journal = omega arith
 
 -- what is read and answered is not refused
 pub not_refused : (found after : List Entry) (shown : Shown) (done : Done) (why : NotTaken) → IsNextReading 0 1 found shown
-    → IsAnswerOf shown done → PublishesTo 0 done found (Err why) after → ⊥
+    → IsDoneNow found shown done → PublishesTo 0 done found (Err why) after → ⊥
 not_refused found after shown done (not_taken.Stale by) r is h = omega (arith, r.at, is.at, h.1.last.to_last, h.1.later)
 not_refused found after shown done (not_taken.Current last) r is h =
     r.wanted
@@ -32,7 +33,7 @@ not_refused found after shown done (not_taken.Current last) r is h =
     (current_since found done.section last h.1.1))
 
 pub is_published : (found after : List Entry) (shown : Shown) (done : Done) → IsNextReading 0 1 found shown
-    → IsAnswerOf shown done → PublishesTo 0 done found (Ok tt) after → IsLegal found → IsLegal after
+    → IsDoneNow found shown done → PublishesTo 0 done found (Ok tt) after → IsLegal found → IsLegal after
     → PublishesNow shown.cut.section.name found after
 is_published found after shown done r is h legal_found legal = record {
   answer = done.answer;

@@ -1,3 +1,4 @@
 pub mod Turns
 pub mod Actors
 pub mod Acting
+pub mod Ahead

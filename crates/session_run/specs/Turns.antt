@@ -5,10 +5,10 @@ use Rattle.plan_model.specs.declared.answer.Answer.{Answer}
 use Rattle.plan_model.specs.declared.scripts.Task.{Task}
 use Rattle.plan_model.specs.declared.journal.Act.TheVariants as act
 use Rattle.plan_model.specs.declared.journal.Entry.{Entry}
-use Rattle.plan_model.specs.Journal.{last_number, tables_of, task_of}
+use Rattle.plan_model.specs.Journal.{opening, last_number, tables_of, task_of, done_by}
 use Rattle.plan_model.specs.Legal.{IsCurrent, IsLegal}
 use Rattle.plan_model.specs.Outcome.{IsPlanner, next_task, section_name}
-use Rattle.plan_model.specs.Session.{IsPublicationAt, BringsUpToDate}
+use Rattle.plan_model.specs.Session.{IsPublicationAt, BringsUpToDate, tasks_in_turn}
 
 -- ---- answers
 
@@ -73,6 +73,17 @@ abbrev pub DoesTasks : List Entry → List (ℕ × Task) → List Entry → Type
 DoesTasks found [] after = after ≡ found
 DoesTasks found ((planner, task) ∷ tasks) after =
     (between : List Entry) × DoesTask planner task found between × DoesTasks between tasks after
+
+-- no planner has done a task
+abbrev pub NothingIsDone : List Entry → Type 0
+NothingIsDone journal = (planner : ℕ) → done_by journal planner ≡ []
+
+-- all scripts are done, planner 1's first, and after them every section is made current
+pub record DoesScripts (found after : List Entry) : Type 0 where
+  pub done : List Entry
+  pub tasks : DoesTasks found (tasks_in_turn (opening found).scripts) done
+  pub caught_up : HasCaughtUp done after
+  pub legal : IsLegal after
 
 -- the tasks of a planner
 abbrev pub by_planner : ℕ → List Task → List (ℕ × Task)

@@ -7,22 +7,25 @@ ghost use Rattle.plan_model.specs.Legal.{IsLegal};
 ghost use Rattle.plan_model.specs.Session.{IsSessionAlone};
 ghost use Rattle.plan_repair.specs.Kept.{AgreesWith};
 ghost use Rattle.section_worker.specs.Keeping.{kept_for, KeepsRows, KeepsWhatWasRead};
+ghost use Rattle.session_run.specs.Ahead.{AreAhead, IsDoneNow};
 ghost use Rattle.session_run.specs.Turns.{PublishesNow, HasCaughtUp, DoesNextTask};
-ghost use Rattle.session_run.specs.Turns.{DoesTasks, by_planner};
+ghost use Rattle.session_run.specs.Turns.{DoesTasks, by_planner, NothingIsDone, DoesScripts};
 
+use crate::ahead::{Ahead, first_answers};
 use line_tables::LineTables;
 use plan_book::Book;
 use plan_model::{Act, Done, Entry, Next, Reading, Scripts};
 use rail_model::OutOfMemory;
 use section_worker::Worker;
 use std::alloc::Global;
+use std::thread::Threads;
 
 // The pass by which everything is done: the one that opens the journal.
 const PASS: u32 = 0;
 
 /// Runs the scripts of planners over these tables, whose last edit had the number `at`, in one
 /// thread: planner 1's script comes first, and before each task, and after the last, every section
-/// that is not current is answered, in the order of names.
+/// that is not current is answered, in the order of names. The program calls `session_alone_on`.
 pub fn session_alone(
     alloc: Global,
     tables: LineTables,
@@ -36,13 +39,61 @@ pub fn session_alone(
 {
     let mut book = Book::start(alloc, tables, at, scripts)?;
     let mut worker = Worker::new(alloc, 0, 1, PASS);
+    do_scripts(&mut worker, &mut book)?;
+    Ok(book)
+}
+
+/// The same session. Sections are answered for the first time side by side, in as many threads as
+/// there are processors, if it takes long enough. Answers that are only mended later are not.
+pub fn session_alone_on(
+    rt: &(impl Threads + Sync),
+    alloc: Global,
+    tables: LineTables,
+    at: u64,
+    scripts: Scripts,
+) -> Result<Book, OutOfMemory>
+    requires planners { length scripts ≤ PLANNERS }
+    requires tasks { sum_by length scripts ≤ TASKS }
+    requires at { at ≤ FIRST_NUMBER }
+    ensures { IfOk result (IsSessionAlone tables at scripts) }
+{
+    let mut book = Book::start(alloc, tables, at, scripts)?;
+    let mut worker = Worker::new(alloc, 0, 1, PASS);
+    answer_first(rt, alloc, &mut worker, &mut book)?;
+    do_scripts(&mut worker, &mut book)?;
+    Ok(book)
+}
+
+// Answers the sections that are not current, of which nothing is kept, side by side.
+fn answer_first(
+    rt: &(impl Threads + Sync),
+    alloc: Global,
+    worker: &mut Worker,
+    book: &mut Book,
+) -> Result<(), OutOfMemory>
+    requires kept { KeepsWhatWasRead worker.old book.old }
+    ensures ok { OnOk result (HasCaughtUp book.old book.new) }
+    ensures kept { OnOk result (KeepsWhatWasRead worker.new book.new) }
+{
+    let mut ahead = first_answers(rt, alloc, book)?;
+    catch_up(worker, book, &mut ahead)
+}
+
+// Does all scripts, of which nothing is done yet, and then answers the sections that are not
+// current.
+fn do_scripts(worker: &mut Worker, book: &mut Book) -> Result<(), OutOfMemory>
+    requires none { NothingIsDone book.old }
+    requires kept { KeepsWhatWasRead worker.old book.old }
+    ensures { OnOk result (DoesScripts book.old book.new) }
+{
+    let _first = book.journal();
     let planners = book.planners();
     for place in 0..planners {
-        do_script(&mut worker, &mut book, place + 1)?;
+        do_script(worker, book, place + 1)?;
     }
-    catch_up(&mut worker, &mut book)?;
-    let _journal = book.journal();
-    Ok(book)
+    catch_up(worker, book, &mut [])?;
+    let _last = book.journal();
+    Ok(())
 }
 
 // Does the script of a planner, of which nothing is done yet.
@@ -80,42 +131,76 @@ fn do_task(worker: &mut Worker, book: &mut Book, planner: u32) -> Result<(), Out
     ensures done { OnOk result (DoesNextTask planner book.old book.new) }
     ensures kept { OnOk result (KeepsWhatWasRead worker.new book.new) }
 {
-    catch_up(worker, book)?;
+    catch_up(worker, book, &mut [])?;
     let _stepped = book.step(PASS, planner)?;
     Ok(())
 }
 
-// Answers the sections that are not current, in the order of names.
-fn catch_up(worker: &mut Worker, book: &mut Book) -> Result<(), OutOfMemory>
-    requires { KeepsWhatWasRead worker.old book.old }
+// Answers the sections that are not current, in the order of names, by what is answered ahead in
+// this order.
+fn catch_up(worker: &mut Worker, book: &mut Book, ahead: &mut [Ahead]) -> Result<(), OutOfMemory>
+    requires kept { KeepsWhatWasRead worker.old book.old }
+    requires ahead { AreAhead book.old ahead.old }
     ensures ok { OnOk result (HasCaughtUp book.old book.new) }
     ensures legal { OnOk result (IsLegal book.old) }
     ensures kept { OnOk result (KeepsWhatWasRead worker.new book.new) }
 {
     let _journal = book.journal();
-    for _step in 0..book.tables().sections() {
+    for step in 0..book.tables().sections() {
         let Next::Reading(reading) = book.read_next(0, 1)? else {
             return Ok(());
         };
-        publish(worker, book, reading)?;
+        publish(worker, book, ahead, step as usize, reading)?;
     }
     Ok(())
 }
 
-// Answers the section of a reading, which is not current.
-fn publish(worker: &mut Worker, book: &mut Book, reading: Reading) -> Result<(), OutOfMemory>
+// Answers the section of a reading, which is not current, by what stands at a place of those that
+// are answered ahead, if it is that section.
+fn publish(
+    worker: &mut Worker,
+    book: &mut Book,
+    ahead: &mut [Ahead],
+    place: usize,
+    reading: Reading,
+) -> Result<(), OutOfMemory>
     requires next { IsNextReading 0 1 book.old reading }
     requires kept { KeepsWhatWasRead worker.old book.old }
+    requires ahead { AreAhead book.old ahead.old }
     ensures published { OnOk result (PublishesNow reading.cut.section.name book.old book.new) }
     ensures kept { OnOk result (KeepsWhatWasRead worker.new book.new) }
+    ensures ahead { OnOk result (AreAhead book.new ahead.new) }
 {
     let _found = book.journal();
-    let done = answered(worker, reading)?;
+    let done = done_now(worker, book, ahead, place, reading)?;
     let Ok(()) = book.publish(PASS, done)? else {
         unreachable!();
     };
     let _left = book.journal();
     Ok(())
+}
+
+// The answer of the section of a reading: what stands at a place of those that are answered ahead,
+// where it is of that section and of the same edit, or else a new one.
+fn done_now(
+    worker: &mut Worker,
+    book: &Book,
+    ahead: &mut [Ahead],
+    place: usize,
+    reading: Reading,
+) -> Result<Done, OutOfMemory>
+    requires next { IsNextReading 0 1 book.now reading }
+    requires kept { KeepsWhatWasRead worker.old book.now }
+    requires ahead { AreAhead book.now ahead.old }
+    ensures done { IfOk result (IsDoneNow book.now reading) }
+    ensures kept { OnOk result (KeepsWhatWasRead worker.new book.now) }
+    ensures ahead { OnOk result (AreAhead book.now ahead.new) }
+{
+    let _found = book.journal();
+    if place < ahead.len() && ahead[place].is_of(&reading) {
+        return ahead[place].taken_in(worker);
+    }
+    answered(worker, reading)
 }
 
 // The answer of the section of a reading, by what is kept of it.

@@ -3,7 +3,7 @@ use Rattle.plan_model.specs.Journal.{opening}
 use Rattle.plan_model.specs.Session.{tasks_in_turn}
 use Rattle.section_worker.specs.Keeping.{KeepsWhatWasRead}
 use Rattle.session_run.specs.Turns.{DoesTasks}
-use Rattle.session_run.proofs.alone.session_alone.Given as goal
+use Rattle.session_run.proofs.alone.do_scripts.Given as goal
 
 -- the first scripts are done, and what is kept was read
 abbrev pub invariant-loop-place : goal.invariant-loop-place
