@@ -5,10 +5,13 @@ ghost use Rattle.capacity.specs.Call.{IsCall, EndsAsCall};
 
 use crate::sentence::explain;
 use capacity_cmd::{Status, Told, alone, run_alone_telling, run_telling};
-use rail_outside::{NoWords, OpenGate, Sink, Source, Words};
+use rail_outside::{NoWords, OpenGate, Sink, Source, Words, ask_for_room};
 use std::process::{ExitCode, Termination};
 use std::sync::Wait;
 use std::thread::Threads;
+
+// Room that is asked for at once: what reading gives back is used again for what comes after it.
+const ROOM: usize = 31 * 1_048_576;
 
 // How the process ends. It is made here alone and can't be dropped, so `main` has to end with what
 // a call gave it.
@@ -40,6 +43,7 @@ pub(crate) fn end_of_call<
         (source_call S.given S.left S.ended S.faults S.at_fault source.old source.new)
         (sink_call K.taken K.written K.flushed K.faults sink.old sink.new) }
 {
+    ask_for_room(rt.alloc(), ROOM);
     let mut told = Told::nothing();
     let status = call(rt, words, source, sink, &mut told);
     // What can't be said on standard error is said by the exit code.

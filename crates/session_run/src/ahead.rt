@@ -7,6 +7,7 @@ ghost use Rattle.session_run.specs.Ahead.{IsRight, IsWorkedOut, AreWorkedOut, Ar
 use plan_book::Book;
 use plan_model::{Answer, Done, Reading, is_crowded};
 use rail_model::OutOfMemory;
+use rail_outside::ask_for_room;
 use rayon::current_num_threads;
 use section_worker::{KeptReading, Worker, answer_by};
 use std::alloc::Global;
@@ -16,6 +17,9 @@ use std::thread::{Threads, for_each_mut};
 const LEAST_SECTIONS: usize = 4;
 
 const LEAST_ROWS: u32 = 1_024;
+
+// Room that is asked for at once for each section: its rows are kept.
+const ROOM: usize = 4 * 1_048_576;
 
 // A section that is answered by itself: its reading, and what is to be kept of it with its answer.
 #[derive(Drop)]
@@ -135,6 +139,9 @@ fn work_all<R: Threads + Sync>(rt: &R, alloc: Global, threads: usize, all: &mut 
         threads,
         &|_, one: &mut Ahead|
             ensures { IsWorkedOut one.entry.now one.exit.now }
-        { one.work_out(alloc) },
+        {
+            ask_for_room(alloc, ROOM);
+            one.work_out(alloc)
+        },
     );
 }

@@ -14,7 +14,7 @@ use line_tables::LineTables;
 use plan_book::Book;
 use plan_model::Scripts;
 use rail_model::{List, OutOfMemory};
-use rail_outside::Gate;
+use rail_outside::{Gate, ask_for_room};
 use section_worker::Worker;
 use std::alloc::Global;
 use std::sync::Wait;
@@ -28,6 +28,9 @@ pub const WORKERS: u32 = 16;
 // At the gate worker w, from 1, is the actor of this number and w, as `rail_outside::Gate::pass`
 // says. Planners, of whom there are at most 16, have the numbers below it.
 const GATE_WORKERS: u32 = 100;
+
+// Room that each thread asks for at once: a worker keeps the rows of its sections.
+const ROOM: usize = 30 * 1_048_576;
 
 /// Runs the scripts of planners over these tables, whose last edit had the number `at`, with
 /// workers that answer sections meanwhile: each planner and each worker in a thread of its own,
@@ -56,7 +59,7 @@ pub fn session<R: Threads + Wait + Sync, G: Gate>(
         unreachable!();
     };
     let mut actors = seated(alloc, &desk, passes, planners, workers)?;
-    work_all(rt, &mut actors, gate);
+    work_all(rt, alloc, &mut actors, gate);
     leave_all(&desk, &mut main, actors, planners, workers)?;
     Ok(desk.close(rt, main))
 }
@@ -128,7 +131,12 @@ fn duty_of(alloc: Global, number: u32, planners: u32, workers: u32) -> Duty
 }
 
 // Lets all actors work, in as many threads as they are.
-fn work_all<R: Threads + Wait + Sync, G: Gate>(rt: &R, actors: &mut [Actor<'_>], gate: &G)
+fn work_all<R: Threads + Wait + Sync, G: Gate>(
+    rt: &R,
+    alloc: Global,
+    actors: &mut [Actor<'_>],
+    gate: &G,
+)
     requires some { 0 < length actors.old }
     requires working { All IsWorking actors.old }
     ensures { AllWorkOn actors.old actors.new }
@@ -142,7 +150,10 @@ fn work_all<R: Threads + Wait + Sync, G: Gate>(rt: &R, actors: &mut [Actor<'_>],
         &|_, actor: &mut Actor<'_>|
             requires { IsWorking actor.now }
             ensures { WorksOn actor.entry.now actor.exit.now }
-        { actor.work(rt, gate, &signals) },
+        {
+            ask_for_room(alloc, ROOM);
+            actor.work(rt, gate, &signals)
+        },
     );
 }
 
