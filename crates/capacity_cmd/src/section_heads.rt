@@ -10,12 +10,16 @@ use crate::report::{add_head, answer_among};
 use capacity_report::Tally;
 use line_tables::LineTables;
 use rail_model::OutOfMemory;
+use rail_outside::ask_for_room;
 use rayon::current_num_threads;
 use rayon::prelude::*;
 use row_text::Sheet;
 use section_cut::AllStairways;
 use std::alloc::Global;
 use std::thread::Threads;
+
+// Room that is asked for at once for each section: its cut is made.
+const ROOM: usize = 4 * 1_048_576;
 
 // The head of one section's answer on a sheet of its own, and the total of this answer alone.
 #[derive(Drop)]
@@ -46,7 +50,10 @@ pub(crate) fn heads_of(
                     × (stairs.now ≡ timetable tables.now) }
                 ensures { IfOk result
                     (IsHead tables.entry.now (section_at tables.entry.now number)) }
-            { head_of(alloc, tables, stairs, number as u32) },
+            {
+                ask_for_room(alloc, ROOM);
+                head_of(alloc, tables, stairs, number as u32)
+            },
         )
         .collect::<Result<Vec<Head>, OutOfMemory>>(rt, alloc)?
 }
