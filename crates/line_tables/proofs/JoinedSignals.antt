@@ -7,13 +7,12 @@ use Rattle.rail_model.specs.declared.edit.Kind.TheVariants as kind
 use Rattle.rail_model.specs.Rules.{is_named, lists, rule_of_put, rule_of_change, rule_of_drop, with_item, without, IsSound}
 use Rattle.rail_model.proofs.Sound.{accepted, free, IsSound-after_put, IsSound-after_change, IsSound-after_drop}
 use Rattle.line_tables.specs.declared.linked.Linked.{Linked}
-use Rattle.line_tables.specs.declared.line_tables.LineTables.TheInside.{Inside}
 use Rattle.line_tables.specs.Table.{under, with_change, key_of, item_of, IsTable}
 use Rattle.line_tables.specs.KeyCounts.{count_of, times}
-use Rattle.line_tables.specs.Links.{IsLinked, block_of}
+use Rattle.line_tables.specs.Links.{IsLinked, references, block_of}
 use Rattle.line_tables.specs.RouteSets.{has, AreSetsOf}
 use Rattle.line_tables.specs.declared.route_sets.RouteSets.{RouteSets}
-use Rattle.line_tables.specs.Inside.{items_of, tables_of, names_of_signal, names_of_route, IsJoined}
+use Rattle.line_tables.specs.Inside.{Line, items_of, tables_of, names_of_signal, names_of_route, IsJoined}
 use Rattle.line_tables.proofs.Filed.{stored_at, some_from_map}
 use Rattle.line_tables.proofs.Entries.{is_some-key_of}
 use Rattle.line_tables.proofs.References.{entry}
@@ -25,7 +24,7 @@ use Rattle.line_tables.proofs.Known.{CountsMore}
 use Rattle.line_tables.proofs.Joined.{IsEdited, by_put, by_change, by_drop, to_put, to_change, to_drop, unreferred}
 use Rattle.line_tables.proofs.Labels.{block_name, signal_name}
 
-module _ (t : Inside) where
+module _ (t : Line) where
   -- other signals, which refer to blocks and to which routes refer
   signals_joined : (signals : List (ℕ × Linked Signal)) (uses : List ℕ) (sets : RouteSets) → IsJoined t → IsSound (tables_of (record t { signals = signals })) → IsEdited names_of_signal block_name t.blocks t.signals signals t.block_uses uses → IsLinked names_of_route signal_name t.routes signals → AreSetsOf (λ q. q) t.routes sets.of_signals → AreSetsOf (block_of signals) t.routes sets.of_blocks → IsJoined (record t { signals = signals; block_uses = uses; route_sets = sets })
   signals_joined signals uses sets j sound e routes of_signals of_blocks = record {
@@ -75,11 +74,15 @@ module _ (t : Inside) where
   signal_is_there n none = sym (named_signal n) ∙ (free (tables_of t) kind.Signal n none).there
 
   -- no one refers to a signal that may be dropped
+  pub signal_unused : (n : List ℕ) (key : ℕ) → IsJoined t → IsTable signal_name t.signals → rule_of_drop (tables_of t) kind.Signal n ≡ None → key_of signal_name t.signals n ≡ Some key → references t.routes key ≡ 0
+  signal_unused n key j table none here =
+      unreferred names_of_route (λ x. x.name) signal_name t.routes t.signals j.routes table n key here (λ r. lists r.signals n) (λ r. refl) (free (tables_of t) kind.Signal n none).unused
+
   pub signal_drop : (n : List ℕ) (uses : List ℕ) → IsJoined t → IsTable signal_name t.signals → rule_of_drop (tables_of t) kind.Signal n ≡ None → ((e : Linked Signal) (k : ℕ) → item_of signal_name t.signals n ≡ Some e → count_of uses k + times k e.refs ≡ count_of t.block_uses k) → IsJoined (record t { signals = without (λ e. e.1.item.name) t.signals n; block_uses = uses })
   signal_drop n uses j table none counted =
       let later = without (λ e. e.1.item.name) t.signals n in
       let key = stored_at (key_of signal_name t.signals n) (is_some-key_of signal_name t.signals n ∙ signal_is_there n none) in
-      let unused = unreferred names_of_route (λ x. x.name) signal_name t.routes t.signals j.routes table n key.0 key.1 (λ r. lists r.signals n) (λ r. refl) (free (tables_of t) kind.Signal n none).unused in
+      let unused = signal_unused n key.0 j table none key.1 in
       signals_joined later uses t.route_sets j
       (rw (map-without (λ (e : ℕ × Linked Signal). e.1.item) (λ x. x.name) t.signals n) (IsSound-after_drop (tables_of t) kind.Signal n j.sound none))
       (by_drop names_of_signal (λ x. x.name) block_name t.signals t.blocks j.signals table t.block_uses uses n (signal_is_there n none) counted)

@@ -16,9 +16,8 @@ use Rattle.rail_model.specs.Tables.{no_signal, no_route, route_named, path_in}
 use Rattle.rail_model.proofs.Lists.{map_same}
 use Rattle.rail_model.proofs.Paths.{path_fits}
 use Rattle.line_tables.specs.declared.linked.Linked.{Linked}
-use Rattle.line_tables.specs.declared.line_tables.LineTables.TheInside.{Inside}
 use Rattle.line_tables.specs.Table.{key_of, under, IsTable, AreAtKeys}
-use Rattle.line_tables.specs.Inside.{tables_of, IsJoined}
+use Rattle.line_tables.specs.Inside.{Line, tables_of, IsJoined}
 use Rattle.line_tables.specs.Hops.{hop_of, hops_at, with_legs, path_with, path_by_keys, paths_by_keys, ArePaths}
 use Rattle.line_tables.specs.Paths.{paths_of}
 use Rattle.line_tables.proofs.Found.{found_by_key}
@@ -44,7 +43,7 @@ keys_within signals f hops right (n ∷ ns) (k ∷ ks) e =
     let at = at_key signal_name signals f hops n k right first in
     All-cons (λ k. k < length hops) k ks (slice_get_within hops k _ at.0) (keys_within signals f hops right ns ks rest)
 
-module _ (t : Inside) (j : IsJoined t) (signals : IsTable signal_name t.signals) (routes : IsTable route_name t.routes) (hops : List Hop) (right : AreHops t.blocks t.signals hops) where
+module _ (t : Line) (j : IsJoined t) (signals : IsTable signal_name t.signals) (routes : IsTable route_name t.routes) (hops : List Hop) (right : AreHops t.blocks t.signals hops) where
   -- the hops at the keys of a route's signals
   hops_along : (r : Linked Route) → map (key_of signal_name t.signals) r.item.signals ≡ map Some r.refs → hops_at hops r.refs ≡ route_hops (tables_of t) r.item
   hops_along r linked =
@@ -98,13 +97,13 @@ module _ (t : Inside) (j : IsJoined t) (signals : IsTable signal_name t.signals)
       subst (All AreThere) (sym paths_are) all
 
 -- there is a hop at each key of the signals of the route under a key
-pub keys_there : (routes : List (ℕ × Linked Route)) (hops : List Hop) (k : ℕ) (r : Linked Route) → under routes k ≡ Some r → All (λ u. All (λ k. k < length hops) u.1.refs) routes → All (λ k. k < length hops) r.refs
+pub keys_there : {A : Type 0} (routes : List (ℕ × Linked A)) (hops : List Hop) (k : ℕ) (r : Linked A) → under routes k ≡ Some r → All (λ u. All (λ k. k < length hops) u.1.refs) routes → All (λ k. k < length hops) r.refs
 keys_there routes hops k r here all =
-    let one = under_passes (λ (u : ℕ × Linked Route). All (λ k. k < length hops) u.1.refs) routes k r here all in
-    subst (λ (r : Linked Route). All (λ k. k < length hops) r.refs) one.1 one.2
+    let one = under_passes (λ (u : ℕ × Linked _). All (λ k. k < length hops) u.1.refs) routes k r here all in
+    subst (λ (r : Linked _). All (λ k. k < length hops) r.refs) one.1 one.2
 
 -- the path of the run of a number
-pub path_read : (runs : List (ℕ × Linked Run)) (routes : List (ℕ × Linked Route)) (hops : List Hop) (n : ℕ) (e : Linked Run) (r : Linked Route) (d : Path) → option_map (λ e. e.1) (slice_get runs n) ≡ Some e → under routes (get_or e.refs 0 0) ≡ Some r → get_or (paths_by_keys runs routes hops) n d ≡ path_with e.item (with_legs (hops_at hops r.refs) e.item.legs)
+pub path_read : {A : Type 0} (runs : List (ℕ × Linked Run)) (routes : List (ℕ × Linked A)) (hops : List Hop) (n : ℕ) (e : Linked Run) (r : Linked A) (d : Path) → option_map (λ e. e.1) (slice_get runs n) ≡ Some e → under routes (get_or e.refs 0 0) ≡ Some r → get_or (paths_by_keys runs routes hops) n d ≡ path_with e.item (with_legs (hops_at hops r.refs) e.item.legs)
 path_read runs routes hops n e r d here on =
     let u = read_entry runs n e here in
     let reads : path_by_keys routes hops e ≡ path_with e.item (with_legs (hops_at hops r.refs) e.item.legs) = rw on refl in

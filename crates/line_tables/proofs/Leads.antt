@@ -8,7 +8,6 @@ use Rattle.std.proofs.lemmas.List.{take_more}
 use Rattle.std.proofs.lemmas.List.Elements.{All-append, All-map}
 use Rattle.std.proofs.lemmas.Slice.Zip.{length-zip, get_or-zip}
 use Rattle.rail_model.specs.declared.items.Leg.{Leg}
-use Rattle.rail_model.specs.declared.items.Route.{Route}
 use Rattle.rail_model.specs.declared.items.Run.{Run}
 use Rattle.rail_model.specs.declared.path.Hop.{Hop}
 use Rattle.rail_model.specs.declared.path.Path.{Path}
@@ -56,7 +55,7 @@ module _ (lead : ℕ) where
       subst (λ (p : Hop × Leg). IsWithin p.0) (sym (get_or-zip hops legs i d named timed)) (all i d.0 named))
 
   -- a lead for a list of hops is one for the paths over them
-  pub lead_of_paths : (runs : List (ℕ × Linked Run)) (routes : List (ℕ × Linked Route)) (hops : List Hop) → All IsWithin hops → All (λ (p : Path). All IsWithin p.hops) (paths_by_keys runs routes hops)
+  pub lead_of_paths : {A : Type 0} (runs : List (ℕ × Linked Run)) (routes : List (ℕ × Linked A)) (hops : List Hop) → All IsWithin hops → All (λ (p : Path). All IsWithin p.hops) (paths_by_keys runs routes hops)
   lead_of_paths runs routes hops all =
       All-map (λ (p : Path). All IsWithin p.hops) (λ u. path_by_keys routes hops u.1) runs (λ n d l.
       let run = (get_or runs n d).1 in

@@ -28,6 +28,9 @@ pub mod InUse
 pub mod TimedHops
 pub mod Numbers
 pub mod RunPaths
+pub mod KeptRoutes
+pub mod KeptLine
+pub mod KeptPaths
 pub mod KeyedPaths
 pub mod PathsOf
 pub mod Leads

@@ -2,7 +2,6 @@
 use Rattle.std.specs.Prelude.{ℕ, ◌<◌, List, [], map, length, All, slice_index, slice_index_or}
 use Rattle.std.specs.List.{zip}
 use Rattle.rail_model.specs.declared.items.Leg.{Leg}
-use Rattle.rail_model.specs.declared.items.Route.{Route}
 use Rattle.rail_model.specs.declared.items.Run.{Run}
 use Rattle.rail_model.specs.declared.items.Block.{Block}
 use Rattle.rail_model.specs.declared.items.Signal.{Signal}
@@ -55,19 +54,19 @@ abbrev pub hops_at : List Hop → List ℕ → List Hop
 hops_at hops keys = map (λ k. slice_index_or hops k no_hop) keys
 
 -- the keys of the signals of the route that a run refers to
-abbrev pub keys_along : List (ℕ × Linked Route) → Linked Run → List ℕ
+abbrev pub keys_along : {A : Type 0} → List (ℕ × Linked A) → Linked Run → List ℕ
 keys_along routes run = option_map_or (λ r. r.refs) (under routes (slice_index run.refs 0)) []
 
 -- the path of a run
-abbrev pub path_by_keys : List (ℕ × Linked Route) → List Hop → Linked Run → Path
+abbrev pub path_by_keys : {A : Type 0} → List (ℕ × Linked A) → List Hop → Linked Run → Path
 path_by_keys routes hops run = path_over run.item (hops_at hops (keys_along routes run))
 
 -- the path of each run, in their order
-abbrev pub paths_by_keys : List (ℕ × Linked Run) → List (ℕ × Linked Route) → List Hop → List Path
+abbrev pub paths_by_keys : {A : Type 0} → List (ℕ × Linked Run) → List (ℕ × Linked A) → List Hop → List Path
 paths_by_keys runs routes hops = map (λ u. path_by_keys routes hops u.1) runs
 
 -- each run refers to a route, there is a hop at each key of a route's signals, and the paths fit
-pub record ArePaths (runs : List (ℕ × Linked Run)) (routes : List (ℕ × Linked Route)) (hops : List Hop) : Type 0 where
+pub record ArePaths {A : Type 0} (runs : List (ℕ × Linked Run)) (routes : List (ℕ × Linked A)) (hops : List Hop) : Type 0 where
   pub refers : All (λ u. 0 < length u.1.refs) runs
   pub there : All (λ u. IsKey routes (slice_index u.1.refs 0)) runs
   pub within : All (λ u. All (λ k. k < length hops) u.1.refs) routes

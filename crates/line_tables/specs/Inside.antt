@@ -9,10 +9,12 @@ use Rattle.rail_model.specs.declared.items.Section.{Section}
 use Rattle.rail_model.specs.declared.items.Connection.{Connection}
 use Rattle.rail_model.specs.declared.tables.Tables.{Tables}
 use Rattle.rail_model.specs.Rules.{IsSound}
+use Rattle.line_tables.specs.declared.kept_route.KeptRoute.{KeptRoute}
 use Rattle.line_tables.specs.declared.linked.Linked.{Linked}
 use Rattle.line_tables.specs.declared.line_tables.LineTables.TheInside.{Inside}
 use Rattle.line_tables.specs.KeyCounts.{count_of}
 use Rattle.line_tables.specs.Links.{IsLinked, references, block_of}
+use Rattle.line_tables.specs.KeptRoutes.{all_with_names}
 use Rattle.line_tables.specs.RouteSets.{AreSetsOf}
 use Rattle.line_tables.specs.declared.route_sets.RouteSets.{RouteSets}
 
@@ -20,8 +22,37 @@ use Rattle.line_tables.specs.declared.route_sets.RouteSets.{RouteSets}
 abbrev pub items_of : {A : Type 0} → List (ℕ × Linked A) → List A
 items_of entries = map (λ e. e.1.item) entries
 
+-- the tables of a line, each route with the names of its signals
+pub record Line : Type 0 where
+  pub blocks : List (ℕ × Block)
+  pub signals : List (ℕ × Linked Signal)
+  pub routes : List (ℕ × Linked Route)
+  pub runs : List (ℕ × Linked Run)
+  pub sections : List (ℕ × Linked Section)
+  pub connections : List (ℕ × Linked Connection)
+  pub block_uses : List ℕ
+  pub signal_uses : List ℕ
+  pub route_uses : List ℕ
+  pub run_uses : List ℕ
+  pub route_sets : RouteSets
+
+abbrev pub line_of : Inside → Line
+line_of t = record {
+  blocks = t.blocks;
+  signals = t.signals;
+  routes = all_with_names t.signals t.routes;
+  runs = t.runs;
+  sections = t.sections;
+  connections = t.connections;
+  block_uses = t.block_uses;
+  signal_uses = t.signal_uses;
+  route_uses = t.route_uses;
+  run_uses = t.run_uses;
+  route_sets = t.route_sets;
+}
+
 -- what contracts see of them
-abbrev pub tables_of : Inside → Tables
+abbrev pub tables_of : Line → Tables
 tables_of t = record {
   blocks = map (λ e. e.1) t.blocks;
   signals = items_of t.signals;
@@ -50,7 +81,7 @@ names_of_connection c = c.first ∷ c.second ∷ []
 -- the tables are sound, each reference is the key of what the item names, each item is counted as often as others
 -- refer to it, and the set at each signal has the keys of the routes that list it, that at each block the keys of the
 -- routes that have a signal of it
-pub record IsJoined (t : Inside) : Type 0 where
+pub record IsJoined (t : Line) : Type 0 where
   pub sound : IsSound (tables_of t)
   pub signals : IsLinked names_of_signal (λ b. b.name) t.signals t.blocks
   pub routes : IsLinked names_of_route (λ e. e.item.name) t.routes t.signals
@@ -66,7 +97,7 @@ pub record IsJoined (t : Inside) : Type 0 where
 
 -- the tables of a line's track and of its trains, and how often each block, signal, route and run is referred to
 abbrev pub TrackTables : Type 0
-TrackTables = List (ℕ × Block) × List (ℕ × Linked Signal) × List (ℕ × Linked Route)
+TrackTables = List (ℕ × Block) × List (ℕ × Linked Signal) × List (ℕ × Linked KeptRoute)
 
 abbrev pub TrainTables : Type 0
 TrainTables = List (ℕ × Linked Run) × List (ℕ × Linked Section) × List (ℕ × Linked Connection)

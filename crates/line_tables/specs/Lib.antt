@@ -2,6 +2,7 @@ pub mod Table
 pub mod KeyCounts
 pub mod KeySet
 pub mod Links
+pub mod KeptRoutes
 pub mod RouteSets
 pub mod RouteSignals
 pub mod References

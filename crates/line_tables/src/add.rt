@@ -56,7 +56,7 @@ impl LineTables {
             &mut self.routes,
             &mut self.signal_uses,
             &mut self.route_sets,
-            KeptRoute::of(self.alloc, route)?,
+            KeptRoute { name: route.name },
             found,
         )?;
         Ok(Ok(()))

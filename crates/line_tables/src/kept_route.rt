@@ -1,53 +1,18 @@
 //! Routes as the tables keep them.
-ghost use Rattle.std.specs.Prelude.{◌≡◌, length, IfOk};
+ghost use Rattle.std.specs.Prelude.{◌≡◌, All, IfOk};
+ghost use Rattle.line_tables.specs.Links.{IsKey};
+ghost use Rattle.line_tables.specs.KeptRoutes.{names_under, route_of};
 
-use rail_model::{Name, Named, Names, OutOfMemory, Route};
-use std::alloc::{AllocError, Global};
-use std::marker::Model;
+use crate::linked::Linked;
+use crate::named_table::NamedTable;
+use rail_model::{List, Name, Named, OutOfMemory, Route, Signal};
+use std::alloc::Global;
 
-// A route, seen as `Route`. Its signals' names take little memory: a line may have half a million
-// of them, and once a route is put in, only `LineTables::plain` reads them.
-#[derive(Drop)]
+// A route's name. Its signals stand beside it by their keys, and their names follow from the keys:
+// a line may have half a million of them, and only `LineTables::plain` reads them.
+#[derive(Clone, Copy)]
 pub(crate) struct KeptRoute {
-    name: Name,
-    signals: Names,
-}
-
-impl Model for KeptRoute {
-    ghost use Rattle.rail_model.specs.declared.items.Route.{Route};
-
-    ghost Value = { Route };
-
-    ghost view = { λ r. record { name = r.name; signals = r.signals } };
-}
-
-impl KeptRoute {
-    // A route, its names copied.
-    pub(crate) fn of(alloc: Global, route: &Route) -> Result<KeptRoute, OutOfMemory>
-        ensures { IfOk result (λ kept. kept ≡ route.now) }
-    {
-        Ok(KeptRoute {
-            name: route.name,
-            signals: Names::of(alloc, route.signals.slice())?,
-        })
-    }
-
-    // The plain route.
-    pub(crate) fn plain(&self, alloc: Global) -> Result<Route, OutOfMemory>
-        ensures { IfOk result (λ route. route ≡ self.now) }
-    {
-        Ok(Route {
-            name: self.name,
-            signals: self.signals.to_list(alloc)?,
-        })
-    }
-
-    // How many signals it has.
-    pub(crate) fn signal_count(&self) -> usize
-        ensures { result ≡ length self.now.signals }
-    {
-        self.signals.len()
-    }
+    pub(crate) name: Name,
 }
 
 impl Named for KeptRoute {
@@ -58,13 +23,33 @@ impl Named for KeptRoute {
     }
 }
 
-impl Clone for KeptRoute {
-    ghost is_clone = { λ route other. other ≡ route };
+// The plain route.
+pub(crate) fn plain_route(
+    alloc: Global,
+    signals: &NamedTable<Linked<Signal>>,
+    route: &Linked<KeptRoute>,
+) -> Result<Route, OutOfMemory>
+    requires { All (IsKey signals.now) route.now.refs }
+    ensures { IfOk result (λ plain. plain ≡ route_of signals.now route.now) }
+{
+    Ok(Route {
+        name: route.item.name,
+        signals: names_of(alloc, signals, route.refs.slice())?,
+    })
+}
 
-    fn clone(&self) -> Result<KeptRoute, AllocError> {
-        Ok(KeptRoute {
-            name: self.name,
-            signals: self.signals.clone()?,
-        })
+// The names of the signals under keys, in their order.
+fn names_of(
+    alloc: Global,
+    signals: &NamedTable<Linked<Signal>>,
+    keys: &[usize],
+) -> Result<List<Name>, OutOfMemory>
+    requires { All (IsKey signals.now) keys.now }
+    ensures { IfOk result (λ names. names ≡ names_under signals.now keys.now) }
+{
+    let mut names = Vec::with_capacity(alloc, keys.len())?;
+    for key in keys {
+        names.push_reserved(signals.get(*key).item.name);
     }
+    Ok(List::from_vec(names))
 }

@@ -7,7 +7,8 @@
 //! When an item is put or changed, what it names is looked up, and its key is kept. A signal keeps
 //! the key of its block, a route those of its signals, a run that of its route, a section those of
 //! its blocks, and a connection those of its runs. So a path is made by indexing. For the paths of
-//! many runs the hop beyond each signal is made once.
+//! many runs the hop beyond each signal is made once. A route is kept without the names of its
+//! signals, which follow from the keys.
 //!
 //! Beside the tables stand counts and sets, which save walks over the tables:
 //!

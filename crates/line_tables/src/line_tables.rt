@@ -1,10 +1,12 @@
 //! The tables of a line: what they hold, and looking it up.
-ghost use Rattle.std.specs.Prelude.{◌≡◌, ◌<◌, length, map, Some, IfOk, IfSome, is_some, slice_get};
+ghost use Rattle.std.specs.Prelude.{◌≡◌, ◌<◌, length, map, All, Some, IfOk, IfSome, is_some, slice_get};
 ghost use Rattle.rail_model.specs.Tables.{number_of, signal_named};
 ghost use Rattle.rail_model.specs.Rules.{has_block, has_run, has_section, has_signal, no_tables, IsSound};
-ghost use Rattle.line_tables.specs.Inside.{tables_of, parts, IsJoined};
+ghost use Rattle.line_tables.specs.Links.{IsKey};
+ghost use Rattle.line_tables.specs.KeptRoutes.{all_with_names};
+ghost use Rattle.line_tables.specs.Inside.{items_of, line_of, tables_of, parts, IsJoined};
 
-use crate::kept_route::KeptRoute;
+use crate::kept_route::{KeptRoute, plain_route};
 use crate::key_counts::KeyCounts;
 use crate::linked::Linked;
 use crate::named_table::{NamedTable, TableItem};
@@ -58,11 +60,11 @@ impl Model for LineTables {
 
     ghost Value = { Tables };
 
-    ghost use Rattle.line_tables.specs.Inside.{tables_of, IsJoined};
+    ghost use Rattle.line_tables.specs.Inside.{line_of, tables_of, IsJoined};
 
-    ghost view = { tables_of };
+    ghost view = { λ t. tables_of (line_of t) };
 
-    ghost invariant = { IsJoined };
+    ghost invariant = { λ t. IsJoined (line_of t) };
 }
 
 impl LineTables {
@@ -107,10 +109,11 @@ impl LineTables {
         ensures same { IfOk result (λ tables. tables ≡ self.now) }
         ensures sound { IfOk result IsSound }
     {
+        self.signals.learn_order();
         Ok(Tables {
             blocks: plain_blocks(self.alloc, &self.blocks)?,
             signals: plain_items(self.alloc, &self.signals)?,
-            routes: plain_routes(self.alloc, &self.routes)?,
+            routes: plain_routes(self.alloc, &self.signals, &self.routes)?,
             runs: plain_items(self.alloc, &self.runs)?,
             sections: plain_items(self.alloc, &self.sections)?,
             connections: plain_items(self.alloc, &self.connections)?,
@@ -296,8 +299,8 @@ fn from_parts(
     counts: ReferenceCounts,
     sets: RouteSets,
 ) -> LineTables
-    requires { IsJoined (parts alloc track trains counts sets) }
-    ensures { result ≡ tables_of (parts alloc track trains counts sets) }
+    requires { IsJoined (line_of (parts alloc track trains counts sets)) }
+    ensures { result ≡ tables_of (line_of (parts alloc track trains counts sets)) }
 {
     LineTables {
         alloc,
@@ -342,13 +345,15 @@ fn plain_items<T: TableItem>(
 // The routes of a table's entries, in their order.
 fn plain_routes(
     alloc: Global,
+    signals: &NamedTable<Linked<Signal>>,
     table: &NamedTable<Linked<KeptRoute>>,
 ) -> Result<List<Route>, OutOfMemory>
-    ensures { IfOk result (λ items. items ≡ map (λ e. e.1.item) table.now) }
+    requires { All (λ u. All (IsKey signals.now) u.1.refs) table.now }
+    ensures { IfOk result (λ items. items ≡ items_of (all_with_names signals.now table.now)) }
 {
     let mut items = List::from_vec(Vec::with_capacity(alloc, table.len())?);
     for number in 0..table.len() {
-        items.push(table.nth(number).item.plain(alloc)?)?;
+        items.push(plain_route(alloc, signals, table.nth(number))?)?;
     }
     Ok(items)
 }

@@ -7,6 +7,7 @@ ghost use Rattle.rail_model.specs.Rules.{rule_of_change, after_change};
 ghost use Rattle.rail_model.specs.Within.{is_within};
 ghost use Rattle.line_tables.specs.AnswersEdit.{AnswersEdit};
 ghost use Rattle.line_tables.specs.declared.linked.Linked.{Linked};
+ghost use Rattle.line_tables.specs.declared.kept_route.KeptRoute.{KeptRoute};
 ghost use Rattle.line_tables.specs.Table.{under, with_change};
 ghost use Rattle.line_tables.specs.Links.{IsKey, block_of};
 ghost use Rattle.line_tables.specs.KeyCounts.{count_of, times, SameCounts};
@@ -84,7 +85,7 @@ impl LineTables {
             &mut self.route_sets,
             key,
             FoundRoute {
-                route: KeptRoute::of(self.alloc, route)?,
+                route: KeptRoute { name: route.name },
                 signals: found,
             },
         )?;
@@ -154,17 +155,17 @@ fn swap_route(
     found: FoundRoute,
 ) -> Result<(), OutOfMemory>
     requires same_name { option_map (λ e. e.item.name) (under routes.old key) ≡ Some found.route.name }
-    requires counted_before { (e : Linked Route) (k : ℕ) → under routes.old key ≡ Some e
+    requires counted_before { (e : Linked KeptRoute) (k : ℕ) → under routes.old key ≡ Some e
         → times k e.refs ≤ count_of uses.old k }
-    requires there { (e : Linked Route) → under routes.old key ≡ Some e → All (IsKey signals.now) e.refs }
+    requires there { (e : Linked KeptRoute) → under routes.old key ≡ Some e → All (IsKey signals.now) e.refs }
     requires one { All (λ e. length e.1.refs ≡ 1) signals.now }
     ensures changed { OnOk result
         (routes.new ≡ with_change routes.old key (record { item = found.route; refs = found.signals.keys })) }
-    ensures counted { OnOk result ((e : Linked Route) (k : ℕ) → under routes.old key ≡ Some e
+    ensures counted { OnOk result ((e : Linked KeptRoute) (k : ℕ) → under routes.old key ≡ Some e
         → count_of uses.new k + times k e.refs ≡ count_of uses.old k + times k found.signals.keys) }
-    ensures signals { OnOk result ((e : Linked Route) → under routes.old key ≡ Some e
+    ensures signals { OnOk result ((e : Linked KeptRoute) → under routes.old key ≡ Some e
         → IsChangedAt (λ q. q) e.refs (λ q. q) found.signals.keys key sets.old.of_signals sets.new.of_signals) }
-    ensures blocks { OnOk result ((e : Linked Route) → under routes.old key ≡ Some e
+    ensures blocks { OnOk result ((e : Linked KeptRoute) → under routes.old key ≡ Some e
         → IsChangedAt (block_of signals.now) e.refs (λ q. q) found.signals.blocks key sets.old.of_blocks sets.new.of_blocks) }
     ensures kept { OnErr result (routes.new ≡ routes.old) }
     ensures kept_counts { OnErr result (SameCounts uses.old uses.new) }

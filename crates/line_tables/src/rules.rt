@@ -201,7 +201,7 @@ impl LineTables {
         ensures sound { IsSound self.now }
     {
         match self.routes.key_of(route) {
-            Some(key) => Some(self.routes.get(key).item.signal_count()),
+            Some(key) => Some(self.routes.get(key).refs.len()),
             None => None,
         }
     }

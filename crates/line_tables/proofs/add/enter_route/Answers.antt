@@ -1,6 +1,6 @@
 use Rattle.std.proofs.Common.{◌≡◌, ℕ, ◌≤◌, ◌∙◌, false, List, Some, ap, sym, arith}
 use Rattle.std.specs.Prelude.{is_some}
-use Rattle.rail_model.specs.declared.items.Route.{Route}
+use Rattle.line_tables.specs.declared.kept_route.KeptRoute.{KeptRoute}
 use Rattle.rail_model.specs.Rules.{is_named, with_item, without}
 use Rattle.line_tables.specs.declared.linked.Linked.{Linked}
 use Rattle.line_tables.specs.Table.{named, key_of, item_of, under, IsTable}
@@ -9,33 +9,33 @@ use Rattle.line_tables.proofs.Entries.{is_some-key_of, key_of-put, without-with_
 use Rattle.line_tables.proofs.Found.{found_by_key}
 use Rattle.line_tables.proofs.References.{entry}
 use Rattle.line_tables.proofs.Known.{CountsMore}
-use Rattle.line_tables.proofs.Labels.{route_name}
+use Rattle.line_tables.proofs.Labels.{kept_name}
 use Rattle.line_tables.proofs.add.enter_route.Goals as goal
 
 -- what is known once the route is in the table
-module _ (before later : List (ℕ × Linked Route)) (x : Route) (new : is_named (named route_name) before x.name ≡ false) (key : ℕ) (refs : List ℕ) (put : later ≡ with_item (named route_name) before (key, entry x refs)) (table : IsTable route_name before) where
-  there_now : key_of route_name later x.name ≡ Some key
-  there_now = rw put (key_of-put route_name before key (entry x refs) table.rise new)
+module _ (before later : List (ℕ × Linked KeptRoute)) (x : KeptRoute) (new : is_named (named kept_name) before x.name ≡ false) (key : ℕ) (refs : List ℕ) (put : later ≡ with_item (named kept_name) before (key, entry x refs)) (table : IsTable kept_name before) where
+  there_now : key_of kept_name later x.name ≡ Some key
+  there_now = rw put (key_of-put kept_name before key (entry x refs) table.rise new)
 
-  item_now : IsTable route_name later → under later key ≡ Some (entry x refs) → item_of route_name later x.name ≡ Some (entry x refs)
+  item_now : IsTable kept_name later → under later key ≡ Some (entry x refs) → item_of kept_name later x.name ≡ Some (entry x refs)
   item_now table' there =
-      let found = found_by_key route_name later x.name key table' there_now in
+      let found = found_by_key kept_name later x.name key table' there_now in
       found.1.item ∙ sym found.1.under ∙ there
 
-  taken_back : (back : List (ℕ × Linked Route)) → back ≡ without (named route_name) later x.name → back ≡ before
+  taken_back : (back : List (ℕ × Linked KeptRoute)) → back ≡ without (named kept_name) later x.name → back ≡ before
   taken_back back rest =
-      rest ∙ ap (λ l. without (named route_name) l x.name) put ∙ without-with_item route_name before key (entry x refs) table.rise new
+      rest ∙ ap (λ l. without (named kept_name) l x.name) put ∙ without-with_item kept_name before key (entry x refs) table.rise new
 
-counted_now : (x : Route) (refs old uses : List ℕ) (e : Linked Route) (k : ℕ) → CountsMore old uses refs → Some (entry x refs) ≡ Some e → times k e.refs ≤ count_of uses k
+counted_now : (x : KeptRoute) (refs old uses : List ℕ) (e : Linked KeptRoute) (k : ℕ) → CountsMore old uses refs → Some (entry x refs) ≡ Some e → times k e.refs ≤ count_of uses k
 counted_now x refs old uses e k counted same =
     let one : entry x refs ≡ e = cc in
-    omega (arith, counted k, ap (λ (e : Linked Route). times k e.refs) one)
+    omega (arith, counted k, ap (λ (e : Linked KeptRoute). times k e.refs) one)
 
 pub take_linked-requires-clause-there : goal.take_linked-requires-clause-there
 take_linked-requires-clause-there c =
     let done = c.in_ok-key.ensures in
     rw c.name.ensures
-    (sym (is_some-key_of route_name c.put_linked.new.table c.args.route.name)
+    (sym (is_some-key_of kept_name c.put_linked.new.table c.args.route.name)
     ∙ ap is_some (there_now c.args.routes.now c.put_linked.new.table c.args.route c.requires c.in_ok-key.key c.args.found.keys done.put done.table))
 
 pub take_linked-requires-clause-counted_before : goal.take_linked-requires-clause-counted_before

@@ -2,6 +2,7 @@ use Rattle.std.proofs.Common.{ℕ, ◌∙◌, sym}
 use Rattle.rail_model.specs.declared.items.Block.{Block}
 use Rattle.line_tables.specs.declared.linked.Linked.{Linked}
 use Rattle.line_tables.proofs.Views.{is_named-map}
+use Rattle.line_tables.proofs.KeptLine.{has_kept}
 use Rattle.line_tables.proofs.line_tables.LineTables.has.Goals as goal
 
 pub returns-in-Block : goal.returns-in-Block
@@ -17,7 +18,7 @@ returns-in-Signal c =
 pub returns-in-Route : goal.returns-in-Route
 returns-in-Route c =
     rw (← c.self.view_is, c.in-Route.is)
-    (c.is_some-in-Route.ensures ∙ c.key_of-in-Route.ensures.there ∙ sym (is_named-map (λ (e : ℕ × Linked _). e.1.item) (λ x. x.name) c.self.inside.routes c.args.name.now))
+    (c.is_some-in-Route.ensures ∙ c.key_of-in-Route.ensures.there ∙ sym (has_kept c.self.inside c.args.name.now))
 
 pub returns-in-Run : goal.returns-in-Run
 returns-in-Run c =

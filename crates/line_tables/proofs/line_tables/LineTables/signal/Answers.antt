@@ -1,4 +1,4 @@
-use Rattle.std.proofs.Common.{◌≡◌, ℕ, Some, refl, ◌∙◌, sym}
+use Rattle.std.proofs.Common.{ℕ, refl, ◌∙◌, sym}
 use Rattle.rail_model.specs.declared.items.Signal.{Signal}
 use Rattle.rail_model.specs.Tables.{no_signal}
 use Rattle.line_tables.specs.declared.linked.Linked.{Linked}
