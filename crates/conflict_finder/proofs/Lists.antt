@@ -1,14 +1,27 @@
 -- Lists that are made piece by piece, and pairs of their elements.
-use Rattle.std.proofs.Common.{◌≡◌, ℕ, zero, suc, ◌+◌, ◌<◌, ◌≤◌, ◌⊎◌, Bool, true, List, ◌++◌, length, map, get_or, refl, sym, ap, ◌∙◌, subst, inl, inr, arith, append-nil, append_assoc}
-use Rattle.std.specs.List.{AllPairs, Contains, flat_map, range_with_len, prefix_len, swap}
+use Rattle.std.proofs.Common.{◌≡◌, ℕ, zero, suc, ◌+◌, ◌-◌, ◌<◌, ◌≤◌, ◌⊎◌, Bool, true, List, ◌++◌, length, map, get_or, refl, sym, ap, ◌∙◌, subst, inl, inr, arith, append-nil, append_assoc, length-append}
+use Rattle.std.specs.List.{All, AllPairs, Contains, flat_map, range_with_len, prefix_len, swap}
 use Rattle.std.specs.List.Sorted.{IsPermutation}
 use Rattle.std.proofs.lemmas.Bool.{cases_lt, cases_eq}
-use Rattle.std.proofs.lemmas.List.{get_or-map, length-map}
+use Rattle.std.proofs.lemmas.List.{get_or-map, length-map, get_or_append_left, get_or-append_right}
 use Rattle.std.proofs.lemmas.List.Edits.{Swapped, swapped_from_swap, length-swap}
 use Rattle.std.proofs.lemmas.List.Elements.{Contains-append_cases, Contains-append_left, Contains-append_right, Contains-get_or}
 use Rattle.std.proofs.lemmas.List.Sorted.{IsPermutation-keeps}
 use Rattle.std.proofs.lemmas.List.Sums.{prefix_len_stops}
 use Rattle.rail_model.proofs.Lists.{flat_map-range_more, AllPairs-append}
+
+-- ---- two lists, one after the other
+
+module _ {X : Type 0} (P : X → Type 0) (xs ys : List X) (h : All P (xs ++ ys)) where
+  pub all_left : All P xs
+  all_left k d l = subst P (get_or_append_left xs ys d k l) (h k d (omega (arith, l, length-append xs ys)))
+
+  pub all_right : All P ys
+  all_right k d l =
+      let n = length xs in
+      let from : get_or (xs ++ ys) (n + k) d ≡ get_or ys k d =
+      get_or-append_right xs ys n (n + k) d refl (omega arith) ∙ ap (λ j. get_or ys j d) (let e : (n + k) - n ≡ k = omega arith in e) in
+      subst P from (h (n + k) d (omega (arith, l, length-append xs ys)))
 
 -- ---- pieces for the numbers below n
 

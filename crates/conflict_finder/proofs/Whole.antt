@@ -1,8 +1,8 @@
 -- What the sweep finds are the conflicts, in their order.
-use Rattle.std.proofs.Common.{◌≡◌, ℕ, ◌+◌, ◌-◌, ◌<◌, ◌≤◌, ◌⊎◌, true, eqb, List, length, get_or, drop, refl, sym, ap, ◌∙◌, subst, inl, inr, arith}
-use Rattle.std.specs.Prelude.{pos, ◌<ℤ◌, ◌≤ℤ◌, int_lt}
+use Rattle.std.proofs.Common.{◌≡◌, ℕ, ◌+◌, ◌-◌, ◌<◌, true, eqb, List, length, get_or, drop, refl, sym, ap, ◌∙◌, subst, inl, inr, arith}
+use Rattle.std.specs.Prelude.{pos, ◌<ℤ◌, int_lt}
 use Rattle.std.specs.List.{AllPairs, Contains, take_while, prefix_len}
-use Rattle.std.specs.List.Sorted.{IsPermutation, IsSortedByKey, IsPartitionedBy}
+use Rattle.std.specs.List.Sorted.{IsPermutation, IsPartitionedBy}
 use Rattle.std.proofs.lemmas.Bool.{and_parts, and_from, eqb-true, eq-eqb, cases_lt, cases_order}
 use Rattle.std.proofs.lemmas.Int.{ints}
 use Rattle.std.proofs.lemmas.List.{get_or-take, get_or-drop, length-drop, get_or_default}
@@ -17,12 +17,12 @@ use Rattle.rail_model.specs.Conflict.{IsConflict, IsListedBefore, AreConflicts, 
 use Rattle.rail_model.proofs.NameOrder.{never_before_itself, IsBefore-trans}
 use Rattle.conflict_finder.specs.declared.ranked.Ranked.{Ranked}
 use Rattle.conflict_finder.specs.declared.run_uses.RunUse.{RunUse}
-use Rattle.conflict_finder.specs.Runs.{no_ranked, ranked_at, run_use_of, uses_of, all_run_uses, key_of, key_cmp}
+use Rattle.conflict_finder.specs.Runs.{no_ranked, ranked_at, run_use_of, uses_of, all_run_uses}
 use Rattle.conflict_finder.specs.Sweep.{IsSweptBefore, IsSwept, meets, conflict_of, no_run_use, conflicts_at, all_conflicts}
 use Rattle.rail_model.proofs.Lists.{AllPairs-map}
 use Rattle.conflict_finder.proofs.Lists.{upto, upto_is, from_upto, in_upto, AllPairs-upto, in_map, from_map, before_stop}
 use Rattle.conflict_finder.proofs.Ranks.{AreRanked}
-use Rattle.conflict_finder.proofs.Order.{stairway_of, made_by, makes}
+use Rattle.conflict_finder.proofs.Order.{IsNotLater, stairway_of, made_by, makes}
 
 -- ---- who meets whom
 
@@ -34,8 +34,8 @@ met_parts a b h =
 meets_from : (a b : RunUse) → a.block ≡ b.block → b.start <ℤ a.«end» → meets a b ≡ true
 meets_from a b e lt = and_from (eqb a.block b.block) (int_lt b.start a.«end») (eq-eqb a.block b.block e) (grind (arith, ints))
 
--- the order without the names: not of an earlier block and, on one block, not of an earlier start
-in_order : (a b : RunUse) → IsSweptBefore a b → (a.block ≤ b.block) × (a.block ≡ b.block → a.start ≤ℤ b.start)
+-- the order without the names
+in_order : (a b : RunUse) → IsSweptBefore a b → IsNotLater a b
 in_order a b h =
     elim h [
       | inl lt ↦ (omega arith, λ e. absurd (omega arith))
@@ -43,18 +43,25 @@ in_order a b h =
     ]
 
 -- who comes between two that meet meets the first too
-meets_between : (a b c : RunUse) → IsSweptBefore a b → ((b ≡ c) ⊎ IsSweptBefore b c) → meets a c ≡ true → meets a b ≡ true
-meets_between a b c ab bc h =
-    elim bc [
-      | inl e ↦ rw e h
-      | inr later ↦
-          let m = met_parts a c h in
-          let one = in_order a b ab in
-          let other = in_order b c later in
-          let same : a.block ≡ b.block = omega (arith, one.0, other.0, m.0) in
-          let start = other.1 (sym same ∙ m.0) in
-          let before : c.start <ℤ a.«end» = m.1 in
-          meets_from a b same (omega (arith, ints))
+meets_between : (a b c : RunUse) → IsNotLater a b → IsNotLater b c → meets a c ≡ true → meets a b ≡ true
+meets_between a b c one other h =
+    let m = met_parts a c h in
+    let same : a.block ≡ b.block = omega (arith, one.0, other.0, m.0) in
+    let start = other.1 (sym same ∙ m.0) in
+    let before : c.start <ℤ a.«end» = m.1 in
+    meets_from a b same (omega (arith, ints))
+
+pub partitioned : (run_uses : List RunUse) → AllPairs IsNotLater run_uses → (i : ℕ) → i < length run_uses → IsPartitionedBy (meets (get_or run_uses i no_run_use)) (drop (i + 1) run_uses)
+partitioned run_uses order i l m n d le ln h =
+    let long = length-drop (i + 1) run_uses in
+    let one = get_or run_uses i no_run_use in
+    elim (cases_lt m n) [
+      | inl lt ↦
+          rw (get_or-drop (i + 1) run_uses m d) (let passes : meets one (get_or run_uses ((i + 1) + n) d) ≡ true = rw (get_or-drop (i + 1) run_uses n d) at h in
+          meets_between one (get_or run_uses ((i + 1) + m) d) (get_or run_uses ((i + 1) + n) d)
+          (subst (λ x. IsNotLater x (get_or run_uses ((i + 1) + m) d)) (get_or_default run_uses i d no_run_use l) (order i ((i + 1) + m) d (omega arith) (omega arith)))
+          (order ((i + 1) + m) ((i + 1) + n) d (omega arith) (omega arith)) passes)
+      | inr ge ↦ let e : n ≡ m = omega arith in subst (λ k. meets one (get_or (drop (i + 1) run_uses) k d) ≡ true) e h
     ]
 
 module _ (run_uses : List RunUse) (swept : IsSwept run_uses) where
@@ -72,19 +79,6 @@ module _ (run_uses : List RunUse) (swept : IsSwept run_uses) where
   order_at : (i j : ℕ) → i < j → j < length run_uses → IsSweptBefore (at i) (at j)
   unfolding at
   order_at i j lt l = swept i j no_run_use lt l
-
-  pub partitioned : (i : ℕ) → i < length run_uses → IsPartitionedBy (meets (get_or run_uses i no_run_use)) (drop (i + 1) run_uses)
-  unfolding at
-  partitioned i l m n d le ln h =
-      let long = length-drop (i + 1) run_uses in
-      rw (get_or-drop (i + 1) run_uses m d) (let passes : meets (at i) (get_or run_uses ((i + 1) + n) d) ≡ true = rw (get_or-drop (i + 1) run_uses n d) at h in
-      meets_between (at i) (get_or run_uses ((i + 1) + m) d) (get_or run_uses ((i + 1) + n) d)
-      (rw (at_is ((i + 1) + m) d (omega arith)) (order_at i ((i + 1) + m) (omega arith) (omega arith)))
-      (elim (cases_lt m n) [
-        | inl lt ↦ inr (swept ((i + 1) + m) ((i + 1) + n) d (omega arith) (omega arith))
-        | inr ge ↦ let e : m ≡ n = omega arith in inl (ap (λ k. get_or run_uses ((i + 1) + k) d) e)
-      ])
-      passes)
 
   pub from_met : (i : ℕ) (y : RunUse) → i < length run_uses → Contains (met i) y → (j : ℕ) × (i < j) × (j < length run_uses) × (y ≡ at j) × (meets (at i) (at j) ≡ true)
   unfolding at met
@@ -108,7 +102,7 @@ module _ (run_uses : List RunUse) (swept : IsSwept run_uses) where
       let e : (i + 1) + k ≡ j = omega arith in
       let long = length-drop (i + 1) run_uses in
       let here : get_or rest k no_run_use ≡ at j = get_or-drop (i + 1) run_uses k no_run_use ∙ ap at e in
-      let inside : k < prefix_len p rest = before_stop p rest k no_run_use (omega arith) (λ m le. partitioned i (omega arith) m k no_run_use le (omega arith) (ap p here ∙ h)) in (
+      let inside : k < prefix_len p rest = before_stop p rest k no_run_use (omega arith) (λ m le. partitioned run_uses (λ i j d lt l. in_order (get_or run_uses i d) (get_or run_uses j d) (swept i j d lt l)) i (omega arith) m k no_run_use le (omega arith) (ap p here ∙ h)) in (
         k,
         omega (arith, inside, length-prefix_len p rest),
         get_or-take (prefix_len p rest) rest k (at j) inside ∙ get_or_default rest k (at j) no_run_use (omega arith) ∙ here,
@@ -116,7 +110,7 @@ module _ (run_uses : List RunUse) (swept : IsSwept run_uses) where
 
 -- ---- from what is found to the timetable, and back
 
-module _ (stairs : List Stair) (runs : List Ranked) (t : IsTimetable stairs) (ranked : AreRanked stairs runs) (run_uses : List RunUse) (same : IsPermutation (all_run_uses stairs runs) run_uses) (order : IsSortedByKey key_of key_cmp run_uses) (swept : IsSwept run_uses) where
+module _ (stairs : List Stair) (runs : List Ranked) (t : IsTimetable stairs) (ranked : AreRanked stairs runs) (run_uses : List RunUse) (same : IsPermutation (all_run_uses stairs runs) run_uses) (swept : IsSwept run_uses) where
   pub stair_of : ℕ → Stair
   stair_of k = get_or stairs (get_or runs k no_ranked).stair no_stair
 
@@ -147,7 +141,7 @@ module _ (stairs : List Stair) (runs : List Ranked) (t : IsTimetable stairs) (ra
   unfolding at stair_of
   made i l =
       let none : Use = record { block = 0; start = pos 0; «end» = pos 0 } in
-      let m = made_by stairs runs t ranked run_uses same order (get_or run_uses i no_run_use) (Contains-get_or run_uses i no_run_use l) in
+      let m = made_by stairs runs t ranked run_uses same (get_or run_uses i no_run_use) (Contains-get_or run_uses i no_run_use l) in
       record {
         k = m.0;
         within = m.1;
@@ -282,8 +276,8 @@ module _ (stairs : List Stair) (runs : List Ranked) (t : IsTimetable stairs) (ra
   in_found_by c k q u v lk lq used other_used m =
       let a = run_use_of k u in
       let b = run_use_of q v in
-      let s = makes stairs runs t ranked run_uses same order k u lk used in
-      let e = makes stairs runs t ranked run_uses same order q v lq other_used in
+      let s = makes stairs runs t ranked run_uses same k u lk used in
+      let e = makes stairs runs t ranked run_uses same q v lq other_used in
       let at_s : at run_uses swept s.0 ≡ a = get_or_default run_uses s.0 no_run_use a s.1 ∙ s.2 in
       let at_e : at run_uses swept e.0 ≡ b = get_or_default run_uses e.0 no_run_use b e.1 ∙ e.2 in
       let first : s.0 < e.0 = comes_first s.0 e.0 s.1 e.1 k q u v lk lq at_s at_e m.overlap.block m.precedes.1 in

@@ -1,11 +1,12 @@
 -- What is found, by the numbers of the runs in the order of their names.
-use Rattle.std.specs.Prelude.{◌≡◌, ℕ, ◌+◌, ◌-◌, ◌<◌, List, Vec, length, map, take, drop, slice_index_or}
+use Rattle.std.specs.Prelude.{◌≡◌, ℕ, ◌+◌, ◌-◌, ◌*◌, ◌<◌, min, List, Vec, length, map, take, drop, slice_index_or}
 use Rattle.std.specs.Int.{int_min}
 use Rattle.std.specs.List.{AllZip, flat_map, range_with_len, take_while}
 use Rattle.std.specs.declared.alloc.Global.{Global}
 use Rattle.conflict_finder.specs.Types.{Conflict, Met, MetInPart, Ranked, RunUse}
 use Rattle.conflict_finder.specs.declared.found.TheConstants.{LISTED}
 use Rattle.conflict_finder.specs.Runs.{no_ranked}
+use Rattle.conflict_finder.specs.ByBlock.{AreSorted, AreUsesFrom}
 use Rattle.conflict_finder.specs.Sweep.{meets, no_run_use}
 
 -- what two uses make
@@ -58,8 +59,26 @@ IsListed all found = (found.list.items ≡ take LISTED all) × (found.more ≡ l
 abbrev pub count_of : MetInPart → ℕ
 count_of found = length found.list.items + found.more
 
--- the lists come in parts, and what the sweeps over each part find is listed and counted
-abbrev pub AreFoundInParts : List (Vec RunUse Global) → List MetInPart → Type 0
-AreFoundInParts by_block found =
-    (parts : List (List (Vec RunUse Global))) × (flat_map (λ part. part) parts ≡ by_block)
-    × AllZip (λ part. IsListed (met_in_turn part)) parts found
+-- of so many lists, the place of the first of a part, where each part has `size` of them
+abbrev pub first_of : ℕ → ℕ → ℕ → ℕ
+first_of lists size part = min (part * size) lists
+
+-- what is found in a part: its lists hold the uses that go there, in order, and are swept
+pub record IsFoundInPart (lists size : ℕ) (run_uses : List RunUse) (part : ℕ) (found : MetInPart) : Type 0 where
+  pub by_block : List (Vec RunUse Global)
+  pub count : first_of lists size part + length by_block ≡ first_of lists size (part + 1)
+  pub uses : AreUsesFrom (lists - 1) (first_of lists size part) run_uses by_block
+  pub sorted : AreSorted by_block
+  pub listed : IsListed (met_in_turn by_block) found
+
+-- what is found in parts, by lists with the places from `first` on and before `end`
+pub record AreFoundBetween (last first «end» : ℕ) (run_uses : List RunUse) (found : List MetInPart) : Type 0 where
+  pub parts : List (List (Vec RunUse Global))
+  pub count : first + length (flat_map (λ part. part) parts) ≡ «end»
+  pub uses : AreUsesFrom last first run_uses (flat_map (λ part. part) parts)
+  pub sorted : AreSorted (flat_map (λ part. part) parts)
+  pub listed : AllZip (λ part. IsListed (met_in_turn part)) parts found
+
+-- what is found in all parts
+abbrev pub AreFoundInParts : List RunUse → List MetInPart → Type 0
+AreFoundInParts run_uses found = (last : ℕ) × AreFoundBetween last 0 (last + 1) run_uses found

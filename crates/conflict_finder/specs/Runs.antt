@@ -34,9 +34,9 @@ all_run_uses stairs runs =
     flat_map (λ k. map (run_use_of k) (uses_of stairs runs k)) (range_with_len 0 (length runs))
 
 -- the uses of one run after another, in the order in which they enter the line
-abbrev pub run_uses_in_turn : List Stair → List Ranked → List RunStart → List RunUse
-run_uses_in_turn stairs runs starts =
-    flat_map (λ e. map (run_use_of e.run) (uses_of stairs runs e.run)) starts
+abbrev pub run_uses_in_turn : List Stair → List RunStart → List RunUse
+run_uses_in_turn stairs starts =
+    flat_map (λ e. map (run_use_of e.run) (stair_at stairs e.stair).uses) starts
 
 -- the order of the sweep: by block, then by start, then by run
 abbrev pub key_of : RunUse → ℕ × ℤ × ℕ

@@ -1,8 +1,7 @@
 -- The sweep over the uses.
-use Rattle.std.specs.Prelude.{◌≡◌, ◌⊎◌, ℕ, ◌+◌, ◌<◌, ◌<ℤ◌, Bool, ◌&&◌, ◌==◌, List, Vec, All, length, map, drop, slice_index_or, AllPairs, pos, int_lt}
+use Rattle.std.specs.Prelude.{◌≡◌, ◌⊎◌, ℕ, ◌+◌, ◌<◌, ◌<ℤ◌, Bool, ◌&&◌, ◌==◌, List, length, map, drop, slice_index_or, AllPairs, pos, int_lt}
 use Rattle.std.specs.Int.{int_min}
 use Rattle.std.specs.List.{flat_map, range_with_len, take_while}
-use Rattle.std.specs.declared.alloc.Global.{Global}
 use Rattle.rail_model.specs.Conflict as whole
 use Rattle.conflict_finder.specs.Types.{Ranked, RunUse}
 use Rattle.conflict_finder.specs.Runs.{no_ranked}
@@ -46,7 +45,3 @@ conflicts_at runs run_uses i =
 abbrev pub all_conflicts : List Ranked → List RunUse → List whole.Conflict
 all_conflicts runs run_uses =
     flat_map (conflicts_at runs run_uses) (range_with_len 0 (length run_uses))
-
--- each list is in the order of the sweep
-abbrev pub AreSwept : List (Vec RunUse Global) → Type 0
-AreSwept by_block = All (λ s. IsSwept s.items) by_block

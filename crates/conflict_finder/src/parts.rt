@@ -1,89 +1,123 @@
-//! The conflicts, found by sweeps over parts of the lists, side by side.
-ghost use Rattle.std.specs.Prelude.{◌≡◌, ◌+◌, ◌-◌, ◌*◌, ◌<◌, ◌≤◌, ◌^◌, ◌++◌};
+//! The conflicts, found in parts of the blocks, side by side: the uses of each part are laid, put in
+//! order and swept on their own.
+ghost use Rattle.std.specs.Prelude.{◌≡◌, ◌+◌, ◌-◌, ◌*◌, ◌<◌, ◌≤◌, ◌^◌, ◌++◌, min};
 ghost use Rattle.std.specs.Prelude.{All, map, take, length, IfOk, OnOk};
 ghost use Rattle.std.specs.List.{flat_map, sum_by};
 ghost use Rattle.rail_model.specs.declared.limits.TheConstants.{RUNS, PATH_HOPS};
-ghost use Rattle.conflict_finder.specs.Found.{as_listed};
-ghost use Rattle.conflict_finder.specs.ByBlock.{one_after_another, AreByBlock};
-ghost use Rattle.conflict_finder.specs.ByNumber.{IsListed, AreFoundInParts, HasRuns, named, met_in_turn, count_of};
-ghost use Rattle.conflict_finder.specs.Sweep as swept;
+ghost use Rattle.conflict_finder.specs.Runs.{run_uses_in_turn};
+ghost use Rattle.conflict_finder.specs.ByNumber.{IsFoundInPart, AreFoundInParts, HasRuns, named, count_of};
 
+use crate::by_block::room_for;
 use crate::found::{Conflict, Conflicts, LISTED, Met, MetInPart};
 use crate::ranked::Ranked;
-use crate::run_uses::RunUse;
+use crate::run_starts::RunStart;
+use crate::run_uses::run_uses_in_order;
 use crate::sweep::sweep;
-use rail_model::{List, OutOfMemory};
+use rail_model::{List, OutOfMemory, Stair};
 use rayon::current_num_threads;
 use rayon::prelude::*;
 use std::alloc::Global;
 use std::thread::Threads;
 
-// Walks over the lists of uses, parts of them side by side. Uses of two lists are of two blocks, so
-// they don't meet.
-pub(crate) fn sweep_in_parts(
-    rt: &(impl Threads + Sync),
-    alloc: Global,
-    runs: &[Ranked],
-    by_block: &[Vec<RunUse>],
-) -> Result<Conflicts, OutOfMemory>
-    requires most { length (one_after_another by_block.now) ≤ RUNS * PATH_HOPS }
-    requires there { All (λ b. b.run < length runs.now) (one_after_another by_block.now) }
-    requires order { swept.IsSwept (one_after_another by_block.now) }
-    requires blocks { AreByBlock by_block.now }
-    ensures list { IfOk result (λ found. found.list ≡ map as_listed
-        (take LISTED (swept.all_conflicts runs.now (one_after_another by_block.now)))) }
-    ensures more { IfOk result (λ found. found.more ≡
-        length (swept.all_conflicts runs.now (one_after_another by_block.now)) - LISTED) }
-{
-    let found = found_in_parts(rt, alloc, runs.len(), by_block)?;
-    let all = joined(alloc, runs, &found)?;
-    Ok(all)
-}
-
 // The uses of fewer runs aren't worth a thread.
-pub(crate) const LEAST_RUNS: usize = 64;
+const LEAST_RUNS: usize = 64;
 
-// Fewer lists aren't worth a thread of their own.
+// Fewer lists aren't worth a part of their own.
 const LEAST_LISTS: usize = 8;
 
-// What is found in each part of the lists of so many runs.
-fn found_in_parts(
+// Into how many parts the lists are split at least where there is one thread, so that the lists of
+// one part at a time take memory.
+const LEAST_PARTS: usize = 4;
+
+// What is found in each part of the lists of the runs' uses.
+pub(crate) fn found_in_parts(
     rt: &(impl Threads + Sync),
     alloc: Global,
-    runs: usize,
-    by_block: &[Vec<RunUse>],
+    stairs: &[Stair],
+    starts: &[RunStart],
 ) -> Result<Vec<MetInPart>, OutOfMemory>
-    requires most { length (one_after_another by_block.now) ≤ RUNS * PATH_HOPS }
-    requires order { swept.AreSwept by_block.now }
-    ensures { IfOk result (λ found. AreFoundInParts by_block.now found.items) }
+    requires most { length (run_uses_in_turn stairs.now starts.now) ≤ RUNS * PATH_HOPS }
+    requires there { All (λ e. e.stair < length stairs.now) starts.now }
+    ensures { IfOk result (λ found.
+        AreFoundInParts (run_uses_in_turn stairs.now starts.now) found.items) }
 {
-    let size = by_block.len().div_ceil(parts_for(rt, runs));
-    by_block
-        .par_chunks(size.max(LEAST_LISTS))
-        .with_min_len(1)
-        .map(
-            |part: &[Vec<RunUse>]| -> Result<MetInPart, OutOfMemory>
-                requires { (length (one_after_another part.now) ≤ RUNS * PATH_HOPS)
-                    × swept.AreSwept part.now }
-                ensures { IfOk result (IsListed (met_in_turn part.now)) }
-            { sweep(alloc, part) },
-        )
-        .collect::<Result<Vec<MetInPart>, OutOfMemory>>(rt, alloc)?
+    let room = room_for(alloc, stairs)?;
+    let threads = current_num_threads(rt);
+    let parts = parts_for(threads, starts.len(), room.len());
+    found_in_so_many(rt, alloc, stairs, starts, &room, parts)
 }
 
-// Into how many parts the lists of so many runs are split at most.
-fn parts_for(rt: &impl Threads, runs: usize) -> usize
+// Into how many parts so many lists of so many runs are split.
+fn parts_for(threads: usize, runs: usize, lists: usize) -> usize
     ensures { 0 < result }
 {
     if runs < LEAST_RUNS {
         return 1;
     }
-    current_num_threads(rt)
+    threads.max(LEAST_PARTS).min(lists / LEAST_LISTS).max(1)
+}
+
+// What is found in each of so many parts.
+fn found_in_so_many(
+    rt: &(impl Threads + Sync),
+    alloc: Global,
+    stairs: &[Stair],
+    starts: &[RunStart],
+    room: &[u32],
+    parts: usize,
+) -> Result<Vec<MetInPart>, OutOfMemory>
+    requires some { 0 < parts }
+    requires lists { 0 < length room.now }
+    requires most { length (run_uses_in_turn stairs.now starts.now) ≤ RUNS * PATH_HOPS }
+    requires there { All (λ e. e.stair < length stairs.now) starts.now }
+    ensures { IfOk result (λ found.
+        AreFoundInParts (run_uses_in_turn stairs.now starts.now) found.items) }
+{
+    let size = room.len() / parts + 1;
+    let in_turn = (parts / current_num_threads(rt)).max(1);
+    (0..parts)
+        .into_par_iter()
+        .with_min_len(in_turn)
+        .map(
+            |part: usize| -> Result<MetInPart, OutOfMemory>
+                requires { (0 < length room.now) × (length (run_uses_in_turn stairs.now starts.now) ≤ RUNS * PATH_HOPS)
+                    × All (λ e. e.stair < length stairs.now) starts.now }
+                ensures { IfOk result (IsFoundInPart (length room.entry.now) size
+                    (run_uses_in_turn stairs.entry.now starts.entry.now) part) }
+            { sweep_part(alloc, stairs, starts, room, size, part) },
+        )
+        .collect::<Result<Vec<MetInPart>, OutOfMemory>>(rt, alloc)?
+}
+
+// What is found in a part. Each has so many of the lists, and the last what is left.
+fn sweep_part(
+    alloc: Global,
+    stairs: &[Stair],
+    starts: &[RunStart],
+    room: &[u32],
+    size: usize,
+    part: usize,
+) -> Result<MetInPart, OutOfMemory>
+    requires lists { 0 < length room.now }
+    requires most { length (run_uses_in_turn stairs.now starts.now) ≤ RUNS * PATH_HOPS }
+    requires there { All (λ e. e.stair < length stairs.now) starts.now }
+    ensures { IfOk result (IsFoundInPart (length room.now) size
+        (run_uses_in_turn stairs.now starts.now) part) }
+{
+    let first = part.saturating_mul(size).min(room.len());
+    let end = first.saturating_add(size).min(room.len());
+    let last = room.len() - 1;
+    let by_block = run_uses_in_order(alloc, stairs, starts, &room[first..end], first, last)?;
+    sweep(alloc, &by_block)
 }
 
 // What was found in one part after the other, with the names of the runs: the first are listed, as
 // many as there is room for.
-fn joined(alloc: Global, runs: &[Ranked], found: &[MetInPart]) -> Result<Conflicts, OutOfMemory>
+pub(crate) fn joined(
+    alloc: Global,
+    runs: &[Ranked],
+    found: &[MetInPart],
+) -> Result<Conflicts, OutOfMemory>
     requires count { sum_by count_of found.now < 2 ^ 64 }
     requires there { All (HasRuns (length runs.now))
         (take LISTED (flat_map (λ part. part.list.items) found.now)) }

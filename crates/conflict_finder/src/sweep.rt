@@ -2,18 +2,20 @@
 ghost use Rattle.std.specs.Prelude.{◌≡◌, ◌-◌, ◌*◌, ◌<◌, ◌≤◌, [], ◌++◌, false};
 ghost use Rattle.std.specs.Prelude.{All, map, take, length, IfOk, OnOk};
 ghost use Rattle.std.specs.List.{take_while, prefix_len};
-ghost use Rattle.std.specs.List.Sorted.{IsPartitionedBy};
+ghost use Rattle.std.specs.List.Sorted.{IsPartitionedBy, IsSortedByKey};
 ghost use Rattle.rail_model.specs.Conflict.{IsTimetable};
+ghost use Rattle.conflict_finder.specs.Runs.{key_of, key_cmp};
 ghost use Rattle.conflict_finder.specs.Found.{IsFound};
-ghost use Rattle.conflict_finder.specs.ByBlock.{one_after_another};
+ghost use Rattle.conflict_finder.specs.ByBlock.{one_after_another, AreSorted};
 ghost use Rattle.conflict_finder.specs.ByNumber.{IsListed, met_of, all_met, met_in_turn};
 ghost use Rattle.conflict_finder.specs.Sweep as swept;
 ghost use Rattle.rail_model.specs.declared.limits.TheConstants.{RUNS, PATH_HOPS};
 
 use crate::found::{Conflicts, LISTED, Met, MetInPart};
-use crate::parts::sweep_in_parts;
+use crate::parts::{found_in_parts, joined};
 use crate::ranked::by_name;
-use crate::run_uses::{RunUse, run_uses_in_order};
+use crate::run_starts::by_start;
+use crate::run_uses::RunUse;
 use rail_model::{List, OutOfMemory, Stair};
 use std::alloc::Global;
 use std::thread::Threads;
@@ -28,14 +30,15 @@ pub fn conflicts(
     ensures { IfOk result (λ found. IsFound stairs.now found) }
 {
     let runs = by_name(alloc, stairs.slice())?;
-    let by_block = run_uses_in_order(rt, alloc, stairs.slice(), &runs)?;
-    sweep_in_parts(rt, alloc, &runs, &by_block)
+    let starts = by_start(alloc, stairs.slice(), &runs)?;
+    let found = found_in_parts(rt, alloc, stairs.slice(), &starts)?;
+    joined(alloc, &runs, &found)
 }
 
 // Walks over the lists of uses, one after another.
 pub(crate) fn sweep(alloc: Global, by_block: &[Vec<RunUse>]) -> Result<MetInPart, OutOfMemory>
     requires most { length (one_after_another by_block.now) ≤ RUNS * PATH_HOPS }
-    requires order { swept.AreSwept by_block.now }
+    requires order { AreSorted by_block.now }
     ensures { IfOk result (IsListed (met_in_turn by_block.now)) }
 {
     let mut list = Vec::new(alloc);
@@ -53,7 +56,7 @@ pub(crate) fn sweep(alloc: Global, by_block: &[Vec<RunUse>]) -> Result<MetInPart
 fn sweep_block(list: &mut Vec<Met>, run_uses: &[RunUse]) -> Result<u64, OutOfMemory>
     requires room { length list.old.items ≤ LISTED }
     requires most { length run_uses.now ≤ RUNS * PATH_HOPS }
-    requires order { swept.IsSwept run_uses.now }
+    requires order { IsSortedByKey key_of key_cmp run_uses.now }
     ensures list { OnOk result (list.new.items ≡ list.old.items
         ++ take (LISTED - length list.old.items) (all_met run_uses.now)) }
     ensures count { IfOk result (λ count. count ≡ length (all_met run_uses.now)) }

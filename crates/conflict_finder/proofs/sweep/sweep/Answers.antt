@@ -1,11 +1,12 @@
 use Rattle.std.proofs.Common.{◌≡◌, ◌+◌, ◌++◌, length, take, get_or, sym, ap, ◌∙◌, subst, arith, length-append}
 use Rattle.std.specs.Prelude.{Vec}
 use Rattle.std.specs.declared.alloc.Global.{Global}
+use Rattle.std.specs.List.Sorted.{IsSortedByKey}
 use Rattle.std.proofs.lemmas.List.{length-take, take_all}
 use Rattle.conflict_finder.specs.declared.run_uses.RunUse.{RunUse}
 use Rattle.conflict_finder.specs.declared.found.TheConstants.{LISTED}
 use Rattle.conflict_finder.specs.ByBlock.{one_after_another}
-use Rattle.conflict_finder.specs.Sweep.{IsSwept}
+use Rattle.conflict_finder.specs.Runs.{key_of, key_cmp}
 use Rattle.conflict_finder.specs.ByNumber.{all_met, met_in_turn}
 use Rattle.conflict_finder.proofs.Laid.{next_block}
 use Rattle.conflict_finder.proofs.Room.{listed_next}
@@ -26,7 +27,7 @@ sweep_block-requires-clause-most c =
 
 pub sweep_block-requires-clause-order : goal.sweep_block-requires-clause-order
 sweep_block-requires-clause-order c =
-    subst IsSwept (sym (is_block c)) (c.requires.order c.loop-run_uses.run_uses-index c.run_uses-item.result c.loop-run_uses-test.true)
+    subst (IsSortedByKey key_of key_cmp) (sym (is_block c)) (c.requires.order c.loop-run_uses.run_uses-index c.run_uses-item.result c.loop-run_uses-test.true)
 
 pub overflow_add-count : goal.overflow_add-count
 overflow_add-count c =

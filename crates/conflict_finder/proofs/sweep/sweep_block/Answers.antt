@@ -6,6 +6,7 @@ use Rattle.conflict_finder.specs.declared.found.TheConstants.{LISTED}
 use Rattle.conflict_finder.specs.Sweep.{meets, no_run_use}
 use Rattle.conflict_finder.specs.ByNumber.{met_of, met_at, met_upto}
 use Rattle.rail_model.proofs.Lists.{flat_map-range_more}
+use Rattle.conflict_finder.proofs.Order.{none_later}
 use Rattle.conflict_finder.proofs.Whole.{partitioned}
 use Rattle.conflict_finder.proofs.Room.{listed_within, listed_beside, met_within}
 use Rattle.conflict_finder.proofs.sweep.sweep_block.Goals as goal
@@ -16,7 +17,7 @@ met_by-met-requires c =
     let i = c.loop-i.i in
     let rest = drop (i + 1) run_uses in
     let whole = take_all (length run_uses - (i + 1)) rest (omega (arith, length-drop (i + 1) run_uses)) in
-    subst (IsPartitionedBy (meets (get_or run_uses i no_run_use))) (sym whole) (partitioned run_uses c.requires.order i c.loop-i-test.true)
+    subst (IsPartitionedBy (meets (get_or run_uses i no_run_use))) (sym whole) (partitioned run_uses (none_later run_uses c.requires.order) i c.loop-i-test.true)
 
 pub list_met-requires : goal.list_met-requires
 list_met-requires c = rw c.loop-i.invariant.list (listed_within LISTED c.args.list.now.items (met_upto c.args.run_uses.now c.loop-i.i) c.requires.room)
