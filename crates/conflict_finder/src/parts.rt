@@ -1,5 +1,5 @@
-//! The conflicts, found in parts of the blocks, side by side: the uses of each part are laid, put in
-//! order and swept on their own.
+//! The conflicts, found in parts of the blocks, side by side: the uses of each part are laid, put
+//! in order and swept on their own.
 ghost use Rattle.std.specs.Prelude.{◌≡◌, ◌+◌, ◌-◌, ◌*◌, ◌<◌, ◌≤◌, ◌^◌, ◌++◌, min};
 ghost use Rattle.std.specs.Prelude.{All, map, take, length, IfOk, OnOk};
 ghost use Rattle.std.specs.List.{flat_map, sum_by};
@@ -25,9 +25,9 @@ const LEAST_RUNS: usize = 64;
 // Fewer lists aren't worth a part of their own.
 const LEAST_LISTS: usize = 8;
 
-// Into how many parts the lists are split at least where there is one thread, so that the lists of
-// one part at a time take memory.
-const LEAST_PARTS: usize = 4;
+// Into how many parts many lists are split at least. Where there is one thread, the lists of one
+// part at a time take memory. Each part goes over all uses once, so there are few.
+const LEAST_PARTS: usize = 2;
 
 // What is found in each part of the lists of the runs' uses.
 pub(crate) fn found_in_parts(
@@ -80,7 +80,8 @@ fn found_in_so_many(
         .with_min_len(in_turn)
         .map(
             |part: usize| -> Result<MetInPart, OutOfMemory>
-                requires { (0 < length room.now) × (length (run_uses_in_turn stairs.now starts.now) ≤ RUNS * PATH_HOPS)
+                requires { (0 < length room.now)
+                    × (length (run_uses_in_turn stairs.now starts.now) ≤ RUNS * PATH_HOPS)
                     × All (λ e. e.stair < length stairs.now) starts.now }
                 ensures { IfOk result (IsFoundInPart (length room.entry.now) size
                     (run_uses_in_turn stairs.entry.now starts.entry.now) part) }
