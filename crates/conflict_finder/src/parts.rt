@@ -5,7 +5,8 @@ ghost use Rattle.std.specs.Prelude.{All, map, take, length, IfOk, OnOk};
 ghost use Rattle.std.specs.List.{flat_map, sum_by};
 ghost use Rattle.rail_model.specs.declared.limits.TheConstants.{RUNS, PATH_HOPS};
 ghost use Rattle.conflict_finder.specs.Runs.{run_uses_in_turn};
-ghost use Rattle.conflict_finder.specs.ByNumber.{IsFoundInPart, AreFoundInParts, HasRuns, named, count_of};
+ghost use Rattle.conflict_finder.specs.ByNumber.{IsFoundInPart, AreFoundInParts, HasRuns};
+ghost use Rattle.conflict_finder.specs.ByNumber.{named, count_of};
 
 use crate::by_block::room_for;
 use crate::found::{Conflict, Conflicts, LISTED, Met, MetInPart};
