@@ -5,7 +5,8 @@ ghost use Rattle.capacity.specs.Call.{IsCall, EndsAsCall};
 
 use crate::sentence::explain;
 use capacity_cmd::{Status, Told, alone, run_alone_telling, run_telling};
-use rail_outside::{NoWords, OpenGate, Sink, Source, Words, ask_for_room};
+use rail_model::ask_for_room;
+use rail_outside::{NoWords, OpenGate, Sink, Source, Words};
 use std::process::{ExitCode, Termination};
 use std::sync::Wait;
 use std::thread::Threads;

@@ -40,7 +40,7 @@ impl Model for PlacedList {
 }
 
 impl PlacedList {
-    /// No trains, with room for so many (names of eight bytes).
+    /// No trains, with room for so many whose names have eight bytes.
     pub fn with_capacity(alloc: Global, count: usize) -> Result<PlacedList, OutOfMemory>
         ensures { IfOk result (λ list. list ≡ []) }
     {

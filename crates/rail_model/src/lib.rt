@@ -26,6 +26,7 @@ mod named;
 mod names;
 mod path;
 mod range;
+mod room;
 mod stair;
 mod tables;
 
@@ -43,5 +44,6 @@ pub use named::Named;
 pub use names::Names;
 pub use path::{Hop, Path};
 pub use range::is_within;
+pub use room::ask_for_room;
 pub use stair::{Stair, Use};
 pub use tables::Tables;

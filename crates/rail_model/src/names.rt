@@ -3,7 +3,7 @@ ghost use Rattle.std.specs.Prelude.{◌≡◌, ◌+◌, ◌<◌, ◌++◌, [], �
 ghost use Rattle.rail_model.specs.Name.{IsName};
 ghost use Rattle.rail_model.specs.Names.{name_at, IsNameAt};
 
-use crate::{List, NAME_BYTES, Name, OutOfMemory};
+use crate::{NAME_BYTES, Name, OutOfMemory};
 use std::alloc::{AllocError, Global};
 use std::marker::Model;
 
@@ -48,18 +48,6 @@ impl Names {
         Ok(Names { bytes, starts })
     }
 
-    /// The names of a list, in their order.
-    pub fn of(alloc: Global, list: &[Name]) -> Result<Names, OutOfMemory>
-        ensures { IfOk result (λ names. names ≡ list.now) }
-    {
-        let mut names = Names::with_capacity(alloc, list.len())?;
-        for name in list {
-            names.push(name)?;
-        }
-        names.shrink_to_fit();
-        Ok(names)
-    }
-
     /// Puts a name at the end. Without memory the names stay as they were.
     pub fn push(&mut self, name: &Name) -> Result<(), OutOfMemory>
         ensures ok { OnOk result (self.new ≡ self.old ++ name.now ∷ []) }
@@ -99,17 +87,6 @@ impl Names {
         ensures { result ≡ slice_index_or self.now i [] }
     {
         Name::read(self.bytes(i)).unwrap()
-    }
-
-    /// The names as a list.
-    pub fn to_list(&self, alloc: Global) -> Result<List<Name>, OutOfMemory>
-        ensures { IfOk result (λ list. list ≡ self.now) }
-    {
-        let mut list = List::from_vec(Vec::with_capacity(alloc, self.len())?);
-        for i in 0..self.len() {
-            list.push(self.get(i))?;
-        }
-        Ok(list)
     }
 
     /// Gives back the room that no name takes.

@@ -9,7 +9,7 @@ ghost use Rattle.section_cut.specs.Starts.{StartsBetween, StartsOutside};
 use crate::spans::{BlockLists, BlockRange};
 use blocking_time::stairs;
 use line_tables::{LineTables, Paths};
-use rail_model::{List, OutOfMemory, Section, Stair, Use};
+use rail_model::{List, OutOfMemory, Section, Stair, Use, ask_for_room};
 use rayon::current_num_threads;
 use rayon::prelude::*;
 use std::alloc::Global;
@@ -18,6 +18,11 @@ use std::thread::Threads;
 
 // Fewer runs aren't worth a thread of their own.
 const LEAST_RUNS: usize = 64;
+
+// For the stairways of so many runs room is asked for at once, where they are made side by side.
+const RUNS_AT_ONCE: usize = 64;
+
+const ROOM: usize = RUNS_AT_ONCE * 8_192;
 
 /// The stairway of each run, in the order of the runs' names.
 pub fn stairways(alloc: Global, tables: &LineTables) -> Result<List<Stair>, OutOfMemory>
@@ -65,9 +70,19 @@ fn stairs_of(
             |run: usize| -> Result<Stair, OutOfMemory>
                 requires { (run < length paths.now) × (run < 4294967296) }
                 ensures { IfOk result (λ stair. stair ≡ stair_of (path_at paths.entry.now run)) }
-            { stair_by(alloc, paths, run as u32) },
+            {
+                ask_for_stairs(alloc, run);
+                stair_by(alloc, paths, run as u32)
+            },
         )
         .collect::<Result<Vec<Stair>, OutOfMemory>>(rt, alloc)?
+}
+
+// Asks for room for a run's stairway and those of the next runs, once for several.
+fn ask_for_stairs(alloc: Global, run: usize) {
+    if run % RUNS_AT_ONCE == 0 {
+        ask_for_room(alloc, ROOM);
+    }
 }
 
 // The stairway of the run of a number.

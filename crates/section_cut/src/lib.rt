@@ -12,21 +12,22 @@
 //! `cut_change` makes a cut that is kept that of the tables after an edit, with the stamps of its
 //! rows, and tells whether the edit touches the section; `CutChanges` does so for many sections:
 //!
-//! - An edit of a run makes that run's stairway once, for all sections. Where its row has a use for
-//!   each block of its path, the positions stay, and only times are written. One row is put in place
-//!   of the old one, or the cut is copied with the row or without it. All other rows stay where each
-//!   of the run's connections binds after the edit exactly where it does before it. Otherwise the
-//!   connections are bound anew among all members.
+//! - An edit of a run makes that run's stairway once, for all sections. Where its row has a use
+//!   for each block of its path, the positions stay, and only times are written. One row is put in
+//!   place of the old one, or the cut is copied with the row or without it. All other rows stay
+//!   where each of the run's connections binds after the edit exactly where it does before it.
+//!   Otherwise the connections are bound anew among all members.
 //! - An edit of a section touches no other. Where its window and its blocks stay, as where only its
 //!   additional time rate changes, its rows stay, too.
 //! - An edit of a connection touches the sections in which it binds before or after it. There the
 //!   connections are bound anew, while the members and their uses of blocks stay. Another minimum
 //!   changes one use of the first run's row.
 //! - A change of a signal that keeps its block touches no section without the block, and of the
-//!   runs' new stairways only the uses in sections with it are made. Otherwise an edit of a block, a
-//!   signal or a route compares the row of each run that passes it with the run's new stairway. A row that differs is copied, and its uses that differ are written anew.
-//!   Uses of connections stay, where each of these runs that has a connection enters the section as
-//!   before. Otherwise the connections are bound anew among all members.
+//!   runs' new stairways only the uses in sections with it are made. Otherwise an edit of a block,
+//!   a signal or a route compares the row of each run that passes it with the run's new stairway.
+//!   A row that differs is copied, and its uses that differ are written anew. Uses of connections
+//!   stay, where each of these runs that has a connection enters the section as before. Otherwise
+//!   the connections are bound anew among all members.
 //! - Rows that stand as before keep their stamps.
 //!
 //! ```text

@@ -6,8 +6,7 @@ ghost use Rattle.session_run.specs.Ahead.{IsRight, IsWorkedOut, AreWorkedOut, Ar
 
 use plan_book::Book;
 use plan_model::{Answer, Done, Reading, is_crowded};
-use rail_model::OutOfMemory;
-use rail_outside::ask_for_room;
+use rail_model::{OutOfMemory, ask_for_room};
 use rayon::current_num_threads;
 use section_worker::{KeptReading, Worker, answer_by};
 use std::alloc::Global;
