@@ -11,7 +11,8 @@ use std::process::{ExitCode, Termination};
 use std::sync::Wait;
 use std::thread::Threads;
 
-// Room that is asked for at once: what reading gives back is used again for what comes after it.
+// Room that is asked for at once: what reading gives back is used again for what comes after it,
+// and each thread may ask for less than this (`rail_model::ask_for_room` says why).
 const ROOM: usize = 31 * 1_048_576;
 
 // How the process ends. It is made here alone and can't be dropped, so `main` has to end with what

@@ -15,7 +15,7 @@ use plan_book::Book;
 use rail_model::OutOfMemory;
 use rail_outside::Gate;
 use row_text::{Sheet, Text};
-use session_run::{session, session_alone_on};
+use session_run::{session, session_alone};
 use std::alloc::Global;
 use std::sync::Wait;
 use std::thread::Threads;
@@ -29,7 +29,7 @@ pub(crate) fn text_alone(
     requires { IsWithin PLANNERS INPUT_BYTES given }
     ensures { IfOk result (IsSessionText given.tables given.at given.scripts 0) }
 {
-    let book = session_alone_on(rt, alloc, given.tables, given.at, given.scripts)?;
+    let book = session_alone(rt, alloc, given.tables, given.at, given.scripts)?;
     text_of_book(rt, alloc, &book)
 }
 

@@ -71,7 +71,8 @@ pub record IsFoundInPart (lists size : ℕ) (run_uses : List RunUse) (part : ℕ
   pub sorted : AreSorted by_block
   pub listed : IsListed (met_in_turn by_block) found
 
--- what is found in parts, by lists with the places from `first` on and before `end`
+-- what is found in parts, by lists with the places from `first` on and before `end`, where the last of all lists has
+-- the place `last`
 pub record AreFoundBetween (last first «end» : ℕ) (run_uses : List RunUse) (found : List MetInPart) : Type 0 where
   pub parts : List (List (Vec RunUse Global))
   pub count : first + length (flat_map (λ part. part) parts) ≡ «end»

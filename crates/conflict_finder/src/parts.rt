@@ -26,8 +26,8 @@ const LEAST_RUNS: usize = 64;
 // Fewer lists aren't worth a part of their own.
 const LEAST_LISTS: usize = 8;
 
-// Into how many parts many lists are split at least. Where there is one thread, the lists of one
-// part at a time take memory. Each part goes over all uses once, so there are few.
+// With one thread there are two parts, so that only half of the lists take memory at a time. Each
+// part goes over all uses, so there are no more.
 const LEAST_PARTS: usize = 2;
 
 // What is found in each part of the lists of the runs' uses.
@@ -43,39 +43,48 @@ pub(crate) fn found_in_parts(
         AreFoundInParts (run_uses_in_turn stairs.now starts.now) found.items) }
 {
     let room = room_for(alloc, stairs)?;
-    let threads = current_num_threads(rt);
-    let parts = parts_for(threads, starts.len(), room.len());
-    found_in_so_many(rt, alloc, stairs, starts, &room, parts)
+    let threads = threads_for(rt, starts.len());
+    found_by_threads(rt, alloc, stairs, starts, &room, threads)
 }
 
-// Into how many parts so many lists of so many runs are split.
-fn parts_for(threads: usize, runs: usize, lists: usize) -> usize
+// By how many threads the uses of so many runs are swept. Only where they are many is the system
+// asked for the number of processors, since that reads a file.
+fn threads_for(rt: &impl Threads, runs: usize) -> usize
     ensures { 0 < result }
 {
     if runs < LEAST_RUNS {
-        return 1;
+        1
+    } else {
+        current_num_threads(rt)
     }
+}
+
+// Into how many parts so many lists are split.
+fn parts_for(threads: usize, lists: usize) -> usize
+    ensures { 0 < result }
+{
     threads.max(LEAST_PARTS).min(lists / LEAST_LISTS).max(1)
 }
 
-// What is found in each of so many parts.
-fn found_in_so_many(
+// What is found in each part by so many threads. One thread takes the parts in turn.
+fn found_by_threads(
     rt: &(impl Threads + Sync),
     alloc: Global,
     stairs: &[Stair],
     starts: &[RunStart],
     room: &[u32],
-    parts: usize,
+    threads: usize,
 ) -> Result<Vec<MetInPart>, OutOfMemory>
-    requires some { 0 < parts }
+    requires some { 0 < threads }
     requires lists { 0 < length room.now }
     requires most { length (run_uses_in_turn stairs.now starts.now) ≤ RUNS * PATH_HOPS }
     requires there { All (λ e. e.stair < length stairs.now) starts.now }
     ensures { IfOk result (λ found.
         AreFoundInParts (run_uses_in_turn stairs.now starts.now) found.items) }
 {
+    let parts = parts_for(threads, room.len());
     let size = room.len() / parts + 1;
-    let in_turn = (parts / current_num_threads(rt)).max(1);
+    let in_turn = (parts / threads).max(1);
     (0..parts)
         .into_par_iter()
         .with_min_len(in_turn)
@@ -91,7 +100,7 @@ fn found_in_so_many(
         .collect::<Result<Vec<MetInPart>, OutOfMemory>>(rt, alloc)?
 }
 
-// What is found in a part. Each has so many of the lists, and the last what is left.
+// What is found in a part. Each has so many of the lists, as long as there are any left.
 fn sweep_part(
     alloc: Global,
     stairs: &[Stair],

@@ -9,9 +9,9 @@ use Rattle.line_tables.specs.declared.linked.Linked.{Linked}
 use Rattle.line_tables.specs.declared.route_signals.RouteSignals.{RouteSignals}
 use Rattle.line_tables.specs.RouteSignals.{AreSignalsOf}
 use Rattle.line_tables.specs.Table.{IsTable}
-use Rattle.line_tables.specs.Inside.{Line, tables_of, IsJoined}
+use Rattle.line_tables.specs.Inside.{WholeTables, tables_of, IsJoined}
 use Rattle.line_tables.proofs.Meets.{repeats_by_key}
 
-pub repeats_as_found : (t : Line) → IsJoined t → IsTable (λ (e : Linked Signal). e.item.name) t.signals → IsTable (λ (b : Block). b.name) t.blocks → (x : Route) (found : RouteSignals) → AreSignalsOf t.signals x.signals found → repeats (tables_of t) (item.Route x) ≡ found.twice
+pub repeats_as_found : (t : WholeTables) → IsJoined t → IsTable (λ (e : Linked Signal). e.item.name) t.signals → IsTable (λ (b : Block). b.name) t.blocks → (x : Route) (found : RouteSignals) → AreSignalsOf t.signals x.signals found → repeats (tables_of t) (item.Route x) ≡ found.twice
 repeats_as_found t j signal_table block_table x found is =
     repeats_by_key t j signal_table block_table x found.keys is.keyed ∙ sym (rw is.blocks at is.twice)

@@ -13,14 +13,14 @@ use Rattle.rail_model.specs.Rules.{is_named, lists, rule_of_put, rule_of_change,
 use Rattle.rail_model.proofs.Sound.{accepted, changeable, free, IsSound-after_put, IsSound-after_change, IsSound-after_drop}
 use Rattle.line_tables.specs.Table.{under, with_change, key_of, IsTable}
 use Rattle.line_tables.specs.Links.{IsLinked}
-use Rattle.line_tables.specs.Inside.{Line, items_of, tables_of, names_of_signal, names_of_section, IsJoined}
+use Rattle.line_tables.specs.Inside.{WholeTables, items_of, tables_of, names_of_signal, names_of_section, IsJoined}
 use Rattle.line_tables.proofs.Filed.{stored_at}
 use Rattle.line_tables.proofs.Entries.{is_some-key_of}
 use Rattle.line_tables.proofs.Views.{is_named-map, map-with_item, map-with_change, map-without}
 use Rattle.line_tables.proofs.Joined.{is_listed, to_put, to_change, to_drop, unreferred}
 use Rattle.line_tables.proofs.Labels.{block_name}
 
-module _ (t : Line) where
+module _ (t : WholeTables) where
   -- other blocks, to which signals and sections refer
   blocks_joined : (blocks : List (ℕ × Block)) → IsJoined t → IsSound (tables_of (record t { blocks = blocks })) → IsLinked names_of_signal block_name t.signals blocks → IsLinked names_of_section block_name t.sections blocks → IsJoined (record t { blocks = blocks })
   blocks_joined blocks j sound signals sections = record {

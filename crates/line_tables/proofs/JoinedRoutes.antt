@@ -13,7 +13,7 @@ use Rattle.line_tables.specs.KeyCounts.{count_of, times, SameCounts}
 use Rattle.line_tables.specs.Links.{IsLinked, block_of}
 use Rattle.line_tables.specs.RouteSets.{SameSets, IsPutAt, IsTakenAt, IsChangedAt, AreSetsOf}
 use Rattle.line_tables.specs.declared.route_sets.RouteSets.{RouteSets}
-use Rattle.line_tables.specs.Inside.{Line, items_of, tables_of, names_of_route, names_of_run, IsJoined}
+use Rattle.line_tables.specs.Inside.{WholeTables, items_of, tables_of, names_of_route, names_of_run, IsJoined}
 use Rattle.line_tables.proofs.References.{entry}
 use Rattle.line_tables.proofs.Views.{is_named-map, map-with_item, map-with_change, map-without}
 use Rattle.line_tables.proofs.Under.{swapped_by_put, swapped_by_change, swapped_by_drop}
@@ -22,7 +22,7 @@ use Rattle.line_tables.proofs.Known.{CountsMore}
 use Rattle.line_tables.proofs.Joined.{IsEdited, by_put, by_change, by_drop, to_put, to_change, to_drop, is_listed, unreferred}
 use Rattle.line_tables.proofs.Labels.{signal_name, route_name}
 
-module _ (t : Line) where
+module _ (t : WholeTables) where
   -- other routes, which refer to signals and to which runs refer
   routes_joined : (routes : List (ℕ × Linked Route)) (uses : List ℕ) (sets : RouteSets) → IsJoined t → IsSound (tables_of (record t { routes = routes })) → IsEdited names_of_route signal_name t.signals t.routes routes t.signal_uses uses → IsLinked names_of_run route_name t.runs routes → AreSetsOf (λ q. q) routes sets.of_signals → AreSetsOf (block_of t.signals) routes sets.of_blocks → IsJoined (record t { routes = routes; signal_uses = uses; route_sets = sets })
   routes_joined routes uses sets j sound e runs of_signals of_blocks = record {

@@ -12,7 +12,7 @@ use Rattle.line_tables.specs.KeyCounts.{count_of, times}
 use Rattle.line_tables.specs.Links.{IsLinked, references, block_of}
 use Rattle.line_tables.specs.RouteSets.{has, AreSetsOf}
 use Rattle.line_tables.specs.declared.route_sets.RouteSets.{RouteSets}
-use Rattle.line_tables.specs.Inside.{Line, items_of, tables_of, names_of_signal, names_of_route, IsJoined}
+use Rattle.line_tables.specs.Inside.{WholeTables, items_of, tables_of, names_of_signal, names_of_route, IsJoined}
 use Rattle.line_tables.proofs.Filed.{stored_at, some_from_map}
 use Rattle.line_tables.proofs.Entries.{is_some-key_of}
 use Rattle.line_tables.proofs.References.{entry}
@@ -24,7 +24,7 @@ use Rattle.line_tables.proofs.Known.{CountsMore}
 use Rattle.line_tables.proofs.Joined.{IsEdited, by_put, by_change, by_drop, to_put, to_change, to_drop, unreferred}
 use Rattle.line_tables.proofs.Labels.{block_name, signal_name}
 
-module _ (t : Line) where
+module _ (t : WholeTables) where
   -- other signals, which refer to blocks and to which routes refer
   signals_joined : (signals : List (ℕ × Linked Signal)) (uses : List ℕ) (sets : RouteSets) → IsJoined t → IsSound (tables_of (record t { signals = signals })) → IsEdited names_of_signal block_name t.blocks t.signals signals t.block_uses uses → IsLinked names_of_route signal_name t.routes signals → AreSetsOf (λ q. q) t.routes sets.of_signals → AreSetsOf (block_of signals) t.routes sets.of_blocks → IsJoined (record t { signals = signals; block_uses = uses; route_sets = sets })
   signals_joined signals uses sets j sound e routes of_signals of_blocks = record {

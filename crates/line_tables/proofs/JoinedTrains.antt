@@ -15,7 +15,7 @@ use Rattle.line_tables.specs.declared.linked.Linked.{Linked}
 use Rattle.line_tables.specs.Table.{under, with_change, key_of, item_of, IsTable}
 use Rattle.line_tables.specs.KeyCounts.{count_of, times}
 use Rattle.line_tables.specs.Links.{IsLinked}
-use Rattle.line_tables.specs.Inside.{Line, items_of, tables_of, names_of_run, names_of_section, names_of_connection, IsJoined}
+use Rattle.line_tables.specs.Inside.{WholeTables, items_of, tables_of, names_of_run, names_of_section, names_of_connection, IsJoined}
 use Rattle.line_tables.proofs.Filed.{stored_at}
 use Rattle.line_tables.proofs.Entries.{is_some-key_of}
 use Rattle.line_tables.proofs.References.{entry}
@@ -32,7 +32,7 @@ either_is_listed c n = elim (cases_Bool (is_same c.second n)) [ inl e ↦ rw e r
 abbrev run_name : Linked Run → List ℕ
 run_name e = e.item.name
 
-module _ (t : Line) where
+module _ (t : WholeTables) where
   runs_joined : (runs : List (ℕ × Linked Run)) (uses : List ℕ) → IsJoined t → IsSound (tables_of (record t { runs = runs })) → IsEdited names_of_run route_name t.routes t.runs runs t.route_uses uses → IsLinked names_of_connection run_name t.connections runs → IsJoined (record t { runs = runs; route_uses = uses })
   runs_joined runs uses j sound e connections = record {
     sound = sound;
@@ -91,7 +91,7 @@ module _ (t : Line) where
 abbrev section_name : Linked Section → List ℕ
 section_name e = e.item.name
 
-module _ (t : Line) where
+module _ (t : WholeTables) where
   sections_joined : (sections : List (ℕ × Linked Section)) (uses : List ℕ) → IsJoined t → IsSound (tables_of (record t { sections = sections })) → IsEdited names_of_section block_name t.blocks t.sections sections t.block_uses uses → IsJoined (record t { sections = sections; block_uses = uses })
   sections_joined sections uses j sound e = record {
     sound = sound;
@@ -144,7 +144,7 @@ module _ (t : Line) where
 abbrev connection_name : Linked Connection → List ℕ
 connection_name e = e.item.name
 
-module _ (t : Line) where
+module _ (t : WholeTables) where
   connections_joined : (connections : List (ℕ × Linked Connection)) (uses : List ℕ) → IsJoined t → IsSound (tables_of (record t { connections = connections })) → IsEdited names_of_connection run_name t.runs t.connections connections t.run_uses uses → IsJoined (record t { connections = connections; run_uses = uses })
   connections_joined connections uses j sound e = record {
     sound = sound;

@@ -12,7 +12,7 @@ use Rattle.line_tables.specs.declared.linked.Linked.{Linked}
 use Rattle.line_tables.specs.declared.line_tables.LineTables.TheInside.{Inside}
 use Rattle.line_tables.specs.Table.{under}
 use Rattle.line_tables.specs.KeptRoutes.{with_names}
-use Rattle.line_tables.specs.Inside.{line_of}
+use Rattle.line_tables.specs.Inside.{whole_tables}
 use Rattle.line_tables.specs.Hops.{hops_at, path_over, path_by_keys, paths_by_keys, ArePaths}
 use Rattle.line_tables.proofs.KeptRoutes.{All-unmap, under_with_names}
 
@@ -26,23 +26,23 @@ keys_as_kept f None same = refl
 keys_as_kept f (Some e) same = same e
 
 module _ (t : Inside) (hops : List Hop) where
-  path_as_kept : (run : Linked Run) → path_by_keys (line_of t).routes hops run ≡ path_by_keys t.routes hops run
+  path_as_kept : (run : Linked Run) → path_by_keys (whole_tables t).routes hops run ≡ path_by_keys t.routes hops run
   path_as_kept run =
       let k = get_or run.refs 0 0 in
       ap (λ keys. path_over run.item (hops_at hops keys))
       (ap (λ o. option_map_or (λ (r : Linked Route). r.refs) o []) (under_with_names t.signals t.routes k) ∙ keys_as_kept (with_names t.signals) (under t.routes k) (λ e. refl))
 
-  pub paths_as_kept : paths_by_keys t.runs (line_of t).routes hops ≡ paths_by_keys t.runs t.routes hops
+  pub paths_as_kept : paths_by_keys t.runs (whole_tables t).routes hops ≡ paths_by_keys t.runs t.routes hops
   paths_as_kept =
-      map_same (λ u. path_by_keys (line_of t).routes hops u.1) (λ u. path_by_keys t.routes hops u.1) t.runs
+      map_same (λ u. path_by_keys (whole_tables t).routes hops u.1) (λ u. path_by_keys t.routes hops u.1) t.runs
       (λ i d l. path_as_kept (get_or t.runs i d).1)
 
-  pub kept_paths : ArePaths t.runs (line_of t).routes hops → ArePaths t.runs t.routes hops
+  pub kept_paths : ArePaths t.runs (whole_tables t).routes hops → ArePaths t.runs t.routes hops
   kept_paths are = record {
     refers = are.refers;
     there = λ i d l.
         let k = get_or (get_or t.runs i d).1.refs 0 0 in
-        there_as_kept (with_names t.signals) (under t.routes k) (under (line_of t).routes k) (under_with_names t.signals t.routes k) (are.there i d l);
+        there_as_kept (with_names t.signals) (under t.routes k) (under (whole_tables t).routes k) (under_with_names t.signals t.routes k) (are.there i d l);
     within = All-unmap (λ u. All (λ k. k < length hops) u.1.refs) (λ (u : ℕ × Linked KeptRoute). (u.0, with_names t.signals u.1)) t.routes are.within;
     fits = subst (All Fits) paths_as_kept are.fits;
   }

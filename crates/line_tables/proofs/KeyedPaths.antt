@@ -17,7 +17,7 @@ use Rattle.rail_model.proofs.Lists.{map_same}
 use Rattle.rail_model.proofs.Paths.{path_fits}
 use Rattle.line_tables.specs.declared.linked.Linked.{Linked}
 use Rattle.line_tables.specs.Table.{key_of, under, IsTable, AreAtKeys}
-use Rattle.line_tables.specs.Inside.{Line, tables_of, IsJoined}
+use Rattle.line_tables.specs.Inside.{WholeTables, tables_of, IsJoined}
 use Rattle.line_tables.specs.Hops.{hop_of, hops_at, with_legs, path_with, path_by_keys, paths_by_keys, ArePaths}
 use Rattle.line_tables.specs.Paths.{paths_of}
 use Rattle.line_tables.proofs.Found.{found_by_key}
@@ -43,7 +43,7 @@ keys_within signals f hops right (n ∷ ns) (k ∷ ks) e =
     let at = at_key signal_name signals f hops n k right first in
     All-cons (λ k. k < length hops) k ks (slice_get_within hops k _ at.0) (keys_within signals f hops right ns ks rest)
 
-module _ (t : Line) (j : IsJoined t) (signals : IsTable signal_name t.signals) (routes : IsTable route_name t.routes) (hops : List Hop) (right : AreHops t.blocks t.signals hops) where
+module _ (t : WholeTables) (j : IsJoined t) (signals : IsTable signal_name t.signals) (routes : IsTable route_name t.routes) (hops : List Hop) (right : AreHops t.blocks t.signals hops) where
   -- the hops at the keys of a route's signals
   hops_along : (r : Linked Route) → map (key_of signal_name t.signals) r.item.signals ≡ map Some r.refs → hops_at hops r.refs ≡ route_hops (tables_of t) r.item
   hops_along r linked =

@@ -19,7 +19,7 @@ use Rattle.line_tables.specs.Table.{named, key_of, entry_of}
 use Rattle.line_tables.specs.KeyCounts.{count_of, times}
 use Rattle.line_tables.specs.Links.{references}
 use Rattle.line_tables.specs.References.{rule_of_references}
-use Rattle.line_tables.specs.Inside.{Line, tables_of, names_of_signal, names_of_run, names_of_section, names_of_connection}
+use Rattle.line_tables.specs.Inside.{WholeTables, tables_of, names_of_signal, names_of_run, names_of_section, names_of_connection}
 use Rattle.line_tables.proofs.Filed.{stored_at, some_from_map}
 use Rattle.line_tables.proofs.Entries.{is_some-key_of}
 use Rattle.line_tables.proofs.Views.{is_named-map, list_all_same, found_in_sum}
@@ -35,20 +35,20 @@ entry_there name items n there =
 abbrev pub CountsMore : List ℕ → List ℕ → List ℕ → Type 0
 CountsMore old new keys = (k : ℕ) → count_of new k ≡ count_of old k + times k keys
 
-named_block : (t : Line) (n : List ℕ) → has_block (tables_of t) n ≡ is_named (λ e. e.1.name) t.blocks n
+named_block : (t : WholeTables) (n : List ℕ) → has_block (tables_of t) n ≡ is_named (λ e. e.1.name) t.blocks n
 named_block t n = is_named-map (λ (e : ℕ × Block). e.1) (λ x. x.name) t.blocks n
 
-pub signal_knows : (t : Line) (x : Signal) → refers_to_known (tables_of t) (item.Signal x) ≡ true → list_all (is_named (λ e. e.1.name) t.blocks) (names_of_signal x) ≡ true
+pub signal_knows : (t : WholeTables) (x : Signal) → refers_to_known (tables_of t) (item.Signal x) ≡ true → list_all (is_named (λ e. e.1.name) t.blocks) (names_of_signal x) ≡ true
 signal_knows t x h = and_from _ true (sym (named_block t x.block) ∙ h) refl
 
-pub section_knows : (t : Line) (x : Section) → refers_to_known (tables_of t) (item.Section x) ≡ true → list_all (is_named (λ e. e.1.name) t.blocks) (names_of_section x) ≡ true
+pub section_knows : (t : WholeTables) (x : Section) → refers_to_known (tables_of t) (item.Section x) ≡ true → list_all (is_named (λ e. e.1.name) t.blocks) (names_of_section x) ≡ true
 section_knows t x h = list_all_same _ _ (λ n. sym (named_block t n)) x.blocks ∙ h
 
 -- the same as one equation
-pub section_known_by : (t : Line) (x : Section) → refers_to_known (tables_of t) (item.Section x) ≡ list_all (is_named (λ e. e.1.name) t.blocks) x.blocks
+pub section_known_by : (t : WholeTables) (x : Section) → refers_to_known (tables_of t) (item.Section x) ≡ list_all (is_named (λ e. e.1.name) t.blocks) x.blocks
 section_known_by t x = list_all_same _ _ (named_block t) x.blocks
 
-pub route_known_by : (t : Line) (x : Route) → refers_to_known (tables_of t) (item.Route x) ≡ list_all (is_named (λ e. e.1.item.name) t.signals) x.signals
+pub route_known_by : (t : WholeTables) (x : Route) → refers_to_known (tables_of t) (item.Route x) ≡ list_all (is_named (λ e. e.1.item.name) t.signals) x.signals
 route_known_by t x =
     list_all_same _ _ (λ n. is_named-map (λ (e : ℕ × Linked Signal). e.1.item) (λ x. x.name) t.signals n) x.signals
 
@@ -58,11 +58,11 @@ refused_unknown t x e = rw e refl
 pub refused_twice : (t : Tables) (x : Item) (twice : Bool) → refers_to_known t x ≡ true → repeats t x ≡ twice → rule_of_references t x ≡ (if twice then Some rule.Twice else None)
 refused_twice t x twice e r = rw (e, r) refl
 
-pub run_knows : (t : Line) (x : Run) → refers_to_known (tables_of t) (item.Run x) ≡ true → list_all (is_named (λ e. e.1.item.name) t.routes) (names_of_run x) ≡ true
+pub run_knows : (t : WholeTables) (x : Run) → refers_to_known (tables_of t) (item.Run x) ≡ true → list_all (is_named (λ e. e.1.item.name) t.routes) (names_of_run x) ≡ true
 run_knows t x h =
     and_from _ true (sym (is_named-map (λ (e : ℕ × Linked Route). e.1.item) (λ x. x.name) t.routes x.route) ∙ h) refl
 
-pub connection_knows : (t : Line) (x : Connection) → refers_to_known (tables_of t) (item.Connection x) ≡ true → list_all (is_named (λ e. e.1.item.name) t.runs) (names_of_connection x) ≡ true
+pub connection_knows : (t : WholeTables) (x : Connection) → refers_to_known (tables_of t) (item.Connection x) ≡ true → list_all (is_named (λ e. e.1.item.name) t.runs) (names_of_connection x) ≡ true
 connection_knows t x h =
     let named : (n : List ℕ) → has_run (tables_of t) n ≡ is_named (λ e. e.1.item.name) t.runs n = is_named-map (λ (e : ℕ × Linked Run). e.1.item) (λ x. x.name) t.runs in
     let parts = and_parts _ _ h in

@@ -19,7 +19,7 @@ use Rattle.rail_model.proofs.Members.{first-with_changed, kept_by_change}
 use Rattle.line_tables.specs.declared.linked.Linked.{Linked}
 use Rattle.line_tables.specs.Table.{under, key_of, IsTable}
 use Rattle.line_tables.specs.Links.{lists_key, repeats_key, block_of, meets, IsKey}
-use Rattle.line_tables.specs.Inside.{Line, items_of, tables_of, names_of_signal, IsJoined}
+use Rattle.line_tables.specs.Inside.{WholeTables, items_of, tables_of, names_of_signal, IsJoined}
 use Rattle.line_tables.proofs.Filed.{some_from_map}
 use Rattle.line_tables.proofs.Entries.{is_some-key_of}
 use Rattle.line_tables.proofs.Found.{find_some, found_by_key, name_of_key, list_any-map}
@@ -81,7 +81,7 @@ only_key o (k ∷ ks) e = cc
 All-unmap : {X Y : Type 0} (P : Y → Type 0) (f : X → Y) (xs : List X) → All P (map f xs) → All (λ x. P (f x)) xs
 All-unmap P f xs all i d l = subst P (get_or-map f xs i d (f d) l) (all i (f d) (omega (arith, length-map xs f)))
 
-module _ (t : Line) (j : IsJoined t) (signals : IsTable (λ (e : Linked Signal). e.item.name) t.signals) (blocks : IsTable (λ (b : Block). b.name) t.blocks) where
+module _ (t : WholeTables) (j : IsJoined t) (signals : IsTable (λ (e : Linked Signal). e.item.name) t.signals) (blocks : IsTable (λ (b : Block). b.name) t.blocks) where
   -- the block of the signal of a name stands under the key that the signal's key gives
   pub block_keyed : (n : List ℕ) (q : ℕ) → key_of signal_name t.signals n ≡ Some q → key_of block_name t.blocks (signal_named (tables_of t) n).block ≡ Some (block_of t.signals q)
   block_keyed n q key =

@@ -13,7 +13,7 @@ use Rattle.line_tables.specs.Table.{under, IsTable}
 use Rattle.line_tables.specs.KeyCounts.{times}
 use Rattle.line_tables.specs.Links.{references, block_of, IsKey}
 use Rattle.line_tables.specs.RouteSets.{has, SameSets, IsMoved, AreSetsOf}
-use Rattle.line_tables.specs.Inside.{Line, IsJoined}
+use Rattle.line_tables.specs.Inside.{WholeTables, IsJoined}
 use Rattle.line_tables.proofs.Counts.{times_at}
 use Rattle.line_tables.proofs.References.{entry}
 use Rattle.line_tables.proofs.Meets.{all_keys, none_repeats, under_passes}
@@ -29,11 +29,11 @@ one_ref o (k ∷ []) e = refl
 one_ref o (k ∷ q ∷ refs) e = absurd (cc)
 
 -- a signal refers to one block
-pub one_block : (t : Line) → IsJoined t → All (λ e. length e.1.refs ≡ 1) t.signals
+pub one_block : (t : WholeTables) → IsJoined t → All (λ e. length e.1.refs ≡ 1) t.signals
 one_block t j i d l = one_ref _ (get_or t.signals i d).1.refs (j.signals i d l)
 
 -- what a route refers to are signals
-pub listed_keys : (t : Line) → IsJoined t → IsTable (λ (e : Linked Signal). e.item.name) t.signals → (k : ℕ) (route : Linked Route) → under t.routes k ≡ Some route → All (IsKey t.signals) route.refs
+pub listed_keys : (t : WholeTables) → IsJoined t → IsTable (λ (e : Linked Signal). e.item.name) t.signals → (k : ℕ) (route : Linked Route) → under t.routes k ≡ Some route → All (IsKey t.signals) route.refs
 listed_keys t j table k route here =
     let all : All (λ u. All (IsKey t.signals) u.1.refs) t.routes =
     λ i d l. let u = get_or t.routes i d in all_keys (λ (e : Linked Signal). e.item.name) t.signals table u.1.item.signals u.1.refs (j.routes i d l) in
@@ -59,7 +59,7 @@ unreferred k (u ∷ users) none =
     let count = sum_by-cons (λ (u : ℕ × Linked _). times k u.1.refs) u users in
     All-cons (λ u. All (λ q. (q == k) ≡ false) u.1.refs) u users (unlisted k u.1.refs (omega arith)) (unreferred k users (omega arith))
 
-module _ (t : Line) (j : IsJoined t) (later : List (ℕ × Linked Signal)) (k : ℕ) (now : Option (Linked Signal)) (swapped : IsSwapped t.signals later k now) where
+module _ (t : WholeTables) (j : IsJoined t) (later : List (ℕ × Linked Signal)) (k : ℕ) (now : Option (Linked Signal)) (swapped : IsSwapped t.signals later k now) where
   -- no route lists a signal of a new key
   pub sets_by_put : IsTable (λ (e : Linked Signal). e.item.name) t.signals → under t.signals k ≡ None → AreSetsOf (block_of later) t.routes t.route_sets.of_blocks
   sets_by_put table vacant =
@@ -94,7 +94,7 @@ follows_after by_signal made_by s from to old made new listed same stays moves =
       here x r ∙ ap (λ h. (to == x && has by_signal s r) || (not (from == x && has by_signal s r) && h)) (same x r);
 }
 
-module _ (t : Line) (j : IsJoined t) (signals : IsTable (λ (e : Linked Signal). e.item.name) t.signals) (blocks : IsTable (λ (b : Block). b.name) t.blocks) where
+module _ (t : WholeTables) (j : IsJoined t) (signals : IsTable (λ (e : Linked Signal). e.item.name) t.signals) (blocks : IsTable (λ (b : Block). b.name) t.blocks) where
   pub sets_by_change : (later : List (ℕ × Linked Signal)) (k from to : ℕ) (x : Signal) (refs : List ℕ) (new : List (List ℕ)) → IsSwapped t.signals later k (Some (entry x refs)) → block_of t.signals k ≡ from → get_or refs 0 0 ≡ to → HasFollowed (get_or t.route_sets.of_signals k []) from to t.route_sets.of_blocks new → AreSetsOf (block_of later) t.routes new
   sets_by_change later k from to x refs new swapped is goes follows =
       let f = block_of t.signals in

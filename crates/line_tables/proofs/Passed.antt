@@ -19,7 +19,7 @@ use Rattle.line_tables.specs.Table.{under, key_of, named, IsTable, AreNumbered}
 use Rattle.line_tables.specs.KeySet.{holds}
 use Rattle.line_tables.specs.Links.{lists_key, lead_to, block_of}
 use Rattle.line_tables.specs.RouteSets.{has, reaches}
-use Rattle.line_tables.specs.Inside.{Line, tables_of, names_of_run, names_of_section, IsJoined}
+use Rattle.line_tables.specs.Inside.{WholeTables, tables_of, names_of_run, names_of_section, IsJoined}
 use Rattle.line_tables.specs.Passing.{passes_signal, passes_block, passes_section, IsNumberAt}
 use Rattle.line_tables.proofs.Found.{found_by_key, list_any-map}
 use Rattle.line_tables.proofs.References.{named_listed}
@@ -49,7 +49,7 @@ any_keyed find p q (n ∷ ns) (k ∷ ks) each e =
     let rest : map find ns ≡ map Some ks = cc in
     rw (each n k first, any_keyed find p q ns ks each rest) refl
 
-module _ (t : Line) (j : IsJoined t) where
+module _ (t : WholeTables) (j : IsJoined t) where
   -- a run's one reference is its route's key
   abbrev IsLinkedRun : Linked Run → Type 0
   IsLinkedRun e = map (key_of route_name t.routes) (names_of_run e.item) ≡ map Some e.refs
@@ -135,7 +135,7 @@ module _ (t : Line) (j : IsJoined t) where
 
 -- ---- a section by its number
 
-module _ (t : Line) (j : IsJoined t) (n : ℕ) (e : Linked Section) (here : option_map (λ e. e.1) (slice_get t.sections n) ≡ Some e) where
+module _ (t : WholeTables) (j : IsJoined t) (n : ℕ) (e : Linked Section) (here : option_map (λ e. e.1) (slice_get t.sections n) ≡ Some e) where
   pub section_is : section_at (tables_of t) n ≡ e.item
   section_is =
       let u = read_entry t.sections n e here in
@@ -148,7 +148,7 @@ module _ (t : Line) (j : IsJoined t) (n : ℕ) (e : Linked Section) (here : opti
 
 -- ---- the numbers of a section's blocks
 
-module _ (t : Line) (j : IsJoined t) (numbers : List ℕ) (numbered : AreNumbered (length t.blocks) t.blocks numbers) where
+module _ (t : WholeTables) (j : IsJoined t) (numbers : List ℕ) (numbered : AreNumbered (length t.blocks) t.blocks numbers) where
   number_at : (n : List ℕ) (k : ℕ) → key_of block_name t.blocks n ≡ Some k → block_number (tables_of t) n ≡ get_or numbers k 0
   number_at n k key =
       let at = number_at_key block_name t.blocks numbers n k numbered key in

@@ -15,7 +15,7 @@ use Rattle.rail_model.specs.Tables.{no_signal, no_route, route_named, path_in, n
 use Rattle.rail_model.specs.Rules.{IsSound, Stands}
 use Rattle.line_tables.specs.declared.linked.Linked.{Linked}
 use Rattle.line_tables.specs.Table.{under, key_of, IsTable}
-use Rattle.line_tables.specs.Inside.{Line, tables_of, names_of_route, names_of_run, IsJoined}
+use Rattle.line_tables.specs.Inside.{WholeTables, tables_of, names_of_route, names_of_run, IsJoined}
 use Rattle.line_tables.specs.Hops.{hop_of, with_legs, path_over}
 use Rattle.line_tables.proofs.Filed.{some_from_map}
 use Rattle.line_tables.proofs.Found.{found_by_key}
@@ -83,7 +83,7 @@ module _ (tables : Tables) (sound : IsSound tables) (run : Run) (stands : Stands
 
 -- ---- by keys
 
-module _ (t : Line) (j : IsJoined t) where
+module _ (t : WholeTables) (j : IsJoined t) where
   pub run_is : (n : ℕ) (e : Linked Run) → option_map (λ e. e.1) (slice_get t.runs n) ≡ Some e → run_at (tables_of t) n ≡ e.item
   run_is n e h =
       let u = read_entry t.runs n e h in

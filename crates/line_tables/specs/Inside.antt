@@ -22,8 +22,8 @@ use Rattle.line_tables.specs.declared.route_sets.RouteSets.{RouteSets}
 abbrev pub items_of : {A : Type 0} → List (ℕ × Linked A) → List A
 items_of entries = map (λ e. e.1.item) entries
 
--- the tables of a line, each route with the names of its signals
-pub record Line : Type 0 where
+-- the tables of a line with their keys, each route with the names of its signals
+pub record WholeTables : Type 0 where
   pub blocks : List (ℕ × Block)
   pub signals : List (ℕ × Linked Signal)
   pub routes : List (ℕ × Linked Route)
@@ -36,8 +36,9 @@ pub record Line : Type 0 where
   pub run_uses : List ℕ
   pub route_sets : RouteSets
 
-abbrev pub line_of : Inside → Line
-line_of t = record {
+-- the same tables, with the names that follow from the keys
+abbrev pub whole_tables : Inside → WholeTables
+whole_tables t = record {
   blocks = t.blocks;
   signals = t.signals;
   routes = all_with_names t.signals t.routes;
@@ -51,8 +52,8 @@ line_of t = record {
   route_sets = t.route_sets;
 }
 
--- what contracts see of them
-abbrev pub tables_of : Line → Tables
+-- what contracts see of the tables
+abbrev pub tables_of : WholeTables → Tables
 tables_of t = record {
   blocks = map (λ e. e.1) t.blocks;
   signals = items_of t.signals;
@@ -81,7 +82,7 @@ names_of_connection c = c.first ∷ c.second ∷ []
 -- the tables are sound, each reference is the key of what the item names, each item is counted as often as others
 -- refer to it, and the set at each signal has the keys of the routes that list it, that at each block the keys of the
 -- routes that have a signal of it
-pub record IsJoined (t : Line) : Type 0 where
+pub record IsJoined (t : WholeTables) : Type 0 where
   pub sound : IsSound (tables_of t)
   pub signals : IsLinked names_of_signal (λ b. b.name) t.signals t.blocks
   pub routes : IsLinked names_of_route (λ e. e.item.name) t.routes t.signals

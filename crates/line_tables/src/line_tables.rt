@@ -1,10 +1,11 @@
 //! The tables of a line: what they hold, and looking it up.
-ghost use Rattle.std.specs.Prelude.{◌≡◌, ◌<◌, length, map, All, Some, IfOk, IfSome, is_some, slice_get};
+ghost use Rattle.std.specs.Prelude.{◌≡◌, ◌<◌, length, map, All, Some, IfOk, IfSome};
+ghost use Rattle.std.specs.Prelude.{is_some, slice_get};
 ghost use Rattle.rail_model.specs.Tables.{number_of, signal_named};
 ghost use Rattle.rail_model.specs.Rules.{has_block, has_run, has_section, has_signal, no_tables, IsSound};
 ghost use Rattle.line_tables.specs.Links.{IsKey};
 ghost use Rattle.line_tables.specs.KeptRoutes.{all_with_names};
-ghost use Rattle.line_tables.specs.Inside.{items_of, line_of, tables_of, parts, IsJoined};
+ghost use Rattle.line_tables.specs.Inside.{items_of, whole_tables, tables_of, parts, IsJoined};
 
 use crate::kept_route::{KeptRoute, plain_route};
 use crate::key_counts::KeyCounts;
@@ -60,11 +61,11 @@ impl Model for LineTables {
 
     ghost Value = { Tables };
 
-    ghost use Rattle.line_tables.specs.Inside.{line_of, tables_of, IsJoined};
+    ghost use Rattle.line_tables.specs.Inside.{whole_tables, tables_of, IsJoined};
 
-    ghost view = { λ t. tables_of (line_of t) };
+    ghost view = { λ t. tables_of (whole_tables t) };
 
-    ghost invariant = { λ t. IsJoined (line_of t) };
+    ghost invariant = { λ t. IsJoined (whole_tables t) };
 }
 
 impl LineTables {
@@ -299,8 +300,8 @@ fn from_parts(
     counts: ReferenceCounts,
     sets: RouteSets,
 ) -> LineTables
-    requires { IsJoined (line_of (parts alloc track trains counts sets)) }
-    ensures { result ≡ tables_of (line_of (parts alloc track trains counts sets)) }
+    requires { IsJoined (whole_tables (parts alloc track trains counts sets)) }
+    ensures { result ≡ tables_of (whole_tables (parts alloc track trains counts sets)) }
 {
     LineTables {
         alloc,

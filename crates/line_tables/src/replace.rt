@@ -157,7 +157,8 @@ fn swap_route(
     requires same_name { option_map (λ e. e.item.name) (under routes.old key) ≡ Some found.route.name }
     requires counted_before { (e : Linked KeptRoute) (k : ℕ) → under routes.old key ≡ Some e
         → times k e.refs ≤ count_of uses.old k }
-    requires there { (e : Linked KeptRoute) → under routes.old key ≡ Some e → All (IsKey signals.now) e.refs }
+    requires there { (e : Linked KeptRoute) → under routes.old key ≡ Some e
+        → All (IsKey signals.now) e.refs }
     requires one { All (λ e. length e.1.refs ≡ 1) signals.now }
     ensures changed { OnOk result
         (routes.new ≡ with_change routes.old key (record { item = found.route; refs = found.signals.keys })) }

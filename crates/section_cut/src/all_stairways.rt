@@ -78,7 +78,8 @@ fn stairs_of(
         .collect::<Result<Vec<Stair>, OutOfMemory>>(rt, alloc)?
 }
 
-// Asks for room for a run's stairway and those of the next runs, once for several.
+// Asks for room for the stairways of a run and of the next ones, at each run whose number is a
+// multiple of so many: the first runs of a part may come before that.
 fn ask_for_stairs(alloc: Global, run: usize) {
     if run % RUNS_AT_ONCE == 0 {
         ask_for_room(alloc, ROOM);

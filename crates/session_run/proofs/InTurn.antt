@@ -238,7 +238,7 @@ session_of tables at scripts after final does up legal =
       in_turn = it.in_turn;
     }
 
-pub is_session : (tables : Tables) (at : ℕ) (scripts : List (List Task)) (first final : List Entry)
+is_session : (tables : Tables) (at : ℕ) (scripts : List (List Task)) (first final : List Entry)
     → first ≡ opened tables at scripts ∷ [] → DoesScripts first final → IsSessionAlone tables at scripts final
 is_session tables at scripts first final is does =
     let h = subst (λ j. DoesScripts j final) is does in

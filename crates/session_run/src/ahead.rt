@@ -12,9 +12,10 @@ use section_worker::{KeptReading, Worker, answer_by};
 use std::alloc::Global;
 use std::thread::{Threads, for_each_mut};
 
-// Fewer sections, or fewer rows in all of them, aren't worth threads of their own.
+// Fewer sections aren't worth threads of their own.
 const LEAST_SECTIONS: usize = 4;
 
+// Nor are fewer rows in all of them.
 const LEAST_ROWS: u32 = 1_024;
 
 // Room that is asked for at once for each section: its rows are kept.
@@ -35,17 +36,19 @@ impl Ahead {
         self.done = answer_by(alloc, None, &mut self.reading).ok();
     }
 
-    // Whether this is the section of a reading, and read after the same edit.
+    // Whether this is the section of a reading, read after the same edit, and answered.
     pub(crate) fn is_of(&self, reading: &Reading) -> bool
         ensures name { result ≡ true
             → self.now.reading.cut.section.name ≡ reading.now.cut.section.name }
         ensures at { result ≡ true → self.now.reading.at ≡ reading.now.at }
     {
-        self.reading.at() == reading.at() && self.reading.section().name == reading.section().name
+        self.done.is_some()
+            && self.reading.at() == reading.at()
+            && self.reading.section().name == reading.section().name
     }
 
-    // The answer, as it is published; the worker keeps what is to be kept of the section. The reading
-    // stays.
+    // The answer, as it is published; the worker keeps what is to be kept of the section. The
+    // reading stays.
     pub(crate) fn taken_in(&mut self, worker: &mut Worker) -> Result<Done, OutOfMemory>
         requires { IsRight self.old }
         ensures answer { IfOk result (IsAnswerOf self.old.reading) }
@@ -67,9 +70,8 @@ impl Ahead {
     }
 }
 
-// The answers of all sections that are not current, in the order of names, as nothing is kept of
-// them. They are worked out side by side, in as many threads as there are processors. Where that
-// doesn't pay there are none.
+// The answers of all sections that are not current, in the order of names, worked out without what
+// is kept of them, side by side. Where threads don't pay the list is empty; no clause says when.
 pub(crate) fn first_answers(
     rt: &(impl Threads + Sync),
     alloc: Global,

@@ -1,4 +1,4 @@
-//! The session of one thread.
+//! The session without workers.
 ghost use Rattle.std.specs.Prelude.{◌≡◌, ◌≢◌, ◌≤◌, [], length, sum_by, IfOk, IfSome, OnOk, None};
 ghost use Rattle.plan_book.specs.declared.book.TheConstants.{PLANNERS, TASKS, FIRST_NUMBER};
 ghost use Rattle.plan_model.specs.Journal.{done_by, script_of};
@@ -23,29 +23,11 @@ use std::thread::Threads;
 // The pass by which everything is done: the one that opens the journal.
 const PASS: u32 = 0;
 
-/// Runs the scripts of planners over these tables, whose last edit had the number `at`, in one
-/// thread: planner 1's script comes first, and before each task, and after the last, every section
-/// that is not current is answered, in the order of names. The program calls `session_alone_on`.
+/// Runs the scripts of planners over these tables, whose last edit had the number `at`: planner 1's
+/// script comes first, and before each task, and after the last, every section that is not current
+/// is answered, in the order of names. Sections are answered for the first time side by side, in as
+/// many threads as there are processors, if it takes long enough.
 pub fn session_alone(
-    alloc: Global,
-    tables: LineTables,
-    at: u64,
-    scripts: Scripts,
-) -> Result<Book, OutOfMemory>
-    requires planners { length scripts ≤ PLANNERS }
-    requires tasks { sum_by length scripts ≤ TASKS }
-    requires at { at ≤ FIRST_NUMBER }
-    ensures { IfOk result (IsSessionAlone tables at scripts) }
-{
-    let mut book = Book::start(alloc, tables, at, scripts)?;
-    let mut worker = Worker::new(alloc, 0, 1, PASS);
-    do_scripts(&mut worker, &mut book)?;
-    Ok(book)
-}
-
-/// The same session. Sections are answered for the first time side by side, in as many threads as
-/// there are processors, if it takes long enough. Answers that are only mended later are not.
-pub fn session_alone_on(
     rt: &(impl Threads + Sync),
     alloc: Global,
     tables: LineTables,
@@ -136,8 +118,8 @@ fn do_task(worker: &mut Worker, book: &mut Book, planner: u32) -> Result<(), Out
     Ok(())
 }
 
-// Answers the sections that are not current, in the order of names, by what is answered ahead in
-// this order.
+// Answers the sections that are not current, in the order of names. `ahead` has answers that were
+// worked out before, in this order.
 fn catch_up(worker: &mut Worker, book: &mut Book, ahead: &mut [Ahead]) -> Result<(), OutOfMemory>
     requires kept { KeepsWhatWasRead worker.old book.old }
     requires ahead { AreAhead book.old ahead.old }
@@ -155,8 +137,8 @@ fn catch_up(worker: &mut Worker, book: &mut Book, ahead: &mut [Ahead]) -> Result
     Ok(())
 }
 
-// Answers the section of a reading, which is not current, by what stands at a place of those that
-// are answered ahead, if it is that section.
+// Answers the section of a reading, which is not current: by the answer at this place of those that
+// were worked out before, if it is of this section and edit.
 fn publish(
     worker: &mut Worker,
     book: &mut Book,
@@ -180,8 +162,8 @@ fn publish(
     Ok(())
 }
 
-// The answer of the section of a reading: what stands at a place of those that are answered ahead,
-// where it is of that section and of the same edit, or else a new one.
+// The answer of the section of a reading: the one at this place of those that were worked out
+// before, if it is of this section and edit, or else a new one.
 fn done_now(
     worker: &mut Worker,
     book: &Book,

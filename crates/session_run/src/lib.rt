@@ -2,10 +2,10 @@
 //! each planner and each worker in a thread of its own.
 //!
 //! `session_alone` takes the scripts in the order of the planners' numbers. Before each task, and
-//! after the last, it answers every section that isn't current, in the order of names.
-//! `session_alone_on` does the same, and works out the first answers side by side. `session` puts
-//! the book at a desk and gives each planner and worker a pass. They work until nothing is left or
-//! memory runs out, and then all passes leave and the desk is closed.
+//! after the last, it answers every section that isn't current, in the order of names. The first
+//! answers are worked out side by side. `session` puts the book at a desk and gives each planner
+//! and worker a pass. They work until nothing is left or memory runs out, and then all passes leave
+//! and the desk is closed.
 //!
 //! ```text
 //! let book = session(rt, alloc, tables, edits, scripts, 2, &OpenGate)?;
@@ -22,6 +22,6 @@ mod laws;
 mod signals;
 mod threads;
 
-pub use alone::{session_alone, session_alone_on};
+pub use alone::session_alone;
 pub use laws::limits;
 pub use threads::{WORKERS, session};

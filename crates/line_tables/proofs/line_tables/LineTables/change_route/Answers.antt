@@ -14,7 +14,7 @@ use Rattle.line_tables.specs.Table.{under, with_change, named, key_of, IsTable}
 use Rattle.line_tables.specs.KeyCounts.{count_of, times}
 use Rattle.line_tables.specs.KeptRoutes.{with_names}
 use Rattle.line_tables.specs.Links.{block_of}
-use Rattle.line_tables.specs.Inside.{line_of, Line, tables_of, IsJoined}
+use Rattle.line_tables.specs.Inside.{whole_tables, WholeTables, tables_of, IsJoined}
 use Rattle.line_tables.proofs.Found.{name_under, found_by_key}
 use Rattle.line_tables.proofs.References.{entry}
 use Rattle.line_tables.proofs.Entries.{is_some-key_of}
@@ -31,12 +31,12 @@ use Rattle.line_tables.proofs.KeptLine.{kept, kept_table, kept_key, kept_under, 
 use Rattle.line_tables.proofs.Labels.{signal_name, route_name, kept_name}
 use Rattle.line_tables.proofs.line_tables.LineTables.change_route.Goals as goal
 
-has_route_by : (t : Line) (n : List ℕ) → has_route (tables_of t) n ≡ is_some (key_of route_name t.routes n)
+has_route_by : (t : WholeTables) (n : List ℕ) → has_route (tables_of t) n ≡ is_some (key_of route_name t.routes n)
 has_route_by t n =
     is_named-map (λ (e : ℕ × Linked Route). e.1.item) (λ x. x.name) t.routes n ∙ sym (is_some-key_of route_name t.routes n)
 
 -- what refuses a route that is there and whose signals are
-module _ (t : Line) (j : IsJoined t) (signal_table : IsTable signal_name t.signals) (block_table : IsTable (λ (b : Block). b.name) t.blocks) (x : Route) (within : is_within (item.Route x) ≡ true) (key : ℕ) (here : key_of route_name t.routes x.name ≡ Some key) (found : RouteSignals) (known : list_all (is_named (named signal_name) t.signals) x.signals ≡ true) (are : AreSignalsOf t.signals x.signals found) where
+module _ (t : WholeTables) (j : IsJoined t) (signal_table : IsTable signal_name t.signals) (block_table : IsTable (λ (b : Block). b.name) t.blocks) (x : Route) (within : is_within (item.Route x) ≡ true) (key : ℕ) (here : key_of route_name t.routes x.name ≡ Some key) (found : RouteSignals) (known : list_all (is_named (named signal_name) t.signals) x.signals ≡ true) (are : AreSignalsOf t.signals x.signals found) where
   repeating : found.twice ≡ true → rule_of_change (tables_of t) (item.Route x) ≡ Some Twice
   repeating twice =
       refused_twice (tables_of t) x within (has_route_by t x.name ∙ ap is_some here) (route_known_by t x ∙ known) (repeats_as_found t j signal_table block_table x found are ∙ twice)
@@ -47,31 +47,31 @@ module _ (t : Line) (j : IsJoined t) (signal_table : IsTable signal_name t.signa
 
 pub returns-in_default : goal.returns-in_default
 returns-in_default c =
-    rw (← c.self.view_is) (refuses _ _ _ _ Unknown (refused_route (tables_of (line_of c.self.inside)) c.args.route.now c.requires (has_route_by (line_of c.self.inside) c.args.route.now.name ∙ ap is_some (kept_key c.self.inside c.args.route.now.name ∙ sym c.in_default.ensures.key))) refl)
+    rw (← c.self.view_is) (refuses _ _ _ _ Unknown (refused_route (tables_of (whole_tables c.self.inside)) c.args.route.now c.requires (has_route_by (whole_tables c.self.inside) c.args.route.now.name ∙ ap is_some (kept_key c.self.inside c.args.route.now.name ∙ sym c.in_default.ensures.key))) refl)
 
 pub returns-in_default-2 : goal.returns-in_default-2
 returns-in_default-2 c =
-    let t = line_of c.self.inside in
+    let t = whole_tables c.self.inside in
     let x = c.args.route.now in
     rw (← c.self.view_is) (refuses _ _ _ _ Unknown (refused_unknown (tables_of t) x c.requires (has_route_by t x.name ∙ ap is_some (kept_key c.self.inside x.name ∙ sym c.in-Some.ensures.key)) (route_known_by t x ∙ sym c.in_ok-found.ensures.known ∙ ap is_some c.in_default-2.is)) refl)
 
 pub route_signals-requires : goal.route_signals-requires
-route_signals-requires c = one_block (line_of c.self.inside) c.self.invariant
+route_signals-requires c = one_block (whole_tables c.self.inside) c.self.invariant
 
 pub returns-then-found : goal.returns-then-found
 returns-then-found c =
     let found = c.in_ok-found.ensures in
-    rw (← c.self.view_is) (refuses _ _ _ _ Twice (repeating (line_of c.self.inside) c.self.invariant found.table c.learn_order.ensures c.args.route.now c.requires c.in-Some.key (kept_key c.self.inside c.args.route.now.name ∙ sym c.in-Some.ensures.key) c.in-Some-2.found (sym found.known ∙ ap is_some c.in-Some-2.is) (rw c.in-Some-2.is at found.found) c.if-found.true) refl)
+    rw (← c.self.view_is) (refuses _ _ _ _ Twice (repeating (whole_tables c.self.inside) c.self.invariant found.table c.learn_order.ensures c.args.route.now c.requires c.in-Some.key (kept_key c.self.inside c.args.route.now.name ∙ sym c.in-Some.ensures.key) c.in-Some-2.found (sym found.known ∙ ap is_some c.in-Some-2.is) (rw c.in-Some-2.is at found.found) c.if-found.true) refl)
 
 pub makes_miscount-requires : goal.makes_miscount-requires
 makes_miscount-requires c =
-    rw (← c.self.view_is) (has_route_by (line_of c.self.inside) c.args.route.now.name ∙ ap is_some (kept_key c.self.inside c.args.route.now.name ∙ sym c.in-Some.ensures.key))
+    rw (← c.self.view_is) (has_route_by (whole_tables c.self.inside) c.args.route.now.name ∙ ap is_some (kept_key c.self.inside c.args.route.now.name ∙ sym c.in-Some.ensures.key))
 
 pub returns-then-makes_miscount : goal.returns-then-makes_miscount
 returns-then-makes_miscount c =
     let found = c.in_ok-found.ensures in
     let wrong = sym (rw (← c.self.view_is) at c.makes_miscount.ensures) ∙ c.if-makes_miscount.true in
-    rw (← c.self.view_is) (refuses _ _ _ _ Count (counting (line_of c.self.inside) c.self.invariant found.table c.learn_order.ensures c.args.route.now c.requires c.in-Some.key (kept_key c.self.inside c.args.route.now.name ∙ sym c.in-Some.ensures.key) c.in-Some-2.found (sym found.known ∙ ap is_some c.in-Some-2.is) (rw c.in-Some-2.is at found.found) c.if-found.false true wrong) refl)
+    rw (← c.self.view_is) (refuses _ _ _ _ Count (counting (whole_tables c.self.inside) c.self.invariant found.table c.learn_order.ensures c.args.route.now c.requires c.in-Some.key (kept_key c.self.inside c.args.route.now.name ∙ sym c.in-Some.ensures.key) c.in-Some-2.found (sym found.known ∙ ap is_some c.in-Some-2.is) (rw c.in-Some-2.is at found.found) c.if-found.false true wrong) refl)
 
 pub swap_route-requires : goal.swap_route-requires
 swap_route-requires c =
@@ -80,25 +80,25 @@ swap_route-requires c =
     record {
       same_name = name_under kept_name t.routes c.args.route.now.name key c.key_of.ensures.table (sym c.in-Some.ensures.key);
       counted_before = λ e k h. omega (arith, c.self.invariant.signal_uses k, kept_references t k, refs_of_found (λ u. u.0 == key) t.routes e k h);
-      there = λ e h. listed_keys (line_of t) c.self.invariant c.in_ok-found.ensures.table key (with_names t.signals e) (kept_under t key e h);
-      one = one_block (line_of t) c.self.invariant;
+      there = λ e h. listed_keys (whole_tables t) c.self.invariant c.in_ok-found.ensures.table key (with_names t.signals e) (kept_under t key e h);
+      one = one_block (whole_tables t) c.self.invariant;
     }
 
 pub invariant_of-self : goal.invariant_of-self
 invariant_of-self c =
     let stayed = c.in_err-swap_route.ensures in
-    rw stayed.kept (routes_stay (line_of c.self.inside) c.swap_route.new.uses c.swap_route.new.sets c.self.invariant stayed.kept_counts stayed.kept_signals stayed.kept_blocks)
+    rw stayed.kept (routes_stay (whole_tables c.self.inside) c.swap_route.new.uses c.swap_route.new.sets c.self.invariant stayed.kept_counts stayed.kept_signals stayed.kept_blocks)
 
 -- the route of the name is there
-same_name : (c : goal.In_ok-swap_route) → option_map route_name (under (line_of c.self.inside).routes c.in-Some.key) ≡ Some c.args.route.now.name
+same_name : (c : goal.In_ok-swap_route) → option_map route_name (under (whole_tables c.self.inside).routes c.in-Some.key) ≡ Some c.args.route.now.name
 same_name c =
     let x = c.args.route.now in
-    name_under route_name (line_of c.self.inside).routes x.name c.in-Some.key (kept_table c.self.inside c.key_of.ensures.table) (kept_key c.self.inside x.name ∙ sym c.in-Some.ensures.key)
+    name_under route_name (whole_tables c.self.inside).routes x.name c.in-Some.key (kept_table c.self.inside c.key_of.ensures.table) (kept_key c.self.inside x.name ∙ sym c.in-Some.ensures.key)
 
 -- no rule refuses it
-accepted : (c : goal.In_ok-swap_route) → rule_of_change (tables_of (line_of c.self.inside)) (item.Route c.args.route.now) ≡ None
+accepted : (c : goal.In_ok-swap_route) → rule_of_change (tables_of (whole_tables c.self.inside)) (item.Route c.args.route.now) ≡ None
 accepted c =
-    let t = line_of c.self.inside in
+    let t = whole_tables c.self.inside in
     let x = c.args.route.now in
     let found = c.in_ok-found.ensures in
     let right = sym (rw (← c.self.view_is) at c.makes_miscount.ensures) ∙ c.if-makes_miscount.false in
@@ -116,17 +116,17 @@ invariant_of-self-2 c =
     let new = c.swap_route.new in
     let before = found_by_key kept_name t.routes x.name key c.key_of.ensures.table (sym c.in-Some.ensures.key) in
     let old = with_names t.signals before.0 in
-    let counted = λ (e : Linked Route) (k : ℕ) (h : under (line_of t).routes key ≡ Some e). of_kept t (under (line_of t).routes key) (under t.routes key) (under_with_names t.signals t.routes key) (λ (e : Linked Route). count_of new.uses k + times k e.refs ≡ count_of t.signal_uses k + times k signals.keys) (λ was here. done.counted was k here) e h in
+    let counted = λ (e : Linked Route) (k : ℕ) (h : under (whole_tables t).routes key ≡ Some e). of_kept t (under (whole_tables t).routes key) (under t.routes key) (under_with_names t.signals t.routes key) (λ (e : Linked Route). count_of new.uses k + times k e.refs ≡ count_of t.signal_uses k + times k signals.keys) (λ was here. done.counted was k here) e h in
     rw done.changed
-    (joined_with_routes t (with_change t.routes key (kept x signals.keys)) (with_change (line_of t).routes key (entry x signals.keys)) new.uses new.sets
+    (joined_with_routes t (with_change t.routes key (kept x signals.keys)) (with_change (whole_tables t).routes key (entry x signals.keys)) new.uses new.sets
     (route_changed_in t x signals.keys found.table are.keyed key)
-    (route_change (line_of t) key x signals.keys new.uses c.self.invariant (kept_table t c.key_of.ensures.table) (same_name c) (accepted c) are.keyed counted old new.sets (kept_under t key before.0 before.1.under)
+    (route_change (whole_tables t) key x signals.keys new.uses c.self.invariant (kept_table t c.key_of.ensures.table) (same_name c) (accepted c) are.keyed counted old new.sets (kept_under t key before.0 before.1.under)
     (done.signals before.0 before.1.under)
     (change_at_images (block_of t.signals) old.refs signals.keys signals.blocks key t.route_sets.of_blocks new.sets.of_blocks are.blocks (done.blocks before.0 before.1.under))))
 
 pub returns : goal.returns
 returns c =
-    let t = line_of c.self.inside in
+    let t = whole_tables c.self.inside in
     let x = c.args.route.now in
     let key = c.in-Some.key in
     let signals = c.in-Some-2.found in

@@ -13,7 +13,7 @@ use Rattle.line_tables.specs.declared.linked.Linked.{Linked}
 use Rattle.line_tables.specs.Table.{with_change, key_of, IsTable}
 use Rattle.line_tables.specs.KeySet.{Meets, KeepsApart}
 use Rattle.line_tables.specs.Links.{block_of}
-use Rattle.line_tables.specs.Inside.{line_of, Line, tables_of, names_of_signal, IsJoined}
+use Rattle.line_tables.specs.Inside.{whole_tables, WholeTables, tables_of, names_of_signal, IsJoined}
 use Rattle.line_tables.proofs.Entries.{is_some-key_of}
 use Rattle.line_tables.proofs.Found.{name_under, found_by_key}
 use Rattle.line_tables.proofs.References.{entry}
@@ -32,15 +32,15 @@ use Rattle.line_tables.proofs.line_tables.LineTables.change_signal.Goals as goal
 abbrev answer : Bool → Option Rule
 answer twice = if twice then Some Twice else None
 
-has_signal_by : (t : Line) (n : List ℕ) → has_signal (tables_of t) n ≡ is_some (key_of signal_name t.signals n)
+has_signal_by : (t : WholeTables) (n : List ℕ) → has_signal (tables_of t) n ≡ is_some (key_of signal_name t.signals n)
 has_signal_by t n =
     is_named-map (λ (e : ℕ × Linked Signal). e.1.item) (λ x. x.name) t.signals n ∙ sym (is_some-key_of signal_name t.signals n)
 
-has_block_by : (t : Line) (n : List ℕ) → has_block (tables_of t) n ≡ is_some (key_of block_name t.blocks n)
+has_block_by : (t : WholeTables) (n : List ℕ) → has_block (tables_of t) n ≡ is_some (key_of block_name t.blocks n)
 has_block_by t n = is_named-map (λ (e : ℕ × Block). e.1) (λ x. x.name) t.blocks n ∙ sym (is_some-key_of block_name t.blocks n)
 
 -- what refuses a signal that is there, and whose block is: a second signal of that block on one of its routes, or nothing
-module _ (t : Line) (j : IsJoined t) (signals : IsTable signal_name t.signals) (blocks : IsTable block_name t.blocks) (routes : IsTable (λ (e : Linked Route). e.item.name) t.routes) (s : Signal) (key to : ℕ) (here : key_of signal_name t.signals s.name ≡ Some key) (known : key_of block_name t.blocks s.block ≡ Some to) where
+module _ (t : WholeTables) (j : IsJoined t) (signals : IsTable signal_name t.signals) (blocks : IsTable block_name t.blocks) (routes : IsTable (λ (e : Linked Route). e.item.name) t.routes) (s : Signal) (key to : ℕ) (here : key_of signal_name t.signals s.name ≡ Some key) (known : key_of block_name t.blocks s.block ≡ Some to) where
   met : (from : ℕ) → from ≡ block_of t.signals key → (twice : Bool) → (from ≡ to → twice ≡ false) → (from ≢ to → twice ≡ true → Meets (get_or t.route_sets.of_signals key []) (get_or t.route_sets.of_blocks to [])) → (from ≢ to → twice ≡ false → KeepsApart (get_or t.route_sets.of_signals key []) (get_or t.route_sets.of_blocks to [])) → makes_repeat (tables_of t) (item.Signal s) ≡ twice
   met from is twice stays some none =
       let image = block_of t.signals key in
@@ -60,13 +60,13 @@ module _ (t : Line) (j : IsJoined t) (signals : IsTable signal_name t.signals) (
 
 pub returns-in_default : goal.returns-in_default
 returns-in_default c =
-    let t = line_of c.self.inside in
+    let t = whole_tables c.self.inside in
     let s = c.args.signal in
     rw (← c.self.view_is) (refuses _ _ _ _ Unknown (refused_signal (tables_of t) s c.requires (has_signal_by t s.name ∙ ap is_some (sym c.in_default.ensures.key))) refl)
 
 pub returns-in_default-key_of : goal.returns-in_default-key_of
 returns-in_default-key_of c =
-    let t = line_of c.self.inside in
+    let t = whole_tables c.self.inside in
     let s = c.args.signal in
     rw (← c.self.view_is) (refuses _ _ _ _ Unknown (refused_block (tables_of t) s c.requires (has_signal_by t s.name ∙ ap is_some (sym c.in-Some.ensures.key)) (has_block_by t s.block ∙ ap is_some (sym c.in_default-key_of.ensures.key))) refl)
 
@@ -76,11 +76,11 @@ block_of-from-requires-clause-there c =
     rw found.1.under refl
 
 pub block_of-from-requires-clause-one : goal.block_of-from-requires-clause-one
-block_of-from-requires-clause-one c = one_block (line_of c.self.inside) c.self.invariant
+block_of-from-requires-clause-one c = one_block (whole_tables c.self.inside) c.self.invariant
 
 pub returns-then-meet_where_moved : goal.returns-then-meet_where_moved
 returns-then-meet_where_moved c =
-    let t = line_of c.self.inside in
+    let t = whole_tables c.self.inside in
     let s = c.args.signal in
     let asked = c.meet_where_moved in
     let is = met t c.self.invariant c.key_of.ensures.table c.key_of-2.ensures.table (kept_table c.self.inside c.learn_order.ensures) s c.in-Some.key c.in-Some-key_of.to (sym c.in-Some.ensures.key) (sym c.in-Some-key_of.ensures.key) c.block_of-from.result c.block_of-from.ensures asked.result asked.ensures.stays asked.ensures.some asked.ensures.none in
@@ -93,13 +93,13 @@ change_linked-requires-clause-same_name c =
 
 pub change_linked-requires-clause-counted_before : goal.change_linked-requires-clause-counted_before
 change_linked-requires-clause-counted_before c e k h =
-    let t = line_of c.self.inside in
+    let t = whole_tables c.self.inside in
     let key = c.in-Some.key in
     omega (arith, c.self.invariant.block_uses k, refs_of_found (λ u. u.0 == key) t.signals e k h)
 
 pub invariant_of-self-2 : goal.invariant_of-self-2
 invariant_of-self-2 c =
-    let t = line_of c.self.inside in
+    let t = whole_tables c.self.inside in
     let s = c.args.signal in
     let key = c.in-Some.key in
     let to = c.in-Some-key_of.to in
@@ -120,7 +120,7 @@ invariant_of-self-2 c =
 
 pub returns : goal.returns
 returns c =
-    let t = line_of c.self.inside in
+    let t = whole_tables c.self.inside in
     let s = c.args.signal in
     let asked = c.meet_where_moved in
     let is = met t c.self.invariant c.key_of.ensures.table c.key_of-2.ensures.table (kept_table c.self.inside c.learn_order.ensures) s c.in-Some.key c.in-Some-key_of.to (sym c.in-Some.ensures.key) (sym c.in-Some-key_of.ensures.key) c.block_of-from.result c.block_of-from.ensures asked.result asked.ensures.stays asked.ensures.some asked.ensures.none in

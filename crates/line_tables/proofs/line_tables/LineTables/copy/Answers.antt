@@ -1,5 +1,5 @@
 use Rattle.std.proofs.Common.{◌≡◌, ◌∙◌}
-use Rattle.line_tables.specs.Inside.{line_of, tables_of, parts}
+use Rattle.line_tables.specs.Inside.{whole_tables, tables_of, parts}
 use Rattle.line_tables.proofs.line_tables.LineTables.copy.Goals as goal
 
 pub from_parts-requires : goal.from_parts-requires
@@ -13,5 +13,5 @@ returns c =
     let trains : c.in_ok-trains.trains ≡ (t.runs, t.sections, t.connections) = c.in_ok-trains.ensures in
     let counts : c.in_ok-counts.counts ≡ (t.block_uses, t.signal_uses, t.route_uses, t.run_uses) = c.in_ok-counts.ensures in
     let sets : c.in_ok-sets.sets ≡ t.route_sets = c.in_ok-sets.ensures in
-    let same : tables_of (line_of (parts t.alloc c.in_ok-track.track c.in_ok-trains.trains c.in_ok-counts.counts c.in_ok-sets.sets)) ≡ tables_of (line_of t) = λ j. tables_of (line_of (parts t.alloc (track j) (trains j) (counts j) (sets j))) in
+    let same : tables_of (whole_tables (parts t.alloc c.in_ok-track.track c.in_ok-trains.trains c.in_ok-counts.counts c.in_ok-sets.sets)) ≡ tables_of (whole_tables t) = λ j. tables_of (whole_tables (parts t.alloc (track j) (trains j) (counts j) (sets j))) in
     c.from_parts.ensures ∙ same ∙ c.self.view_is

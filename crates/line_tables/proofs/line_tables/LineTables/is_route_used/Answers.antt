@@ -1,5 +1,5 @@
 use Rattle.std.proofs.Common.{◌∙◌, sym}
-use Rattle.line_tables.specs.Inside.{line_of}
+use Rattle.line_tables.specs.Inside.{whole_tables}
 use Rattle.line_tables.proofs.KeptLine.{kept_table, kept_key, has_kept}
 use Rattle.line_tables.proofs.InUse.{route_used}
 use Rattle.line_tables.proofs.line_tables.LineTables.is_route_used.Goals as goal
@@ -11,4 +11,4 @@ unwrap-requires c =
 pub returns : goal.returns
 returns c =
     rw (← c.self.view_is, c.of.ensures)
-    (route_used (line_of c.self.inside) c.args.name.now c.unwrap.result c.self.invariant (kept_table c.self.inside c.key_of.ensures.table) (kept_key c.self.inside c.args.name.now ∙ sym c.key_of.ensures.key ∙ c.unwrap.ensures))
+    (route_used (whole_tables c.self.inside) c.args.name.now c.unwrap.result c.self.invariant (kept_table c.self.inside c.key_of.ensures.table) (kept_key c.self.inside c.args.name.now ∙ sym c.key_of.ensures.key ∙ c.unwrap.ensures))

@@ -1,5 +1,5 @@
 use Rattle.std.proofs.Common.{◌∙◌}
-use Rattle.line_tables.specs.Inside.{line_of}
+use Rattle.line_tables.specs.Inside.{whole_tables}
 use Rattle.line_tables.proofs.Meets.{some_key}
 use Rattle.line_tables.proofs.RunPaths.{run_is, route_key}
 use Rattle.line_tables.proofs.KeptLine.{kept_table}
@@ -9,11 +9,11 @@ use Rattle.line_tables.proofs.line_tables.LineTables.passes_section.Goals as goa
 pub bounds-slice-0 : goal.bounds-slice-0
 bounds-slice-0 c =
     let e = c.nth.result.now in
-    rw c.slice.ensures (some_key _ e.refs (route_key (line_of c.self.inside) c.self.invariant c.args.run e c.nth.ensures.item))
+    rw c.slice.ensures (some_key _ e.refs (route_key (whole_tables c.self.inside) c.self.invariant c.args.run e c.nth.ensures.item))
 
 pub returns : goal.returns
 returns c =
-    let t = line_of c.self.inside in
+    let t = whole_tables c.self.inside in
     let j = c.self.invariant in
     let run = c.nth.result.now in
     let section = c.nth-2.result.now in

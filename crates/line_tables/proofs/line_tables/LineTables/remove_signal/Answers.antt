@@ -4,7 +4,7 @@ use Rattle.rail_model.specs.Rules.{without}
 use Rattle.line_tables.specs.declared.linked.Linked.{Linked}
 use Rattle.line_tables.specs.Table.{named}
 use Rattle.line_tables.specs.KeptRoutes.{all_with_names}
-use Rattle.line_tables.specs.Inside.{line_of, tables_of}
+use Rattle.line_tables.specs.Inside.{whole_tables, tables_of}
 use Rattle.line_tables.proofs.Views.{map-without}
 use Rattle.line_tables.proofs.Known.{refs_of_found}
 use Rattle.line_tables.proofs.JoinedSignals.{signal_is_there, signal_drop}
@@ -13,15 +13,15 @@ use Rattle.line_tables.proofs.Labels.{signal_name}
 use Rattle.line_tables.proofs.line_tables.LineTables.remove_signal.Goals as goal
 
 pub take_linked-requires-clause-there : goal.take_linked-requires-clause-there
-take_linked-requires-clause-there c = signal_is_there (line_of c.self.inside) c.args.name.now (rw (← c.self.view_is) at c.requires)
+take_linked-requires-clause-there c = signal_is_there (whole_tables c.self.inside) c.args.name.now (rw (← c.self.view_is) at c.requires)
 
 pub take_linked-requires-clause-counted_before : goal.take_linked-requires-clause-counted_before
 take_linked-requires-clause-counted_before c e k h =
-    let t = line_of c.self.inside in
+    let t = whole_tables c.self.inside in
     omega (arith, c.self.invariant.block_uses k, refs_of_found (λ u. is_same u.1.item.name c.args.name.now) t.signals e k h)
 
 -- the routes keep their signals' names
-stay : (c : goal.After-take_linked) → all_with_names (without (named signal_name) c.self.inside.signals c.args.name.now) c.self.inside.routes ≡ (line_of c.self.inside).routes
+stay : (c : goal.After-take_linked) → all_with_names (without (named signal_name) c.self.inside.signals c.args.name.now) c.self.inside.routes ≡ (whole_tables c.self.inside).routes
 stay c =
     names_after_drop_of c.self.inside c.args.name.now c.self.invariant c.take_linked.ensures.table (rw (← c.self.view_is) at c.requires)
 
@@ -31,11 +31,11 @@ invariant_of-self c =
     let done = c.take_linked.ensures in
     rw done.rest
     (joined_with_signals t (without (named signal_name) t.signals c.args.name.now) c.take_linked.new.uses t.route_sets (stay c)
-    (signal_drop (line_of t) c.args.name.now c.take_linked.new.uses c.self.invariant done.table (rw (← c.self.view_is) at c.requires) done.counted))
+    (signal_drop (whole_tables t) c.args.name.now c.take_linked.new.uses c.self.invariant done.table (rw (← c.self.view_is) at c.requires) done.counted))
 
 pub returns : goal.returns
 returns c =
-    let t = line_of c.self.inside in
+    let t = whole_tables c.self.inside in
     rw (← c.self.view_is, c.take_linked.ensures.rest)
     (ap (λ l. tables_of (record t { signals = without (named signal_name) t.signals c.args.name.now; routes = l })) (stay c)
     ∙ ap (λ l. record (tables_of t) { signals = l }) (map-without (λ (e : ℕ × Linked _). e.1.item) (λ x. x.name) t.signals c.args.name.now))

@@ -1,10 +1,10 @@
-use Rattle.line_tables.specs.Inside.{line_of}
+use Rattle.line_tables.specs.Inside.{whole_tables}
 use Rattle.line_tables.proofs.Passed.{section_is, section_linked, section_numbered, numbers_read}
 use Rattle.line_tables.proofs.line_tables.LineTables.section_blocks.Goals as goal
 
 pub numbers_at-requires : goal.numbers_at-requires
 numbers_at-requires c =
-    let t = line_of c.self.inside in
+    let t = whole_tables c.self.inside in
     let section = c.nth.result.now in
     rw (c.slice-keys.ensures, c.deref.ensures.value)
     (section_numbered t c.self.invariant c.in_ok-numbers.numbers.items c.in_ok-numbers.ensures section
@@ -12,7 +12,7 @@ numbers_at-requires c =
 
 pub returns : goal.returns
 returns c =
-    let t = line_of c.self.inside in
+    let t = whole_tables c.self.inside in
     let j = c.self.invariant in
     let section = c.nth.result.now in
     rw (← c.self.view_is, section_is t j c.args.section section c.nth.ensures.item)
