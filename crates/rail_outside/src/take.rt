@@ -1,6 +1,5 @@
 //! Reading a whole input.
-ghost use Rattle.std.specs.Prelude.{◌≡◌, ◌≢◌, ◌+◌, ◌-◌, ◌^◌, ◌<◌, ◌≤◌, [], ◌++◌, ℕ, List};
-ghost use Rattle.std.specs.Prelude.{length, IfOk, IsErrOf};
+ghost use Rattle.std.specs.Prelude.{◌≡◌, ◌≢◌, ◌+◌, ◌-◌, ◌^◌, ◌<◌, ◌≤◌, ◌++◌, ℕ, List, length, IfOk, IsErrOf};
 ghost use Rattle.std.specs.Io.KnownBytes.{Consumes, IsAtEnd};
 ghost use Rattle.rail_outside.specs.InCall.{RoseByOne};
 
@@ -56,7 +55,7 @@ pub fn take_all<S: Source>(
     ensures no_fault { result ≢ Ok (Err Taken.Failed) → S.faults source.new ≡ S.faults source.old }
     ensures later { S.faults source.old ≤ S.faults source.new }
 {
-    let mut bytes = with_room(alloc, limit);
+    let mut bytes = Vec::new(alloc);
     let mut piece = [0u8; PIECE_BYTES];
     while bytes.len() <= limit {
         let most = PIECE_BYTES.min(limit + 1 - bytes.len());
@@ -67,15 +66,4 @@ pub fn take_all<S: Source>(
         }
     }
     Ok(Err(Taken::TooLong))
-}
-
-// No bytes, with room for one more than the limit where it can be had: without it the bytes are
-// moved as they grow. What isn't written to takes no page.
-fn with_room(alloc: Global, limit: usize) -> Vec<u8>
-    ensures { result.items ≡ [] }
-{
-    match Vec::with_capacity(alloc, limit.saturating_add(1)) {
-        Ok(bytes) => bytes,
-        Err(_) => Vec::new(alloc),
-    }
 }
