@@ -7,7 +7,7 @@ ghost use Rattle.line_cutter.specs.Cutting as pieces;
 ghost use Rattle.line_cutter.specs.Ways.{IsOneWay, AreOneWay, IsBeginning};
 
 use crate::line::LineToCut;
-use plan_model::{Cut, CutRow, least_start};
+use plan_model::{Cut, CutRow, SharedUses, least_start};
 use rail_model::{GREATEST_MOMENT_S, List, OutOfMemory, Section, Use};
 use std::alloc::Global;
 
@@ -87,21 +87,21 @@ fn add_row(
     if uses.is_empty() {
         return Ok(());
     }
-    some.push(piece_row(row, uses))?;
+    some.push(piece_row(alloc, row, uses)?)?;
     Ok(())
 }
 
 // A row with some uses alone.
-fn piece_row(row: &CutRow, uses: List<Use>) -> CutRow
-    ensures { result ≡ record row.now { entry = least (map (λ u. u.start) uses); uses = uses } }
+fn piece_row(alloc: Global, row: &CutRow, uses: List<Use>) -> Result<CutRow, OutOfMemory>
+    ensures { IfOk result (λ made. made
+        ≡ record row.now { entry = least (map (λ u. u.start) uses); uses = uses }) }
 {
-    let entry = least_start(uses.slice());
-    CutRow {
+    Ok(CutRow {
         name: row.name,
         stamp: row.stamp,
-        entry,
-        uses,
-    }
+        entry: least_start(uses.slice()),
+        uses: SharedUses::of(alloc, uses.into_vec())?,
+    })
 }
 
 fn is_within(one: &Use, a: u32, b: u32) -> bool

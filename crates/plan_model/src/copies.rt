@@ -6,15 +6,15 @@ use rail_model::{List, OutOfMemory};
 use std::alloc::Global;
 
 impl CutRow {
-    /// A row equal to this one, its stamp included.
-    pub fn copy(&self, alloc: Global) -> Result<CutRow, OutOfMemory>
+    /// A row equal to this one, its stamp included. Both hold the same uses.
+    pub fn copy(&self) -> Result<CutRow, OutOfMemory>
         ensures { IfOk result (λ other. other ≡ self.now) }
     {
         Ok(CutRow {
             name: self.name,
             stamp: self.stamp,
             entry: self.entry,
-            uses: self.uses.copy(alloc)?,
+            uses: self.uses.share()?,
         })
     }
 }
@@ -37,7 +37,7 @@ fn copy_rows(alloc: Global, rows: &[CutRow]) -> Result<List<CutRow>, OutOfMemory
 {
     let mut others = List::new(alloc);
     for row in rows {
-        others.push(row.copy(alloc)?)?;
+        others.push(row.copy()?)?;
     }
     Ok(others)
 }

@@ -2,6 +2,7 @@
 ghost use Rattle.std.specs.Prelude.{◌≡◌, map};
 ghost use Rattle.plan_model.specs.Cut.{least};
 
+use crate::SharedUses;
 use rail_model::{List, Name, Section, Use};
 
 /// A member of a cut: a run that enters the section within its window.
@@ -17,7 +18,7 @@ pub struct CutRow {
     pub entry: i64,
     /// Of the section's blocks in the order of the run's path, then of the cut's connections in
     /// their order. The block of a use is its position among the places of the cut.
-    pub uses: List<Use>,
+    pub uses: SharedUses,
 }
 
 /// What a timetable holds of a section in its window. Its places are the section's blocks, in the

@@ -39,6 +39,7 @@ mod reading;
 mod rows;
 mod scripts;
 mod shared_cut;
+mod shared_uses;
 
 pub use answer::{Answer, Disorder, Done, Link, Placed, Plan, Tie};
 pub use board::Board;
@@ -65,3 +66,4 @@ pub use reading::Reading;
 pub use rows::Rows;
 pub use scripts::{Scripts, Task};
 pub use shared_cut::SharedCut;
+pub use shared_uses::SharedUses;

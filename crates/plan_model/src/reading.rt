@@ -137,9 +137,19 @@ impl Reading {
             (length (uses_of self.old i))) }
         ensures uses { result.now ≡ uses_of self.old i }
     {
-        let uses = self.held.cut().rows.slice()[i as usize].uses.slice();
-        self.taken = self.taken.saturating_add(uses.len() as u64);
-        uses
+        self.row(i).uses.slice()
+    }
+
+    /// Takes row `i`, with its uses.
+    pub fn row(&mut self, i: u32) -> &CutRow
+        requires { i < member_count self.old.cut }
+        ensures* takes { sem 𝓛 (Takes the_row self.entry (λ r. r) self.old
+            (length (uses_of self.old i))) }
+        ensures row { result.now ≡ member self.old.cut i }
+    {
+        let row = &self.held.cut().rows.slice()[i as usize];
+        self.taken = self.taken.saturating_add(row.uses.len() as u64);
+        row
     }
 
     /// Takes the whole cut, with the uses of all rows.
@@ -186,6 +196,10 @@ impl Rows for Reading {
 
     fn take(&mut self, i: u32) -> &[Use] {
         self.take(i)
+    }
+
+    fn row(&mut self, i: u32) -> &CutRow {
+        self.row(i)
     }
 
     fn whole(&mut self) -> &Cut {

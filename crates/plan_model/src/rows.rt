@@ -5,7 +5,7 @@ ghost use Rattle.plan_model.specs.Cut.{IsSoundCut};
 ghost use Rattle.plan_model.specs.Members.{member, member_count};
 ghost use Rattle.plan_model.specs.Reading.{Shown, Takes, uses_of, use_count};
 
-use crate::Cut;
+use crate::{Cut, CutRow};
 use rail_model::{List, Name, Section, Use};
 
 /// A sound cut that is read row by row. It counts the uses that are taken of it, up to 2^64 - 1;
@@ -51,6 +51,13 @@ pub trait Rows {
         ensures* takes { sem 𝓛 (Takes Self.row self.entry shown (shown self.old)
             (length (uses_of (shown self.old) i))) }
         ensures uses { result.now ≡ uses_of (shown self.old) i };
+
+    /// Takes row `i`, with its uses.
+    fn row(&mut self, i: u32) -> &CutRow
+        requires { i < member_count (shown self.old).cut }
+        ensures* takes { sem 𝓛 (Takes Self.row self.entry shown (shown self.old)
+            (length (uses_of (shown self.old) i))) }
+        ensures row { result.now ≡ member (shown self.old).cut i };
 
     /// Takes the whole cut, with the uses of all rows.
     fn whole(&mut self) -> &Cut

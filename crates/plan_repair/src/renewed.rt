@@ -150,7 +150,7 @@ fn renew_row<R: Rows>(
     if own == stamp {
         return Ok(Some(i));
     }
-    let row = take_row(alloc, reading, i)?;
+    let row = take_row(reading, i)?;
     *rows.get_mut(i as usize) = row;
     Ok(None)
 }
@@ -191,6 +191,6 @@ fn next_row<R: Rows>(
     let stamp = reading.stamp(i);
     match next_kept(left, &name, stamp) {
         Some(row) => Ok((row, Some(count - 1 - left.len() as u32))),
-        None => Ok((take_row(alloc, reading, i)?, None)),
+        None => Ok((take_row(reading, i)?, None)),
     }
 }

@@ -14,7 +14,7 @@ use crate::cuts::cut_of_members;
 use crate::members::{MemberRows, add_run};
 use crate::reached_runs::row_of;
 use line_tables::LineTables;
-use plan_model::{Cut, CutRow};
+use plan_model::{Cut, CutRow, SharedUses};
 use rail_model::{List, OutOfMemory, Section};
 use std::alloc::Global;
 
@@ -102,6 +102,6 @@ pub(crate) fn on_blocks(
         name: row.name,
         stamp,
         entry: row.entry,
-        uses: List::from_vec(Vec::from_slice(alloc, uses)?),
+        uses: SharedUses::of(alloc, Vec::from_slice(alloc, uses)?)?,
     }))
 }

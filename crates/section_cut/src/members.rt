@@ -12,7 +12,7 @@ use crate::all_stairways::AllStairways;
 use crate::positions::{SectionTable, gather};
 use crate::spans::part;
 use line_tables::LineTables;
-use plan_model::{CutRow, least_start};
+use plan_model::{CutRow, SharedUses, least_start};
 use rail_model::{List, Name, OutOfMemory, Section, Stair, Use};
 use std::alloc::Global;
 
@@ -101,7 +101,7 @@ pub(crate) fn member_row(
     if !enters(section, uses, entry) {
         return Ok(None);
     }
-    let uses = List::from_vec(Vec::from_slice(alloc, uses)?);
+    let uses = SharedUses::of(alloc, Vec::from_slice(alloc, uses)?)?;
     Ok(Some(CutRow {
         name,
         stamp,
@@ -117,7 +117,7 @@ pub(crate) fn row_with(
     name: Name,
     stamp: u64,
     entry: i64,
-    uses: List<Use>,
+    uses: SharedUses,
 ) -> Option<CutRow>
     requires { entry ≡ least (map (λ u. u.start) uses) }
     ensures { result ≡ rows.member_row section.now name stamp uses }

@@ -16,8 +16,8 @@ use crate::one_run::with_row;
 use crate::same_value::same_name;
 use crate::stamps::{own_row, place_of};
 use line_tables::LineTables;
-use plan_model::{Cut, CutRow};
-use rail_model::{Connection, Edit, Item, Kind, List, Name, OutOfMemory, Use};
+use plan_model::{Cut, CutRow, SharedUses};
+use rail_model::{Connection, Edit, Item, Kind, Name, OutOfMemory, Use};
 use std::alloc::Global;
 
 // The connection that an edit puts, changes or drops: its name, and what it is after the edit, if it
@@ -151,15 +151,15 @@ fn row_ending(
       uses = ends.uses_ending place end row.now.uses;
     }) }
 {
-    let mut uses = List::new(alloc);
+    let mut uses = Vec::with_capacity(alloc, row.uses.len())?;
     for one in row.uses.slice() {
-        uses.push(ending(*one, place, end))?;
+        uses.push_reserved(ending(*one, place, end));
     }
     Ok(CutRow {
         name: row.name,
         stamp,
         entry: row.entry,
-        uses,
+        uses: SharedUses::of(alloc, uses)?,
     })
 }
 

@@ -7,7 +7,8 @@ ghost use Rattle.section_cut.specs.Positions.{IsPositions, AreSameTo, AreSameFir
 
 use crate::spans::BlockRange;
 use line_tables::LineTables;
-use rail_model::{List, OutOfMemory, Section, Use};
+use plan_model::SharedUses;
+use rail_model::{OutOfMemory, Section, Use};
 use std::alloc::Global;
 
 // A section, with the position of each block of the tables in it, and the spans of the stairways
@@ -144,7 +145,7 @@ pub(crate) fn placed(
     old: &[Use],
     same: usize,
     stairway: &[Use],
-) -> Result<Option<List<Use>>, OutOfMemory>
+) -> Result<Option<SharedUses>, OutOfMemory>
     requires there { All (λ u. u.block < length table.positions.now) stairway.now }
     requires long { length old.now ≡ length stairway.now }
     requires inside { All (λ u. u.block < length table.section.now.blocks) old.now }
@@ -158,7 +159,7 @@ pub(crate) fn placed(
     if !place_from(&mut uses, table.positions, blocks, stairway, same) {
         return Ok(None);
     }
-    Ok(Some(List::from_vec(uses)))
+    Ok(Some(SharedUses::of(alloc, uses)?))
 }
 
 // Makes uses from a place on those of a stairway of as many by their positions in a section of this

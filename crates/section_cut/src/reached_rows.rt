@@ -106,12 +106,12 @@ pub(crate) fn row_anew(
 {
     match stair {
         Some(stair) => row_by_stair(alloc, table, stair, uses, own, number),
-        None => copied(alloc, own),
+        None => copied(own),
     }
 }
 
 // A copy of a row, if it is there.
-fn copied(alloc: Global, own: Option<&CutRow>) -> Result<Option<CutRow>, OutOfMemory>
+fn copied(own: Option<&CutRow>) -> Result<Option<CutRow>, OutOfMemory>
     ensures { IfOk result (λ row. (number : ℕ)
         → IsRowAfter (option_map (stamped_row 0) (option_copied own.entry)) number
         (option_copied own.entry) row) }
@@ -119,7 +119,7 @@ fn copied(alloc: Global, own: Option<&CutRow>) -> Result<Option<CutRow>, OutOfMe
     let Some(row) = own else {
         return Ok(None);
     };
-    Ok(Some(row.copy(alloc)?))
+    Ok(Some(row.copy()?))
 }
 
 // The row after the edit of a number of the run of a stair, if it is a member, by its own before
@@ -170,7 +170,7 @@ fn whole_row(
     }
     let same = same_first(uses, table.positions, stairway);
     if same == uses.len() {
-        return Ok(Some(Some(own.copy(alloc)?)));
+        return Ok(Some(Some(own.copy()?)));
     }
     let Some(uses) = placed(alloc, table, uses, same, stairway)? else {
         return Ok(None);

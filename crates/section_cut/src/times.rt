@@ -3,7 +3,8 @@
 ghost use Rattle.std.specs.Prelude.{◌≡◌, IfOk};
 ghost use Rattle.section_cut.specs.Times as times_of;
 
-use rail_model::{List, OutOfMemory, Use};
+use plan_model::SharedUses;
+use rail_model::{OutOfMemory, Use};
 use std::alloc::Global;
 
 // The uses of these places with these times.
@@ -11,7 +12,7 @@ pub(crate) fn with_times(
     alloc: Global,
     places: &[Use],
     times: &[Use],
-) -> Result<List<Use>, OutOfMemory>
+) -> Result<SharedUses, OutOfMemory>
     ensures { IfOk result (λ uses. uses ≡ times_of.with_times places.now times.now) }
 {
     let mut uses = Vec::with_capacity(alloc, places.len())?;
@@ -21,5 +22,5 @@ pub(crate) fn with_times(
             ..*time
         });
     }
-    Ok(List::from_vec(uses))
+    SharedUses::of(alloc, uses)
 }
