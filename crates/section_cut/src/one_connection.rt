@@ -153,7 +153,7 @@ fn row_ending(
 {
     let mut uses = Vec::with_capacity(alloc, row.uses.len())?;
     for one in row.uses.slice() {
-        uses.push_reserved(ending(*one, place, end));
+        uses.push(ending(*one, place, end))?;
     }
     Ok(CutRow {
         name: row.name,

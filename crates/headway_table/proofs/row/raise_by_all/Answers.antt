@@ -11,7 +11,7 @@ loop-four-preserved c =
     let uses = row.uses in
     let before = c.loop-four.invariant in
     let k = 4 * c.loop-four.four in
-    let there : k + 3 < length uses = omega (arith, c.loop-four-test.true, c.len-count.ensures.count) in
+    let there : k + 3 < length uses = omega (arith, c.loop-four-test.true, c.len-count.ensures) in
     record {
       count = c.raise_four.ensures.count ∙ before.count;
       each = λ j l.
@@ -30,8 +30,8 @@ pub returns-clause-each : goal.returns-clause-each
 returns-clause-each c =
     let uses = c.args.row.now.uses in
     let fours = c.loop-four.invariant in
-    let all : length uses ≤ c.loop-k.k = omega (arith, c.loop-k-test.false, c.len-count.ensures.count) in
-    let done : c.loop-four.four ≡ length uses / 4 = omega (arith, c.loop-four-test.false, c.loop-four.auto.four-end, c.len-count.ensures.count) in
+    let all : length uses ≤ c.loop-k.k = omega (arith, c.loop-k-test.false, c.len-count.ensures) in
+    let done : c.loop-four.four ≡ length uses / 4 = omega (arith, c.loop-four-test.false, c.loop-four.auto.four-end, c.len-count.ensures) in
     λ j l.
     let f = raised_from c.args.starts.now c.args.row.now.entry j in
     let z = slice_index_or c.args.greatest.now j (pos 0) in

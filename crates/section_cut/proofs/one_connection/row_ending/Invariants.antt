@@ -4,4 +4,4 @@ use Rattle.section_cut.proofs.one_connection.row_ending.Given as goal
 
 -- the uses so far
 abbrev pub invariant-loop-one : goal.invariant-loop-one
-invariant-loop-one l = l.uses ≡ uses_ending l.place l.end (take l.one-index l.row.uses)
+invariant-loop-one l = l.uses.items ≡ uses_ending l.place l.end (take l.one-index l.row.uses)
