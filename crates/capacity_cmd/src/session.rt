@@ -1,9 +1,10 @@
 //! The command `session`.
 ghost use Rattle.std.specs.Prelude.{◌≡◌, ◌≤◌, IfOk};
+ghost use Rattle.plan_model.specs.Journal.{tables_of};
 ghost use Rattle.plan_model.specs.Session.{AllAreCurrent};
 ghost use Rattle.session_run.specs.declared.threads.TheConstants.{WORKERS};
 ghost use Rattle.capacity_cmd.specs.InputSoFar.{IsWithin};
-ghost use Rattle.capacity_cmd.specs.Ends.{IsSessionText, IsJournalText};
+ghost use Rattle.capacity_cmd.specs.Ends.{IsSessionText, IsJournalText, IsReportText};
 ghost use Rattle.capacity_cmd.specs.declared.limit.TheConstants.{INPUT_BYTES};
 ghost use Rattle.plan_book.specs.declared.book.TheConstants.{PLANNERS};
 
@@ -30,7 +31,7 @@ pub(crate) fn text_alone(
     ensures { IfOk result (IsSessionText given.tables given.at given.scripts 0) }
 {
     let book = session_alone(rt, alloc, given.tables, given.at, given.scripts)?;
-    text_of_book(rt, alloc, &book)
+    text_of_book(rt, alloc, book)
 }
 
 // The text of a session with workers, where each planner and each worker has a thread of its own.
@@ -55,19 +56,29 @@ pub(crate) fn text_on_threads<R: Threads + Wait + Sync, G: Gate>(
         workers,
         gate,
     )?;
-    text_of_book(rt, alloc, &book)
+    text_of_book(rt, alloc, book)
 }
 
-// The text of a book's journal, and the report of its tables: each section is current, so the last
-// publications are the answers.
-fn text_of_book(rt: &(impl Threads + Sync), alloc: Global, book: &Book) -> Result<Text, OutOfMemory>
-    requires { AllAreCurrent book.now }
-    ensures { IfOk result (IsJournalText book.now) }
+// The text of a book's journal, and the report of its tables. The journal alone is kept while its
+// text is made.
+fn text_of_book(rt: &(impl Threads + Sync), alloc: Global, book: Book) -> Result<Text, OutOfMemory>
+    requires { AllAreCurrent book }
+    ensures { IfOk result (IsJournalText book) }
 {
-    let mut text = journal_text(rt, alloc, book.journal())?;
+    let report = report_of_book(alloc, &book)?;
+    let journal = book.into_journal();
+    let mut text = journal_text(rt, alloc, &journal)?;
+    text.push(report)?;
+    Ok(text)
+}
+
+// The report of a book's tables: each section is current, so the last publications are the answers.
+fn report_of_book(alloc: Global, book: &Book) -> Result<Vec<u8>, OutOfMemory>
+    requires { AllAreCurrent book.now }
+    ensures { IfOk result (λ text. IsReportText (tables_of book.now) text.items) }
+{
     let answers = answers_of_book(alloc, book)?;
     let mut sheet = Sheet::new(alloc);
     add_report(alloc, &mut sheet, book.tables(), &answers)?;
-    text.push(sheet.into_text())?;
-    Ok(text)
+    Ok(sheet.into_text())
 }

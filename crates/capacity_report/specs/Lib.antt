@@ -4,6 +4,7 @@ pub mod Parts
 pub mod Answers
 pub mod Pairs
 pub mod Published
+pub mod Pieces
 pub mod Shown
 pub mod Laws
 pub mod Rows

@@ -118,6 +118,24 @@ impl Book {
         &self.journal
     }
 
+    /// The journal alone. The tables and the cuts are let go of.
+    pub fn into_journal(self) -> List<Entry>
+        ensures same { result ≡ self }
+        ensures is_journal { IsJournal self }
+    {
+        let Book {
+            journal,
+            alloc: _,
+            tables: _,
+            first: _,
+            at: _,
+            passes: _,
+            shelves: _,
+            done: _,
+        } = self;
+        journal
+    }
+
     /// The number of the last edit.
     pub fn at(&self) -> u64
         ensures { result ≡ last_number self.now }
