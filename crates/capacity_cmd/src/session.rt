@@ -59,15 +59,14 @@ pub(crate) fn text_on_threads<R: Threads + Wait + Sync, G: Gate>(
     text_of_book(rt, alloc, book)
 }
 
-// The text of a book's journal, and the report of its tables. The journal alone is kept while its
-// text is made.
+// The text of a book's journal, and the report of its tables. The book's cuts and tables are let go
+// of before the text is made.
 fn text_of_book(rt: &(impl Threads + Sync), alloc: Global, book: Book) -> Result<Text, OutOfMemory>
     requires { AllAreCurrent book }
     ensures { IfOk result (IsJournalText book) }
 {
     let report = report_of_book(alloc, &book)?;
-    let journal = book.into_journal();
-    let mut text = journal_text(rt, alloc, &journal)?;
+    let mut text = journal_text(rt, alloc, book.into_journal())?;
     text.push(report)?;
     Ok(text)
 }

@@ -1,14 +1,18 @@
 -- The pieces of a journal's text.
-use Rattle.std.specs.Prelude.{◌≡◌, ℕ, List, [], Result, IfOk, IfErr}
-use Rattle.std.specs.declared.vec.Vec.{Vec}
-use Rattle.plan_model.specs.declared.journal.Entry.{Entry}
-use Rattle.row_text.specs.SheetRows.{SheetRows, text_of_rows}
+use Rattle.std.specs.Prelude.{◌≡◌, ℕ, ◌<◌, List, [], length, slice_index_or, IfOk, IfErr}
+use Rattle.row_text.specs.SheetRows.{text_of_rows}
+use Rattle.capacity_report.specs.declared.journal_parts.Piece.{Piece}
 use Rattle.capacity_report.specs.Rows.{rows_of_journal}
 
--- a piece of which nothing is written: its sheet has no rows
-abbrev pub IsBegun : {X : Type 0} → Result X SheetRows → Type 0
-IsBegun piece = IfErr piece (λ sheet. sheet.rows ≡ [])
+-- the text of a piece isn't made: its sheet has no rows
+abbrev pub IsBegun : Piece → Type 0
+IsBegun piece = IfErr piece.made (λ sheet. sheet.rows ≡ [])
 
--- what was made of some entries, if memory sufficed, is the text of their rows
-abbrev pub IsTextOf : {A E : Type 0} → List Entry → Result (Vec ℕ A) E → Type 0
-IsTextOf entries made = IfOk made (λ text. text.items ≡ text_of_rows (rows_of_journal entries))
+-- what was made of a piece, if memory sufficed, is the text of the rows of its entries
+abbrev pub IsFilled : Piece → Piece → Type 0
+IsFilled old new = IfOk new.made (λ text. text.items ≡ text_of_rows (rows_of_journal old.entries.items))
+
+-- so it is of each of these
+pub record AreFilled (old new : List Piece) : Type 0 where
+  pub count : length new ≡ length old
+  pub each : (i : ℕ) (d : Piece) → i < length old → IsFilled (slice_index_or old i d) (slice_index_or new i d)

@@ -1,15 +1,13 @@
 //! The text of a journal.
-ghost use Rattle.std.specs.Prelude.{◌≡◌, ◌+◌, ◌<◌, ◌≤◌, [], length, All, IfOk};
-ghost use Rattle.std.specs.List.{slice_range};
+ghost use Rattle.std.specs.Prelude.{◌≡◌, ◌<◌, [], map, All, IfOk, Ok};
+ghost use Rattle.std.specs.List.{flat_map};
 ghost use Rattle.plan_model.specs.Legal.{IsLegal};
 ghost use Rattle.row_text.specs.SheetRows.{text_of_rows};
-ghost use Rattle.capacity_report.specs.Parts.{start_of};
 ghost use Rattle.capacity_report.specs.Rows as rows;
-ghost use Rattle.capacity_report.specs.Pieces.{IsBegun, IsTextOf};
+ghost use Rattle.capacity_report.specs.Pieces.{IsBegun, IsFilled, AreFilled};
 ghost use Rattle.capacity_report.specs.Published.{PublishesAnswer};
 
 use crate::journal::rows_of_entries;
-use crate::parts::{one_after_another, start_of};
 use plan_model::{Act, Answer, Entry};
 use rail_model::{List, OutOfMemory};
 use rayon::current_num_threads;
@@ -18,59 +16,78 @@ use std::alloc::Global;
 use std::mem;
 use std::thread::{Threads, for_each_mut};
 
-// About so many rows are a piece. Fewer aren't worth a thread of their own.
-const LEAST_ROWS: usize = 1_024;
+// So many rows are a piece, with those of the last entry. Fewer aren't worth a thread of their own.
+const PIECE_ROWS: usize = 1_024;
 
 // Room with which the sheet of a piece begins.
 const FIRST_BYTES: usize = 64;
 
-// Room that is asked for at once for each row. A longer text must be moved; room that isn't written
-// to takes no memory.
+// Room that is asked for at once for each row. A longer text must be moved.
 const BYTES_A_ROW: usize = 64;
 
+// Entries side by side, and their text where it was made: before, the sheet on which it is made.
+#[derive(Drop)]
+pub(crate) struct Piece {
+    pub(crate) entries: Vec<Entry>,
+    pub(crate) made: Result<Vec<u8>, Sheet>,
+}
+
 /// The text of the rows of a legal journal, one entry after the other, as `journal_rows` adds them.
-/// It is made in pieces, by at most as many threads as there are processors.
+/// It is made in pieces, by at most as many threads as there are processors. Each entry is let go
+/// of when its piece is made.
 ///
-/// The sheets of all pieces are begun by the calling thread. So they grow where that thread has let
-/// go of memory, as of a session's cuts; a sheet that another thread began would take new memory.
+/// The sheets of all pieces are begun by the calling thread. So they grow where it has let go of
+/// memory, and where entries that it made are let go of; a sheet that another thread begins takes
+/// new memory.
 pub fn journal_text(
     rt: &(impl Threads + Sync),
     alloc: Global,
-    journal: &List<Entry>,
+    journal: List<Entry>,
 ) -> Result<Text, OutOfMemory>
-    requires { IsLegal journal.now }
-    ensures { IfOk result (λ text. text ≡ text_of_rows (rows.rows_of_journal journal.now)) }
+    requires { IsLegal journal }
+    ensures { IfOk result (λ text. text ≡ text_of_rows (rows.rows_of_journal journal)) }
 {
-    text_of_entries(rt, alloc, journal.slice())
+    let mut pieces = pieces_of(alloc, journal)?;
+    let threads = threads_for(rt, pieces.len());
+    fill_all(rt, alloc, threads, &mut pieces);
+    one_after_another(alloc, pieces)
 }
 
-// The text of the rows of entries.
-fn text_of_entries<R: Threads + Sync>(
-    rt: &R,
-    alloc: Global,
-    entries: &[Entry],
-) -> Result<Text, OutOfMemory>
-    requires { All (λ e. PublishesAnswer e.act) entries.now }
-    ensures { IfOk result (λ text. text ≡ text_of_rows (rows.rows_of_journal entries.now)) }
+// The pieces of a journal, of none of which the text is made.
+fn pieces_of(alloc: Global, journal: List<Entry>) -> Result<Vec<Piece>, OutOfMemory>
+    ensures entries { IfOk result (λ pieces. flat_map (λ p. p.entries.items) pieces.items
+        ≡ journal) }
+    ensures begun { IfOk result (λ pieces. All IsBegun pieces.items) }
 {
-    let count = entries.len();
-    let pieces = (count / least_entries(entries)).max(1);
-    let mut made = begun(alloc, pieces)?;
-    let fill = move |i: usize, piece: &mut Result<Vec<u8>, Sheet>|
-        requires { (i < pieces) × (count ≡ length entries.now) × IsBegun piece.now
-            × All (λ e. PublishesAnswer e.act) entries.now }
-        ensures { IsTextOf (slice_range entries.entry.now (start_of count pieces i)
-            (start_of count pieces (i + 1))) piece.exit.now }
-    {
-        let first = start_of(count, pieces, i);
-        let end = start_of(count, pieces, i + 1);
-        write(alloc, entries, first, end, piece)
-    };
-    for_each_mut(rt, &mut made, threads_for(rt, pieces), &fill);
-    one_after_another(alloc, made)
+    let mut pieces = Vec::new(alloc);
+    let mut entries = Vec::new(alloc);
+    let mut rows = 0usize;
+    for entry in journal.into_vec() {
+        rows = rows.saturating_add(row_count(&entry.act));
+        entries.push(entry)?;
+        if rows >= PIECE_ROWS {
+            pieces.push(begun(alloc, mem::replace(&mut entries, Vec::new(alloc))))?;
+            rows = 0;
+        }
+    }
+    pieces.push(begun(alloc, entries))?;
+    Ok(pieces)
 }
 
-// By how many threads so many pieces are written.
+// A piece of these entries, of which the text isn't made.
+fn begun(alloc: Global, entries: Vec<Entry>) -> Piece
+    ensures entries { result.entries.items ≡ entries.items }
+    ensures begun { IsBegun result }
+{
+    let mut sheet = Sheet::new(alloc);
+    let _ = sheet.reserve(FIRST_BYTES);
+    Piece {
+        entries,
+        made: Err(sheet),
+    }
+}
+
+// By how many threads the texts of so many pieces are made.
 fn threads_for(rt: &impl Threads, pieces: usize) -> usize
     ensures { 0 < result }
 {
@@ -80,80 +97,87 @@ fn threads_for(rt: &impl Threads, pieces: usize) -> usize
     current_num_threads(rt)
 }
 
-// So many pieces of which nothing is written.
-fn begun(alloc: Global, pieces: usize) -> Result<Vec<Result<Vec<u8>, Sheet>>, OutOfMemory>
-    ensures count { IfOk result (λ all. length all.items ≡ pieces) }
-    ensures begun { IfOk result (λ all. All IsBegun all.items) }
+// Makes the texts of all pieces, in at most so many threads.
+fn fill_all<R: Threads + Sync>(rt: &R, alloc: Global, threads: usize, pieces: &mut [Piece])
+    requires threads { 0 < threads }
+    requires begun { All IsBegun pieces.old }
+    requires entries { All (λ p. All (λ e. PublishesAnswer e.act) p.entries.items) pieces.old }
+    ensures { AreFilled pieces.old pieces.new }
 {
-    let mut all = Vec::with_capacity(alloc, pieces)?;
-    for _piece in 0..pieces {
-        let mut sheet = Sheet::new(alloc);
-        let _ = sheet.reserve(FIRST_BYTES);
-        all.push(Err(sheet))?;
-    }
-    Ok(all)
+    for_each_mut(
+        rt,
+        pieces,
+        threads,
+        &|_, piece: &mut Piece|
+            requires { IsBegun piece.now
+                × All (λ e. PublishesAnswer e.act) piece.now.entries.items }
+            ensures { IsFilled piece.entry.now piece.exit.now }
+        { fill(alloc, piece) },
+    );
 }
 
-// Writes a piece, the rows of the entries from one number to another, on the sheet that was begun.
-// Without memory it isn't there.
-fn write(
-    alloc: Global,
-    entries: &[Entry],
-    first: usize,
-    end: usize,
-    piece: &mut Result<Vec<u8>, Sheet>,
-)
-    requires rise { first ≤ «end» }
-    requires within { «end» ≤ length entries.now }
+// Makes the text of a piece, and lets go of its entries. Without memory there is no text.
+fn fill(alloc: Global, piece: &mut Piece)
     requires begun { IsBegun piece.old }
-    requires entries { All (λ e. PublishesAnswer e.act) entries.now }
-    ensures { IsTextOf (slice_range entries.now first «end») piece.new }
+    requires entries { All (λ e. PublishesAnswer e.act) piece.old.entries.items }
+    ensures { IsFilled piece.old piece.new }
 {
-    if let Err(sheet) = mem::replace(piece, Err(Sheet::new(alloc))) {
-        if let Ok(text) = text_of_piece(alloc, sheet, &entries[first..end]) {
-            *piece = Ok(text);
-        }
+    let entries = mem::replace(&mut piece.entries, Vec::new(alloc));
+    let Err(sheet) = mem::replace(&mut piece.made, Err(Sheet::new(alloc))) else {
+        return;
+    };
+    if let Ok(text) = text_of_entries(alloc, sheet, &entries) {
+        piece.made = Ok(text);
     }
 }
 
-// The text of the rows of the entries of a piece.
-fn text_of_piece(alloc: Global, sheet: Sheet, entries: &[Entry]) -> Result<Vec<u8>, OutOfMemory>
-    requires begun { sheet.rows ≡ [] }
+// The text of the rows of entries.
+fn text_of_entries(alloc: Global, sheet: Sheet, entries: &[Entry]) -> Result<Vec<u8>, OutOfMemory>
+    requires sheet { sheet.rows ≡ [] }
     requires entries { All (λ e. PublishesAnswer e.act) entries.now }
-    ensures { IsTextOf entries.now result }
+    ensures { IfOk result (λ text. text.items ≡ text_of_rows (rows.rows_of_journal entries.now)) }
 {
     let mut sheet = sheet;
-    let _ = sheet.reserve(row_count(entries).saturating_mul(BYTES_A_ROW));
+    let _ = sheet.reserve(rows_of_all(entries).saturating_mul(BYTES_A_ROW));
     rows_of_entries(alloc, &mut sheet, entries)?;
     let mut text = sheet.into_text();
     text.shrink_to_fit();
     Ok(text)
 }
 
-// How many entries a piece has at least: as many as have the least number of rows on average.
-fn least_entries(entries: &[Entry]) -> usize
-    ensures { 0 < result }
+// The texts of these pieces in their order, if each was made.
+fn one_after_another(alloc: Global, pieces: Vec<Piece>) -> Result<Text, OutOfMemory>
+    ensures { IfOk result (λ text. (made : List _) × (map (λ p. p.made) pieces.items ≡ map Ok made)
+        × (text ≡ flat_map (λ piece. piece.items) made)) }
 {
-    (entries.len().saturating_mul(LEAST_ROWS) / row_count(entries).max(1)).max(1)
+    let mut text = Text::new(alloc);
+    for piece in pieces {
+        let Piece { made, .. } = piece;
+        let Ok(made) = made else {
+            return Err(OutOfMemory);
+        };
+        text.push(made)?;
+    }
+    Ok(text)
 }
 
-// About how many rows the entries have. No clause says so: by it the journal is cut in pieces, and
-// room is asked for.
-fn row_count(entries: &[Entry]) -> usize {
+// About how many rows these entries have.
+fn rows_of_all(entries: &[Entry]) -> usize {
     let mut rows = 0usize;
     for entry in entries {
-        rows = rows.saturating_add(1).saturating_add(trains(&entry.act));
+        rows = rows.saturating_add(row_count(&entry.act));
     }
     rows
 }
 
-// How many trains an entry lists.
-fn trains(act: &Act) -> usize {
+// About how many rows an entry has. No clause says so: by it the journal is cut in pieces, and room
+// is asked for.
+fn row_count(act: &Act) -> usize {
     match act {
         Act::Published {
             answer: Answer::Ordered(plan),
             ..
-        } => plan.placed.len(),
-        _ => 0,
+        } => plan.placed.len().saturating_add(1),
+        _ => 1,
     }
 }

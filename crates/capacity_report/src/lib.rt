@@ -5,8 +5,8 @@
 //!
 //! `stairs_text` makes the hop beyond each signal once. The runs are then parted among threads, and
 //! each writes the rows of its runs to a sheet of its own. The texts of these sheets are the pieces
-//! of the whole. `headways_text` writes its table in parts in the same way, and `journal_text` the
-//! entries of a journal.
+//! of the whole. `headways_text` writes its table in parts in the same way. `journal_text` writes
+//! the entries of a journal in pieces of some thousand rows, and lets go of those it has written.
 //!
 //! ```text
 //! let mut sheet = Sheet::new(alloc);

@@ -44,7 +44,7 @@ fn parts_of(rt: &impl Threads, count: usize, least: usize) -> usize
 }
 
 // The number of a part's first item.
-pub(crate) fn start_of(count: usize, parts: usize, i: usize) -> usize
+fn start_of(count: usize, parts: usize, i: usize) -> usize
     requires some { 0 < parts }
     requires most { i ≤ parts }
     ensures { result ≡ start_of count parts i }
@@ -53,19 +53,16 @@ pub(crate) fn start_of(count: usize, parts: usize, i: usize) -> usize
 }
 
 // The text of these pieces in their order, if each could be made.
-pub(crate) fn one_after_another<E: Drop>(
+fn one_after_another(
     alloc: Global,
-    pieces: Vec<Result<Vec<u8>, E>>,
+    pieces: Vec<Result<Vec<u8>, OutOfMemory>>,
 ) -> Result<Text, OutOfMemory>
     ensures { IfOk result (λ text. (made : List _) × (pieces.items ≡ map Ok made)
         × (text ≡ flat_map (λ piece. piece.items) made)) }
 {
     let mut text = Text::new(alloc);
     for piece in pieces {
-        let Ok(piece) = piece else {
-            return Err(OutOfMemory);
-        };
-        text.push(piece)?;
+        text.push(piece?)?;
     }
     Ok(text)
 }

@@ -5,13 +5,13 @@ use Rattle.std.proofs.lemmas.List.Concat.{flat_map-append}
 use Rattle.capacity_report.proofs.parts.one_after_another.Goals as goal
 
 pub loop-piece-preserved : goal.loop-piece-preserved
-loop-piece-preserved g c =
+loop-piece-preserved c =
     let so_far = c.loop-piece.invariant in
     let made = so_far.0 in
-    let piece = c.in-Ok.piece in
+    let piece = c.in_ok-piece.field-0 in
     let rest = c.next.new.self.rest.items in (
       made ++ piece ∷ [],
-      so_far.1 ∙ ap (λ xs. map Ok made ++ xs) (c.in-Some.ensures.steps.0 ∙ ap (λ r. r ∷ rest) c.in-Ok.is)
+      so_far.1 ∙ ap (λ xs. map Ok made ++ xs) (c.in-Some.ensures.steps.0 ∙ ap (λ r. r ∷ rest) c.in_ok-piece.was)
           ∙ sym (append_assoc (map Ok made) (Ok piece ∷ []) rest) ∙ ap (λ xs. xs ++ rest) (sym (map-append Ok made (piece ∷ []))),
       c.in_ok-push.ensures.ok ∙ ap (λ text. text ++ piece.items) so_far.2
           ∙ ap (λ text. flat_map (λ p. p.items) made ++ text) (sym (append-nil piece.items))

@@ -4,5 +4,5 @@ use Rattle.capacity_report.proofs.parts.one_after_another.Given as goal
 
 -- the pieces so far were made, and the others are left
 abbrev pub invariant-loop-piece : goal.invariant-loop-piece
-invariant-loop-piece g l =
+invariant-loop-piece l =
     (made : List _) × (l.fn.pieces.items ≡ map Ok made ++ l.piece-iterator.rest.items) × (l.text ≡ flat_map (λ piece. piece.items) made)
