@@ -6,13 +6,12 @@ use Rattle.std.proofs.lemmas.List.FromFn.{length-range_with_len}
 use Rattle.std.proofs.lemmas.Slice.Zip.{AllZip-long}
 use Rattle.rail_model.specs.declared.items.Section.{Section}
 use Rattle.rail_model.specs.declared.tables.Tables.{Tables}
-use Rattle.rail_model.specs.Tables.{section_at}
 use Rattle.rail_model.proofs.Collected.{collected}
 use Rattle.row_text.specs.SheetRows.{Row}
 use Rattle.plan_model.specs.declared.answer.Answer.{Answer}
 use Rattle.capacity_report.specs.Answers.{Total, total_of, with_answer, joined, is_ordered, is_within_capacity, is_over_capacity, is_disordered, is_crowded}
 use Rattle.capacity_cmd.specs.declared.section_heads.Head.{Head}
-use Rattle.capacity_cmd.specs.Heads.{IsHead, AreHeads, AddsHead}
+use Rattle.capacity_cmd.specs.Heads.{IsHead, IsHeadInTurn, AreHeads, AddsHead}
 
 nothing_more : (n : ℕ) → 0 + n ≡ n
 nothing_more n = omega arith
@@ -28,13 +27,13 @@ module _ {X : Type 0} (R : ℕ → X → Type 0) where
       subst (λ k. R k (get_or xs n d)) (omega arith) (at_place (first + 1) count xs each.1 n d (omega (arith, there)))
 
 abbrev HeadAt : Tables → ℕ → Head → Type 0
-HeadAt tables n = IsHead tables (section_at tables n)
+HeadAt tables n = IsHeadInTurn tables n
 
 all_heads : (tables : Tables) (heads : List Head) → AllZip (HeadAt tables) (range_with_len 0 (length tables.sections)) heads
     → AreHeads tables heads
 all_heads tables heads each = record {
   count = AllZip-long (HeadAt tables) _ _ each ∙ length-range_with_len 0 (length tables.sections);
-  each = λ n d there. subst (λ k. IsHead tables (section_at tables k) (get_or heads n d)) (nothing_more n)
+  each = λ n d there. subst (λ k. IsHeadInTurn tables k (get_or heads n d)) (nothing_more n)
       (at_place (HeadAt tables) 0 (length tables.sections) heads each n d there);
 }
 

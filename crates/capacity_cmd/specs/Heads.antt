@@ -1,5 +1,5 @@
 -- The text of `report` while the heads of its sections' answers are added, one after the other or each on a sheet of its own.
-use Rattle.std.specs.Prelude.{◌≡◌, ℕ, List, ◌++◌, take, ◌<◌, [], length, slice_index_or}
+use Rattle.std.specs.Prelude.{◌≡◌, ℕ, ◌-◌, ◌/◌, ◌%◌, ◌==◌, if◌then◌else◌, List, ◌++◌, take, ◌<◌, [], length, slice_index_or}
 use Rattle.rail_model.specs.declared.items.Section.{Section}
 use Rattle.rail_model.specs.declared.tables.Tables.{Tables}
 use Rattle.rail_model.specs.Tables.{section_at}
@@ -35,8 +35,18 @@ pub record HasHeads (tables : Tables) (count : ℕ) (before rows : List Row) (to
 abbrev pub IsHead : Tables → Section → Head → Type 0
 IsHead tables section head = AddsHead tables section [] head.sheet.rows (total_of []) head.tally
 
--- the head of each section's answer alone, in the order of the sections
+-- the item at a place where so many are taken from both ends in turn, and where these are so taken again
+abbrev pub folded : ℕ → ℕ → ℕ
+folded count place = if place % 2 == 0 then place / 2 else count - 1 - place / 2
+
+abbrev pub in_turn : ℕ → ℕ → ℕ
+in_turn count turn = folded count (folded count turn)
+
+-- the head of the answer of the section that is taken at a turn
+abbrev pub IsHeadInTurn : Tables → ℕ → Head → Type 0
+IsHeadInTurn tables turn = IsHead tables (section_at tables (in_turn (length tables.sections) turn))
+
+-- the head of each section's answer alone, in the order in which they are taken
 pub record AreHeads (tables : Tables) (heads : List Head) : Type 0 where
   pub count : length heads ≡ length tables.sections
-  pub each : (n : ℕ) (d : Head) → n < length tables.sections
-      → IsHead tables (section_at tables n) (slice_index_or heads n d)
+  pub each : (n : ℕ) (d : Head) → n < length tables.sections → IsHeadInTurn tables n (slice_index_or heads n d)

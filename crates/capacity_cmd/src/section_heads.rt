@@ -4,7 +4,7 @@ ghost use Rattle.std.specs.Prelude.{◌≡◌, ◌<◌, [], length, IfOk, OnOk};
 ghost use Rattle.rail_model.specs.Tables.{section_at};
 ghost use Rattle.rail_model.specs.Conflict.{timetable};
 ghost use Rattle.capacity_report.specs.Answers.{total_of};
-ghost use Rattle.capacity_cmd.specs.Heads.{HasHeads, IsHead, AreHeads};
+ghost use Rattle.capacity_cmd.specs.Heads.{HasHeads, IsHead, IsHeadInTurn, AreHeads, folded, in_turn};
 
 use crate::report::{add_head, answer_among};
 use capacity_report::Tally;
@@ -27,9 +27,12 @@ pub(crate) struct Head {
     pub(crate) tally: Tally,
 }
 
-// The head of each section's answer, in the order of the sections' names. There are fewer than
+// The head of each section's answer, in the order in which they are taken. There are fewer than
 // twice as many pieces as processors, each made by one thread. A section's cut is let go before its
 // head is handed over, so each piece holds one cut at most.
+//
+// Sections that follow each other take about as long. So they are taken from both ends in turn,
+// and what comes of that again: else one thread would get all those that take long.
 pub(crate) fn heads_of(
     rt: &(impl Threads + Sync),
     alloc: Global,
@@ -47,11 +50,11 @@ pub(crate) fn heads_of(
             |number: usize| -> Result<Head, OutOfMemory>
                 requires { (number < length tables.now.sections) × (number < 4_294_967_296)
                     × (stairs.now ≡ timetable tables.now) }
-                ensures { IfOk result
-                    (IsHead tables.entry.now (section_at tables.entry.now number)) }
+                ensures { IfOk result (IsHeadInTurn tables.entry.now number) }
             {
                 ask_for_room(alloc, ROOM);
-                head_of(alloc, tables, stairs, number as u32)
+                let section = in_turn(tables.sections(), number as u32);
+                head_of(alloc, tables, stairs, section)
             },
         )
         .collect::<Result<Vec<Head>, OutOfMemory>>(rt, alloc)?
@@ -97,9 +100,54 @@ pub(crate) fn join_heads(
         tables.now (length tables.now.sections) sheet.old.rows sheet.new.rows tally.new) }
 {
     for number in 0..tables.sections() {
-        let head = &heads[number as usize];
+        let head = &heads[turn_of(tables.sections(), number) as usize];
         sheet.append(&head.sheet)?;
         tally.join(&head.tally);
     }
     Ok(())
+}
+
+// The number of the item that is taken at a turn, from 0, of so many. They are taken from both ends
+// in turn, and what comes of that once more.
+fn in_turn(count: u32, turn: u32) -> u32
+    requires { turn < count }
+    ensures is { result ≡ in_turn count turn }
+    ensures there { result < count }
+{
+    folded(count, folded(count, turn))
+}
+
+// The turn at which the item of a number is taken.
+fn turn_of(count: u32, number: u32) -> u32
+    requires { number < count }
+    ensures is { in_turn count result ≡ number }
+    ensures there { result < count }
+{
+    unfolded(count, unfolded(count, number))
+}
+
+// The number of the item at a place where so many are taken from both ends in turn.
+fn folded(count: u32, place: u32) -> u32
+    requires { place < count }
+    ensures is { result ≡ folded count place }
+    ensures there { result < count }
+{
+    if place % 2 == 0 {
+        place / 2
+    } else {
+        count - 1 - place / 2
+    }
+}
+
+// The place at which the item of a number is then.
+fn unfolded(count: u32, number: u32) -> u32
+    requires { number < count }
+    ensures is { folded count result ≡ number }
+    ensures there { result < count }
+{
+    if number <= (count - 1) / 2 {
+        2 * number
+    } else {
+        2 * (count - 1 - number) + 1
+    }
 }
