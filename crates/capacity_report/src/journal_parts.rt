@@ -22,8 +22,8 @@ const PIECE_ROWS: usize = 1_024;
 // Room with which the sheet of a piece begins.
 const FIRST_BYTES: usize = 64;
 
-// Room that is asked for at once for each row. A longer text must be moved.
-const BYTES_A_ROW: usize = 64;
+// About so many bytes a row has beside the names of trains. A longer text must be moved.
+const BYTES_A_ROW: usize = 40;
 
 // Entries side by side, and their text where it was made: before, the sheet on which it is made.
 #[derive(Drop)]
@@ -138,7 +138,7 @@ fn text_of_entries(alloc: Global, sheet: Sheet, entries: &[Entry]) -> Result<Vec
     ensures { IfOk result (λ text. text.items ≡ text_of_rows (rows.rows_of_journal entries.now)) }
 {
     let mut sheet = sheet;
-    let _ = sheet.reserve(rows_of_all(entries).saturating_mul(BYTES_A_ROW));
+    let _ = sheet.reserve(bytes_of_all(entries));
     rows_of_entries(alloc, &mut sheet, entries)?;
     let mut text = sheet.into_text();
     text.shrink_to_fit();
@@ -161,17 +161,7 @@ fn one_after_another(alloc: Global, pieces: Vec<Piece>) -> Result<Text, OutOfMem
     Ok(text)
 }
 
-// About how many rows these entries have.
-fn rows_of_all(entries: &[Entry]) -> usize {
-    let mut rows = 0usize;
-    for entry in entries {
-        rows = rows.saturating_add(row_count(&entry.act));
-    }
-    rows
-}
-
-// About how many rows an entry has. No clause says so: by it the journal is cut in pieces, and room
-// is asked for.
+// About how many rows an entry has. No clause says so: by it the journal is cut in pieces.
 fn row_count(act: &Act) -> usize {
     match act {
         Act::Published {
@@ -180,4 +170,31 @@ fn row_count(act: &Act) -> usize {
         } => plan.placed.len().saturating_add(1),
         _ => 1,
     }
+}
+
+// About how many bytes the rows of these entries have. No clause says so: so much room is asked for.
+fn bytes_of_all(entries: &[Entry]) -> usize {
+    let mut bytes = 0usize;
+    for entry in entries {
+        bytes = bytes.saturating_add(bytes_of(&entry.act));
+    }
+    bytes
+}
+
+// About how many bytes the rows of an entry have, if all trains have names as long as the first one.
+// A train's row has two names, its own and that of the train before it.
+fn bytes_of(act: &Act) -> usize {
+    let Act::Published {
+        answer: Answer::Ordered(plan),
+        ..
+    } = act
+    else {
+        return BYTES_A_ROW;
+    };
+    let trains = plan.placed.len();
+    if trains == 0 {
+        return BYTES_A_ROW;
+    }
+    let names = plan.placed.name(0).len().saturating_mul(2);
+    trains.saturating_mul(BYTES_A_ROW.saturating_add(names))
 }

@@ -43,10 +43,13 @@ impl SharedUses {
     }
 
     /// Puts a use at the end. Where others hold the uses, they are copied first: others keep theirs.
+    /// Room is made for one use and no more, since few are added to a row.
     pub fn push(&mut self, one: Use) -> Result<(), OutOfMemory>
         ensures { OnOk result (self.new ≡ self.old ++ one ∷ []) }
     {
-        Arc::make_mut(&mut self.list)?.push(one)?;
+        let list = Arc::make_mut(&mut self.list)?;
+        list.reserve_exact(1)?;
+        list.push(one)?;
         Ok(())
     }
 
