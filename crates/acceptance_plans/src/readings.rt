@@ -1,7 +1,7 @@
 //! Readings of a cut, and copies of cuts and answers.
 use compression::answer;
-use plan_model::{Answer, Cut, Reading, Rows};
-use rail_model::Name;
+use plan_model::{Answer, Cut, CutRow, Reading, Rows};
+use rail_model::{Name, Use};
 use small_lines::Text;
 use std::alloc::Global;
 
@@ -36,7 +36,10 @@ fn write_taken<R: Rows>(text: &mut Text, reading: &mut R, name: &Name) {
 // Copies of a reading's cut, and of its answer.
 pub(crate) fn write_copies(alloc: Global, text: &mut Text, reading: &mut Reading) {
     match reading.whole().copy(alloc) {
-        Ok(copy) => put_size(text, &copy),
+        Ok(copy) => {
+            put_size(text, &copy);
+            put_longer(text, copy, reading.whole());
+        }
         Err(_) => text.lose(),
     }
     match answer(alloc, reading) {
@@ -48,6 +51,34 @@ pub(crate) fn write_copies(alloc: Global, text: &mut Text, reading: &mut Reading
 fn put_size(text: &mut Text, cut: &Cut) {
     text.show(b"cut: blocks ", cut.section.blocks.len());
     text.show(b", rows ", cut.rows.len());
+    text.put(b"\n");
+}
+
+// How many uses the last row of a copy has after one more is put to it, and that row of the cut,
+// which held the same uses.
+fn put_longer(text: &mut Text, copy: Cut, cut: &Cut) {
+    let mut rows = copy.rows;
+    let Some(row) = rows.pop() else {
+        return;
+    };
+    let mut row = row;
+    let one = Use {
+        block: 0,
+        start: 0,
+        end: 1,
+    };
+    match row.uses.push(one) {
+        Ok(()) => put_lengths(text, &row, cut.rows.get(rows.len())),
+        Err(_) => text.lose(),
+    }
+}
+
+fn put_lengths(text: &mut Text, row: &CutRow, other: Option<&CutRow>) {
+    let Some(other) = other else {
+        return text.lose();
+    };
+    text.show(b"uses ", row.uses.len());
+    text.show(b" beside ", other.uses.len());
     text.put(b"\n");
 }
 

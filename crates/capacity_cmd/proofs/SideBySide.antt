@@ -26,26 +26,23 @@ module _ {X : Type 0} (R : ℕ → X → Type 0) where
   at_place first (suc count) (x ∷ xs) each (suc n) d there =
       subst (λ k. R k (get_or xs n d)) (omega arith) (at_place (first + 1) count xs each.1 n d (omega (arith, there)))
 
-abbrev HeadAt : Tables → ℕ → Head → Type 0
-HeadAt tables n = IsHeadInTurn tables n
-
-all_heads : (tables : Tables) (heads : List Head) → AllZip (HeadAt tables) (range_with_len 0 (length tables.sections)) heads
+all_heads : (tables : Tables) (heads : List Head) → AllZip (IsHeadInTurn tables) (range_with_len 0 (length tables.sections)) heads
     → AreHeads tables heads
 all_heads tables heads each = record {
-  count = AllZip-long (HeadAt tables) _ _ each ∙ length-range_with_len 0 (length tables.sections);
+  count = AllZip-long (IsHeadInTurn tables) _ _ each ∙ length-range_with_len 0 (length tables.sections);
   each = λ n d there. subst (λ k. IsHeadInTurn tables k (get_or heads n d)) (nothing_more n)
-      (at_place (HeadAt tables) 0 (length tables.sections) heads each n d there);
+      (at_place (IsHeadInTurn tables) 0 (length tables.sections) heads each n d there);
 }
 
 -- what is collected are the heads of all sections
 pub heads_collected : {V E : Type 0} (items : V → List Head) (tables seen : Tables) (numbers : List ℕ) (results : List (Result Head E)) (whole : Result V E) (Q : E → Type 0)
-    → seen ≡ tables → numbers ≡ range_with_len 0 (length tables.sections) → AllZip (λ n (r : Result Head E). IfOk r (HeadAt seen n)) numbers results
+    → seen ≡ tables → numbers ≡ range_with_len 0 (length tables.sections) → AllZip (λ n (r : Result Head E). IfOk r (IsHeadInTurn seen n)) numbers results
     → MatchResult whole (λ v. (heads : List Head) × (results ≡ map Ok heads) × (items v ≡ heads)) Q
     → IfOk whole (λ v. AreHeads tables (items v))
 heads_collected {E = E} items tables seen numbers results (Ok v) Q same all each h =
-    let of_all = subst (λ some. AllZip (λ n (r : Result Head E). IfOk r (HeadAt seen n)) some results) all each in
-    let of_these = subst (λ t. AllZip (λ n (r : Result Head E). IfOk r (HeadAt t n)) (range_with_len 0 (length tables.sections)) results) same of_all in
-    all_heads tables (items v) (collected (HeadAt tables) items (range_with_len 0 (length tables.sections)) results (Ok v) Q of_these h)
+    let of_all = subst (λ some. AllZip (λ n (r : Result Head E). IfOk r (IsHeadInTurn seen n)) some results) all each in
+    let of_these = subst (λ t. AllZip (λ n (r : Result Head E). IfOk r (IsHeadInTurn t n)) (range_with_len 0 (length tables.sections)) results) same of_all in
+    all_heads tables (items v) (collected (IsHeadInTurn tables) items (range_with_len 0 (length tables.sections)) results (Ok v) Q of_these h)
 heads_collected items tables seen numbers results (Err e) Q same all each h = tt
 
 -- the total of one answer, counted with another total

@@ -35,7 +35,7 @@ pub record HasHeads (tables : Tables) (count : ℕ) (before rows : List Row) (to
 abbrev pub IsHead : Tables → Section → Head → Type 0
 IsHead tables section head = AddsHead tables section [] head.sheet.rows (total_of []) head.tally
 
--- the item at a place where so many are taken from both ends in turn, and where these are so taken again
+-- the number of the item at a place of the list that is made by taking so many from both ends in turn; and where that list is taken so again
 abbrev pub folded : ℕ → ℕ → ℕ
 folded count place = if place % 2 == 0 then place / 2 else count - 1 - place / 2
 
@@ -46,7 +46,7 @@ in_turn count turn = folded count (folded count turn)
 abbrev pub IsHeadInTurn : Tables → ℕ → Head → Type 0
 IsHeadInTurn tables turn = IsHead tables (section_at tables (in_turn (length tables.sections) turn))
 
--- the head of each section's answer alone, in the order in which they are taken
+-- the head of each section's answer alone, in the order in which the sections are taken
 pub record AreHeads (tables : Tables) (heads : List Head) : Type 0 where
   pub count : length heads ≡ length tables.sections
   pub each : (n : ℕ) (d : Head) → n < length tables.sections → IsHeadInTurn tables n (slice_index_or heads n d)

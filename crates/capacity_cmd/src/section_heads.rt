@@ -4,7 +4,8 @@ ghost use Rattle.std.specs.Prelude.{◌≡◌, ◌<◌, [], length, IfOk, OnOk};
 ghost use Rattle.rail_model.specs.Tables.{section_at};
 ghost use Rattle.rail_model.specs.Conflict.{timetable};
 ghost use Rattle.capacity_report.specs.Answers.{total_of};
-ghost use Rattle.capacity_cmd.specs.Heads.{HasHeads, IsHead, IsHeadInTurn, AreHeads, folded, in_turn};
+ghost use Rattle.capacity_cmd.specs.Heads.{HasHeads, IsHead, IsHeadInTurn, AreHeads};
+ghost use Rattle.capacity_cmd.specs.Heads.{folded, in_turn};
 
 use crate::report::{add_head, answer_among};
 use capacity_report::Tally;
@@ -31,8 +32,8 @@ pub(crate) struct Head {
 // twice as many pieces as processors, each made by one thread. A section's cut is let go before its
 // head is handed over, so each piece holds one cut at most.
 //
-// Sections that follow each other take about as long. So they are taken from both ends in turn,
-// and what comes of that again: else one thread would get all those that take long.
+// Sections that follow each other take about as long. So they are taken from both ends in turn, and
+// the list so made once more: else one thread would get all that take long.
 pub(crate) fn heads_of(
     rt: &(impl Threads + Sync),
     alloc: Global,
@@ -107,8 +108,8 @@ pub(crate) fn join_heads(
     Ok(())
 }
 
-// The number of the item that is taken at a turn, from 0, of so many. They are taken from both ends
-// in turn, and what comes of that once more.
+// The number of the item that comes at a turn, from 0, where so many are taken from both ends in
+// turn, and the list so made once more.
 fn in_turn(count: u32, turn: u32) -> u32
     requires { turn < count }
     ensures is { result ≡ in_turn count turn }

@@ -59,8 +59,8 @@ pub(crate) fn text_on_threads<R: Threads + Wait + Sync, G: Gate>(
     text_of_book(rt, alloc, book)
 }
 
-// The text of a book's journal, and the report of its tables. The book's cuts and tables are let go
-// of before the text is made.
+// The text of a book's journal, and the report of its tables. The report is made first; then tables
+// and cuts are let go of, and the journal's text is made.
 fn text_of_book(rt: &(impl Threads + Sync), alloc: Global, book: Book) -> Result<Text, OutOfMemory>
     requires { AllAreCurrent book }
     ensures { IfOk result (IsJournalText book) }

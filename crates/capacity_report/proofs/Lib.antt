@@ -1,7 +1,6 @@
 mod Examples
 mod PartTexts
 mod PieceTexts
-mod Slices
 pub mod Rows
 pub mod Timetables
 pub mod Checks

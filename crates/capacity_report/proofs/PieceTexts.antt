@@ -8,7 +8,7 @@ use Rattle.std.proofs.lemmas.List.Elements.{All-cons}
 use Rattle.rayon.proofs.ListFacts.{All-parts}
 use Rattle.plan_model.specs.declared.journal.Entry.{Entry}
 use Rattle.row_text.specs.SheetRows.{text_of_row, text_of_rows}
-use Rattle.capacity_report.specs.declared.journal_parts.Piece.{Piece}
+use Rattle.capacity_report.specs.declared.journal_pieces.Piece.{Piece}
 use Rattle.capacity_report.specs.Pieces.{AreFilled}
 use Rattle.capacity_report.specs.Rows.{act_rows, rows_of_journal}
 
@@ -31,9 +31,9 @@ piece_closed pieces piece entries rest journal entry is so_far =
     ∙ ap (λ es. entries_of pieces ++ es) (append_assoc entries (entry ∷ []) rest)
     ∙ so_far
 
--- the rows of entries, and then those of others
-rows_joined : (xs ys : List Entry) → text_of_rows (rows_of_journal (xs ++ ys)) ≡ text_of_rows (rows_of_journal xs) ++ text_of_rows (rows_of_journal ys)
-rows_joined xs ys =
+-- the text of entries, and then that of others
+texts_joined : (xs ys : List Entry) → text_of_rows (rows_of_journal (xs ++ ys)) ≡ text_of_rows (rows_of_journal xs) ++ text_of_rows (rows_of_journal ys)
+texts_joined xs ys =
     ap text_of_rows (flat_map-append (λ (e : Entry). act_rows e.act) xs ys)
     ∙ flat_map-append text_of_row (rows_of_journal xs) (rows_of_journal ys)
 
@@ -52,4 +52,4 @@ texts_of_pieces (o ∷ old) (n ∷ new) (t ∷ made) filled is =
     let rest = texts_of_pieces old new made (record { count = omega (arith, filled.count); each = λ i d l. filled.each (suc i) d (omega (arith, l)) }) later in
     ap (λ xs. xs ++ flat_map (λ (u : Vec ℕ Global). u.items) made) text
     ∙ ap (λ xs. text_of_rows (rows_of_journal o.entries.items) ++ xs) rest
-    ∙ sym (rows_joined o.entries.items (entries_of old))
+    ∙ sym (texts_joined o.entries.items (entries_of old))

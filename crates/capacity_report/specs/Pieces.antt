@@ -1,10 +1,10 @@
 -- The pieces of a journal's text.
 use Rattle.std.specs.Prelude.{◌≡◌, ℕ, ◌<◌, List, [], length, slice_index_or, IfOk, IfErr}
 use Rattle.row_text.specs.SheetRows.{text_of_rows}
-use Rattle.capacity_report.specs.declared.journal_parts.Piece.{Piece}
+use Rattle.capacity_report.specs.declared.journal_pieces.Piece.{Piece}
 use Rattle.capacity_report.specs.Rows.{rows_of_journal}
 
--- the text of a piece isn't made: its sheet has no rows
+-- unless the text of a piece is made, its sheet has no rows
 abbrev pub IsBegun : Piece → Type 0
 IsBegun piece = IfErr piece.made (λ sheet. sheet.rows ≡ [])
 

@@ -6,7 +6,8 @@
 //! `stairs_text` makes the hop beyond each signal once. The runs are then parted among threads, and
 //! each writes the rows of its runs to a sheet of its own. The texts of these sheets are the pieces
 //! of the whole. `headways_text` writes its table in parts in the same way. `journal_text` writes
-//! the entries of a journal in pieces of some thousand rows, and lets go of those it has written.
+//! the entries of a journal in pieces of at least 1,024 rows but for the last, and lets go of those
+//! it has written.
 //!
 //! ```text
 //! let mut sheet = Sheet::new(alloc);
@@ -23,7 +24,7 @@ mod check;
 mod compressed;
 mod headways;
 mod journal;
-mod journal_parts;
+mod journal_pieces;
 mod laws;
 mod parts;
 mod rates;
@@ -37,7 +38,7 @@ pub use answers::{Detail, answer_rows};
 pub use check::conflict_rows;
 pub use headways::headways_text;
 pub use journal::journal_rows;
-pub use journal_parts::journal_text;
+pub use journal_pieces::journal_text;
 pub use laws::total_adds_up;
 pub use rule::rule_text;
 pub use stairs::stairs_text;

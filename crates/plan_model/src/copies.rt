@@ -20,7 +20,7 @@ impl CutRow {
 }
 
 impl Cut {
-    /// A cut equal to this one, stamps included.
+    /// A cut equal to this one, stamps included. The rows of both hold the same uses.
     pub fn copy(&self, alloc: Global) -> Result<Cut, OutOfMemory>
         ensures { IfOk result (λ other. other ≡ self.now) }
     {

@@ -6,8 +6,8 @@ use std::alloc::Global;
 use std::marker::Model;
 use std::sync::Arc;
 
-/// SharedUses in order, which several rows may hold at one time: that of a section's cut, and the same
-/// row where it is kept. Contracts see their list.
+/// Uses in order, which several rows may hold at one time: that of a section's cut, and the same
+/// row where a worker keeps it. Contracts see their list.
 #[derive(Drop)]
 pub struct SharedUses {
     list: Arc<Vec<Use>, Global>,
@@ -42,8 +42,8 @@ impl SharedUses {
         })
     }
 
-    /// Puts a use at the end. Where others hold the uses, they are copied first: others keep theirs.
-    /// Room is made for one use and no more, since few are added to a row.
+    /// Puts a use at the end. Where others hold the uses, they are copied first, and the others keep
+    /// theirs. Room is made for one use alone.
     pub fn push(&mut self, one: Use) -> Result<(), OutOfMemory>
         ensures { OnOk result (self.new ≡ self.old ++ one ∷ []) }
     {

@@ -77,7 +77,7 @@ fn renewed_rows<R: Rows>(
     let rest = rows.split_off(start)?;
     let mut left = VecDeque::from_vec(rest);
     for i in start as u32..reading.count() {
-        let (row, from) = next_row(alloc, &mut left, reading, i, count)?;
+        let (row, from) = next_row(&mut left, reading, i, count)?;
         rows.push(row)?;
         origin.push(from)?;
     }
@@ -106,7 +106,7 @@ fn renewed_in_place<R: Rows>(
         if !has_name(rows, i as usize, &name) {
             return Ok(origin);
         }
-        let from = renew_row(alloc, rows, reading, i)?;
+        let from = renew_row(rows, reading, i)?;
         origin.push(from)?;
     }
     Ok(origin)
@@ -127,7 +127,6 @@ fn has_name(rows: &List<CutRow>, at: usize, name: &Name) -> bool
 // has the stamp, and answers its place, or else the row is taken. No clause says when the place is
 // told: a row without one is taken for fresh.
 fn renew_row<R: Rows>(
-    alloc: Global,
     rows: &mut List<CutRow>,
     reading: &mut R,
     i: u32,
@@ -167,7 +166,6 @@ fn stamp_at(rows: &List<CutRow>, at: usize) -> u64
 // rows, or else the one that is taken. No clause says when the place is told: a row without one is
 // taken for fresh.
 fn next_row<R: Rows>(
-    alloc: Global,
     left: &mut VecDeque<CutRow>,
     reading: &mut R,
     i: u32,

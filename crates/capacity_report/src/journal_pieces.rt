@@ -16,13 +16,13 @@ use std::alloc::Global;
 use std::mem;
 use std::thread::{Threads, for_each_mut};
 
-// So many rows are a piece, with those of the last entry. Fewer aren't worth a thread of their own.
+// A piece ends with the entry by which it has so many rows; the last may have fewer.
 const PIECE_ROWS: usize = 1_024;
 
 // Room with which the sheet of a piece begins.
 const FIRST_BYTES: usize = 64;
 
-// About so many bytes a row has beside the names of trains. A longer text must be moved.
+// About how many bytes a row has besides names of trains. A longer text must be moved.
 const BYTES_A_ROW: usize = 40;
 
 // Entries side by side, and their text where it was made: before, the sheet on which it is made.
@@ -36,9 +36,8 @@ pub(crate) struct Piece {
 /// It is made in pieces, by at most as many threads as there are processors. Each entry is let go
 /// of when its piece is made.
 ///
-/// The sheets of all pieces are begun by the calling thread. So they grow where it has let go of
-/// memory, and where entries that it made are let go of; a sheet that another thread begins takes
-/// new memory.
+/// The sheets of all pieces are begun by the calling thread: the system's allocator then lets them
+/// grow in memory that this thread has let go of. A sheet begun by another would take new memory.
 pub fn journal_text(
     rt: &(impl Threads + Sync),
     alloc: Global,
@@ -53,7 +52,7 @@ pub fn journal_text(
     one_after_another(alloc, pieces)
 }
 
-// The pieces of a journal, of none of which the text is made.
+// The entries of a journal in pieces, of which no text is made yet.
 fn pieces_of(alloc: Global, journal: List<Entry>) -> Result<Vec<Piece>, OutOfMemory>
     ensures entries { IfOk result (λ pieces. flat_map (λ p. p.entries.items) pieces.items
         ≡ journal) }
@@ -172,7 +171,7 @@ fn row_count(act: &Act) -> usize {
     }
 }
 
-// About how many bytes the rows of these entries have. No clause says so: so much room is asked for.
+// About how many bytes the rows of these entries have. No clause says so: it is a hint for room.
 fn bytes_of_all(entries: &[Entry]) -> usize {
     let mut bytes = 0usize;
     for entry in entries {
@@ -181,7 +180,7 @@ fn bytes_of_all(entries: &[Entry]) -> usize {
     bytes
 }
 
-// About how many bytes the rows of an entry have, if all trains have names as long as the first one.
+// About how many bytes the rows of an entry have, if all names are as long as the first train's.
 // A train's row has two names, its own and that of the train before it.
 fn bytes_of(act: &Act) -> usize {
     let Act::Published {

@@ -2,7 +2,7 @@ use Rattle.std.proofs.Common.{◌≡◌, ◌++◌, All}
 use Rattle.std.specs.List.{flat_map}
 use Rattle.std.specs.Vec.Iter.{into_iter_items}
 use Rattle.capacity_report.specs.Pieces.{IsBegun}
-use Rattle.capacity_report.proofs.journal_parts.pieces_of.Given as goal
+use Rattle.capacity_report.proofs.journal_pieces.pieces_of.Given as goal
 
 -- the entries of the pieces so far, those of the next and those that are left are the journal
 abbrev pub invariant-loop-entry : goal.invariant-loop-entry

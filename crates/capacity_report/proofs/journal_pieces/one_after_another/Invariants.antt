@@ -1,6 +1,6 @@
 use Rattle.std.proofs.Common.{◌≡◌, List, ◌++◌, map, Ok}
 use Rattle.std.specs.List.{flat_map}
-use Rattle.capacity_report.proofs.journal_parts.one_after_another.Given as goal
+use Rattle.capacity_report.proofs.journal_pieces.one_after_another.Given as goal
 
 -- the pieces so far were made, and the others are left
 abbrev pub invariant-loop-piece : goal.invariant-loop-piece

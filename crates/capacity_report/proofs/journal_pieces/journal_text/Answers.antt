@@ -6,7 +6,7 @@ use Rattle.capacity_report.specs.Published.{PublishesAnswer}
 use Rattle.capacity_report.specs.Rows.{rows_of_journal}
 use Rattle.capacity_report.proofs.PieceTexts.{entries_of, in_pieces, texts_of_pieces}
 use Rattle.capacity_report.proofs.Published.{publish_answers}
-use Rattle.capacity_report.proofs.journal_parts.journal_text.Goals as goal
+use Rattle.capacity_report.proofs.journal_pieces.journal_text.Goals as goal
 
 pub fill_all-requires-clause-entries : goal.fill_all-requires-clause-entries
 fill_all-requires-clause-entries g c κs inside =

@@ -3,7 +3,7 @@ use Rattle.std.specs.Vec.Iter.{into_iter_items}
 use Rattle.std.proofs.lemmas.List.Elements.{All-push}
 use Rattle.capacity_report.specs.Pieces.{IsBegun}
 use Rattle.capacity_report.proofs.PieceTexts.{entries_of, piece_closed}
-use Rattle.capacity_report.proofs.journal_parts.pieces_of.Goals as goal
+use Rattle.capacity_report.proofs.journal_pieces.pieces_of.Goals as goal
 
 pub loop-entry-preserved-then-rows-ge-PIECE_ROWS : goal.loop-entry-preserved-then-rows-ge-PIECE_ROWS
 loop-entry-preserved-then-rows-ge-PIECE_ROWS c =

@@ -1,6 +1,6 @@
 use Rattle.std.proofs.Common.{rules, of_calls, subst, get_or}
 use Rattle.capacity_report.specs.Pieces.{IsFilled}
-use Rattle.capacity_report.proofs.journal_parts.fill_all.Goals as goal
+use Rattle.capacity_report.proofs.journal_pieces.fill_all.Goals as goal
 
 pub returns : goal.returns
 returns g c = record {
