@@ -87,21 +87,20 @@ fn add_row(
     if uses.is_empty() {
         return Ok(());
     }
-    some.push(piece_row(alloc, row, uses)?)?;
+    some.push(piece_row(row, uses))?;
     Ok(())
 }
 
 // A row with some uses alone.
-fn piece_row(alloc: Global, row: &CutRow, uses: List<Use>) -> Result<CutRow, OutOfMemory>
-    ensures { IfOk result (λ made. made
-        ≡ record row.now { entry = least (map (λ u. u.start) uses); uses = uses }) }
+fn piece_row(row: &CutRow, uses: List<Use>) -> CutRow
+    ensures { result ≡ record row.now { entry = least (map (λ u. u.start) uses); uses = uses } }
 {
-    Ok(CutRow {
+    CutRow {
         name: row.name,
         stamp: row.stamp,
         entry: least_start(uses.slice()),
-        uses: SharedUses::of(alloc, uses.into_vec())?,
-    })
+        uses: SharedUses::of(uses.into_vec()),
+    }
 }
 
 fn is_within(one: &Use, a: u32, b: u32) -> bool

@@ -320,7 +320,7 @@ impl Book {
         let changes = changes_for(self.alloc, &mut self.shelves, self.first, accepted)?;
         add_edited(self.alloc, &mut self.journal, who, planner, number, &edit)?;
         count_task(&mut self.done, planner);
-        change_shelves(&mut self.shelves, changes, number);
+        change_shelves(self.alloc, &mut self.shelves, changes, number);
         self.at = number;
         self.tables.replace(next, edit);
         Ok(number)

@@ -14,7 +14,7 @@ ghost use Rattle.plan_book.specs.Shelves.{kept_cut};
 use crate::shelf::{Shelf, place_of};
 use crate::stored::{Stored, make_own, make_shared, put_row};
 use line_tables::LineTables;
-use plan_model::{Cut, CutRow, SharedCut};
+use plan_model::{Cut, CutRow};
 use rail_model::{Edit, List, Name, OutOfMemory};
 use section_cut::{CutChange, CutChanges};
 use std::alloc::Global;
@@ -170,16 +170,18 @@ fn shelf_change(alloc: Global, change: CutChange) -> Result<ShelfChange, OutOfMe
     match change {
         CutChange::Untouched => Ok(ShelfChange::Untouched),
         CutChange::Touched(None) => Ok(ShelfChange::Touched(None)),
-        CutChange::Touched(Some(cut)) => {
-            let shared = SharedCut::of(alloc, cut)?;
-            Ok(ShelfChange::Touched(Some(Stored::Shared(shared))))
-        }
+        CutChange::Touched(Some(cut)) => { Ok(ShelfChange::Touched(Some(Stored::of(alloc, cut)?))) }
         CutChange::Row { place, row } => Ok(ShelfChange::Row { place, row }),
     }
 }
 
 // Sets what each shelf knows after an edit, by what the edit made of its section's cut.
-pub(crate) fn change_shelves(shelves: &mut List<Shelf>, changes: List<ShelfChange>, number: u64)
+pub(crate) fn change_shelves(
+    alloc: Global,
+    shelves: &mut List<Shelf>,
+    changes: List<ShelfChange>,
+    number: u64,
+)
     requires count { length changes ≡ length shelves.old }
     requires ready { HoldsOfEach IsReady shelves.old changes }
     ensures { AreChanged number shelves.old changes shelves.new }
@@ -187,13 +189,13 @@ pub(crate) fn change_shelves(shelves: &mut List<Shelf>, changes: List<ShelfChang
     let mut changes = changes.into_vec();
     for place in 0..changes.len() {
         let change = mem::replace(&mut changes[place], ShelfChange::Untouched);
-        change_shelf(shelves.get_mut(place), change, number);
+        change_shelf(alloc, shelves.get_mut(place), change, number);
     }
 }
 
 // Sets what a shelf knows after an edit: where the edit touches the section, its number and the cut
 // after it. Untouched shelves stay as they are.
-fn change_shelf(shelf: &mut Shelf, change: ShelfChange, number: u64)
+fn change_shelf(alloc: Global, shelf: &mut Shelf, change: ShelfChange, number: u64)
     requires { IsReady shelf.old change }
     ensures { shelf.new ≡ changed number shelf.old change }
 {
@@ -205,7 +207,7 @@ fn change_shelf(shelf: &mut Shelf, change: ShelfChange, number: u64)
         }
         ShelfChange::Row { place, row } => {
             shelf.touched = number;
-            put_row(&mut shelf.cut, place, row);
+            put_row(alloc, &mut shelf.cut, place, row);
         }
     }
 }

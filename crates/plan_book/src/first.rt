@@ -9,7 +9,6 @@ ghost use Rattle.plan_book.specs.Shelves.{kept_cut};
 use crate::shelf::Shelf;
 use crate::stored::Stored;
 use line_tables::LineTables;
-use plan_model::SharedCut;
 use rail_model::{List, OutOfMemory};
 use section_cut::{AllStairways, cut_among, stairways};
 use std::alloc::Global;
@@ -50,6 +49,6 @@ fn first_shelf(
         name: tables.section(section).name,
         touched: at,
         published: None,
-        cut: Some(Stored::Shared(SharedCut::of(alloc, cut)?)),
+        cut: Some(Stored::of(alloc, cut)?),
     })
 }

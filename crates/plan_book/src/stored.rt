@@ -1,9 +1,10 @@
 //! A section's cut as a book keeps it.
 ghost use Rattle.std.specs.Prelude.{◌≡◌, IfOk, IfSome, OnOk, Some, option_map};
 ghost use Rattle.plan_model.specs.Cut.{IsSoundCut};
+ghost use Rattle.plan_book.specs.declared.stored.Stored.TheVariants as stored;
 ghost use Rattle.plan_book.specs.Stored.{cut_in, own_with, IsOwn, IsOwnAt};
 
-use plan_model::{Cut, CutRow, SharedCut};
+use plan_model::{Cut, CutRow, MEMBERS, SharedCut};
 use rail_model::OutOfMemory;
 use std::alloc::Global;
 
@@ -15,6 +16,17 @@ pub(crate) enum Stored {
 }
 
 impl Stored {
+    // A cut that readings may share. Workers may share its rows, unless it is crowded or memory runs
+    // out.
+    pub(crate) fn of(alloc: Global, cut: Cut) -> Result<Stored, OutOfMemory>
+        requires { IsSoundCut cut }
+        ensures { IfOk result (λ made. made ≡ stored.Shared cut) }
+    {
+        let mut cut = cut;
+        share_uses(alloc, &mut cut);
+        Ok(Stored::Shared(SharedCut::of(alloc, cut)?))
+    }
+
     // The cut.
     pub(crate) fn cut(&self) -> &Cut
         ensures { result.now ≡ cut_in self.now }
@@ -34,6 +46,19 @@ impl Stored {
             Stored::Shared(cut) => Ok(cut.share()?),
             Stored::Own(cut) => Ok(SharedCut::of(alloc, cut.copy(alloc)?)?),
         }
+    }
+}
+
+// Lets workers share the uses of a cut's rows, where there is memory for it. No worker keeps the
+// rows of a crowded cut: its uses stay as they are. The cut stays the same.
+fn share_uses(alloc: Global, cut: &mut Cut)
+    ensures { cut.new ≡ cut.old }
+{
+    if cut.rows.len() > MEMBERS {
+        return;
+    }
+    for place in 0..cut.rows.len() {
+        cut.rows.get_mut(place).uses.make_shared(alloc);
     }
 }
 
@@ -97,12 +122,17 @@ fn shared_of(alloc: Global, own: Cut) -> Stored
     }
 }
 
-// Puts a row at a place of a cut that nobody else holds.
-pub(crate) fn put_row(stored: &mut Option<Stored>, place: usize, row: CutRow)
+// Puts a row at a place of a cut that nobody else holds. Workers may share it, unless the cut is
+// crowded.
+pub(crate) fn put_row(alloc: Global, stored: &mut Option<Stored>, place: usize, row: CutRow)
     requires { IfSome stored.old (IsOwnAt place) }
     ensures { stored.new ≡ option_map (own_with place row) stored.old }
 {
     if let Some(Stored::Own(cut)) = stored {
+        let mut row = row;
+        if cut.rows.len() <= MEMBERS {
+            row.uses.make_shared(alloc);
+        }
         *cut.rows.get_mut(place) = row;
     }
 }

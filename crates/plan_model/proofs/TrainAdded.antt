@@ -1,12 +1,10 @@
 -- Trains by position, and one train more behind the others.
 use Rattle.std.proofs.Common.{◌≡◌, ℕ, ◌<◌, List, [], ◌∷◌, ◌++◌, length, get_or, refl, sym, ap, ◌∙◌, arith}
-use Rattle.std.specs.Prelude.{pos}
 use Rattle.std.specs.Simd.Lanes.{zip2}
-use Rattle.std.proofs.lemmas.List.{get_or_default}
 use Rattle.std.proofs.lemmas.Simd.{length-zip2, get_or-zip2}
-use Rattle.plan_model.specs.declared.answer.Tie.TheVariants.{Start}
 use Rattle.plan_model.specs.declared.answer.Placed.{Placed}
-use Rattle.plan_model.specs.declared.placed_list.PlacedNumbers.{PlacedNumbers}
+use Rattle.plan_model.specs.declared.train_numbers.TrainNumbers.{TrainNumbers}
+use Rattle.plan_model.specs.TrainNumbers.{no_numbers}
 use Rattle.plan_model.specs.PlacedList.{no_train, with_name}
 
 -- two lists side by side, and one item more in each
@@ -17,18 +15,16 @@ beside_more f [] (b ∷ ys) x y e = absurd (omega (arith, e))
 beside_more f (a ∷ xs) [] x y e = absurd (omega (arith, e))
 beside_more f (a ∷ xs) (b ∷ ys) x y e = ap (λ zs. f a b ∷ zs) (beside_more f xs ys x y (omega (arith, e)))
 
-module _ (names : List (List ℕ)) (numbers : List PlacedNumbers) (trains : List Placed) (same : zip2 with_name names numbers ≡ trains) (e : length names ≡ length numbers) where
+module _ (names : List (List ℕ)) (numbers : List TrainNumbers) (trains : List Placed) (same : zip2 with_name names numbers ≡ trains) (e : length names ≡ length numbers) where
   pub counted : length trains ≡ length numbers
   counted = sym (ap length same) ∙ length-zip2 with_name names numbers e ∙ e
 
-  pub train_is : (i : ℕ) (n : PlacedNumbers) → i < length trains → n ≡ get_or numbers i n → with_name (get_or names i []) n ≡ get_or trains i no_train
+  pub train_is : (i : ℕ) (n : TrainNumbers) → i < length trains → n ≡ get_or numbers i no_numbers → with_name (get_or names i []) n ≡ get_or trains i no_train
   train_is i n l is =
       ap (with_name (get_or names i [])) is
-      ∙ sym (get_or-zip2 with_name names numbers i [] n no_train (omega (arith, l, counted, e)) (omega (arith, l, counted)))
+      ∙ sym (get_or-zip2 with_name names numbers i [] no_numbers no_train (omega (arith, l, counted, e)) (omega (arith, l, counted)))
       ∙ ap (λ ts. get_or ts i no_train) same
 
   pub name_is : (i : ℕ) → i < length trains → get_or names i [] ≡ (get_or trains i no_train).train
   name_is i l =
-      let none : PlacedNumbers = record { planned = pos 0; entry = pos 0; tie = Start } in
-      let n = get_or numbers i none in
-      ap (λ (p : Placed). p.train) (train_is i n l (get_or_default numbers i none n (omega (arith, l, counted))))
+      ap (λ (p : Placed). p.train) (train_is i (get_or numbers i no_numbers) l refl)

@@ -1,3 +1,5 @@
+pub mod SharedUses
+pub mod TrainNumbers
 pub mod PlacedList
 pub mod Types
 pub mod Members

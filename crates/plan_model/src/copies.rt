@@ -6,7 +6,8 @@ use rail_model::{List, OutOfMemory};
 use std::alloc::Global;
 
 impl CutRow {
-    /// A row equal to this one, its stamp included. Both hold the same uses.
+    /// A row equal to this one, its stamp included. Uses that one row holds alone are copied; others
+    /// are shared.
     pub fn copy(&self) -> Result<CutRow, OutOfMemory>
         ensures { IfOk result (λ other. other ≡ self.now) }
     {
@@ -20,7 +21,7 @@ impl CutRow {
 }
 
 impl Cut {
-    /// A cut equal to this one, stamps included. The rows of both hold the same uses.
+    /// A cut equal to this one, stamps included. Uses that several rows may hold are not copied.
     pub fn copy(&self, alloc: Global) -> Result<Cut, OutOfMemory>
         ensures { IfOk result (λ other. other ≡ self.now) }
     {

@@ -40,6 +40,7 @@ mod rows;
 mod scripts;
 mod shared_cut;
 mod shared_uses;
+mod train_numbers;
 
 pub use answer::{Answer, Disorder, Done, Link, Placed, Plan, Tie};
 pub use board::Board;

@@ -2,6 +2,7 @@
 ghost use Rattle.std.specs.Prelude.{◌≡◌, ◌<◌, ◌++◌, [], ◌∷◌, length, slice_index_or, IfOk, OnOk, OnErr};
 ghost use Rattle.plan_model.specs.PlacedList.{no_train};
 
+use crate::train_numbers::{NumbersList, TrainNumbers};
 use crate::{Placed, Tie};
 use rail_model::{Names, OutOfMemory};
 use std::alloc::Global;
@@ -9,20 +10,13 @@ use std::marker::Model;
 
 /// Trains in order. Contracts see their list.
 ///
-/// A train takes 32 bytes beside its name in `Names`, not the 104 of a `Placed`.
+/// A train takes 16 bytes beside its name in `Names`, not the 104 of a `Placed`. Where a number of one
+/// train of the list doesn't fit into 32 bits, each train takes 32.
 #[derive(Drop)]
 pub struct PlacedList {
     names: Names,
     // What is beside the names, in the same order.
-    numbers: Vec<PlacedNumbers>,
-}
-
-// A train without its name.
-#[derive(Clone, Copy)]
-struct PlacedNumbers {
-    planned: i64,
-    entry: i64,
-    tie: Tie,
+    numbers: NumbersList,
 }
 
 impl Model for PlacedList {
@@ -34,9 +28,9 @@ impl Model for PlacedList {
 
     ghost use Rattle.plan_model.specs.PlacedList.{with_name};
 
-    ghost view = { λ p. zip2 with_name p.names p.numbers.items };
+    ghost view = { λ p. zip2 with_name p.names p.numbers };
 
-    ghost invariant = { λ p. length p.names ≡ length p.numbers.items };
+    ghost invariant = { λ p. length p.names ≡ length p.numbers };
 }
 
 impl PlacedList {
@@ -46,7 +40,7 @@ impl PlacedList {
     {
         Ok(PlacedList {
             names: Names::with_capacity(alloc, count)?,
-            numbers: Vec::with_capacity(alloc, count)?,
+            numbers: NumbersList::with_capacity(alloc, count)?,
         })
     }
 
@@ -55,14 +49,19 @@ impl PlacedList {
         ensures ok { OnOk result (self.new ≡ self.old ++ placed.now ∷ []) }
         ensures err { OnErr result (self.new ≡ self.old) }
     {
-        self.numbers.reserve(1)?;
-        self.names.push(&placed.train)?;
-        self.numbers.push_reserved(PlacedNumbers {
+        let count = self.numbers.len();
+        self.numbers.push(TrainNumbers {
             planned: placed.planned,
             entry: placed.entry,
             tie: placed.tie,
-        });
-        Ok(())
+        })?;
+        match self.names.push(&placed.train) {
+            Ok(()) => Ok(()),
+            Err(refused) => {
+                self.numbers.truncate(count);
+                Err(refused)
+            }
+        }
     }
 
     /// How many trains there are.
@@ -78,11 +77,11 @@ impl PlacedList {
         requires { i < length self.now }
         ensures { result ≡ slice_index_or self.now i no_train }
     {
-        let PlacedNumbers {
+        let TrainNumbers {
             planned,
             entry,
             tie,
-        } = self.numbers[i];
+        } = self.numbers.at(i);
         Placed {
             train: self.names.get(i),
             planned,
@@ -104,7 +103,7 @@ impl PlacedList {
         requires { i < length self.now }
         ensures { result ≡ (slice_index_or self.now i no_train).planned }
     {
-        self.numbers[i].planned
+        self.numbers.at(i).planned
     }
 
     /// The entry of the train at `i` in the compressed timetable: seconds from the timetable's
@@ -113,7 +112,7 @@ impl PlacedList {
         requires { i < length self.now }
         ensures { result ≡ (slice_index_or self.now i no_train).entry }
     {
-        self.numbers[i].entry
+        self.numbers.at(i).entry
     }
 
     /// The tie of the train at `i`.
@@ -121,7 +120,7 @@ impl PlacedList {
         requires { i < length self.now }
         ensures { result ≡ (slice_index_or self.now i no_train).tie }
     {
-        self.numbers[i].tie
+        self.numbers.at(i).tie
     }
 
     /// Gives back the room that no train takes.
@@ -138,7 +137,7 @@ impl PlacedList {
     {
         Ok(PlacedList {
             names: self.names.clone()?,
-            numbers: Vec::from_slice(alloc, &self.numbers)?,
+            numbers: self.numbers.copy(alloc)?,
         })
     }
 }

@@ -1,6 +1,6 @@
 //! The kept rows that are left while the rows of a cut are looked for among them, in the order of
 //! names.
-ghost use Rattle.std.specs.Prelude.{◌≡◌, ℕ, false, ◌∷◌, find, IfSome};
+ghost use Rattle.std.specs.Prelude.{◌≡◌, ℕ, false, ◌∷◌, drop, find, IfSome};
 ghost use Rattle.rail_model.specs.Name.{NamesRise, is_before};
 ghost use Rattle.plan_repair.specs.Kept.{has};
 ghost use Rattle.plan_repair.specs.Left.{first_is, EndsWith, IsLeft};
@@ -47,8 +47,16 @@ fn pass_over(left: &mut VecDeque<CutRow>, name: &Name)
     ensures reached { first_is (λ r. is_before r.name name.now) left.new.items ≡ false }
 {
     while comes_before(left, name) {
-        left.pop_front();
+        drop_first(left);
     }
+}
+
+// Lets go of the first row, if there is one. In a function of its own, so that the loop that calls
+// it has one way on, however the row's uses are held.
+fn drop_first(left: &mut VecDeque<CutRow>)
+    ensures { left.new.items ≡ drop 1 left.old.items }
+{
+    left.pop_front();
 }
 
 // Whether the first row comes before a name.

@@ -7,9 +7,9 @@
 //! a kept row of the stamp that is read stays where it is, and any other is taken in its place. From
 //! the first other name on, both are gone through in the order of names, and a kept row of the name
 //! and stamp that is read is moved into the new cut. The uses of a row that stays or is moved are
-//! neither taken nor copied. Every other row is taken, and then holds the same uses as the cut's
-//! (`SharedUses`). Section and connections come from the reading. What is known on the way is one
-//! record, `IsRenewed` in `specs/Renewed.antt`.
+//! neither taken nor copied. Every other row is taken. It shares the uses of the cut's row where
+//! those can be shared, and else copies them (`SharedUses`). Section and connections come from the
+//! reading. What is known on the way is one record, `IsRenewed` in `specs/Renewed.antt`.
 //!
 //! The net is mended where at most a quarter of the rows is fresh and the places are the same.
 //! Else the order is found and the net made from all uses, as for a first answer. A cut without an

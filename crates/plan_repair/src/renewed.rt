@@ -132,7 +132,6 @@ fn renew_row<R: Rows>(
     i: u32,
 ) -> Result<Option<u32>, OutOfMemory>
     requires there { i < member_count (R.shown reading.old).cut }
-    requires sound { IsSoundCut (R.shown reading.old).cut }
     requires rise { NamesRise (λ r. r.name) (drop i rows.old) }
     requires name { HasName rows.old i (member (R.shown reading.old).cut i).name }
     requires agree { AgreeByStamps (drop i rows.old) (R.shown reading.old).cut.rows }
@@ -172,7 +171,6 @@ fn next_row<R: Rows>(
     count: u32,
 ) -> Result<(CutRow, Option<u32>), OutOfMemory>
     requires there { i < member_count (R.shown reading.old).cut }
-    requires sound { IsSoundCut (R.shown reading.old).cut }
     requires rise { NamesRise (λ r. r.name) left.old.items }
     requires few { length left.old.items ≤ count }
     requires agree { AgreeByStamps left.old.items (R.shown reading.old).cut.rows }

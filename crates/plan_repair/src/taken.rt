@@ -7,7 +7,8 @@ ghost use Rattle.plan_repair.specs.Kept.{TakesAtMost};
 use plan_model::{CutRow, Rows};
 use rail_model::OutOfMemory;
 
-// Takes the row at a position: it holds the same uses as the cut's.
+// Takes the row at a position. It shares the uses of the cut's row where those can be shared, and
+// else copies them.
 pub(crate) fn take_row<R: Rows>(reading: &mut R, i: u32) -> Result<CutRow, OutOfMemory>
     requires { i < member_count (R.shown reading.old).cut }
     ensures row { IfOk result (λ row. row ≡ member (R.shown reading.old).cut i) }

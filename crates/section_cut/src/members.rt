@@ -101,7 +101,7 @@ pub(crate) fn member_row(
     if !enters(section, uses, entry) {
         return Ok(None);
     }
-    let uses = SharedUses::of(alloc, Vec::from_slice(alloc, uses)?)?;
+    let uses = SharedUses::of(Vec::from_slice(alloc, uses)?);
     Ok(Some(CutRow {
         name,
         stamp,

@@ -159,7 +159,7 @@ fn row_ending(
         name: row.name,
         stamp,
         entry: row.entry,
-        uses: SharedUses::of(alloc, uses)?,
+        uses: SharedUses::of(uses),
     })
 }
 

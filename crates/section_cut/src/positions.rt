@@ -159,7 +159,7 @@ pub(crate) fn placed(
     if !place_from(&mut uses, table.positions, blocks, stairway, same) {
         return Ok(None);
     }
-    Ok(Some(SharedUses::of(alloc, uses)?))
+    Ok(Some(SharedUses::of(uses)))
 }
 
 // Makes uses from a place on those of a stairway of as many by their positions in a section of this

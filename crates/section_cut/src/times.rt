@@ -22,5 +22,5 @@ pub(crate) fn with_times(
             ..*time
         });
     }
-    SharedUses::of(alloc, uses)
+    Ok(SharedUses::of(uses))
 }

@@ -18,7 +18,7 @@ const LEAST_SECTIONS: usize = 4;
 // Nor are fewer rows in all of them.
 const LEAST_ROWS: u32 = 1_024;
 
-// Room that is asked for at once for each section: its rows are kept.
+// Room that is asked for at once for each section, for its answer and what is kept of it.
 const ROOM: usize = 4 * 1_048_576;
 
 // A section that is answered by itself: its reading, and what is to be kept of it with its answer.

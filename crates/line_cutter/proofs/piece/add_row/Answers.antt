@@ -25,8 +25,8 @@ returns c =
     let rows = c.args.some.now in
     let used : c.in_ok-uses.uses ≡ map (moved_use a) (filter (is_within a b) row.uses) =
     c.in_ok-uses.ensures ∙ ap (λ (us : List Use). map (moved_use a) (filter (is_within a b) us)) c.slice.ensures in
-    let is : c.in_ok-piece_row.field-0 ≡ piece_row a b row =
-    c.in_ok-piece_row.ensures
+    let is : c.piece_row.result ≡ piece_row a b row =
+    c.piece_row.ensures
     ∙ ap (λ (us : List Use). let r : CutRow = record row { entry = least (map (λ u. u.start) us); uses = us } in r) used in
     c.in_ok-push.ensures.ok
     ∙ ap (λ (r : CutRow). rows ++ r ∷ []) is

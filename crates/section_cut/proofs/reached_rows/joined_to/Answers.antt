@@ -19,7 +19,7 @@ loop-one-preserved c =
     let one = get_or rest i no_use in
     let row = c.in-Some.row in
     let with_uses : CutRow → List Use → CutRow = λ r us. record r { uses = us } in
-    ap (with_uses c.loop-one.row) c.in_ok-push.ensures
+    ap (with_uses c.loop-one.row) c.in_ok-push.ensures.ok
     ∙ ap (λ (r : CutRow). with_uses r (r.uses ++ one ∷ [])) c.loop-one.invariant
     ∙ ap (with_uses row) (append_assoc row.uses (take i rest) (one ∷ []) ∙ ap (λ us. row.uses ++ us) (sym (take_more rest i no_use c.loop-one-test.true)))
 

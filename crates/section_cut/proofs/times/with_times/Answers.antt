@@ -1,7 +1,6 @@
-use Rattle.std.proofs.Common.{◌≡◌, ◌∙◌, ◌++◌, ◌∷◌, [], w64, length, take, get_or, ap, sym, rules, arith}
+use Rattle.std.proofs.Common.{◌∙◌, ◌++◌, ◌∷◌, [], w64, length, take, get_or, ap, sym, rules, arith}
 use Rattle.std.proofs.lemmas.Int.{to_z-of_z}
 use Rattle.std.proofs.lemmas.List.{length_push, take_all}
-use Rattle.std.proofs.lemmas.Result.{IfOk-weaker}
 use Rattle.std.proofs.lemmas.Slice.Zip.{zip_turn, zip_end}
 use Rattle.plan_model.specs.Members.{no_use}
 use Rattle.section_cut.specs.Times.{with_time, with_times}
@@ -38,7 +37,5 @@ returns c =
     let times = c.args.times.now in
     let all = with_times places times in
     let t = zip_end places times c.loop-place.yielded c.into_iter-place-iterator.result c.loop-place.place-iterator c.next.new.self c.next.result (search rules) (search rules) c.loop-place.yielded_by c.in-None.is c.next.ensures.steps in
-    IfOk-weaker c.of.result (λ made. made ≡ c.loop-place.uses.items) (λ made. made ≡ all)
-    (λ made is. is ∙ c.loop-place.invariant.timed
-    ∙ take_all (length c.loop-place.yielded) all (omega (arith, t, length-with_times places times)))
-    c.of.ensures
+    c.of.ensures ∙ c.loop-place.invariant.timed
+    ∙ take_all (length c.loop-place.yielded) all (omega (arith, t, length-with_times places times))

@@ -3,11 +3,11 @@ use Rattle.plan_model.specs.declared.answer.Placed.{Placed}
 use Rattle.plan_model.proofs.TrainAdded.{counted, train_is}
 use Rattle.plan_model.proofs.placed_list.PlacedList.planned.Goals as goal
 
-pub index-requires : goal.index-requires
-index-requires c = omega (arith, c.requires, counted _ _ _ c.self.view_is c.self.invariant)
+pub at-requires : goal.at-requires
+at-requires c = omega (arith, c.requires, counted _ _ _ c.self.view_is c.self.invariant)
 
 pub returns : goal.returns
 returns c =
-    let same : to_z w64 (of_z w64 c.index.result.now.planned) ≡ c.index.result.now.planned = search rules in
+    let same : to_z w64 (of_z w64 c.at.result.planned) ≡ c.at.result.planned = search rules in
     rw same
-    (ap (λ (p : Placed). p.planned) (train_is _ _ _ c.self.view_is c.self.invariant c.args.i c.index.result.now c.requires c.index.ensures))
+    (ap (λ (p : Placed). p.planned) (train_is _ _ _ c.self.view_is c.self.invariant c.args.i c.at.result c.requires c.at.ensures))
