@@ -101,11 +101,20 @@ pub(crate) fn join_heads(
         tables.now (length tables.now.sections) sheet.old.rows sheet.new.rows tally.new) }
 {
     for number in 0..tables.sections() {
-        let head = &heads[turn_of(tables.sections(), number) as usize];
+        let head = head_at(tables, heads, number);
         sheet.append(&head.sheet)?;
         tally.join(&head.tally);
     }
     Ok(())
+}
+
+// The head of a section, by its number, among the heads in the order in which they were made.
+fn head_at<'a>(tables: &LineTables, heads: &'a [Head], number: u32) -> &'a Head
+    requires heads { AreHeads tables.now heads.now }
+    requires there { number < length tables.now.sections }
+    ensures { IsHead tables.now (section_at tables.now number) result.now }
+{
+    &heads[turn_of(tables.sections(), number) as usize]
 }
 
 // The number of the item that comes at a turn, from 0, where so many are taken from both ends in

@@ -37,7 +37,7 @@ texts_joined xs ys =
     ap text_of_rows (flat_map-append (λ (e : Entry). act_rows e.act) xs ys)
     ∙ flat_map-append text_of_row (rows_of_journal xs) (rows_of_journal ys)
 
-pub texts_of_pieces : (old new : List Piece) (made : List (Vec ℕ Global)) → AreFilled old new → map (λ p. p.made) new ≡ map Ok made
+pub texts_of_pieces : (old new : List Piece) (made : List (Vec ℕ Global)) → AreFilled old new → map (λ p. p.text) new ≡ map Ok made
     → flat_map (λ (t : Vec ℕ Global). t.items) made ≡ text_of_rows (rows_of_journal (entries_of old))
 texts_of_pieces [] [] [] filled is = refl
 texts_of_pieces [] [] (t ∷ made) filled is = absurd (cc)
@@ -45,8 +45,8 @@ texts_of_pieces [] (n ∷ new) made filled is = absurd (omega (arith, filled.cou
 texts_of_pieces (o ∷ old) [] made filled is = absurd (omega (arith, filled.count))
 texts_of_pieces (o ∷ old) (n ∷ new) [] filled is = absurd (cc)
 texts_of_pieces (o ∷ old) (n ∷ new) (t ∷ made) filled is =
-    let first : n.made ≡ Ok t = cc in
-    let later : map (λ p. p.made) new ≡ map Ok made = cc in
+    let first : n.text ≡ Ok t = cc in
+    let later : map (λ p. p.text) new ≡ map Ok made = cc in
     let text : t.items ≡ text_of_rows (rows_of_journal o.entries.items) =
     subst (λ m. IfOk m (λ text. text.items ≡ text_of_rows (rows_of_journal o.entries.items))) first (filled.each 0 o (omega arith)) in
     let rest = texts_of_pieces old new made (record { count = omega (arith, filled.count); each = λ i d l. filled.each (suc i) d (omega (arith, l)) }) later in

@@ -1,5 +1,5 @@
 //! The text of a journal.
-ghost use Rattle.std.specs.Prelude.{◌≡◌, ◌<◌, [], map, All, IfOk, Ok};
+ghost use Rattle.std.specs.Prelude.{◌≡◌, ◌<◌, [], map, All, IfOk};
 ghost use Rattle.std.specs.List.{flat_map};
 ghost use Rattle.plan_model.specs.Legal.{IsLegal};
 ghost use Rattle.row_text.specs.SheetRows.{text_of_rows};
@@ -8,6 +8,7 @@ ghost use Rattle.capacity_report.specs.Pieces.{IsBegun, IsFilled, AreFilled};
 ghost use Rattle.capacity_report.specs.Published.{PublishesAnswer};
 
 use crate::journal::rows_of_entries;
+use crate::parts::one_after_another;
 use plan_model::{Act, Answer, Entry};
 use rail_model::{List, OutOfMemory};
 use rayon::current_num_threads;
@@ -25,11 +26,13 @@ const FIRST_BYTES: usize = 64;
 // About how many bytes a row has besides names of trains. A longer text must be moved.
 const BYTES_A_ROW: usize = 40;
 
-// Entries side by side, and their text where it was made: before, the sheet on which it is made.
+// Entries side by side, the sheet on which their text is made, and the text: an error where memory
+// ran out, and before it is made.
 #[derive(Drop)]
 pub(crate) struct Piece {
     pub(crate) entries: Vec<Entry>,
-    pub(crate) made: Result<Vec<u8>, Sheet>,
+    pub(crate) sheet: Sheet,
+    pub(crate) text: Result<Vec<u8>, OutOfMemory>,
 }
 
 /// The text of the rows of a legal journal, one entry after the other, as `journal_rows` adds them.
@@ -49,7 +52,7 @@ pub fn journal_text(
     let mut pieces = pieces_of(alloc, journal)?;
     let threads = threads_for(rt, pieces.len());
     fill_all(rt, alloc, threads, &mut pieces);
-    one_after_another(alloc, pieces)
+    one_after_another(alloc, texts_of(alloc, pieces)?)
 }
 
 // The entries of a journal in pieces, of which no text is made yet.
@@ -82,7 +85,8 @@ fn begun(alloc: Global, entries: Vec<Entry>) -> Piece
     let _ = sheet.reserve(FIRST_BYTES);
     Piece {
         entries,
-        made: Err(sheet),
+        sheet,
+        text: Err(OutOfMemory),
     }
 }
 
@@ -115,19 +119,15 @@ fn fill_all<R: Threads + Sync>(rt: &R, alloc: Global, threads: usize, pieces: &m
     );
 }
 
-// Makes the text of a piece, and lets go of its entries. Without memory there is no text.
+// Makes the text of a piece, if memory suffices, and lets go of its entries.
 fn fill(alloc: Global, piece: &mut Piece)
     requires begun { IsBegun piece.old }
     requires entries { All (λ e. PublishesAnswer e.act) piece.old.entries.items }
     ensures { IsFilled piece.old piece.new }
 {
     let entries = mem::replace(&mut piece.entries, Vec::new(alloc));
-    let Err(sheet) = mem::replace(&mut piece.made, Err(Sheet::new(alloc))) else {
-        return;
-    };
-    if let Ok(text) = text_of_entries(alloc, sheet, &entries) {
-        piece.made = Ok(text);
-    }
+    let sheet = mem::replace(&mut piece.sheet, Sheet::new(alloc));
+    piece.text = text_of_entries(alloc, sheet, &entries);
 }
 
 // The text of the rows of entries.
@@ -144,20 +144,15 @@ fn text_of_entries(alloc: Global, sheet: Sheet, entries: &[Entry]) -> Result<Vec
     Ok(text)
 }
 
-// The texts of these pieces in their order, if each was made.
-fn one_after_another(alloc: Global, pieces: Vec<Piece>) -> Result<Text, OutOfMemory>
-    ensures { IfOk result (λ text. (made : List _) × (map (λ p. p.made) pieces.items ≡ map Ok made)
-        × (text ≡ flat_map (λ piece. piece.items) made)) }
+// The texts of these pieces, in their order.
+fn texts_of(
+    alloc: Global,
+    pieces: Vec<Piece>,
+) -> Result<Vec<Result<Vec<u8>, OutOfMemory>>, OutOfMemory>
+    ensures { IfOk result (λ texts. texts.items ≡ map (λ p. p.text) pieces.items) }
 {
-    let mut text = Text::new(alloc);
-    for piece in pieces {
-        let Piece { made, .. } = piece;
-        let Ok(made) = made else {
-            return Err(OutOfMemory);
-        };
-        text.push(made)?;
-    }
-    Ok(text)
+    let texts = pieces.into_iter().map(|piece| piece.text).collect(alloc)?;
+    Ok(texts)
 }
 
 // About how many rows an entry has. No clause says so: by it the journal is cut in pieces.

@@ -21,6 +21,6 @@ returns g c =
     ap (λ n. take n (written ++ drop (length written) old.items)) long ∙ take-append_seam written (drop (length written) old.items) in
     IfOk-weaker c.one_after_another.result _ _
     (λ text h.
-    h.2 ∙ texts_of_pieces _ written h.0 c.fill_all.ensures (ap (map (λ p. p.made)) (sym whole) ∙ h.1)
+    h.2 ∙ texts_of_pieces _ written h.0 c.fill_all.ensures (ap (map (λ p. p.text)) (sym whole) ∙ sym c.in_ok-texts_of.ensures ∙ h.1)
     ∙ ap (λ es. text_of_rows (rows_of_journal es)) (ap entries_of c.deref_mut.ensures.value ∙ c.in_ok-pieces.ensures.entries))
     c.one_after_another.ensures
