@@ -4,9 +4,10 @@
 //! The definition takes trains out in rounds. `order` first takes the trains by their entries, and
 //! answers at once where each place keeps that order. Where few trains are out of turn, so that the
 //! others keep it, only pairs with one of the few are compared, and the first that is opposite is
-//! the answer. Else the users of each place are sorted once. Each train gets a set of bits with
-//! those that it precedes and a count of those that precede it, and trains are taken out as their
-//! counts come to 0.
+//! the answer. Where many are out of turn, the first trains by name are compared with all others,
+//! since mostly one of them is opposite to another. Else the users of each place are sorted once.
+//! Each train gets a set of bits with those that it precedes and a count of those that precede it,
+//! and trains are taken out as their counts come to 0.
 //!
 //! `disorder_of` and `place_of_link` say the same without memory, with sets on the stack.
 //!

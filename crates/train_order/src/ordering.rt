@@ -13,7 +13,7 @@ use crate::entry_order::by_entry;
 use crate::found::Order;
 use crate::member_set::MemberSet;
 use crate::out_of_turn::out_of_turn;
-use crate::pairs::first_pair;
+use crate::pairs::{first_pair, pair_of_first};
 use crate::precedence::precedence_sets;
 use crate::taking::take_up_all;
 use crate::told::{opposite, tell};
@@ -21,8 +21,8 @@ use plan_model::{Cut, Disorder, FitCut, MEMBERS, SoundCut};
 use rail_model::{List, OutOfMemory};
 use std::alloc::Global;
 
-// What the order of entries tells: the cut's order, that two trains are opposite, or nothing, so that
-// the slow way follows.
+// What is found without sets: the cut's order, that two trains are opposite, or nothing, so that the
+// slow way follows.
 #[derive(Drop)]
 pub(crate) enum ByTurn {
     Order(Order),
@@ -42,7 +42,8 @@ pub fn order(alloc: Global, cut: &Cut) -> Result<Result<Order, Disorder>, OutOfM
     ensures { IfOk result (λ answer. IsOrdering cut.now answer) }
 {
     let cut = FitCut::of(cut);
-    // Where few trains are out of turn, it takes no sets to find the order, or an opposite pair.
+    // Where few trains are out of turn, or one of the first is opposite to another, no sets are
+    // needed.
     match answer_by_turn(alloc, cut.sound())? {
         ByTurn::Order(order) => return Ok(Ok(order)),
         ByTurn::Opposite(told) => return Ok(Err(told)),
@@ -59,7 +60,7 @@ pub fn order(alloc: Global, cut: &Cut) -> Result<Result<Order, Disorder>, OutOfM
 }
 
 // The order of the trains by their entries, where each place keeps it; or that two are opposite,
-// where few trains are out of turn and it is so.
+// where few trains are out of turn, or one of the two is among the first, and it is so.
 fn answer_by_turn(alloc: Global, cut: &SoundCut) -> Result<ByTurn, OutOfMemory>
     requires { member_count cut.now ≤ MEMBERS }
     ensures { IfOk result (TellsByTurn cut.now) }
@@ -67,6 +68,16 @@ fn answer_by_turn(alloc: Global, cut: &SoundCut) -> Result<ByTurn, OutOfMemory>
     let positions = by_entry(alloc, cut)?;
     match out_of_turn(alloc, cut, &positions)? {
         Some(apart) => by_turn(alloc, cut, positions, &apart),
+        None => by_first(alloc, cut),
+    }
+}
+
+// That two trains are opposite, if one of the first is opposite to another.
+fn by_first(alloc: Global, cut: &SoundCut) -> Result<ByTurn, OutOfMemory>
+    ensures { IfOk result (TellsByTurn cut.now) }
+{
+    match pair_of_first(alloc, cut)? {
+        Some(pair) => Ok(ByTurn::Opposite(told_pair(cut, pair))),
         None => Ok(ByTurn::Unknown),
     }
 }

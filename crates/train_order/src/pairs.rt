@@ -1,6 +1,6 @@
-//! The least opposite pair where few members are apart. Each of these is compared with all others:
-//! its starts, by the places, beside their uses.
-ghost use Rattle.std.specs.Prelude.{◌≡◌, ◌<◌, ◌≤◌, ◌<ℤ◌, ◌↔◌, ℕ, All, IsTrue, length, IfOk, None, slice_index_or};
+//! The least opposite pair where few members are apart, or where it has one of the first members.
+//! Each of these is compared with all others: its starts, by the places, beside their uses.
+ghost use Rattle.std.specs.Prelude.{◌≡◌, ◌<◌, ◌≤◌, ◌<ℤ◌, ◌↔◌, ℕ, All, IsTrue, length, IfOk, IfSome, None, Some, slice_index_or};
 ghost use Rattle.std.specs.List.{list_any};
 ghost use Rattle.plan_model.specs.declared.limits.TheConstants.{MEMBERS};
 ghost use Rattle.plan_model.specs.Cut.{AreOfOtherPlaces};
@@ -37,6 +37,26 @@ pub(crate) fn first_pair(
         i = apart.next(i + 1);
     }
     Ok(least)
+}
+
+// So many of the first members are compared with all others where many are apart: mostly one of
+// them is opposite to another, and to compare more would take longer than sets of all members.
+const FIRST: u32 = 4;
+
+// The least opposite pair, if it has one of the first members. `None` says nothing.
+pub(crate) fn pair_of_first(
+    alloc: Global,
+    cut: &SoundCut,
+) -> Result<Option<(u32, u32)>, OutOfMemory>
+    ensures { IfOk result (λ found. IfSome found (λ pair. opposite_pair cut.now ≡ Some pair)) }
+{
+    for i in 0..cut.member_count().min(FIRST) {
+        let (starts, first) = starts_of(alloc, cut, i)?;
+        if let Some(j) = first_opposite(cut, &starts, first, i) {
+            return Ok(Some((i, j)));
+        }
+    }
+    Ok(None)
 }
 
 // The first member that is opposite to member i, which has these starts, from the first moment on.
