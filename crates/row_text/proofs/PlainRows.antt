@@ -1,5 +1,5 @@
--- A text that is cut byte by byte.
-use Rattle.std.proofs.Common.{◌≡◌, ◌≢◌, ℕ, ◌+◌, ◌-◌, ◌<◌, ◌≤◌, ◌==◌, ◌&&◌, true, false, List, [], ◌∷◌, ◌++◌, length, get_or, take, drop, map, slice_range, sym, ap, ◌∙◌, refl, arith, append_assoc}
+-- A text that is cut at its commas and at the ends of its lines.
+use Rattle.std.proofs.Common.{◌≡◌, ◌≢◌, ℕ, ◌+◌, ◌-◌, ◌<◌, ◌≤◌, ◌==◌, ◌&&◌, true, false, List, [], ◌∷◌, ◌++◌, length, get_or, take, drop, map, slice_range, zero, suc, sym, ap, subst, ◌∙◌, refl, arith, append_assoc}
 use Rattle.std.proofs.lemmas.Bool.{and_parts, eq-eqb, eqb-true, ne_eqb}
 use Rattle.std.proofs.lemmas.Bool.Decides.{nat_tests}
 use Rattle.std.proofs.lemmas.List.{append-nil, drop_all, drop_more, drop-append-le, length-drop, length-take-le, length_push, map_push, take_all, take_more, take_rest}
@@ -125,6 +125,15 @@ past-comma byte past = grind (arith, nat_tests)
 
 pub HasCut-past : (text : List ℕ) (cut : CutFields) (i : ℕ) → i < length text → 44 < get_or text i 0 → HasCut text cut i → HasCut text cut (i + 1)
 HasCut-past text cut i there past has = HasCut-byte text cut i there (λ quote. omega arith) (λ comma. omega arith) (past-comma (get_or text i 0) past) has
+
+-- bytes above the comma are cut by looking past them
+pub HasCut-skip : (text : List ℕ) (cut : CutFields) (i n : ℕ) → i + n ≤ length text → ((k : ℕ) → k < n → 44 < get_or text (i + k) 0)
+    → HasCut text cut i → HasCut text cut (i + n)
+HasCut-skip text cut i zero there above has = subst (HasCut text cut) (let e : i ≡ i + zero = omega arith in e) has
+HasCut-skip text cut i (suc n) there above has =
+    subst (HasCut text cut) (let e : i + n + 1 ≡ i + suc n = omega arith in e)
+    (HasCut-past text cut (i + n) (omega (arith, there)) (above n (omega arith))
+    (HasCut-skip text cut i n (omega (arith, there)) (λ k l. above k (omega (arith, l))) has))
 
 -- the end of the text ends its last line
 pub HasCut-end : (text : List ℕ) (old new : CutFields) (i : ℕ) → length text ≤ i → LineEnded text old new i → HasCut text old i → HasCutAll text new

@@ -1,5 +1,6 @@
 -- The rows of a text that has no double quote.
 use Rattle.std.specs.Prelude.{◌≡◌, ◌≢◌, ℕ, ◌==◌, ◌&&◌, ◌||◌, ◌+◌, ◌≤◌, ◌<◌, Bool, List, [], ◌∷◌, ◌++◌, length, take, drop, get_or, slice_range, if◌then◌else◌}
+use Rattle.std.specs.Int.{bit_at}
 use Rattle.std.specs.List.{All}
 use Rattle.csv.specs.Records.{Rising, last_end}
 use Rattle.row_text.specs.Types.{CutFields}
@@ -85,3 +86,7 @@ EndsLine old new i = (text : List ℕ) → i ≤ length text → old.start ≤ i
 -- one byte more was taken
 abbrev pub TakesByte : CutFields → CutFields → ℕ → ℕ → Type 0
 TakesByte old new i byte = (text : List ℕ) → i < length text → get_or text i 0 ≡ byte → HasCut text old i → HasCut text new (i + 1)
+
+-- of the 64 bytes of a text from a place on, byte k is above the comma where bit k of a number is 0
+abbrev pub OthersAreAboveComma : List ℕ → ℕ → ℕ → Type 0
+OthersAreAboveComma text at bits = (k : ℕ) → k < 64 → bit_at bits k ≡ 0 → 44 < get_or text (at + k) 0

@@ -1,7 +1,7 @@
 //! The rows of a text without double quotes, which is cut at its commas and at the ends of its
 //! lines.
 ghost use Rattle.std.specs.Prelude.{◌≡◌, ◌↔◌, ◌==◌, ◌&&◌, ◌∷◌, [], ◌+◌, ◌<◌, ◌≤◌, ◌^◌, length, IsTrue, IfOk, IfSome, OnOk, take};
-ghost use Rattle.row_text.specs.PlainRows.{ends_line, EndsField, EndsLine, HasCut, HasCutAll, TakesByte};
+ghost use Rattle.row_text.specs.PlainRows.{ends_line, EndsField, EndsLine, HasCut, HasCutAll, TakesByte, OthersAreAboveComma};
 ghost use Rattle.row_text.specs.Rows.{rows_of};
 
 use crate::fields::GREATEST_PLACE;
@@ -9,6 +9,7 @@ use crate::places::{places_for, push_place};
 use crate::row_list::RowList;
 use rail_model::OutOfMemory;
 use std::alloc::Global;
+use std::simd::prelude::*;
 
 // The fields and rows that were cut from a text so far.
 #[derive(Drop)]
@@ -63,28 +64,79 @@ fn starts_with_mark(text: &[u8]) -> bool
     !text.is_empty() && text[0] == 0xEF
 }
 
+// So many bytes are looked at together.
+const LANES: usize = 64;
+
 // Cuts a text. `false`, as where there is a double quote, says nothing.
 fn cut_text(cut: &mut CutFields, text: &[u8]) -> Result<bool, OutOfMemory>
     requires small { length text.now + 1 < 2 ^ 32 }
     requires fresh { HasCut text.now cut.old 0 }
     ensures { IfOk result (λ whole. IsTrue whole → HasCutAll text.now cut.new) }
 {
-    for i in 0..text.len() {
-        let byte = text[i];
-        // Each byte that ends a field is a comma, or below it in ASCII.
-        if byte > b',' {
-            continue;
+    let mut at = 0;
+    while text.len() - at >= LANES {
+        if !cut_lanes(cut, text, at)? {
+            return Ok(false);
         }
-        if byte == b',' {
-            end_field(cut, i)?;
-            continue;
-        }
-        if !take_below_comma(cut, i, byte)? {
+        at += LANES;
+    }
+    for i in at..text.len() {
+        if !take_byte(cut, i, text[i])? {
             return Ok(false);
         }
     }
     end_line(cut, text.len())?;
     Ok(true)
+}
+
+// Cuts the bytes of a text from a place on that are looked at together. `false`, as where there is
+// a double quote, says nothing.
+fn cut_lanes(cut: &mut CutFields, text: &[u8], at: usize) -> Result<bool, OutOfMemory>
+    requires small { length text.now + 1 < 2 ^ 32 }
+    requires there { at + LANES ≤ length text.now }
+    requires before { HasCut text.now cut.old at }
+    ensures { IfOk result (λ whole. IsTrue whole → HasCut text.now cut.new (at + LANES)) }
+{
+    let mut rest = possible_ends(text, at);
+    // How many of the bytes are done: by it the loop is known to end.
+    let mut done = 0;
+    while rest != 0 {
+        let place = rest.trailing_zeros() as usize;
+        if !take_byte(cut, at + place, text[at + place])? {
+            return Ok(false);
+        }
+        rest &= !(1 << place);
+        done = place + 1;
+    }
+    Ok(true)
+}
+
+// Which of the bytes from a place on may end a field, by a bit for each: those without are above
+// the comma in ASCII.
+fn possible_ends(text: &[u8], at: usize) -> u64
+    requires { at + LANES ≤ length text.now }
+    ensures { OthersAreAboveComma text.now at result }
+{
+    let lanes = u8x64::from_slice(&text[at..]);
+    lanes.simd_lt(u8x64::splat(b',' + 1)).to_bitmask()
+}
+
+// Takes a byte. `false`, as for a double quote, says nothing.
+#[inline]
+fn take_byte(cut: &mut CutFields, i: usize, byte: u8) -> Result<bool, OutOfMemory>
+    requires order { cut.old.start ≤ i }
+    requires small { i + 1 < 2 ^ 32 }
+    ensures { IfOk result (λ plain. IsTrue plain → TakesByte cut.old cut.new i byte) }
+{
+    // Each byte that ends a field is a comma, or below it in ASCII.
+    if byte > b',' {
+        return Ok(true);
+    }
+    if byte == b',' {
+        end_field(cut, i)?;
+        return Ok(true);
+    }
+    take_below_comma(cut, i, byte)
 }
 
 // Takes a byte that is below the comma in ASCII. `false`, as for a double quote, says nothing.

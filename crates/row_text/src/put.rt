@@ -68,7 +68,7 @@ fn fill(text: &mut Vec<u8>, least: usize)
 // A block of zeros.
 static ZEROS: [u8; STEP] = [0; STEP];
 
-const STEP: usize = 4096;
+const STEP: usize = 1024;
 
 // The least memory that a text takes at a time.
 const LEAST_ROOM: usize = 256;

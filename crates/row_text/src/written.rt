@@ -1,5 +1,5 @@
 //! Fields as the text of a row has them.
-ghost use Rattle.std.specs.Prelude.{◌≡◌, ◌<◌, ◌++◌, ◌∷◌, [], length, IfOk};
+ghost use Rattle.std.specs.Prelude.{◌≡◌, ℕ, ◌+◌, ◌<◌, ◌≤◌, ◌++◌, ◌∷◌, [], All, length, slice_index_or, IsTrue, IfOk};
 ghost use Rattle.csv.specs.Writing as writing;
 
 use crate::fields::Fields;
@@ -7,6 +7,7 @@ use csv::WriterBuilder;
 use rail_model::OutOfMemory;
 use std::alloc::Global;
 use std::marker::Model;
+use std::simd::prelude::*;
 
 /// Fields with their text in a row, made once for many rows. Contracts see the fields, of which
 /// there is one at least.
@@ -75,9 +76,38 @@ pub(crate) fn field_text(alloc: Global, field: &[u8]) -> Result<Vec<u8>, OutOfMe
 pub(crate) fn needs_quotes(field: &[u8]) -> bool
     ensures { result ≡ writing.needs_quotes writing.default_writer field.now }
 {
+    if are_high(field) {
+        return false;
+    }
     field
         .iter()
         .any(|b| *b == b',' || *b == b'"' || *b == b'\r' || *b == b'\n')
+}
+
+// Whether all bytes of a field of a few bytes are above the comma in ASCII, as in most names: none
+// of those is one for which CSV writes quotes. `false` says nothing.
+#[inline]
+fn are_high(field: &[u8]) -> bool
+    ensures { IsTrue result → All (λ b. 44 < b) field.now }
+{
+    let len = field.len();
+    if len < FOUR || 2 * FOUR < len {
+        return false;
+    }
+    are_four_high(field, 0) && are_four_high(field, len - FOUR)
+}
+
+// So many bytes are looked at together.
+const FOUR: usize = 4;
+
+// Whether the bytes from a place on that are looked at together are above the comma.
+#[inline]
+fn are_four_high(field: &[u8], at: usize) -> bool
+    requires { at + FOUR ≤ length field.now }
+    ensures { IsTrue result → (k : ℕ) → at ≤ k → k < at + FOUR → 44 < slice_index_or field.now k 0 }
+{
+    let lanes = u8x4::from_slice(&field[at..]);
+    lanes.simd_lt(u8x4::splat(b',' + 1)).to_bitmask() == 0
 }
 
 // The text that CSV writes for a field. Any error of its writer over memory is that memory ran out.

@@ -1,0 +1,9 @@
+use Rattle.row_text.proofs.PlainRows.{HasCut-comma, HasCut-past}
+use Rattle.row_text.proofs.plain_rows.take_byte.Goals as goal
+
+pub returns-then-byte-gt44 : goal.returns-then-byte-gt44
+returns-then-byte-gt44 c _ text there is has = HasCut-past text c.args.cut.now c.args.i there (rw is c.if-byte-gt44.true) has
+
+pub returns-then-byte-eq44 : goal.returns-then-byte-eq44
+returns-then-byte-eq44 c _ text there is has =
+    HasCut-comma text c.args.cut.now c.end_field.new.cut c.args.i there (rw is c.if-byte-eq44.true) c.in_ok-end_field.ensures has
