@@ -45,6 +45,36 @@ pub(crate) fn write_is_answer(alloc: Global, text: &mut Text, line: &[u8], readi
     }
 }
 
+// The trains of the compressed timetable, the last with the entry and the tie of the case.
+pub(crate) fn write_trains(alloc: Global, text: &mut Text, line: &[u8], reading: &mut Reading) {
+    match answer(alloc, reading) {
+        Ok(Answer::Ordered(plan)) => {
+            let tie = tie_of(word(line, 2));
+            match moved_last(alloc, &plan.placed, signed_number(word(line, 1)), tie) {
+                Ok(placed) => put_trains(text, &placed),
+                Err(_) => text.lose(),
+            }
+        }
+        Ok(_) => text.put_line(b"no plan"),
+        Err(_) => text.lose(),
+    }
+}
+
+fn put_trains(text: &mut Text, placed: &PlacedList) {
+    for i in 0..placed.len() {
+        text.show(b"planned ", placed.planned(i));
+        text.show(b", enters ", placed.entry(i));
+        match placed.tie(i) {
+            Tie::Start => text.put(b" at the start"),
+            Tie::After { train, block } => {
+                text.show(b" after ", train);
+                text.show(b" at ", block);
+            }
+        }
+        text.put(b"\n");
+    }
+}
+
 fn write_moved(alloc: Global, text: &mut Text, line: &[u8], reading: &mut Reading, plan: Plan) {
     let mut plan = plan;
     let tie = tie_of(word(line, 2));

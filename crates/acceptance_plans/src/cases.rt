@@ -47,6 +47,7 @@ enum Case {
     Sheet,
     Shows,
     Spell,
+    Trains,
     Version,
 }
 
@@ -79,6 +80,7 @@ const CASES: &[(&str, Case)] = &[
     ("?sheet", Case::Sheet),
     ("?shows", Case::Shows),
     ("?spell", Case::Spell),
+    ("?trains", Case::Trains),
     ("?version", Case::Version),
 ];
 
@@ -210,7 +212,7 @@ fn write_of_either(alloc: Global, text: &mut Text, case: Case, line: &[u8], cut:
     requires { IsSoundCut cut }
 {
     match case {
-        Case::Reading | Case::Copies | Case::Many | Case::Fill | Case::IsAnswer => {
+        Case::Reading | Case::Copies | Case::Many | Case::Fill | Case::IsAnswer | Case::Trains => {
             let mut reading = Reading::new(cut, number_of(word(line, 1)));
             write_of_reading(alloc, text, case, line, &mut reading);
         }
@@ -229,6 +231,7 @@ fn write_of_reading(
         Case::Reading => readings::write_reading(text, reading, word(line, 2)),
         Case::Copies => readings::write_copies(alloc, text, reading),
         Case::Many => answers::write_answer(alloc, text, reading),
+        Case::Trains => answers::write_trains(alloc, text, line, reading),
         Case::Fill => fillings::write_fill(alloc, text, reading, small_number(word(line, 2))),
         _ => answers::write_is_answer(alloc, text, line, reading),
     }

@@ -38,7 +38,7 @@ pub(crate) fn write_copies(alloc: Global, text: &mut Text, reading: &mut Reading
     match reading.whole().copy(alloc) {
         Ok(copy) => {
             put_size(text, &copy);
-            put_longer(text, copy, reading.whole());
+            put_longer(alloc, text, copy);
         }
         Err(_) => text.lose(),
     }
@@ -54,29 +54,29 @@ fn put_size(text: &mut Text, cut: &Cut) {
     text.put(b"\n");
 }
 
-// How many uses the last row of a copy has after one more is put to it, and that row of the cut,
-// which held the same uses.
-fn put_longer(text: &mut Text, copy: Cut, cut: &Cut) {
-    let mut rows = copy.rows;
+// How many uses the last row has after one more is put to it, and another row that shared them.
+fn put_longer(alloc: Global, text: &mut Text, cut: Cut) {
+    let mut rows = cut.rows;
     let Some(row) = rows.pop() else {
         return;
     };
     let mut row = row;
+    row.uses.make_shared(alloc);
     let one = Use {
         block: 0,
         start: 0,
         end: 1,
     };
-    match row.uses.push(one) {
-        Ok(()) => put_lengths(text, &row, cut.rows.get(rows.len())),
+    match row.copy() {
+        Ok(other) => match row.uses.push(one) {
+            Ok(()) => put_lengths(text, &row, &other),
+            Err(_) => text.lose(),
+        },
         Err(_) => text.lose(),
     }
 }
 
-fn put_lengths(text: &mut Text, row: &CutRow, other: Option<&CutRow>) {
-    let Some(other) = other else {
-        return text.lose();
-    };
+fn put_lengths(text: &mut Text, row: &CutRow, other: &CutRow) {
     text.show(b"uses ", row.uses.len());
     text.show(b" beside ", other.uses.len());
     text.put(b"\n");
