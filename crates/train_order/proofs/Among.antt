@@ -1,11 +1,13 @@
 -- Whether a number is among some, and lists in which none stands twice.
-use Rattle.std.proofs.Common.{◌≡◌, ℕ, zero, suc, ◌+◌, ◌<◌, ◌≤◌, Bool, true, false, ◌==◌, List, [], ◌∷◌, ◌++◌, length, take, get_or, inl, inr, refl, sym, ◌∙◌, arith}
+use Rattle.std.proofs.Common.{◌≡◌, ℕ, zero, suc, ◌+◌, ◌<◌, ◌≤◌, Bool, true, false, ◌||◌, ◌==◌, List, [], ◌∷◌, ◌++◌, length, take, get_or, inl, inr, refl, sym, ap, subst, ◌∙◌, arith}
 use Rattle.std.specs.Prelude.{filter}
-use Rattle.std.specs.List.{range_with_len}
+use Rattle.std.specs.List.{range_with_len, list_any}
+use Rattle.std.proofs.Math.Bool.{or_comm, or-false}
 use Rattle.std.proofs.lemmas.Bool.{cases_Bool, or_cases, or_from, or_parts, or_left, eqb-true, eq-eqb, ne_eqb, both_ways, false_from_ne_true}
 use Rattle.std.proofs.lemmas.List.{get_or-take, length-take-le}
 use Rattle.std.proofs.lemmas.List.Folds.{list_any-append, list_any_at}
 use Rattle.plan_model.proofs.MemberTests.{has-range, in_range, has-filter, filter-has}
+use Rattle.train_order.specs.Sets.{holds}
 use Rattle.train_order.specs.Taking.{is_among, IsDistinct}
 
 -- ---- where it stands
@@ -76,6 +78,41 @@ distinct_both (k ∷ some) more d e apart =
       list_any-append (λ i. i == k) some more ∙ or_from (is_among some k) (is_among more k) d.0 other,
       distinct_both some more d.1 e (λ i h. (or_parts (k == i) (is_among some i) (apart i h)).1),
     )
+
+-- with one more at the end
+pub not_at_end : (some : List ℕ) (j k : ℕ) → is_among some k ≡ false → (j == k) ≡ false → is_among (some ++ j ∷ []) k ≡ false
+not_at_end some j k e f =
+    list_any-append (λ i. i == k) some (j ∷ []) ∙ or_from (is_among some k) ((j == k) || false) e (or-false (j == k) ∙ f)
+
+pub end_parts : (some : List ℕ) (j k : ℕ) → is_among (some ++ j ∷ []) k ≡ false → (is_among some k ≡ false) × ((j == k) ≡ false)
+end_parts some j k h =
+    let parts = or_parts (is_among some k) ((j == k) || false) (sym (list_any-append (λ i. i == k) some (j ∷ [])) ∙ h) in
+    (parts.0, sym (or-false (j == k)) ∙ parts.1)
+
+pub distinct_end : (some : List ℕ) (j : ℕ) → IsDistinct (some ++ j ∷ []) → IsDistinct some × (is_among some j ≡ false)
+distinct_end [] j d = (tt, refl)
+distinct_end (i ∷ some) j d =
+    let parts = end_parts some j i d.0 in
+    let rest = distinct_end some j d.1 in (
+      (parts.0, rest.0),
+      or_from (i == j) (is_among some j) (ne_eqb i j (λ e. both_ways _ parts.1 (eq-eqb j i (sym e)))) rest.1,
+    )
+
+pub distinct_more : (some : List ℕ) (j : ℕ) → IsDistinct some → is_among some j ≡ false → IsDistinct (some ++ j ∷ [])
+distinct_more some j d fresh =
+    distinct_both some (j ∷ []) d (refl, tt) (λ i h. elim (or_cases (j == i) false h) [
+      | inl e ↦ subst (λ m. is_among some m ≡ false) (eqb-true j i e) fresh
+      | inr e ↦ absurd (cc)
+    ])
+
+-- a set of some takes it in, where each has a number
+pub among_put : {X : Type 0} (of : X → ℕ) (words after : List ℕ) (some : List X) (x : X)
+    → ((k : ℕ) → holds words k ≡ list_any (λ y. of y == k) some)
+    → ((k : ℕ) → holds after k ≡ ((of x == k) || holds words k)) → (k : ℕ) → holds after k ≡ list_any (λ y. of y == k) (some ++ x ∷ [])
+among_put of words after some x same put k =
+    let there = list_any (λ y. of y == k) some in
+    put k ∙ ap (λ b. (of x == k) || b) (same k) ∙ or_comm (of x == k) there
+    ∙ ap (λ b. there || b) (sym (or-false (of x == k))) ∙ sym (list_any-append (λ y. of y == k) some (x ∷ []))
 
 pub distinct_passing : (test : ℕ → Bool) (a n : ℕ) → IsDistinct (filter test (range_with_len a n))
 distinct_passing test a zero = tt

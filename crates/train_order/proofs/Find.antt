@@ -1,6 +1,6 @@
 -- What a search finds: in any list, in ranges, and in lists that are gathered over them.
-use Rattle.std.proofs.Common.{◌≡◌, ℕ, zero, suc, ◌+◌, ◌<◌, ◌≤◌, Bool, true, false, ◌==◌, List, [], ◌∷◌, length, take, drop, get_or, inl, inr, refl, sym, ap, subst, ◌∙◌, arith}
-use Rattle.std.specs.Prelude.{Some, None, find}
+use Rattle.std.proofs.Common.{◌≡◌, ℕ, zero, suc, ◌+◌, ◌<◌, ◌≤◌, Bool, true, false, ◌&&◌, ◌==◌, List, [], ◌∷◌, length, take, drop, get_or, inl, inr, refl, sym, ap, subst, ◌∙◌, arith}
+use Rattle.std.specs.Prelude.{Some, None, filter, find}
 use Rattle.std.specs.Option.{option_or}
 use Rattle.std.specs.List.{flat_map, list_any, range_with_len, All}
 use Rattle.std.proofs.lemmas.Bool.{cases_Bool, cases_eq, eq-eqb, or_left, or_right}
@@ -52,6 +52,24 @@ find_some test (k ∷ some) h =
       | inr e ↦
           let r = find_some test some (rw e at h) in
           (r.0, rw e r.1, or_right (k == r.0) (is_among some r.0) r.2, r.3)
+    ]
+
+-- among those that pass another test
+pub find_within : (p test : ℕ → Bool) (some : List ℕ) → find test (filter p some) ≡ find (λ i. p i && test i) some
+find_within p test [] = refl
+find_within p test (k ∷ some) =
+    elim (cases_Bool (p k)) [
+      | inl e ↦ elim (cases_Bool (test k)) [ inl f ↦ rw (e, f) refl | inr f ↦ rw (e, f) (find_within p test some) ]
+      | inr e ↦ rw e (find_within p test some)
+    ]
+
+-- what is found stands first among those that pass
+pub found_first : (p : ℕ → Bool) (some : List ℕ) (x : ℕ) → find p some ≡ Some x → get_or (filter p some) 0 0 ≡ x
+found_first p [] x e = absurd (cc)
+found_first p (k ∷ some) x e =
+    elim (cases_Bool (p k)) [
+      | inl t ↦ (let g : Some k ≡ Some x = rw t at e in rw t (let s : k ≡ x = cc in s))
+      | inr f ↦ rw f (found_first p some x (rw f at e))
     ]
 
 -- ---- in a range

@@ -1,11 +1,11 @@
--- The first bits of words, and the first members of sets.
-use Rattle.std.proofs.Common.{◌≡◌, ℕ, ◌+◌, ◌-◌, ◌*◌, ◌/◌, ◌%◌, ◌^◌, ◌<◌, ◌≤◌, ◌==◌, false, List, get_or, inl, inr, refl, sym, ap, ◌∙◌, arith, w64}
+-- The first bits of words, and the first members of sets, also of those that aren't in another set.
+use Rattle.std.proofs.Common.{◌≡◌, ℕ, ◌+◌, ◌-◌, ◌*◌, ◌/◌, ◌%◌, ◌^◌, ◌<◌, ◌≤◌, ◌==◌, ◌&&◌, true, false, not, List, get_or, inl, inr, refl, sym, ap, ◌∙◌, arith, w64}
 use Rattle.std.specs.Int.{bit_at, trailing_zeros}
-use Rattle.std.proofs.lemmas.Bool.{cases_lt, eq-eqb, ne_eqb}
+use Rattle.std.proofs.lemmas.Bool.{cases_Bool, cases_lt, and_parts, and_from, eq-eqb, ne_eqb, both_ways, not-true, not_from_false}
 use Rattle.std.proofs.lemmas.Nat.{shr-shr, shr_le}
 use Rattle.std.proofs.lemmas.Nat.Bits.{bit_at-trailing_zeros, bit_at-zero, bit_at_above}
 use Rattle.plan_model.specs.declared.limits.TheConstants.{MEMBERS}
-use Rattle.train_order.specs.Sets.{IsFirstBit, IsFirstMember, holds}
+use Rattle.train_order.specs.Sets.{IsFirstBit, IsFirstMember, IsFirstOutside, holds}
 
 -- ---- bits
 
@@ -77,3 +77,33 @@ first_later words from later found l none first = record {
 pub first_past : (words : List ℕ) (from found : ℕ) → MEMBERS ≤ found → from ≤ found
     → ((k : ℕ) → from ≤ k → k < found → holds words k ≡ false) → IsFirstMember words from found
 first_past words from found l lf none = record { from_on = lf; none = none; there = λ b. absurd (omega arith) }
+
+-- ---- members that aren't in another set
+
+module _ (words others : List ℕ) (place rest bit : ℕ)
+    (without : (i : ℕ) → i < 64 → (bit_at rest i == 1) ≡ ((bit_at (get_or words place 0) i == 1) && not (bit_at (get_or others place 0) i == 1)))
+    (first : IsFirstBit rest 0 bit) where
+  rest_at : (k i : ℕ) → k ≡ 64 * place + i → i < 64 → (bit_at rest i == 1) ≡ (holds words k && not (holds others k))
+  rest_at k i e l =
+      without i l ∙ ap (λ b. b && not (bit_at (get_or others place 0) i == 1)) (sym (holds_at words place i k e l))
+      ∙ ap (λ b. holds words k && not b) (sym (holds_at others place i k e l))
+
+  pub both_in_word : (k : ℕ) → 64 * place ≤ k → k < 64 * place + bit → holds words k ≡ true → holds others k ≡ true
+  both_in_word k lk lb h =
+      let i = k - 64 * place in
+      let none : (bit_at rest i == 1) ≡ false = ne_eqb _ 1 (λ e. omega (arith, e, first.none i (omega arith) (omega arith))) in
+      let whole = rest_at k i (omega arith) (omega (arith, first.within)) in
+      elim (cases_Bool (holds others k)) [
+        | inl e ↦ e
+        | inr e ↦ absurd (both_ways _ none (whole ∙ and_from _ _ h (not_from_false _ e)))
+      ]
+
+  pub outside_in_word : ((k : ℕ) → k < 64 * place → holds words k ≡ true → holds others k ≡ true) → bit < 64
+      → IsFirstOutside words others (64 * place + bit)
+  outside_in_word before l =
+      let both = and_parts (holds words (64 * place + bit)) _ (sym (rest_at (64 * place + bit) bit refl l) ∙ eq-eqb _ 1 (first.there l)) in
+      record {
+        none = λ k lk h. elim (cases_lt k (64 * place)) [ inl a ↦ before k a h | inr b ↦ both_in_word k b lk h ];
+        there = λ lf. both.0;
+        outside = λ lf. not-true _ both.1;
+      }

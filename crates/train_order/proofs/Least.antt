@@ -1,4 +1,4 @@
--- The least opposite pair of a cut, found by those members of which each pair has one.
+-- The least opposite pair of a cut, found by those members of which each pair has one, or by the first members.
 use Rattle.std.proofs.Common.{◌≡◌, ℕ, zero, suc, ◌+◌, ◌-◌, ◌<◌, ◌≤◌, Bool, true, false, List, map, inl, inr, refl, sym, ap, subst, ◌∙◌, arith}
 use Rattle.std.specs.Prelude.{Option, Some, None, find, nat_lt, option_map}
 use Rattle.std.specs.List.{flat_map, range_with_len}

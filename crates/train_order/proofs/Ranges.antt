@@ -56,3 +56,15 @@ length_passing test n =
 pub passing_few : (test : ℕ → Bool) (n : ℕ) → length (filter test (range_with_len 0 n)) ≤ n
 passing_few test n =
     omega (arith, length-filter test (range_with_len 0 n), count_by-le-length test (range_with_len 0 n), length-range_with_len 0 n)
+
+-- two tests that agree
+pub same_passing : (p q : ℕ → Bool) (a n : ℕ) → ((i : ℕ) → a ≤ i → i < a + n → q i ≡ p i)
+    → filter q (range_with_len a n) ≡ filter p (range_with_len a n)
+same_passing p q a zero h = refl
+same_passing p q a (suc n) h =
+    let rest = same_passing p q (a + 1) n (λ i l m. h i (omega arith) (omega arith)) in
+    let here : q a ≡ p a = h a (omega arith) (omega arith) in
+    elim (cases_Bool (p a)) [
+      | inl e ↦ let f : q a ≡ true = here ∙ e in rw (e, f) (ap (λ xs. a ∷ xs) rest)
+      | inr e ↦ let f : q a ≡ false = here ∙ e in rw (e, f) rest
+    ]

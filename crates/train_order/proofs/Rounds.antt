@@ -15,7 +15,7 @@ use Rattle.train_order.specs.Sets.{relates, ArePreceded}
 use Rattle.train_order.specs.Taking.{is_among, AreTakenUp}
 use Rattle.train_order.proofs.Find.{find_some}
 use Rattle.train_order.proofs.Among.{stands_at, first_among, among_passing, passing_among}
-use Rattle.train_order.proofs.Waiting.{same_passing}
+use Rattle.train_order.proofs.Ranges.{same_passing}
 use Rattle.train_order.proofs.Whole.{twice, all_pass, left_of, all_there, whole_length}
 
 module _ (cut : Cut) (sets : List MemberSet) (told : ArePreceded cut sets) (taken : List ℕ) (up : AreTakenUp sets taken) where

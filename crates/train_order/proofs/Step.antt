@@ -1,178 +1,221 @@
--- What is taken up stays sound, from the members that wait for none until all are taken up that can be.
-use Rattle.std.proofs.Common.{◌≡◌, ℕ, ◌+◌, ◌-◌, ◌<◌, ◌≤◌, Bool, true, false, cond, ◌&&◌, ◌||◌, ◌==◌, List, [], ◌∷◌, ◌++◌, length, take, get_or, inl, inr, refl, sym, ap, subst, ◌∙◌, arith, tests, length-append}
-use Rattle.std.specs.Prelude.{filter, slice_index}
-use Rattle.std.specs.List.{range_with_len, All}
-use Rattle.std.proofs.Math.Bool.{and-true}
-use Rattle.std.proofs.lemmas.Bool.{cases_Bool, cases_lt, and_parts, eqb-true, eq-eqb, ne_eqb, both_ways, false_from_ne_true}
-use Rattle.std.proofs.lemmas.Bool.Decides.{nat_tests}
-use Rattle.std.proofs.lemmas.List.{take-append-le, take_more, take_all, get_or_append_left, get_or-append_right}
-use Rattle.std.proofs.lemmas.List.Elements.{All-append, All-from_get_or}
-use Rattle.std.proofs.lemmas.List.Folds.{list_any-append}
+-- What is taken up stays sound as members are tried.
+use Rattle.std.proofs.Common.{◌≡◌, ℕ, ◌+◌, ◌-◌, ◌<◌, ◌≤◌, true, false, ◌||◌, ◌==◌, List, [], ◌∷◌, ◌++◌, length, take, get_or, inl, inr, refl, sym, ap, subst, ◌∙◌, arith, length-append}
+use Rattle.std.specs.List.{All}
+use Rattle.std.proofs.lemmas.Bool.{cases_Bool, cases_eq, or_left, or_right, eqb-true, eq-eqb, ne_eqb, both_ways, false_from_ne_true}
+use Rattle.std.proofs.lemmas.List.{take-append-le, take_all, get_or_append_left, get_or-append_right}
+use Rattle.std.proofs.lemmas.List.Elements.{All-append, All-cons, All-nil, All-from_get_or}
 use Rattle.train_order.specs.declared.member_set.MemberSet.{MemberSet}
-use Rattle.train_order.specs.Sets.{no_set, relates}
-use Rattle.train_order.specs.Taking.{is_among, IsDistinct, waiting, AreTakenUp, IsTaking, is_freed}
-use Rattle.train_order.proofs.Among.{among_at, among_more, among_passing, passing_among, distinct_both, distinct_passing, not_before}
-use Rattle.train_order.proofs.Waiting.{same_passing, waiting_less, waits_for_one, waits_for_none, waited_for}
+use Rattle.train_order.specs.Sets.{holds, relates}
+use Rattle.train_order.specs.Taking.{is_among, IsDistinct, IsFree, IsTaking, IsTried, IsUp}
+use Rattle.train_order.proofs.Among.{stands_at, among_at, among_put, not_at_end, end_parts, distinct_end, distinct_more}
+use Rattle.train_order.proofs.Whole.{whole_length}
 
-passing_there : (test : ℕ → Bool) (n : ℕ) → All (λ k. k < n) (filter test (range_with_len 0 n))
-passing_there test n =
-    All-from_get_or (λ k. k < n) (filter test (range_with_len 0 n)) 0
-    (λ i l. (passing_among test n _ (among_at (filter test (range_with_len 0 n)) i _ l refl)).0)
+-- what stands at the end
+at_end : (some : List ℕ) (j : ℕ) → get_or (some ++ j ∷ []) (length some) 0 ≡ j
+at_end some j =
+    get_or-append_right some (j ∷ []) (length some) (length some) 0 refl (omega arith)
+    ∙ ap (λ k. get_or (j ∷ []) k 0) (let z : length some - length some ≡ 0 = omega arith in z)
 
-module _ (sets : List MemberSet) where
-  abbrev n : ℕ
-  n = length sets
+before_end : (some : List ℕ) (j k : ℕ) → k < length some → get_or (some ++ j ∷ []) k 0 ≡ get_or some k 0
+before_end some j k l = get_or_append_left some (j ∷ []) 0 k l
 
-  -- ---- at first
+one_longer : (some : List ℕ) (j : ℕ) → length (some ++ j ∷ []) ≡ length some + 1
+one_longer some j = length-append some (j ∷ [])
 
-  module _ (waits taken : List ℕ) (long : length waits ≡ n)
-      (counted : (j : ℕ) → j < n → slice_index waits j ≡ length (filter (λ i. relates sets i j) (range_with_len 0 n)))
-      (free : taken ≡ filter (λ j. slice_index waits j == 0) (range_with_len 0 n)) where
-    none_taken : (j : ℕ) → j < n → slice_index waits j ≡ waiting sets [] j
-    none_taken j l =
-        counted j l
-        ∙ ap length (same_passing (λ i. relates sets i j && true) (λ i. relates sets i j) 0 n (λ i li mi. sym (and-true (relates sets i j))))
+module _ {sets : List MemberSet} where
+  -- ---- a free member is taken up
 
-    free_is : (j : ℕ) → j < n → is_among taken j ≡ (slice_index waits j == 0)
-    free_is j l =
-        elim (cases_Bool (slice_index waits j == 0)) [
-          | inl e ↦ ap (λ ts. is_among ts j) free ∙ among_passing (λ j. slice_index waits j == 0) n j l e ∙ sym e
-          | inr e ↦
-              false_from_ne_true (is_among taken j) (λ h. both_ways _ e (passing_among (λ j. slice_index waits j == 0) n j (sym (ap (λ ts. is_among ts j) free) ∙ h)).1) ∙ sym e
-        ]
+  module _ {taken words : List ℕ} (up : IsUp sets taken words) where
+    module _ (j : ℕ) (l : j < length sets) (free : IsFree sets words j) where
+      fresh : is_among taken j ≡ false
+      fresh = sym (up.same j) ∙ free.fresh
 
-    pub at_first : IsTaking sets taken waits 0
-    at_first = record {
-      sound = record {
-        within = subst (λ ts. All (λ k. k < n) ts) (sym free) (passing_there (λ j. slice_index waits j == 0) n);
-        once = subst IsDistinct (sym free) (distinct_passing (λ j. slice_index waits j == 0) 0 n);
-        after = λ k i l li r.
-            let j = get_or taken k 0 in
-            let there : is_among taken j ≡ true = among_at taken k j l refl in
-            let passed = passing_among (λ j. slice_index waits j == 0) n j (sym (ap (λ ts. is_among ts j) free) ∙ there) in
-            let none : waiting sets [] j ≡ 0 = sym (none_taken j passed.0) ∙ eqb-true _ 0 passed.1 in
-            absurd (let h = waits_for_none sets [] j i none li r in cc);
-      };
-      place = omega arith;
-      count = long;
-      counts = none_taken;
-      free = free_is;
-    }
+      within_then : All (λ k. k < length sets) (taken ++ j ∷ [])
+      within_then =
+          All-append (λ k. k < length sets) taken (j ∷ []) up.sound.within
+          (All-cons (λ k. k < length sets) j [] l (All-nil (λ k. k < length sets)))
 
-  -- ---- a step
+      once_then : IsDistinct (taken ++ j ∷ [])
+      once_then = distinct_more taken j up.sound.once fresh
 
-  module _ (taken waits : List ℕ) (at : ℕ) (so_far : IsTaking sets taken waits at) (l : at < length taken) where
-    abbrev x : ℕ
-    x = get_or taken at 0
+      pub next_few : length taken < length sets
+      next_few = omega (arith, whole_length (length sets) (taken ++ j ∷ []) within_then once_then, one_longer taken j)
 
-    x_there : x < n
-    x_there = so_far.sound.within at 0 l
-
-    fresh : is_among (take at taken) x ≡ false
-    fresh = not_before taken at so_far.sound.once l
-
-    -- those that wait for it have it in their counts
-    pub has_count : (j : ℕ) → j < n → relates sets x j ≡ true → 0 < slice_index waits j
-    has_count j lj r = omega (arith, so_far.counts j lj, waits_for_one sets (take at taken) x j x_there r fresh)
-
-    module _ (later next : List ℕ) (long : length later ≡ length waits)
-        (lowered : (j : ℕ) → j < n → slice_index later j ≡ slice_index waits j - cond (relates sets x j) 1 0)
-        (added : next ≡ taken ++ filter (is_freed (get_or sets x no_set).words waits) (range_with_len 0 n)) where
-      abbrev freed : ℕ → Bool
-      freed = is_freed (get_or sets x no_set).words waits
-
-      abbrev more : List ℕ
-      more = filter freed (range_with_len 0 n)
-
-      next_long : length next ≡ length taken + length more
-      next_long = ap length added ∙ length-append taken more
-
-      first_part : (k : ℕ) → k ≤ length taken → take k next ≡ take k taken
-      first_part k lk = ap (take k) added ∙ take-append-le k taken more lk
-
-      now_taken : take (at + 1) next ≡ take at taken ++ x ∷ []
-      now_taken = first_part (at + 1) (omega arith) ∙ take_more taken at 0 l
-
-      counts_then : (j : ℕ) → j < n → slice_index later j ≡ waiting sets (take (at + 1) next) j
-      counts_then j lj =
-          lowered j lj ∙ ap (λ m. m - cond (relates sets x j) 1 0) (so_far.counts j lj)
-          ∙ sym (waiting_less sets (take at taken) x j x_there fresh)
-          ∙ ap (λ ts. waiting sets ts j) (sym now_taken)
-
-      -- one that is added waited for this one alone
-      was_waiting : (j : ℕ) → is_among more j ≡ true → (j < n) × (relates sets x j ≡ true) × (slice_index waits j ≡ 1)
-      was_waiting j h =
-          let r = passing_among freed n j h in
-          let parts = and_parts (relates sets x j) (slice_index waits j == 1) r.1 in
-          (r.0, parts.0, eqb-true _ 1 parts.1)
-
-      apart : (j : ℕ) → is_among more j ≡ true → is_among taken j ≡ false
-      apart j h =
-          let r = was_waiting j h in
-          so_far.free j r.0 ∙ ne_eqb (slice_index waits j) 0 (λ (z : slice_index waits j ≡ 0). omega (arith, z, r.2))
-
-      among_next : (j : ℕ) → is_among next j ≡ (is_among taken j || is_among more j)
-      among_next j = ap (λ ts. is_among ts j) added ∙ list_any-append (λ k. k == j) taken more
-
-      among_more_is : (j : ℕ) → j < n → is_among more j ≡ freed j
-      among_more_is j lj =
-          elim (cases_Bool (freed j)) [
-            | inl e ↦ among_passing freed n j lj e ∙ sym e
-            | inr e ↦ false_from_ne_true (is_among more j) (λ h. both_ways _ e (passing_among freed n j h).1) ∙ sym e
-          ]
-
-      came_to_none : (related : Bool) (w m : ℕ) → (related ≡ true → 0 < w) → m ≡ w - cond related 1 0
-          → ((w == 0) || (related && (w == 1))) ≡ (m == 0)
-      came_to_none true w m h e = let some : 0 < w = h refl in grind (arith, tests, nat_tests)
-      came_to_none false w m h e = grind (arith, tests, nat_tests)
-
-      free_then : (j : ℕ) → j < n → is_among next j ≡ (slice_index later j == 0)
-      free_then j lj =
-          among_next j ∙ ap (λ b. b || is_among more j) (so_far.free j lj)
-          ∙ ap (λ b. (slice_index waits j == 0) || b) (among_more_is j lj)
-          ∙ came_to_none (relates sets x j) (slice_index waits j) (slice_index later j) (has_count j lj) (lowered j lj)
-
-      after_then : (k i : ℕ) → k < length next → i < n → relates sets i (slice_index next k) ≡ true
-          → is_among (take k next) i ≡ true
+      after_then : (k i : ℕ) → k < length (taken ++ j ∷ []) → i < length sets → relates sets i (get_or (taken ++ j ∷ []) k 0) ≡ true
+          → is_among (take k (taken ++ j ∷ [])) i ≡ true
       after_then k i lk li r =
-          elim (cases_lt k (length taken)) [
-            | inl old ↦
-                let here : get_or next k 0 ≡ get_or taken k 0 = ap (λ ts. get_or ts k 0) added ∙ get_or_append_left taken more 0 k old in
-                ap (λ ts. is_among ts i) (first_part k (omega arith))
-                ∙ so_far.sound.after k i old li (subst (λ y. relates sets i y ≡ true) here r)
-            | inr new ↦
-                let y = get_or more (k - length taken) 0 in
-                let within : k - length taken < length more = omega (arith, lk, next_long, new) in
-                let here : get_or next k 0 ≡ y = ap (λ ts. get_or ts k 0) added ∙ get_or-append_right taken more (length taken) k 0 refl new in
-                let was = was_waiting y (among_at more (k - length taken) y within refl) in
-                let related : relates sets x y ≡ true = was.1 in
-                let lowered_one : slice_index waits y - cond (relates sets x y) 1 0 ≡ 0 = rw related (omega (arith, was.2)) in
-                let none : slice_index later y ≡ 0 = lowered y was.0 ∙ lowered_one in
-                let there : is_among (take (at + 1) next) i ≡ true =
-                waits_for_none sets (take (at + 1) next) y i (sym (counts_then y was.0) ∙ none) li (subst (λ z. relates sets i z ≡ true) here r) in
-                among_more next (at + 1) k i (omega arith) (omega (arith, lk)) there
+          ap (λ ts. is_among ts i) (take-append-le k taken (j ∷ []) (omega (arith, lk, one_longer taken j)))
+          ∙ elim (cases_eq k (length taken)) [
+            | inl e ↦
+                let of_j : relates sets i j ≡ true =
+                subst (λ m. relates sets i m ≡ true) (ap (λ m. get_or (taken ++ j ∷ []) m 0) e ∙ at_end taken j) r in
+                ap (λ ts. is_among ts i) (take_all k taken (omega arith)) ∙ sym (up.same i) ∙ free.after i li of_j
+            | inr ne ↦
+                let old : k < length taken = omega (arith, lk, one_longer taken j, ne) in
+                up.sound.after k i old li (subst (λ y. relates sets i y ≡ true) (before_end taken j k old) r)
           ]
 
-      pub one_more : IsTaking sets next later (at + 1)
-      one_more = record {
-        sound = record {
-          within = subst (λ ts. All (λ k. k < n) ts) (sym added) (All-append (λ k. k < n) taken more so_far.sound.within (passing_there freed n));
-          once = subst IsDistinct (sym added) (distinct_both taken more so_far.sound.once (distinct_passing freed 0 n) apart);
-          after = after_then;
-        };
-        place = omega (arith, next_long);
-        count = long ∙ so_far.count;
-        counts = counts_then;
-        free = free_then;
+      up_then : (after : List ℕ) → ((k : ℕ) → holds after k ≡ ((j == k) || holds words k)) → IsUp sets (taken ++ j ∷ []) after
+      up_then after put = record {
+        sound = record { within = within_then; once = once_then; after = after_then };
+        same = among_put (λ k. k) words after taken j up.same put;
       }
 
-  -- ---- at the end
+  -- ---- the work
 
-  pub at_last : (taken waits : List ℕ) (at : ℕ) → IsTaking sets taken waits at → length taken ≤ at → AreTakenUp sets taken
-  at_last taken waits at done l = record {
-    sound = done.sound;
-    left = λ j lj out.
-        let some : slice_index waits j ≡ 0 → ⊥ = λ z. both_ways _ out (done.free j lj ∙ eq-eqb _ 0 z) in
-        let all : waiting sets (take at taken) j ≡ waiting sets taken j = ap (λ ts. waiting sets ts j) (take_all at taken l) in
-        waited_for sets taken j (omega (arith, some, done.counts j lj, all));
-  }
+  -- the last member of the path is free
+  pub popped : {taken words tried : List ℕ} (rest : List ℕ) (j : ℕ) → IsTaking sets taken words tried (rest ++ j ∷ []) → j < length sets
+      → IsFree sets words j → (after : List ℕ) → ((k : ℕ) → holds after k ≡ ((j == k) || holds words k))
+      → IsTaking sets (taken ++ j ∷ []) after tried rest
+  popped {taken} {words} {tried} rest j so_far l free after put =
+      let last = distinct_end rest j so_far.once in
+      let its = so_far.on_path (length rest) (omega (arith, one_longer rest j)) in
+      let long : (k : ℕ) → k < length rest → k < length (rest ++ j ∷ []) = λ k lk. omega (arith, lk, one_longer rest j) in
+      record {
+        up = up_then so_far.up j l free after put;
+        all_tried = λ k h. elim (cases_Bool (is_among taken k)) [
+          | inl t ↦ so_far.all_tried k t
+          | inr f ↦ elim (cases_Bool (j == k)) [
+            | inl t ↦ subst (λ m. holds tried m ≡ true) (at_end rest j ∙ eqb-true j k t) its.came
+            | inr g ↦ absurd (both_ways _ (not_at_end taken j k f g) h)
+          ]
+        ];
+        once = last.0;
+        on_path = λ k lk.
+            let old = so_far.on_path k (long k lk) in
+            let y = get_or rest k 0 in
+            let is = before_end rest j k lk in
+            record {
+              there = omega (arith, old.there, is);
+              came = subst (λ m. holds tried m ≡ true) is old.came;
+              left =
+                  not_at_end taken j y (subst (λ m. is_among taken m ≡ false) is old.left)
+                  (ne_eqb j y (λ e. both_ways _ last.1 (among_at rest k j lk (sym e))));
+            };
+        links = λ k lk.
+            subst (λ m. relates sets m (get_or rest k 0) ≡ true) (before_end rest j (k + 1) lk)
+            (subst (λ m. relates sets (get_or (rest ++ j ∷ []) (k + 1) 0) m ≡ true) (before_end rest j k (omega (arith, lk)))
+            (so_far.links k (long (k + 1) lk)));
+        rest = λ k t out off.
+            let parts = end_parts taken j k out in
+            let old = so_far.rest k t parts.0 (not_at_end rest j k off parts.1) in
+            let apart = end_parts rest j old.member old.apart in
+            record {
+              member = old.member;
+              is_tried = record {
+                there = old.is_tried.there;
+                came = old.is_tried.came;
+                left = not_at_end taken j old.member old.is_tried.left apart.1;
+              };
+              apart = apart.0;
+              precedes = old.precedes;
+            };
+      }
+
+  module _ {taken words tried path : List ℕ} (so_far : IsTaking sets taken words tried path) where
+    path_there : All (λ k. k < length sets) path
+    path_there = All-from_get_or (λ k. k < length sets) path 0 (λ k l. (so_far.on_path k l).there)
+
+    pub path_few : length path ≤ length sets
+    path_few = omega (arith, whole_length (length sets) path path_there so_far.once)
+
+    -- a member that is left precedes the last of the path
+    module _ (j : ℕ) (l : j < length sets) (out : is_among taken j ≡ false)
+        (link : (k : ℕ) → k + 1 ≡ length path → relates sets j (get_or path k 0) ≡ true) where
+      -- it was tried
+      pub stuck : holds tried j ≡ true → IsTaking sets taken words tried []
+      stuck t = record {
+        up = so_far.up;
+        all_tried = so_far.all_tried;
+        once = tt;
+        on_path = λ k lk. absurd (omega (arith, lk));
+        links = λ k lk. absurd (omega (arith, lk));
+        rest = λ k tk ok off. elim (cases_Bool (is_among path k)) [
+          | inr f ↦
+              let old = so_far.rest k tk ok f in
+              record { member = old.member; is_tried = old.is_tried; apart = refl; precedes = old.precedes }
+          | inl h ↦
+              let s = stands_at path k h in
+              elim (cases_eq (s.at + 1) (length path)) [
+                | inl e ↦ record {
+                  member = j;
+                  is_tried = record { there = l; came = t; left = out };
+                  apart = refl;
+                  precedes = subst (λ m. relates sets j m ≡ true) s.is (link s.at e);
+                }
+                | inr ne ↦ record {
+                  member = get_or path (s.at + 1) 0;
+                  is_tried = so_far.on_path (s.at + 1) (omega (arith, s.within, ne));
+                  apart = refl;
+                  precedes =
+                      subst (λ m. relates sets (get_or path (s.at + 1) 0) m ≡ true) s.is (so_far.links s.at (omega (arith, s.within, ne)));
+                }
+              ]
+        ];
+      }
+
+      -- it was not
+      module _ (fresh : holds tried j ≡ false) where
+        off_path : is_among path j ≡ false
+        off_path =
+            false_from_ne_true _ (λ h.
+            let s = stands_at path j h in
+            both_ways _ fresh (subst (λ m. holds tried m ≡ true) s.is (so_far.on_path s.at s.within).came))
+
+        pub path_room : length path < length sets
+        path_room =
+            omega (
+              arith,
+              whole_length (length sets) (path ++ j ∷ [])
+                  (All-append (λ k. k < length sets) path (j ∷ []) path_there (All-cons (λ k. k < length sets) j [] l (All-nil (λ k. k < length sets))))
+                  (distinct_more path j so_far.once off_path),
+              one_longer path j,
+            )
+
+        module _ (after : List ℕ) (put : (k : ℕ) → holds after k ≡ ((j == k) || holds tried k)) where
+          pub grown : (k : ℕ) → holds tried k ≡ true → holds after k ≡ true
+          grown k h = put k ∙ or_right (j == k) (holds tried k) h
+
+          still : (k : ℕ) → IsTried sets taken tried k → IsTried sets taken after k
+          still k old = record { there = old.there; came = grown k old.came; left = old.left }
+
+          pub tried_then : holds after j ≡ true
+          tried_then = put j ∙ or_left (j == j) (holds tried j) (eq-eqb j j refl)
+
+          pub pushed : IsTaking sets taken words after (path ++ j ∷ [])
+          pushed = record {
+            up = so_far.up;
+            all_tried = λ k h. grown k (so_far.all_tried k h);
+            once = distinct_more path j so_far.once off_path;
+            on_path = λ k lk. elim (cases_eq k (length path)) [
+              | inl e ↦
+                  subst (IsTried sets taken after) (sym (ap (λ m. get_or (path ++ j ∷ []) m 0) e ∙ at_end path j))
+                  (record { there = l; came = tried_then; left = out })
+              | inr ne ↦
+                  let old : k < length path = omega (arith, lk, one_longer path j, ne) in
+                  subst (IsTried sets taken after) (sym (before_end path j k old)) (still _ (so_far.on_path k old))
+            ];
+            links = λ k lk.
+                let here : k < length path = omega (arith, lk, one_longer path j) in
+                subst (λ m. relates sets (get_or (path ++ j ∷ []) (k + 1) 0) m ≡ true) (sym (before_end path j k here))
+                (elim (cases_eq (k + 1) (length path)) [
+                  | inl e ↦
+                      subst (λ m. relates sets m (get_or path k 0) ≡ true)
+                      (sym (ap (λ m. get_or (path ++ j ∷ []) m 0) e ∙ at_end path j)) (link k e)
+                  | inr ne ↦
+                      let old : k + 1 < length path = omega (arith, here, ne) in
+                      subst (λ m. relates sets m (get_or path k 0) ≡ true) (sym (before_end path j (k + 1) old)) (so_far.links k old)
+                ]);
+            rest = λ k t ok off.
+                let parts = end_parts path j k off in
+                let was : holds tried k ≡ true = ap (λ b. b || holds tried k) (sym parts.1) ∙ sym (put k) ∙ t in
+                let old = so_far.rest k was ok parts.0 in
+                record {
+                  member = old.member;
+                  is_tried = still old.member old.is_tried;
+                  apart =
+                      not_at_end path j old.member old.apart
+                      (ne_eqb j old.member (λ e. both_ways _ fresh (subst (λ m. holds tried m ≡ true) (sym e) old.is_tried.came)));
+                  precedes = old.precedes;
+                };
+          }

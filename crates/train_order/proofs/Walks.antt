@@ -2,7 +2,7 @@
 use Rattle.std.proofs.Common.{◌≡◌, ℕ, zero, suc, ◌+◌, ◌-◌, ◌<◌, ◌≤◌, true, false, not, ◌==◌, List, [], ◌∷◌, ◌++◌, length, take, drop, get_or, inl, inr, refl, sym, ap, subst, ◌∙◌, arith, length-append}
 use Rattle.std.specs.Prelude.{find, unwrap_or}
 use Rattle.std.specs.List.{position_or_len, All}
-use Rattle.std.proofs.lemmas.Bool.{cases_eq, or_cases, eqb-true, eq-eqb, ne_eqb, both_ways, false_from_ne_true}
+use Rattle.std.proofs.lemmas.Bool.{cases_eq, eqb-true, eq-eqb, ne_eqb, both_ways, false_from_ne_true}
 use Rattle.std.proofs.lemmas.List.Elements.{All-from_get_or}
 use Rattle.std.proofs.lemmas.List.{take_more, take_all, get_or-take, length-take-le, get_or_append_left, get_or-append_right}
 use Rattle.std.proofs.lemmas.List.Folds.{list_any_at}
@@ -15,7 +15,7 @@ use Rattle.train_order.specs.Sets.{relates, ArePreceded}
 use Rattle.train_order.specs.Taking.{is_among}
 use Rattle.train_order.specs.Walk.{step, steps, ArePrecededWithin, IsWalk, IsRound}
 use Rattle.train_order.proofs.Find.{find_agree, find_some}
-use Rattle.train_order.proofs.Among.{among_at, stands_at, distinct_both, not_before}
+use Rattle.train_order.proofs.Among.{among_at, stands_at, distinct_more, not_before}
 use Rattle.train_order.proofs.Whole.{whole_length}
 
 -- ---- searches
@@ -75,10 +75,7 @@ module _ (sets : List MemberSet) (left : List ℕ) where
               subst (P k) (sym (get_or_append_left walk (after ∷ []) 0 k lo)) (old k lo)
         ] in
         record {
-          once = distinct_both walk (after ∷ []) so_far.once (refl, tt) (λ i h. elim (or_cases (after == i) false h) [
-            | inl e ↦ subst (λ m. is_among walk m ≡ false) (eqb-true after i e) fresh
-            | inr e ↦ absurd (cc)
-          ]);
+          once = distinct_more walk after so_far.once fresh;
           within = on (λ k m. is_among left m ≡ true) so_far.within so_far.after_within;
           each = on (λ k m. m ≡ steps sets left k first) so_far.each so_far.after_is;
           after_within = (step_in after so_far.after_within).0;

@@ -9,7 +9,7 @@ use Rattle.std.proofs.lemmas.List.FromFn.{length-range_with_len}
 use Rattle.std.proofs.lemmas.List.Sorted.{IsPermutation-refl, IsPermutation-trans, IsPermutation-append_right, IsPermutation-middle, IsPermutation-filter_both, length_permutation}
 pub use Rattle.train_order.specs.Taking.{left_of}
 use Rattle.train_order.specs.Taking.{is_among, IsDistinct}
-use Rattle.train_order.proofs.Waiting.{same_passing}
+use Rattle.train_order.proofs.Ranges.{same_passing}
 
 pub twice : (p q : ℕ → Bool) (some : List ℕ) → filter q (filter p some) ≡ filter (λ i. p i && q i) some
 twice p q [] = refl

@@ -1,4 +1,4 @@
--- The search for opposite members in the sets of those that each precedes.
+-- The search for opposite members in the sets of those that precede each.
 use Rattle.std.specs.Prelude.{ℕ, ◌-◌, Bool, ◌&&◌, List, length, find, Option}
 use Rattle.std.specs.List.{range_with_len}
 use Rattle.plan_model.specs.Disorder.{pairs}

@@ -5,8 +5,8 @@ use Rattle.std.specs.List.Sorted.{IsPermutation}
 use Rattle.plan_model.specs.declared.cut.Cut.{Cut}
 use Rattle.plan_model.specs.Members.{member_count, members, precedes_somewhere}
 use Rattle.plan_model.specs.Disorder.{opposite, opposite_pair, remaining, link_of, ring, ring_members}
-use Rattle.train_order.specs.Types.{Order, Disordered, MemberSet, ByTurn}
-use Rattle.train_order.specs.declared.ordering.ByTurn.TheVariants as by_turn
+use Rattle.train_order.specs.Types.{Order, Disordered, MemberSet, WithoutSets}
+use Rattle.train_order.specs.declared.ordering.WithoutSets.TheVariants as without_sets
 use Rattle.plan_model.specs.declared.answer.Disorder.{Disorder}
 use Rattle.plan_model.specs.declared.answer.Disorder.TheVariants as disorder
 use Rattle.train_order.specs.declared.found.Disordered.TheVariants as disordered
@@ -39,11 +39,11 @@ IsOrdering cut (Err (disorder.Opposite first second block1 block2)) =
 IsOrdering cut (Err (disorder.Ring links)) =
     (opposite cut ≡ None) × (remaining cut ≢ []) × (links ≡ ring cut)
 
--- what is told by turn is what the cut is answered
-abbrev pub TellsByTurn : Cut → ByTurn → Type 0
-TellsByTurn cut (by_turn.Order order) = IsOrdering cut (Ok order)
-TellsByTurn cut (by_turn.Opposite told) = IsOrdering cut (Err told)
-TellsByTurn cut by_turn.Unknown = Unit {0}
+-- what is told without sets is what the cut is answered
+abbrev pub TellsWithoutSets : Cut → WithoutSets → Type 0
+TellsWithoutSets cut (without_sets.Order order) = IsOrdering cut (Ok order)
+TellsWithoutSets cut (without_sets.Opposite told) = IsOrdering cut (Err told)
+TellsWithoutSets cut without_sets.Unknown = Unit {0}
 
 -- why a cut's members have no order: there is no reason where no members are opposite and none remain; else its
 -- opposite members; else its ring, where members remain
@@ -65,7 +65,7 @@ abbrev pub PrecedeInTurn : Cut → Disordered → Type 0
 PrecedeInTurn cut (disordered.Opposite i j) = AreOpposed cut i j
 PrecedeInTurn cut (disordered.Ring members) = IsRing cut members
 
--- why members have no order, by the sets of those that each precedes and by those that are taken up: the first two that
+-- why members have no order, by the sets of those that precede each and by those that are taken up: the first two that
 -- precede each other; else a ring of those that are left
 abbrev pub IsDisorderBy : List MemberSet → List ℕ → Disordered → Type 0
 IsDisorderBy sets taken (disordered.Opposite i j) = first_opposed sets ≡ Some (i, j)

@@ -23,15 +23,21 @@ pub record IsFirstMember (words : List ℕ) (from found : ℕ) : Type 0 where
   pub none : (k : ℕ) → from ≤ k → k < found → holds words k ≡ false
   pub there : found < MEMBERS → holds words found ≡ true
 
+-- a member is the first in a set that isn't in another; where there is none, a number that is above those of all members
+pub record IsFirstOutside (words others : List ℕ) (found : ℕ) : Type 0 where
+  pub none : (k : ℕ) → k < found → holds words k ≡ true → holds others k ≡ true
+  pub there : found < MEMBERS → holds words found ≡ true
+  pub outside : found < MEMBERS → holds others found ≡ false
+
 -- stands where there is no set
 abbrev pub no_set : MemberSet
 no_set = record { words = [] }
 
--- the set of member i has member j
+-- member i precedes member j by the sets: it is in that of member j
 abbrev pub relates : List MemberSet → ℕ → ℕ → Bool
-relates sets i j = holds (slice_index_or sets i no_set).words j
+relates sets i j = holds (slice_index_or sets j no_set).words i
 
--- the set of each member has those that it precedes somewhere
+-- the set of each member has those that precede it somewhere
 pub record ArePreceded (cut : Cut) (sets : List MemberSet) : Type 0 where
   pub count : length sets ≡ member_count cut
   pub each : (i j : ℕ) → i < member_count cut → j < member_count cut → relates sets i j ≡ precedes_somewhere cut i j

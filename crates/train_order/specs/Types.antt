@@ -4,4 +4,4 @@ pub use Rattle.train_order.specs.declared.found.Disordered.{Disordered}
 pub use Rattle.train_order.specs.declared.found.Order.{Order}
 pub use Rattle.train_order.specs.declared.member_set.MemberSet.{MemberSet}
 pub use Rattle.train_order.specs.declared.visits.Visit.{Visit}
-pub use Rattle.train_order.specs.declared.ordering.ByTurn.{ByTurn}
+pub use Rattle.train_order.specs.declared.ordering.WithoutSets.{WithoutSets}

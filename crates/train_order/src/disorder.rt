@@ -35,7 +35,7 @@ pub fn disorder_of(cut: &Cut) -> Option<Disordered>
 // Why a cut's trains have no order, if they have none. There is an empty set for each member.
 fn disorder_by(cut: &FitCut, sets: &mut [MemberSet]) -> Option<Disordered>
     requires count { length sets.old ≡ member_count cut.now }
-    requires none { (i j : ℕ) → i < length sets.old → relates sets.old i j ≡ false }
+    requires none { (i j : ℕ) → j < length sets.old → relates sets.old i j ≡ false }
     ensures disorder { IsDisorder cut.now result }
     ensures in_turn { IfSome result (PrecedeInTurn cut.now) }
 {

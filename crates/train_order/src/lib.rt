@@ -6,8 +6,8 @@
 //! others keep it, only pairs with one of the few are compared, and the first that is opposite is
 //! the answer. Where many are out of turn, the first trains by name are compared with all others,
 //! since mostly one of them is opposite to another. Else the users of each place are sorted once.
-//! Each train gets a set of bits with those that it precedes and a count of those that precede it,
-//! and trains are taken out as their counts come to 0.
+//! Each train gets a set of bits with those that precede it. It is taken out after all of them: the
+//! search goes back to the first that is left, until a train has none left.
 //!
 //! `disorder_of` and `place_of_link` say the same without memory, with sets on the stack.
 //!

@@ -1,7 +1,7 @@
 //! Sets of members, a bit for each.
-ghost use Rattle.std.specs.Prelude.{◌≡◌, ◌≢◌, ℕ, ◌+◌, ◌*◌, ◌<◌, ◌≤◌, ◌==◌, ◌||◌, false, IsTrue, length};
+ghost use Rattle.std.specs.Prelude.{◌≡◌, ◌≢◌, ℕ, ◌+◌, ◌*◌, ◌<◌, ◌≤◌, ◌==◌, ◌&&◌, ◌||◌, false, not, IsTrue, length};
 ghost use Rattle.std.specs.Int.{bit_at};
-ghost use Rattle.train_order.specs.Sets.{IsFirstBit, IsFirstMember, holds};
+ghost use Rattle.train_order.specs.Sets.{IsFirstBit, IsFirstMember, IsFirstOutside, holds};
 
 use plan_model::MEMBERS;
 
@@ -77,6 +77,20 @@ impl MemberSet {
         self.next(0) >= count as usize
     }
 
+    // The first member that isn't in another set, or a number that no member has where there is
+    // none.
+    pub(crate) fn first_outside(&self, other: &MemberSet) -> usize
+        ensures { IsFirstOutside self.now.words other.now.words result }
+    {
+        for place in 0..WORDS {
+            let bit = bit_from(without_bits(self.words[place], other.words[place]), 0);
+            if bit < WORD {
+                return WORD * place + bit;
+            }
+        }
+        MEMBERS
+    }
+
     // The first member of the words after a place.
     fn first_after(&self, place: usize) -> usize
         requires { place < WORDS }
@@ -111,6 +125,13 @@ fn with_bits(word: u64, other: u64) -> u64
     ensures { (i : ℕ) → (bit_at result i == 1) ≡ ((bit_at word i == 1) || (bit_at other i == 1)) }
 {
     word | other
+}
+
+fn without_bits(word: u64, other: u64) -> u64
+    ensures { (i : ℕ) → i < 64 → (bit_at result i == 1)
+        ≡ ((bit_at word i == 1) && not (bit_at other i == 1)) }
+{
+    word & !other
 }
 
 // The first bit of a word that is 1 from one on, or `WORD` where none is.

@@ -1,5 +1,5 @@
 //! Lists of members that take no memory.
-ghost use Rattle.std.specs.Prelude.{◌≡◌, ◌<◌, ◌≤◌, ◌++◌, [], ◌∷◌, drop, take, reverse, length};
+ghost use Rattle.std.specs.Prelude.{◌≡◌, ◌-◌, ◌<◌, ◌≤◌, ◌++◌, [], ◌∷◌, drop, take, reverse, length};
 
 use plan_model::MEMBERS;
 use std::marker::Model;
@@ -63,6 +63,21 @@ impl Members {
     {
         self.members[self.count] = member;
         self.count += 1;
+    }
+
+    // Takes out the last member.
+    pub(crate) fn pop(&mut self)
+        requires { 0 < length self.old }
+        ensures { self.new ≡ take (length self.old - 1) self.old }
+    {
+        self.count -= 1;
+    }
+
+    // Takes out all members.
+    pub(crate) fn clear(&mut self)
+        ensures { self.new ≡ [] }
+    {
+        self.count = 0;
     }
 
     // Turns the list round.

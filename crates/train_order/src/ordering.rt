@@ -5,7 +5,7 @@ ghost use Rattle.plan_model.specs.declared.limits.TheConstants.{MEMBERS};
 ghost use Rattle.plan_model.specs.Members.{member_count, members};
 ghost use Rattle.plan_model.specs.Cut.{IsSoundCut};
 ghost use Rattle.plan_model.specs.Disorder.{opposite_pair};
-ghost use Rattle.train_order.specs.Ordering.{IsOrdering, TellsByTurn};
+ghost use Rattle.train_order.specs.Ordering.{IsOrdering, TellsWithoutSets};
 ghost use Rattle.train_order.specs.OutOfTurn.{KeepTurn};
 
 use crate::disorder::find_disorder;
@@ -21,10 +21,10 @@ use plan_model::{Cut, Disorder, FitCut, MEMBERS, SoundCut};
 use rail_model::{List, OutOfMemory};
 use std::alloc::Global;
 
-// What is found without sets: the cut's order, that two trains are opposite, or nothing, so that the
-// slow way follows.
+// What is found without sets: the cut's order, that two trains are opposite, or nothing, so that
+// the slow way follows.
 #[derive(Drop)]
-pub(crate) enum ByTurn {
+pub(crate) enum WithoutSets {
     Order(Order),
     Opposite(Disorder),
     Unknown,
@@ -44,10 +44,10 @@ pub fn order(alloc: Global, cut: &Cut) -> Result<Result<Order, Disorder>, OutOfM
     let cut = FitCut::of(cut);
     // Where few trains are out of turn, or one of the first is opposite to another, no sets are
     // needed.
-    match answer_by_turn(alloc, cut.sound())? {
-        ByTurn::Order(order) => return Ok(Ok(order)),
-        ByTurn::Opposite(told) => return Ok(Err(told)),
-        ByTurn::Unknown => {}
+    match answer_without_sets(alloc, cut.sound())? {
+        WithoutSets::Order(order) => return Ok(Ok(order)),
+        WithoutSets::Opposite(told) => return Ok(Err(told)),
+        WithoutSets::Unknown => {}
     }
     let sets = precedence_sets(alloc, &cut)?;
     let taken = take_up_all(&sets);
@@ -61,9 +61,9 @@ pub fn order(alloc: Global, cut: &Cut) -> Result<Result<Order, Disorder>, OutOfM
 
 // The order of the trains by their entries, where each place keeps it; or that two are opposite,
 // where few trains are out of turn, or one of the two is among the first, and it is so.
-fn answer_by_turn(alloc: Global, cut: &SoundCut) -> Result<ByTurn, OutOfMemory>
+fn answer_without_sets(alloc: Global, cut: &SoundCut) -> Result<WithoutSets, OutOfMemory>
     requires { member_count cut.now ≤ MEMBERS }
-    ensures { IfOk result (TellsByTurn cut.now) }
+    ensures { IfOk result (TellsWithoutSets cut.now) }
 {
     let positions = by_entry(alloc, cut)?;
     match out_of_turn(alloc, cut, &positions)? {
@@ -73,12 +73,12 @@ fn answer_by_turn(alloc: Global, cut: &SoundCut) -> Result<ByTurn, OutOfMemory>
 }
 
 // That two trains are opposite, if one of the first is opposite to another.
-fn by_first(alloc: Global, cut: &SoundCut) -> Result<ByTurn, OutOfMemory>
-    ensures { IfOk result (TellsByTurn cut.now) }
+fn by_first(alloc: Global, cut: &SoundCut) -> Result<WithoutSets, OutOfMemory>
+    ensures { IfOk result (TellsWithoutSets cut.now) }
 {
     match pair_of_first(alloc, cut)? {
-        Some(pair) => Ok(ByTurn::Opposite(told_pair(cut, pair))),
-        None => Ok(ByTurn::Unknown),
+        Some(pair) => Ok(WithoutSets::Opposite(told_pair(cut, pair))),
+        None => Ok(WithoutSets::Unknown),
     }
 }
 
@@ -89,19 +89,19 @@ fn by_turn(
     cut: &SoundCut,
     positions: Vec<u32>,
     apart: &MemberSet,
-) -> Result<ByTurn, OutOfMemory>
+) -> Result<WithoutSets, OutOfMemory>
     requires few { member_count cut.now ≤ MEMBERS }
     requires once { IsPermutation (members cut.now) positions.items }
     requires turn { KeepTurn cut.now positions.items apart.now.words }
-    ensures { IfOk result (TellsByTurn cut.now) }
+    ensures { IfOk result (TellsWithoutSets cut.now) }
 {
     if apart.is_above(cut.member_count()) {
         let positions = List::from_vec(positions);
-        return Ok(ByTurn::Order(Order { positions }));
+        return Ok(WithoutSets::Order(Order { positions }));
     }
     match first_pair(alloc, cut, apart)? {
-        Some(pair) => Ok(ByTurn::Opposite(told_pair(cut, pair))),
-        None => Ok(ByTurn::Unknown),
+        Some(pair) => Ok(WithoutSets::Opposite(told_pair(cut, pair))),
+        None => Ok(WithoutSets::Unknown),
     }
 }
 

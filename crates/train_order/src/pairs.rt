@@ -16,6 +16,14 @@ use plan_model::SoundCut;
 use rail_model::{OutOfMemory, Use};
 use std::alloc::Global;
 
+// At most so many of the first members are compared with all others where many are apart: mostly
+// one of them is opposite to another.
+const FIRST_MEMBERS: u32 = 4;
+
+// And no more than one in so many members, rounded up: to compare more takes as long as sets of
+// all members.
+const MEMBERS_PER_TRY: u32 = 64;
+
 // The least opposite pair, the lesser member first, where no two members are opposite that aren't
 // apart.
 pub(crate) fn first_pair(
@@ -39,9 +47,11 @@ pub(crate) fn first_pair(
     Ok(least)
 }
 
-// So many of the first members are compared with all others where many are apart: mostly one of
-// them is opposite to another, and to compare more would take longer than sets of all members.
-const FIRST: u32 = 4;
+// How many of the first members are compared with all others. No clause says how many: where no
+// pair is found, sets follow.
+fn tries_among(cut: &SoundCut) -> u32 {
+    FIRST_MEMBERS.min(cut.member_count().div_ceil(MEMBERS_PER_TRY))
+}
 
 // The least opposite pair, if it has one of the first members. `None` says nothing.
 pub(crate) fn pair_of_first(
@@ -50,7 +60,7 @@ pub(crate) fn pair_of_first(
 ) -> Result<Option<(u32, u32)>, OutOfMemory>
     ensures { IfOk result (λ found. IfSome found (λ pair. opposite_pair cut.now ≡ Some pair)) }
 {
-    for i in 0..cut.member_count().min(FIRST) {
+    for i in 0..cut.member_count().min(tries_among(cut)) {
         let (starts, first) = starts_of(alloc, cut, i)?;
         if let Some(j) = first_opposite(cut, &starts, first, i) {
             return Ok(Some((i, j)));

@@ -1,9 +1,9 @@
 //! The ring of the members that remain, where no order takes up all.
-ghost use Rattle.std.specs.Prelude.{◌≡◌, ℕ, ◌<◌, ◌≤◌, ◌==◌, All, not, reverse, drop, length, filter, nat_le};
-ghost use Rattle.std.specs.List.{list_all, range_with_len, position_or_len};
+ghost use Rattle.std.specs.Prelude.{◌≡◌, ℕ, ◌<◌, ◌≤◌, ◌==◌, All, IsTrue, reverse, drop, length, nat_le, slice_index};
+ghost use Rattle.std.specs.List.{list_all, list_any, position_or_len};
 ghost use Rattle.plan_model.specs.Disorder as disorder;
-ghost use Rattle.train_order.specs.Sets.{holds};
-ghost use Rattle.train_order.specs.Taking.{is_among, left_of, AreTakenUp};
+ghost use Rattle.train_order.specs.Sets.{holds, relates};
+ghost use Rattle.train_order.specs.Taking.{is_among, left_of, left_in, AreTakenUp};
 ghost use Rattle.train_order.specs.Walk.{step as step_of, ArePrecededWithin, IsRound, IsNext, IsRingBy};
 
 use crate::member_set::MemberSet;
@@ -18,25 +18,9 @@ pub(crate) fn ring_members(sets: &[MemberSet], taken: &[u32]) -> Members
     requires some { length taken.now < length sets.now }
     ensures { IsRingBy sets.now (left_of (length sets.now) taken.now) result }
 {
-    let left = left_members(sets.len(), taken);
-    let (walk, from) = walk_back(sets, left.slice());
-    turn_round(walk.slice(), from)
-}
-
-// The members that are not taken up.
-fn left_members(count: usize, taken: &[u32]) -> Members
-    requires few { count ≤ MEMBERS }
-    requires there { All (λ k. k < count) taken.now }
-    ensures { result ≡ left_of count taken.now }
-{
     let gone = set_of(taken);
-    let mut left = Members::new();
-    for j in 0..count {
-        if !gone.has(j) {
-            left.push(j as u32);
-        }
-    }
-    left
+    let (walk, from) = walk_back(sets, &gone);
+    turn_round(walk.slice(), from)
 }
 
 fn set_of(members: &[u32]) -> MemberSet
@@ -50,22 +34,37 @@ fn set_of(members: &[u32]) -> MemberSet
     set
 }
 
-// The walk over the members that are left, each time to one that precedes, until one comes a second
-// time; and the position in the walk at which that one came first.
-fn walk_back(sets: &[MemberSet], left: &[u32]) -> (Members, usize)
+// The walk over the members that aren't gone, each time to one that precedes, until one comes a
+// second time; and the position in the walk at which that one came first.
+fn walk_back(sets: &[MemberSet], gone: &MemberSet) -> (Members, usize)
     requires few { length sets.now ≤ MEMBERS }
-    requires some { 0 < length left.now }
-    requires preceded { ArePrecededWithin sets.now left.now }
-    ensures { IsRound sets.now left.now result.0 result.1 }
+    requires some { 0 < length (left_in (length sets.now) gone.now.words) }
+    requires preceded { ArePrecededWithin sets.now (left_in (length sets.now) gone.now.words) }
+    ensures { IsRound sets.now (left_in (length sets.now) gone.now.words) result.0 result.1 }
 {
     let mut walk = Members::new();
-    let mut next = left[0] as usize;
-    while place_in(walk.slice(), next) == walk.len() {
+    let mut walked = MemberSet::new();
+    let mut next = first_left(sets.len(), gone);
+    while !walked.has(next) {
+        walked.insert(next);
         walk.push(next as u32);
-        next = step(sets, left, next);
+        next = step(sets, gone, next);
     }
     let from = place_in(walk.slice(), next);
     (walk, from)
+}
+
+// The first member that isn't gone.
+fn first_left(count: usize, gone: &MemberSet) -> usize
+    requires { count ≤ MEMBERS }
+    ensures { result ≡ slice_index (left_in count gone.now.words) 0 }
+{
+    for j in 0..count {
+        if !gone.has(j) {
+            return j;
+        }
+    }
+    0
 }
 
 // The position in a walk at which a member comes first, or the length of the walk.
@@ -80,19 +79,15 @@ fn place_in(walk: &[u32], member: usize) -> usize
     walk.len()
 }
 
-// The first of the members that are left that precedes member j.
-fn step(sets: &[MemberSet], left: &[u32], j: usize) -> usize
+// The first of the members that aren't gone that precedes member j.
+fn step(sets: &[MemberSet], gone: &MemberSet, j: usize) -> usize
     requires few { length sets.now ≤ MEMBERS }
-    requires there { All (λ i. i < length sets.now) left.now }
-    requires member { j < MEMBERS }
-    ensures { result ≡ step_of sets.now left.now j }
+    requires there { j < length sets.now }
+    requires preceded { IsTrue (list_any (λ i. relates sets.now i j)
+        (left_in (length sets.now) gone.now.words)) }
+    ensures { result ≡ step_of sets.now (left_in (length sets.now) gone.now.words) j }
 {
-    for i in left {
-        if sets[*i as usize].has(j) {
-            return *i as usize;
-        }
-    }
-    j
+    sets[j].first_outside(gone)
 }
 
 // The members of a walk from a position on, in the direction of precedence and from the least on.

@@ -80,19 +80,29 @@ pub(crate) fn visits_by_place(
     ensures { IfOk result (λ lists.
         AreVisits cut.now (member_count cut.now) (place_count cut.now) lists.items) }
 {
-    let mut lists = empty_lists(alloc, cut.place_count())?;
+    let mut lists = empty_lists(alloc, cut.place_count(), mean_visits(cut))?;
     for i in 0..cut.member_count() {
         add_visits(&mut lists, i, cut.row(i).uses.slice())?;
     }
     Ok(lists)
 }
 
-fn empty_lists(alloc: Global, count: u32) -> Result<Vec<List<Visit>>, OutOfMemory>
+// The mean number of visits of a place: for so many a list has room at first. No clause says so.
+fn mean_visits(cut: &SoundCut) -> usize {
+    let mut all = 0_usize;
+    for row in cut.rows() {
+        all = all.saturating_add(row.uses.len());
+    }
+    all / (cut.place_count() as usize).max(1)
+}
+
+// So many empty lists, each with room for so many visits.
+fn empty_lists(alloc: Global, count: u32, room: usize) -> Result<Vec<List<Visit>>, OutOfMemory>
     ensures { IfOk result (λ lists. lists.items ≡ replicate count []) }
 {
-    let mut lists = Vec::new(alloc);
+    let mut lists = Vec::with_capacity(alloc, count as usize)?;
     for _ in 0..count {
-        lists.push(List::new(alloc))?;
+        lists.push(List::from_vec(Vec::with_capacity(alloc, room)?))?;
     }
     Ok(lists)
 }

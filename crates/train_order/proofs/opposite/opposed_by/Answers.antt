@@ -10,7 +10,7 @@ use Rattle.train_order.proofs.opposite.opposed_by.Goals as goal
 -- from one member of the set on to the next none is opposed
 none_on : (sets : List MemberSet) (i from next : ℕ) → IsFirstMember (slice_index_or sets i no_set).words from next
     → (k : ℕ) → from ≤ k → k < next → oppose sets i k ≡ false
-none_on sets i from next first k lk ln = and_left (relates sets i k) (relates sets k i) (first.none k lk ln)
+none_on sets i from next first k lk ln = and_right (relates sets i k) (relates sets k i) (first.none k lk ln)
 
 pub loop-j-init : goal.loop-j-init
 loop-j-init c =
@@ -35,7 +35,7 @@ loop-j-preserved c =
         | inr b ↦ elim (cases_eq k j) [
           | inl e ↦
               subst (λ m. oppose sets i m ≡ false) (sym e)
-              (and_right (relates sets i j) (relates sets j i) (sym c.has.ensures ∙ c.if-has.false))
+              (and_left (relates sets i j) (relates sets j i) (sym c.has.ensures ∙ c.if-has.false))
           | inr apart ↦ none_on sets i (j + 1) c.next-j-in-loop-j.result first k (omega (arith, b, apart)) ln
         ]
       ];
@@ -49,9 +49,9 @@ returns-then-has c =
     let j = c.loop-j.j in
     let so_far = c.loop-j.invariant in
     let low : c.args.from ≤ j = so_far.from_on in
-    let there : relates sets i j ≡ true = so_far.there (omega (arith, c.loop-j-test.true, c.requires.within, c.requires.few)) in
+    let there : relates sets j i ≡ true = so_far.there (omega (arith, c.loop-j-test.true, c.requires.within, c.requires.few)) in
     sym (first_found (oppose sets i) c.args.from (c.args.until - c.args.from) j low (omega (arith, c.loop-j-test.true)) so_far.none
-    (and_from (relates sets i j) (relates sets j i) there (sym c.has.ensures ∙ c.if-has.true)))
+    (and_from (relates sets i j) (relates sets j i) (sym c.has.ensures ∙ c.if-has.true) there))
 
 pub returns : goal.returns
 returns c =

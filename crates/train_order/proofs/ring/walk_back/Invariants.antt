@@ -1,9 +1,15 @@
-use Rattle.std.proofs.Common.{◌-◌, length}
+use Rattle.std.proofs.Common.{◌≡◌, ℕ, ◌-◌, length}
+use Rattle.train_order.specs.Sets.{holds}
+use Rattle.train_order.specs.Taking.{is_among, left_in}
 use Rattle.train_order.specs.Walk.{IsWalk}
 use Rattle.train_order.proofs.ring.walk_back.Given as goal
 
-abbrev pub invariant-loop-walk : goal.invariant-loop-walk
-invariant-loop-walk l = IsWalk l.sets l.left l.walk l.next
+-- the walk so far, whose members are in the set
+abbrev pub invariant-loop-walked : goal.invariant-loop-walked
+invariant-loop-walked l = record {
+  is_walk : IsWalk l.sets (left_in (length l.sets) l.gone.words) l.walk l.next;
+  walked : (k : ℕ) → holds l.walked.words k ≡ is_among l.walk k;
+}
 
-abbrev pub decreases-loop-walk : goal.decreases-loop-walk
-decreases-loop-walk l = length l.sets - length l.walk
+abbrev pub decreases-loop-walked : goal.decreases-loop-walked
+decreases-loop-walked l = length l.sets - length l.walk
