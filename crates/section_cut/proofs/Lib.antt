@@ -20,6 +20,7 @@ pub mod Outside
 pub mod Starts
 pub mod PlacesDiffer
 pub mod SoundCut
+pub mod LineCuts
 pub mod Leads
 pub mod LateRuns
 pub mod Rows

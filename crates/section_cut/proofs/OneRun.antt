@@ -246,7 +246,7 @@ module _ {stored : StoredCut} (is : IsStored stored) (name : List ℕ) where
         ∙ sym (bare_with name row old))
 
     pub row_changes : (own : Option CutRow) (at : ℕ) → IsReached old.rows name at → IsOwn old.rows name at own
-        → (result : CutChange) → IsPut old at own row result → IsChangeOfStored stored result
+        → (result : CutChange) → IsPut at own row result → IsChangeOfStored stored result
     row_changes own at reached own_is result put =
         subst (λ v. IsChange v (cut_of later section) stored.number (Some old) result) (sym is.is)
         (subst (λ v. IsChange (Some (stamped 0 old)) v stored.number (Some old) result) (sym cut_later_is)
@@ -256,7 +256,7 @@ module _ {stored : StoredCut} (is : IsStored stored) (name : List ℕ) where
   -- by an edit of one run, where the same connections bind
   module _ (its : Option Stair) (one : IsOneRun earlier later name its) (bare row : Option CutRow) (bare_is : bare ≡ row_of_stair later old.section stored.number its) (row_is : row ≡ option_map (with_bound later old.section (run_named later name)) bare) (binding : binding_connections later old.section ≡ binding_connections earlier old.section) where
     pub run_changes : (own : Option CutRow) (at : ℕ) → IsReached old.rows name at → IsOwn old.rows name at own
-        → (result : CutChange) → IsPut old at own row result → IsChangeOfStored stored result
+        → (result : CutChange) → IsPut at own row result → IsChangeOfStored stored result
     run_changes =
         row_changes (ap (λ (t : Tables). t.sections) one.others) row
         (row_is

@@ -209,11 +209,15 @@ module _ (old : Cut) (n : List ℕ) (at number : ℕ) (sound : IsSoundCut old) (
 
   -- ---- what becomes of the cut with a row of this name, or without one
   pub put_is : (own row : Option CutRow) (result : CutChange) → IsOwn old.rows n at own → IfSome row (λ r. (r.name ≡ n) × (r.stamp ≡ number))
-      → IsSoundCut (cut_with n row old) → IsPut old at own row result
+      → IsSoundCut (cut_with n row old) → IsPut at own row result
       → IsChange (Some (stamped 0 old)) (Some (stamped 0 (cut_with n row old))) number (Some old) result
   put_is None None result gone known later is = rw is (ap Some (none_there gone))
-  put_is None (Some row) result gone known later is = rw is (added row known.0 known.1 gone later)
-  put_is (Some own) None result own_is known later is = rw is (removed own_is.0 later)
+  put_is None (Some row) result gone known later is =
+      let made = added row known.0 known.1 gone later in
+      rw is (reached.before.within, made.0, made.1)
+  put_is (Some own) None result own_is known later is =
+      let made = removed own_is.0 later in
+      rw is (own_is.0.0, made.0, made.1)
   put_is (Some own) (Some row) result own_is known later is = elim is [
     | inl same ↦ rw (same.1) (ap Some (same_there own_is.0 row (ap (stamped_row 0) own_is.1 ∙ same.0)))
     | inr other ↦

@@ -1,6 +1,6 @@
 -- What an edit makes of a section's cut: whether it touches the section, and the stamps of the
 -- cut's rows.
-use Rattle.std.specs.Prelude.{◌≡◌, ◌≢◌, ◌⊎◌, ℕ, ◌<◌, List, length, slice_set, Option, Some, option_map, IfSome, All}
+use Rattle.std.specs.Prelude.{◌≡◌, ◌≢◌, ◌⊎◌, ℕ, ◌<◌, ◌≤◌, List, length, slice_set, insert, remove, Option, Some, option_map, IfSome, All}
 use Rattle.rail_model.specs.declared.items.Section.{Section}
 use Rattle.rail_model.specs.declared.tables.Tables.{Tables}
 use Rattle.plan_model.specs.declared.cut.CutRow.{CutRow}
@@ -32,6 +32,18 @@ HasPlace place cut = place < length cut.rows
 abbrev pub with_row : ℕ → CutRow → Cut → Cut
 with_row place row cut = record cut { rows = slice_set cut.rows place row }
 
+-- a cut has room for one row more here: before a row of it, or behind the last one
+abbrev pub HasRoomAt : ℕ → Cut → Type 0
+HasRoomAt place cut = place ≤ length cut.rows
+
+-- a cut with this row more, at a place of its own
+abbrev pub with_inserted : ℕ → CutRow → Cut → Cut
+with_inserted place row cut = record cut { rows = insert cut.rows place row }
+
+-- a cut without its row at a place
+abbrev pub with_removed : ℕ → Cut → Cut
+with_removed place cut = record cut { rows = remove cut.rows place }
+
 -- what an edit makes of a section's cut: it touches the section exactly where the cut's values
 -- before and after it differ, where that of a section that isn't there is none
 abbrev pub IsChange : Option Cut → Option Cut → ℕ → Option Cut → CutChange → Type 0
@@ -39,6 +51,10 @@ IsChange before after number old change.Untouched = after ≡ before
 IsChange before after number old (change.Touched cut) = (after ≢ before) × IsCutAfter after number old cut
 IsChange before after number old (change.Row place row) =
     IfSome old (HasPlace place) × (after ≢ before) × IsCutAfter after number old (option_map (with_row place row) old)
+IsChange before after number old (change.Inserted place row) =
+    IfSome old (HasRoomAt place) × (after ≢ before) × IsCutAfter after number old (option_map (with_inserted place row) old)
+IsChange before after number old (change.Removed place) =
+    IfSome old (HasPlace place) × (after ≢ before) × IsCutAfter after number old (option_map (with_removed place) old)
 
 -- two sections have the same window and the same blocks, so runs have the same rows in both
 pub record HasSameRows (a b : Section) : Type 0 where

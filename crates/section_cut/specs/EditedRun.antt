@@ -7,7 +7,6 @@ use Rattle.rail_model.specs.declared.tables.Tables.{Tables}
 use Rattle.rail_model.specs.Rules.{has_run}
 use Rattle.rail_model.specs.Tables.{run_named}
 use Rattle.plan_model.specs.declared.cut.CutRow.{CutRow}
-use Rattle.plan_model.specs.declared.cut.Cut.{Cut}
 use Rattle.plan_model.specs.Cut.{stamped_row}
 use Rattle.plan_model.specs.Members.{no_member}
 use Rattle.section_cut.specs.declared.cut_changes.CutChange.{CutChange}
@@ -41,11 +40,11 @@ StandsAt rows at (Some own) = (at < length rows) × (slice_index_or rows at no_m
 StandsAt rows at None = at ≤ length rows
 
 -- what becomes of a cut where its own row at a place, if there is one, is to be this one, or to go
-abbrev pub IsPut : Cut → ℕ → Option CutRow → Option CutRow → CutChange → Type 0
-IsPut old at None None result = result ≡ change.Untouched
-IsPut old at None (Some row) result = result ≡ change.Touched (Some (record old { rows = insert old.rows at row }))
-IsPut old at (Some own) None result = result ≡ change.Touched (Some (record old { rows = remove old.rows at }))
-IsPut old at (Some own) (Some row) result =
+abbrev pub IsPut : ℕ → Option CutRow → Option CutRow → CutChange → Type 0
+IsPut at None None result = result ≡ change.Untouched
+IsPut at None (Some row) result = result ≡ change.Inserted at row
+IsPut at (Some own) None result = result ≡ change.Removed at
+IsPut at (Some own) (Some row) result =
     ((stamped_row 0 own ≡ stamped_row 0 row) × (result ≡ change.Untouched))
     ⊎ ((stamped_row 0 own ≢ stamped_row 0 row) × (result ≡ change.Row at row))
 

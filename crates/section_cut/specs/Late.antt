@@ -33,3 +33,9 @@ pub record AreStairsFor (tables : Tables) (section : Section) (stairs : List Sta
   pub count : length stairs ≡ length tables.runs
   pub each : (n : ℕ) (d : Stair) → n < length tables.runs
       → IsStairFor tables section (run_at tables n) (slice_index_or stairs n d)
+
+-- such a stair for each run from a number on, in the same order, as far as there are stairs
+pub record AreStairsFrom (tables : Tables) (section : Section) (from : ℕ) (stairs : List Stair) : Type 0 where
+  pub count : from + length stairs ≤ length tables.runs
+  pub each : (k : ℕ) (d : Stair) → k < length stairs
+      → IsStairFor tables section (run_at tables (from + k)) (slice_index_or stairs k d)

@@ -3,6 +3,7 @@ pub mod Late
 pub mod Positions
 pub mod Spans
 pub mod Members
+pub mod LineCuts
 pub mod Bound
 pub mod Connected
 pub mod Change

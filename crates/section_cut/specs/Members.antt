@@ -1,5 +1,5 @@
 -- The rows of a section's members before connections are added, and which row is a run's.
-use Rattle.std.specs.Prelude.{ℕ, pos, Bool, ◌&&◌, nat_lt, int_lt, int_le, if◌then◌else◌, List, length, map, filter, take, Option, None, Some}
+use Rattle.std.specs.Prelude.{◌≡◌, ℕ, pos, Bool, ◌&&◌, nat_lt, int_lt, int_le, if◌then◌else◌, List, length, map, filter, take, Option, None, Some}
 use Rattle.std.specs.List.{range_with_len}
 use Rattle.rail_model.specs.declared.items.Run.{Run}
 use Rattle.rail_model.specs.declared.items.Section.{Section}
@@ -9,6 +9,7 @@ use Rattle.rail_model.specs.Tables.{run_at}
 use Rattle.plan_model.specs.declared.cut.CutRow.{CutRow}
 use Rattle.plan_model.specs.Cut.{least, section_uses, entry_of, is_member}
 use Rattle.section_cut.specs.declared.members.Member.{Member}
+use Rattle.section_cut.specs.declared.members.MemberRows.{MemberRows}
 
 -- a run with these uses of the section's blocks is a member
 abbrev pub enters : Section → List Use → Bool
@@ -59,3 +60,8 @@ module _ (tables : Tables) (section : Section) where
 
   abbrev pub members_by_run : List (Option Member)
   members_by_run = map member_at (range_with_len 0 (length tables.runs))
+
+  -- these are the rows of the members among the first so many runs, and which row is a run's
+  pub record AreMembersTo (stamp n : ℕ) (all : MemberRows) : Type 0 where
+    pub rows : all.rows ≡ map (row_on_blocks stamp) (filter (is_member tables section) (take n tables.runs))
+    pub of_run : all.of_run.items ≡ map member_at (range_with_len 0 n)

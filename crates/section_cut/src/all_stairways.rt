@@ -1,5 +1,5 @@
 //! The stairways of a line's runs, and between which moments each of them starts to keep blocks.
-ghost use Rattle.std.specs.Prelude.{◌≡◌, ◌<◌, ◌≤ℤ◌, ◌||◌, pos, int_lt, int_le, true, length, map, IfOk};
+ghost use Rattle.std.specs.Prelude.{◌≡◌, ◌<◌, ◌≤◌, ◌≤ℤ◌, ◌||◌, pos, int_lt, int_le, true, length, map, take, drop, IfOk};
 ghost use Rattle.line_tables.specs.Paths.{path_at};
 ghost use Rattle.rail_model.specs.Blocking.{stair_of};
 ghost use Rattle.rail_model.specs.Conflict.{timetable, stair_at};
@@ -29,9 +29,23 @@ pub fn stairways(alloc: Global, tables: &LineTables) -> Result<List<Stair>, OutO
     ensures { IfOk result (λ all. all ≡ timetable tables.now) }
 {
     let paths = tables.paths()?;
+    stairways_between(alloc, &paths, 0, tables.runs())
+}
+
+// The stairways of the runs from a number up to another.
+pub(crate) fn stairways_between(
+    alloc: Global,
+    paths: &Paths<'_>,
+    from: u32,
+    to: u32,
+) -> Result<List<Stair>, OutOfMemory>
+    requires there { to ≤ length paths.now }
+    requires part { from ≤ to }
+    ensures { IfOk result (λ all. all ≡ drop from (take to (map stair_of paths.now))) }
+{
     let mut all = List::new(alloc);
-    for run in 0..tables.runs() {
-        all.push(stair_by(alloc, &paths, run)?)?;
+    for run in from..to {
+        all.push(stair_by(alloc, paths, run)?)?;
     }
     Ok(all)
 }

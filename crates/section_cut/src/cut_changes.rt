@@ -4,7 +4,7 @@ ghost use Rattle.std.specs.Option.{option_copied};
 ghost use Rattle.rail_model.specs.Rules as rules;
 ghost use Rattle.rail_model.specs.Conflict.{timetable};
 ghost use Rattle.plan_model.specs.Cut.{stamped, IsSoundCut, cut_of};
-ghost use Rattle.section_cut.specs.Change.{IsChange, IsCutAfter, HasPlace, with_row};
+ghost use Rattle.section_cut.specs.Change.{IsChange, IsCutAfter, HasPlace, HasRoomAt, with_row, with_inserted, with_removed};
 ghost use Rattle.section_cut.specs.Reach.{IsOneSection, IsRowReach};
 ghost use Rattle.section_cut.specs.Stored.{IsStored, IsChangeOfStored};
 
@@ -33,6 +33,10 @@ pub enum CutChange {
     /// The edit touches the section, whose cut has this row at a place after it, and else the rows
     /// that it has.
     Row { place: usize, row: CutRow },
+    /// The edit touches the section. After it the cut has this row too, at this place.
+    Inserted { place: usize, row: CutRow },
+    /// The edit touches the section. After it the cut is without the row that stood at this place.
+    Removed { place: usize },
 }
 
 // The tables before and after an edit.
@@ -93,8 +97,8 @@ impl<'a> CutChanges<'a> {
     /// is touched exactly where its cuts before and after the edit differ, and a cut that isn't
     /// there differs from each that is. In the cut after it each row that is new, or whose value
     /// changed, has the edit's number as its stamp, and each other row keeps its stamp. Whether a
-    /// cut in which one row changed comes as `Row` or as `Touched`, no clause says: a caller does
-    /// right with either.
+    /// cut in which one row changed, came or went comes as `Row`, `Inserted` or `Removed`, or as
+    /// `Touched`, no clause says: a caller takes each of them.
     pub fn cut_after(
         &self,
         alloc: Global,
@@ -329,6 +333,14 @@ pub fn cut_change(
             put_row(cut, place, row);
             Ok(true)
         }
+        CutChange::Inserted { place, row } => {
+            insert_row(cut, place, row)?;
+            Ok(true)
+        }
+        CutChange::Removed { place } => {
+            remove_row(cut, place);
+            Ok(true)
+        }
     }
 }
 
@@ -357,5 +369,27 @@ fn put_row(cut: &mut Option<Cut>, place: usize, row: CutRow)
 {
     if let Some(cut) = cut {
         *cut.rows.get_mut(place) = row;
+    }
+}
+
+// Inserts a row at a place of a cut, if there is one.
+fn insert_row(cut: &mut Option<Cut>, place: usize, row: CutRow) -> Result<(), OutOfMemory>
+    requires { IfSome cut.old (HasRoomAt place) }
+    ensures ok { OnOk result (cut.new ≡ option_map (with_inserted place row) cut.old) }
+    ensures err { OnErr result (cut.new ≡ cut.old) }
+{
+    if let Some(cut) = cut {
+        cut.rows.insert(place, row)?;
+    }
+    Ok(())
+}
+
+// Takes the row at a place out of a cut, if there is one.
+fn remove_row(cut: &mut Option<Cut>, place: usize)
+    requires { IfSome cut.old (HasPlace place) }
+    ensures { cut.new ≡ option_map (with_removed place) cut.old }
+{
+    if let Some(cut) = cut {
+        let _removed = cut.rows.remove(place);
     }
 }

@@ -1,17 +1,18 @@
 //! The cut of a section.
-ghost use Rattle.std.specs.Prelude.{◌≡◌, ℕ, ◌<◌, ◌≤◌, length, map, IfOk, IfSome, option_map};
+ghost use Rattle.std.specs.Prelude.{◌≡◌, ℕ, ◌+◌, ◌<◌, ◌≤◌, length, map, IfOk, IfSome, OnOk, option_map};
 ghost use Rattle.plan_model.specs.Cut.{stamped, IsSoundCut};
 ghost use Rattle.plan_model.specs.Cut as cuts;
 ghost use Rattle.rail_model.specs.Conflict.{timetable};
 ghost use Rattle.rail_model.specs.Tables.{section_at};
 ghost use Rattle.rail_model.specs.declared.limits.TheConstants.{PATH_HOPS};
-ghost use Rattle.section_cut.specs.Late.{AreStairsFor};
+ghost use Rattle.section_cut.specs.Late.{AreStairsFor, AreStairsFrom};
+ghost use Rattle.section_cut.specs.Members.{AreMembersTo};
 ghost use Rattle.section_cut.specs.Members as rows;
 
 use crate::all_stairways::AllStairways;
 use crate::connections::connections;
 use crate::late::stairways_to;
-use crate::members::{MemberRows, members};
+use crate::members::{MemberRows, add_members, no_members};
 use crate::positions::{SectionTable, positions};
 use line_tables::LineTables;
 use plan_model::Cut;
@@ -73,6 +74,27 @@ fn cut_by(
         ≡ stamped stamp (cuts.section_cut tables.now (section_at tables.now section))) }
     ensures sound { IfOk result IsSoundCut }
 {
+    let mut members = no_members(alloc, stairs.len())?;
+    add_to_section(alloc, tables, section, stairs, 0, stamp, &mut members)?;
+    cut_of_section(alloc, tables, section, members)
+}
+
+// Adds to the rows of a section those of its members among the next runs, whose stairs these are.
+pub(crate) fn add_to_section(
+    alloc: Global,
+    tables: &LineTables,
+    section: u32,
+    stairs: &AllStairways,
+    from: u32,
+    stamp: u64,
+    all: &mut MemberRows,
+) -> Result<(), OutOfMemory>
+    requires there { section < length tables.now.sections }
+    requires stairs { AreStairsFrom tables.now (section_at tables.now section) from stairs.now }
+    requires rows { AreMembersTo tables.now (section_at tables.now section) stamp from all.old }
+    ensures { OnOk result (AreMembersTo tables.now (section_at tables.now section) stamp
+        (from + length stairs.now) all.new) }
+{
     tables.learn_sound();
     let positions = positions(alloc, tables, section)?;
     let section = tables.section(section);
@@ -82,8 +104,26 @@ fn cut_by(
         positions: &positions,
         spans: &spans,
     };
-    let members = members(alloc, tables, table, stairs, stamp)?;
-    cut_of_members(alloc, tables, section, members)
+    add_members(alloc, tables, table, stairs, from, stamp, all)
+}
+
+// The cut of the section of a number by its members' rows, which all have one stamp.
+pub(crate) fn cut_of_section(
+    alloc: Global,
+    tables: &LineTables,
+    section: u32,
+    members: MemberRows,
+) -> Result<Cut, OutOfMemory>
+    requires there { section < length tables.now.sections }
+    requires rows { (stamp : ℕ) × AreMembersTo tables.now (section_at tables.now section) stamp
+        (length tables.now.runs) members }
+    ensures same { IfOk result (λ cut. (stamp : ℕ)
+        → AreMembersTo tables.now (section_at tables.now section) stamp (length tables.now.runs) members
+        → cut ≡ stamped stamp (cuts.section_cut tables.now (section_at tables.now section))) }
+    ensures sound { IfOk result IsSoundCut }
+{
+    tables.learn_sound();
+    cut_of_members(alloc, tables, tables.section(section), members)
 }
 
 // The cut of a section by its members' rows, which are still without uses of connections.

@@ -7,16 +7,17 @@
 //! first and the last place in the section are looked at: these places are found once for all
 //! stairways over the same blocks. Connections come after that: one that binds adds a use to the
 //! rows of its two runs. `cut_among` makes the cuts of many sections from stairways that are made
-//! once, by `stairways` or, side by side, by `stairways_in_parts`.
+//! once, by `stairways` or, side by side, by `stairways_in_parts`. `all_cuts` makes the cuts of all
+//! sections with few stairways at a time, which takes less memory.
 //!
 //! `cut_change` makes a cut that is kept that of the tables after an edit, with the stamps of its
 //! rows, and tells whether the edit touches the section; `CutChanges` does so for many sections:
 //!
 //! - An edit of a run makes that run's stairway once, for all sections. Where its row has a use
-//!   for each block of its path, the positions stay, and only times are written. One row is put in
-//!   place of the old one, or the cut is copied with the row or without it. All other rows stay
-//!   where each of the run's connections binds after the edit exactly where it does before it.
-//!   Otherwise the connections are bound anew among all members.
+//!   for each block of its path, the positions stay, and only times are written. Where each of the
+//!   run's connections binds after the edit exactly where it does before, one row is replaced,
+//!   inserted or removed, all others stay, and the cut isn't copied. Otherwise it is copied, and the
+//!   connections are bound anew among all members.
 //! - An edit of a section touches no other. Where its window and its blocks stay, as where only its
 //!   additional time rate changes, its rows stay, too.
 //! - An edit of a connection touches the sections in which it binds before or after it. There the
@@ -46,6 +47,7 @@ mod cut_changes;
 mod cuts;
 mod late;
 mod laws;
+mod line_cuts;
 mod members;
 mod one_block;
 mod one_connection;
@@ -67,3 +69,4 @@ pub use all_stairways::{AllStairways, stairways, stairways_in_parts};
 pub use cut_changes::{CutChange, CutChanges, cut_change};
 pub use cuts::{cut_among, cut_of};
 pub use laws::made_cuts_have_their_value;
+pub use line_cuts::all_cuts;

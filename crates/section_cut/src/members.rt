@@ -1,11 +1,12 @@
 //! The members of a section: the runs that enter it within its window.
-ghost use Rattle.std.specs.Prelude.{◌≡◌, ◌<◌, All, ◌++◌, ◌∷◌, [], None, length, map, slice_index_or, IfOk, IfSome, OnOk, option_map};
+ghost use Rattle.std.specs.Prelude.{◌≡◌, ◌+◌, ◌<◌, All, ◌++◌, ◌∷◌, [], None, length, map, slice_index_or, IfOk, IfSome, OnOk, option_map};
 ghost use Rattle.std.specs.Option.{option_to_list};
 ghost use Rattle.plan_model.specs.Cut.{least};
-ghost use Rattle.section_cut.specs.Late.{AreStairsFor};
+ghost use Rattle.section_cut.specs.Late.{AreStairsFrom};
 ghost use Rattle.section_cut.specs.Positions.{IsPositions, uses_in};
 ghost use Rattle.section_cut.specs.Spans.{AreSpans, IsSpan, blocks_of};
 ghost use Rattle.rail_model.specs.Conflict.{stair_at};
+ghost use Rattle.section_cut.specs.Members.{AreMembersTo};
 ghost use Rattle.section_cut.specs.Members as rows;
 
 use crate::all_stairways::AllStairways;
@@ -30,34 +31,43 @@ pub(crate) struct MemberRows {
     pub(crate) of_run: Vec<Option<Member>>,
 }
 
-// The rows of the members by the stairs of all runs, without their uses of connections.
-pub(crate) fn members(
+// No rows, and room for the members among so many runs.
+pub(crate) fn no_members(alloc: Global, runs: usize) -> Result<MemberRows, OutOfMemory>
+    ensures rows { IfOk result (λ all. all.rows ≡ []) }
+    ensures of_run { IfOk result (λ all. all.of_run.items ≡ []) }
+{
+    Ok(MemberRows {
+        rows: List::new(alloc),
+        of_run: Vec::with_capacity(alloc, runs)?,
+    })
+}
+
+// Adds the rows of the members among the runs from a number on, by their stairs, to those of the
+// runs before. They are still without their uses of connections.
+pub(crate) fn add_members(
     alloc: Global,
     tables: &LineTables,
     table: SectionTable<'_>,
     stairs: &AllStairways,
+    from: u32,
     stamp: u64,
-) -> Result<MemberRows, OutOfMemory>
-    requires stairs { AreStairsFor tables.now table.section.now stairs.now }
+    all: &mut MemberRows,
+) -> Result<(), OutOfMemory>
+    requires stairs { AreStairsFrom tables.now table.section.now from stairs.now }
     requires positions { IsPositions tables.now table.section.now table.positions.now }
     requires spans { AreSpans table.positions.now (length table.section.now.blocks)
         (map (λ s. s.uses) stairs.now) table.spans.now }
-    ensures rows { IfOk result
-        (λ all. all.rows ≡ rows.rows_on_blocks tables.now table.entry.section.now stamp) }
-    ensures of_run { IfOk result
-        (λ all. all.of_run.items ≡ rows.members_by_run tables.now table.entry.section.now) }
+    requires rows { AreMembersTo tables.now table.section.now stamp from all.old }
+    ensures { OnOk result (AreMembersTo tables.now table.entry.section.now stamp
+        (from + length stairs.now) all.new) }
 {
     tables.learn_sound();
-    let mut all = MemberRows {
-        rows: List::new(alloc),
-        of_run: Vec::with_capacity(alloc, stairs.len())?,
-    };
     let mut uses = Vec::new(alloc);
     for n in 0..stairs.len() {
         let row = row_at(alloc, table, stairs, n, stamp, &mut uses)?;
-        add_run(&mut all, row)?;
+        add_run(all, row)?;
     }
-    Ok(all)
+    Ok(())
 }
 
 // The row of the run of the stairway at a place, if it is a member. The uses of the section's

@@ -135,7 +135,7 @@ pub(crate) fn cut_after_minimum(
     let end = until(stored.both.after, run, connection);
     let place = (old.section.blocks.len() + k) as u32;
     let row = row_ending(alloc, own, place, end, stored.number)?;
-    with_row(alloc, old, at, Some(own), Some(row))
+    Ok(with_row(at, Some(own), Some(row)))
 }
 
 // A copy of a row with this stamp, whose use of a place ends at this moment.

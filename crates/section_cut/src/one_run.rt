@@ -1,7 +1,7 @@
 //! What an edit of one run makes of a section's cut. It reaches the run's own row alone, where each of
 //! the run's connections binds after the edit exactly where it does before; otherwise the
 //! connections are bound anew among the members.
-ghost use Rattle.std.specs.Prelude.{◌≡◌, IsTrue, ◌↔◌, ◌<◌, ◌≤◌, true, false, All, length, IfOk, IfSome, Some, filter, find, option_map, insert, remove};
+ghost use Rattle.std.specs.Prelude.{◌≡◌, IsTrue, ◌↔◌, ◌<◌, ◌≤◌, true, false, All, length, IfOk, IfSome, Some, filter, find, option_map};
 ghost use Rattle.std.specs.Option.{option_copied};
 ghost use Rattle.section_cut.specs.Stored.{IsStored, IsChangeOfStored};
 ghost use Rattle.section_cut.specs.Members.{member_row};
@@ -282,34 +282,27 @@ pub(crate) fn cut_after_run(
         return cut_bound_anew(alloc, stored, put.rows.slice());
     }
     let row = with_joined(after, old, &run.name, joined, row)?;
-    with_row(alloc, old, at, own, row)
+    Ok(with_row(at, own, row))
 }
 
 // What an edit makes of a cut whose row at a place, if the run has one there, is to be replaced by
 // this row, or to go where no row is given. Where the run has none there, this row is inserted.
-pub(crate) fn with_row(
-    alloc: Global,
-    old: &Cut,
-    at: usize,
-    own: Option<&CutRow>,
-    row: Option<CutRow>,
-) -> Result<CutChange, OutOfMemory>
-    requires { StandsAt old.now.rows at (option_copied own) }
-    ensures { IfOk result (IsPut old.now at (option_copied own.entry) row) }
+pub(crate) fn with_row(at: usize, own: Option<&CutRow>, row: Option<CutRow>) -> CutChange
+    ensures { IsPut at (option_copied own.entry) row result }
 {
     let Some(row) = row else {
         if own.is_none() {
-            return Ok(CutChange::Untouched);
+            return CutChange::Untouched;
         }
-        return Ok(CutChange::Touched(Some(row_removed(alloc, old, at)?)));
+        return CutChange::Removed { place: at };
     };
     let Some(own) = own else {
-        return Ok(CutChange::Touched(Some(row_inserted(alloc, old, at, row)?)));
+        return CutChange::Inserted { place: at, row };
     };
     if same_row(own, &row) {
-        return Ok(CutChange::Untouched);
+        return CutChange::Untouched;
     }
-    Ok(CutChange::Row { place: at, row })
+    CutChange::Row { place: at, row }
 }
 
 // A copy of a cut whose row at a place, if the run has one there, is replaced by this row, or is gone
@@ -324,36 +317,12 @@ fn cut_with(
     requires { StandsAt old.now.rows at (option_copied own) }
     ensures { IfOk result (λ cut. cut.rows ≡ rows_put old.now.rows at (option_copied own.entry) row) }
 {
-    let Some(row) = row else {
-        if own.is_none() {
-            return old.copy(alloc);
-        }
-        return row_removed(alloc, old, at);
-    };
-    if own.is_none() {
-        return row_inserted(alloc, old, at, row);
+    let mut cut = old.copy(alloc)?;
+    match (own, row) {
+        (Some(_), Some(row)) => *cut.rows.get_mut(at) = row,
+        (None, Some(row)) => cut.rows.insert(at, row)?,
+        (Some(_), None) => drop(cut.rows.remove(at)),
+        (None, None) => {}
     }
-    let mut cut = old.copy(alloc)?;
-    *cut.rows.get_mut(at) = row;
-    Ok(cut)
-}
-
-// A copy of a cut without the row at a place.
-fn row_removed(alloc: Global, old: &Cut, at: usize) -> Result<Cut, OutOfMemory>
-    requires { at < length old.now.rows }
-    ensures { IfOk result (λ cut. cut ≡ record old.now { rows = remove old.now.rows at }) }
-{
-    let mut cut = old.copy(alloc)?;
-    let _removed = cut.rows.remove(at);
-    Ok(cut)
-}
-
-// A copy of a cut with a row more at a place.
-fn row_inserted(alloc: Global, old: &Cut, at: usize, row: CutRow) -> Result<Cut, OutOfMemory>
-    requires { at ≤ length old.now.rows }
-    ensures { IfOk result (λ cut. cut ≡ record old.now { rows = insert old.now.rows at row }) }
-{
-    let mut cut = old.copy(alloc)?;
-    cut.rows.insert(at, row)?;
     Ok(cut)
 }

@@ -2,7 +2,6 @@ use Rattle.std.proofs.Common.{◌≡◌, ◌+◌, ◌<◌, Some, length, map, sy
 use Rattle.std.specs.Prelude.{IfSome, pos}
 use Rattle.std.proofs.lemmas.Int.{to_z-of_z}
 use Rattle.std.proofs.lemmas.List.{length-map}
-use Rattle.std.proofs.lemmas.Result.{IfOk-weaker}
 use Rattle.rail_model.specs.declared.items.Connection.{Connection}
 use Rattle.rail_model.specs.declared.items.Run.{Run}
 use Rattle.rail_model.specs.declared.tables.Tables.{Tables}
@@ -11,9 +10,7 @@ use Rattle.rail_model.specs.Tables.{number_of, run_at, last_arrival}
 use Rattle.plan_model.specs.declared.cut.CutRow.{CutRow}
 use Rattle.plan_model.specs.Cut.{binding_connections}
 use Rattle.section_cut.specs.EditedConnection.{uses_ending}
-use Rattle.section_cut.specs.EditedRun.{IsPut}
 use Rattle.section_cut.specs.Stamps.{IsReached, IsOwn}
-use Rattle.section_cut.specs.Stored.{IsChangeOfStored}
 use Rattle.section_cut.proofs.AnotherMinimum.{unchanged, known_still, minimum_row, first_row_alone}
 use Rattle.section_cut.proofs.Known.{IsKnown}
 use Rattle.section_cut.proofs.OneConnection.{cut_of_stays}
@@ -84,7 +81,6 @@ returns c =
     ∙ ap (λ p. record own { stamp = c.args.stored.number; uses = uses_ending p c.until-end.result own.uses }) place)
     ∙ minimum_row c.requires.stored one c.requires.changed k (number_is here) (below_is here) own
     (own_found old.rows one.first at (sound_stored c.requires.stored).names_rise reached (Some own) is_own) c.args.stored.number c.until-end.result until in
-    IfOk-weaker c.with_row.result (IsPut old at (Some own) (Some row)) (IsChangeOfStored c.args.stored)
-    (row_changes c.requires.stored one.first (ap (λ (t : Tables). t.sections) c.requires.changed.others) (Some row) row_is
-    (first_row_alone c.requires.stored one c.requires.changed) (Some own) at reached is_own)
-    c.with_row.ensures
+    row_changes c.requires.stored one.first (ap (λ (t : Tables). t.sections) c.requires.changed.others) (Some row) row_is
+    (first_row_alone c.requires.stored one c.requires.changed) (Some own) at reached is_own
+    c.with_row.result c.with_row.ensures

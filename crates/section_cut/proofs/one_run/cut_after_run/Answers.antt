@@ -1,7 +1,6 @@
 use Rattle.std.proofs.Common.{◌≡◌, Some, Option, map, sym, ap, ◌∙◌, subst}
 use Rattle.std.specs.Prelude.{All, find, IfSome}
 use Rattle.std.specs.Option.{option_copied}
-use Rattle.std.proofs.lemmas.Result.{IfOk-weaker}
 use Rattle.line_tables.proofs.Found.{find_some}
 use Rattle.rail_model.specs.declared.items.Connection.{Connection}
 use Rattle.rail_model.specs.declared.items.Section.{Section}
@@ -12,10 +11,9 @@ use Rattle.rail_model.proofs.NameOrder.{same_name}
 use Rattle.plan_model.specs.declared.cut.CutRow.{CutRow}
 use Rattle.plan_model.specs.Cut.{binds, binding_connections}
 use Rattle.section_cut.specs.Connected.{IsOfRuns, TellsEntries, row_beside}
-use Rattle.section_cut.specs.EditedRun.{IsPut, KeepsPlaces}
+use Rattle.section_cut.specs.EditedRun.{KeepsPlaces}
 use Rattle.section_cut.specs.RowsAfter.{AreOfMembers}
 use Rattle.section_cut.specs.Stamps.{IsReached, IsOwn}
-use Rattle.section_cut.specs.Stored.{IsChangeOfStored}
 use Rattle.section_cut.proofs.BlockPart.{own_blocks_first}
 use Rattle.section_cut.proofs.JoinedRun.{binding_as_listed, entries_told, bare_entry, bare_there, joined_there}
 use Rattle.section_cut.proofs.OneRun.{run_changes}
@@ -131,23 +129,14 @@ with_joined-requires-clause-entry c =
 pub with_joined-requires-clause-blocks : goal.with_joined-requires-clause-blocks
 with_joined-requires-clause-blocks c = (sound_stored c.requires.stored).most_blocks
 
-pub with_row-requires : goal.with_row-requires
-with_row-requires c =
-    let name = c.args.run.now.name in
-    let at = c.place_of-at.result in
-    let own = option_copied c.own_row-own.result in
-    own_stands c.args.stored.cut.now.rows name at (sound_stored c.requires.stored).names_rise (subst (λ rs. IsReached rs name at) c.slice-rows.ensures c.place_of-at.ensures) own
-    (subst (λ rs. IsOwn rs name at own) c.slice-rows.ensures c.own_row-own.ensures)
-
 pub returns : goal.returns
 returns c =
     let run = c.args.run.now in
     let at = c.place_of-at.result in
     let own = option_copied c.own_row-own.result in
     let row = c.in_ok-row-2.row in
-    IfOk-weaker c.with_row.result (IsPut c.args.stored.cut.now at own row) (IsChangeOfStored c.args.stored)
-    (run_changes c.requires.stored run.name run.stair c.requires.edited.one c.in_ok-row.row row c.in_ok-row.ensures c.in_ok-row-2.ensures
+    run_changes c.requires.stored run.name run.stair c.requires.edited.one c.in_ok-row.row row c.in_ok-row.ensures c.in_ok-row-2.ensures
     (binding (goal.at.returns c).Else-not-bind_as_before) own at
     (subst (λ rs. IsReached rs run.name at) c.slice-rows.ensures c.place_of-at.ensures)
-    (subst (λ rs. IsOwn rs run.name at own) c.slice-rows.ensures c.own_row-own.ensures))
-    c.with_row.ensures
+    (subst (λ rs. IsOwn rs run.name at own) c.slice-rows.ensures c.own_row-own.ensures)
+    c.with_row.result c.with_row.ensures
