@@ -1,18 +1,23 @@
 -- Shelves that differ at most in who may hold their cuts.
-use Rattle.std.proofs.Common.{◌≡◌, ℕ, suc, ◌<◌, List, [], ◌∷◌, length, get_or, Option, refl, sym, ap, ◌∙◌, subst, inl, inr, arith}
+use Rattle.std.proofs.Common.{◌≡◌, ℕ, suc, ◌<◌, List, [], ◌∷◌, length, get_or, Option, Some, None, refl, sym, ap, ◌∙◌, subst, inl, inr, arith}
 use Rattle.std.specs.Prelude.{unwrap_or, All, IfSome}
+use Rattle.std.specs.declared.alloc.Global.{Global}
+use Rattle.std.specs.declared.vec.Vec.{Vec}
 use Rattle.rail_model.specs.declared.tables.Tables.{Tables}
 use Rattle.rail_model.specs.Name.{NamesRise}
 use Rattle.rail_model.specs.Rules.{is_named}
+use Rattle.plan_model.specs.declared.cut.Cut.{Cut}
+use Rattle.plan_model.specs.declared.cut.CutRow.{CutRow}
 use Rattle.plan_model.specs.declared.journal.Entry.{Entry}
 use Rattle.plan_model.specs.Cut.{IsSoundCut, cut_of}
-use Rattle.section_cut.specs.Change.{IsChange}
+use Rattle.section_cut.specs.Change.{IsChange, HasRoomAt}
 use Rattle.section_cut.proofs.Rows.{found_at}
 use Rattle.plan_book.specs.declared.changes.ShelfChange.{ShelfChange}
 use Rattle.plan_book.specs.declared.changes.ShelfChange.TheVariants as change
 use Rattle.plan_book.specs.declared.shelf.Shelf.{Shelf}
+use Rattle.plan_book.specs.Stored.{IsSpareFor, TakesRow}
 use Rattle.plan_book.specs.Shelves.{blank, kept_cut, shelf_of, AreShelves}
-use Rattle.plan_book.specs.Changes.{IsAlike, AreAlike, Widens, AreChanges, IsChangeOf, HaveAll, HasItsPlace, HoldsOfEach, cut_change_of}
+use Rattle.plan_book.specs.Changes.{IsAlike, AreAlike, Widens, AreChanges, IsChangeOf, HaveAll, HasItsPlace, HasSpare, HoldsOfEach, cut_change_of}
 use Rattle.plan_book.proofs.Publications.{names_rise_too}
 use Rattle.plan_book.proofs.Edited.{found_beside}
 use Rattle.plan_book.proofs.Widening.{alike_itself}
@@ -50,10 +55,15 @@ module _ (old new : List Shelf) (alike : AreAlike old new) where
     each = λ k s c below.
         let within : k < length old = omega (arith, below, alike.count) in
         let same = alike.each k s within in
+        let before_it = made.each k s c within in
         let change = cut_change_of (get_or changes k c) in
-        subst (λ n. IsChange (cut_of before n) (cut_of after n) number (kept_cut (get_or new k s)) change) (sym same.name)
-        (subst (λ cut. IsChange (cut_of before (get_or old k s).name) (cut_of after (get_or old k s).name) number cut change) (sym same.cut)
-        (made.each k s c within));
+        record {
+          change =
+              subst (λ n. IsChange (cut_of before n) (cut_of after n) number (kept_cut (get_or new k s)) change) (sym same.name)
+              (subst (λ cut. IsChange (cut_of before (get_or old k s).name) (cut_of after (get_or old k s).name) number cut change) (sym same.cut)
+              before_it.change);
+          spare = subst (λ cut. HasSpare cut (get_or changes k c)) (sym same.cut) before_it.spare;
+        };
   }
 
   pub all_alike : (tables : Tables) → HaveAll tables old → HaveAll tables new
@@ -79,11 +89,18 @@ sound_cuts journal first shelves are k d l =
     (found_at (λ (s : Shelf). s.name) shelves k d are.rise l)
     (are.each s.name).cut.sound
 
--- a row is put in where the cut has its place
+takes_row : (place : ℕ) (spare : Vec CutRow Global) (cut : Option Cut) → IfSome cut (HasRoomAt place) → IfSome cut (λ c. IsSpareFor (length c.rows) spare)
+    → IfSome cut (TakesRow place spare)
+takes_row place spare None there room = tt
+takes_row place spare (Some c) there room = record { there = there; memory = room }
+
+-- a row changes, comes or goes where the cut has its place
 has_its_place : (before after : Tables) (number : ℕ) (s : Shelf) (c : ShelfChange) → IsChangeOf before after number s c → HasItsPlace s c
 has_its_place before after number s change.Untouched made = tt
 has_its_place before after number s (change.Touched cut) made = tt
-has_its_place before after number s (change.Row place row) made = made.0
+has_its_place before after number s (change.Row place row) made = made.change.0
+has_its_place before after number s (change.Inserted place row spare) made = takes_row place spare (kept_cut s) made.change.0 made.spare
+has_its_place before after number s (change.Removed place) made = made.change.0
 
 pub have_their_places : (before after : Tables) (number : ℕ) (shelves : List Shelf) (changes : List ShelfChange)
     → AreChanges before after number shelves changes → HoldsOfEach HasItsPlace shelves changes

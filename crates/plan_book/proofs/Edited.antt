@@ -36,6 +36,8 @@ changed_name : (number : ℕ) (s : Shelf) (c : ShelfChange) → (changed number 
 changed_name number s change.Untouched = refl
 changed_name number s (change.Touched cut) = refl
 changed_name number s (change.Row place row) = refl
+changed_name number s (change.Inserted place row spare) = refl
+changed_name number s (change.Removed place) = refl
 
 -- the shelf of a name stands at one place of shelves and of others with the same names
 pub found_beside : (xs ys : List Shelf) (name : List ℕ) (d : Shelf) → length ys ≡ length xs
@@ -111,7 +113,7 @@ module _ (journal : List Entry) (e : Entry) (edit : Edit) (some : 0 < length jou
             let named : s.name ≡ name = found_name shelves name s there.2 in
             let made_here =
             subst (λ n. IsChange (cut_of (tables_of journal) n) (cut_of (after (tables_of journal) edit) n) (last_number journal + 1) (kept_cut s) (cut_change_of c)) named
-            (made.each k none change.Untouched there.1) in
+            (made.each k none change.Untouched there.1).change in
             let is_changed : shelf_of first later name ≡ changed (last_number journal + 1) s c =
             ap (λ o. unwrap_or o none) there.3 ∙ new.each k none change.Untouched there.1 in
             subst (IsShelf (journal ++ e ∷ []) name) (sym is_changed)

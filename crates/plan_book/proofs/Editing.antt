@@ -17,10 +17,10 @@ use Rattle.plan_book.specs.declared.changes.ShelfChange.TheVariants as change
 use Rattle.section_cut.specs.Change.{IsRestamped, IsCutAfter, IsChange}
 use Rattle.section_cut.proofs.Rows.{found_at}
 use Rattle.plan_book.specs.declared.shelf.Shelf.{Shelf}
-use Rattle.plan_book.specs.Stored.{cut_in}
+use Rattle.plan_book.specs.Stored.{cut_in, IsOwnAnd, TakesRow}
 use Rattle.plan_book.specs.Shelves.{kept_cut, IsShelf, IsKeptCut}
-use Rattle.section_cut.specs.Change.{with_row}
-use Rattle.plan_book.specs.Changes.{changed, cut_change_of, IsReady}
+use Rattle.section_cut.specs.Change.{HasPlace, with_row, with_inserted, with_removed}
+use Rattle.plan_book.specs.Changes.{changed, with_own, cut_change_of, IsReady}
 use Rattle.plan_book.proofs.LastChanges.{last_change_too, last_change_on, last_change_new}
 use Rattle.plan_book.proofs.Others.{knows_last-more}
 use Rattle.plan_book.proofs.Starting.{found_of_all}
@@ -135,6 +135,21 @@ module _ (journal : List Entry) (e : Entry) (edit : Edit) (some : 0 < length jou
       new_stamps None made = tt
       new_stamps (Some c) made = restamped c made.same made.sound made.stamps
 
+      -- what is known of it where a row of the book's own cut changed, came or went
+      own-edited : (made : Cut → Cut) (holds : Cut → Type 0) → IfSome s.cut (IsOwnAnd holds)
+          → cut_of (after (tables_of journal) edit) name ≢ cut_of (tables_of journal) name
+          → IsCutAfter (cut_of (after (tables_of journal) edit) name) (last_number journal + 1) (kept_cut s) (option_map made (kept_cut s))
+          → IsShelf longer name (with_own (last_number journal + 1) made s)
+      own-edited made holds own differs later = record {
+        touched = touched_new order differs;
+        published = knows_last-more journal e some name s.published no_publication h.published;
+        cut = subst (IsKeptCut longer name) (sym (own_kept made holds s.cut own)) (record {
+          value = rw last_number-edited (cut_later ∙ later.same);
+          stamps = new_stamps (option_map made (kept_cut s)) later;
+          sound = later.sound;
+        });
+      }
+
       -- what is known of a section after the edit
       pub shelf-edited : (c : ShelfChange)
           → IsChange (cut_of (tables_of journal) name) (cut_of (after (tables_of journal) edit) name) (last_number journal + 1) (kept_cut s) (cut_change_of c)
@@ -157,12 +172,6 @@ module _ (journal : List Entry) (e : Entry) (edit : Edit) (some : 0 < length jou
           sound = made.1.sound;
         };
       }
-      shelf-edited (change.Row place row) made ready = record {
-        touched = touched_new order made.1;
-        published = knows_last-more journal e some name s.published no_publication h.published;
-        cut = subst (IsKeptCut longer name) (sym (own_kept place row s.cut ready)) (record {
-          value = rw last_number-edited (cut_later ∙ made.2.same);
-          stamps = new_stamps (option_map (with_row place row) (kept_cut s)) made.2;
-          sound = made.2.sound;
-        });
-      }
+      shelf-edited (change.Row place row) made ready = own-edited (with_row place row) (HasPlace place) ready made.1 made.2
+      shelf-edited (change.Inserted place row spare) made ready = own-edited (with_inserted place row) (TakesRow place spare) ready made.1 made.2
+      shelf-edited (change.Removed place) made ready = own-edited (with_removed place) (HasPlace place) ready made.1 made.2

@@ -7,12 +7,12 @@ ghost use Rattle.rail_model.specs.Rules.{is_named};
 ghost use Rattle.plan_model.specs.Cut.{IsSoundCut};
 ghost use Rattle.plan_book.specs.Changes.{changed, HasCutOf, HaveCuts, WillChange, IsChangeOf, AreChanges};
 ghost use Rattle.plan_book.specs.Changes.{AreChanged, Widens, HaveAll, IsSoundChange, cut_change_of};
-ghost use Rattle.plan_book.specs.Changes.{Keeps, AreAlike, IsAlike, HoldsOfEach, HasItsPlace, IsReady};
+ghost use Rattle.plan_book.specs.Changes.{Keeps, AreAlike, IsAlike, HoldsOfEach, HasItsPlace, HasSpare, IsReady};
 ghost use Rattle.plan_book.specs.Shelves as shelving;
 ghost use Rattle.plan_book.specs.Shelves.{kept_cut};
 
 use crate::shelf::{Shelf, place_of};
-use crate::stored::{Stored, make_own, make_shared, put_row};
+use crate::stored::{Stored, insert_row, make_own, make_shared, put_row, remove_row, spare_for};
 use line_tables::LineTables;
 use plan_model::{Cut, CutRow};
 use rail_model::{Edit, List, Name, OutOfMemory};
@@ -29,7 +29,21 @@ pub(crate) enum ShelfChange {
     Touched(Option<Stored>),
     // The edit touches the section, whose cut has this row at a place after it, and else the rows
     // that it has.
-    Row { place: usize, row: CutRow },
+    Row {
+        place: usize,
+        row: CutRow,
+    },
+    // The edit touches the section. After it the cut has this row too, at this place. The spare
+    // memory has room for all its rows then.
+    Inserted {
+        place: usize,
+        row: CutRow,
+        spare: Vec<CutRow>,
+    },
+    // The edit touches the section. After it the cut is without the row that stood at this place.
+    Removed {
+        place: usize,
+    },
 }
 
 // An edit that no rule refuses, the tables before and after it, and its number.
@@ -42,8 +56,8 @@ pub(crate) struct AcceptedEdit<'a> {
 }
 
 // What an edit makes of the cut of each section. A shelf is put in for each section of the later
-// tables that has none, and the book becomes the only holder of the cuts into which rows are to be
-// put. What is known of sections stays, also without memory.
+// tables that has none, and the book becomes the only holder of the cuts of which one row is to
+// change. What is known of sections stays, also without memory.
 pub(crate) fn changes_for(
     alloc: Global,
     shelves: &mut List<Shelf>,
@@ -148,8 +162,9 @@ fn change_of(
     requires { HasCutOf made.now.before shelf.now }
     ensures { IfOk result (IsChangeOf made.now.before made.now.after number shelf.now) }
 {
-    let change = made.cut_after(alloc, cut_of(shelf), &shelf.name, number)?;
-    shelf_change(alloc, change)
+    let old = cut_of(shelf);
+    let change = made.cut_after(alloc, old, &shelf.name, number)?;
+    shelf_change(alloc, old, change)
 }
 
 // The cut of a shelf's section, if the section is there.
@@ -162,16 +177,27 @@ fn cut_of(shelf: &Shelf) -> Option<&Cut>
     }
 }
 
-// What an edit makes of a shelf's cut, by what it makes of the section's cut.
-fn shelf_change(alloc: Global, change: CutChange) -> Result<ShelfChange, OutOfMemory>
+// What an edit makes of a shelf's cut, by what it makes of the section's cut. A row that is to come
+// in brings the memory that it may need.
+fn shelf_change(
+    alloc: Global,
+    old: Option<&Cut>,
+    change: CutChange,
+) -> Result<ShelfChange, OutOfMemory>
     requires { IsSoundChange change }
-    ensures { IfOk result (λ made. cut_change_of made ≡ change) }
+    ensures same { IfOk result (λ made. cut_change_of made ≡ change) }
+    ensures spare { IfOk result (HasSpare (option_copied old.entry)) }
 {
     match change {
         CutChange::Untouched => Ok(ShelfChange::Untouched),
         CutChange::Touched(None) => Ok(ShelfChange::Touched(None)),
         CutChange::Touched(Some(cut)) => { Ok(ShelfChange::Touched(Some(Stored::of(alloc, cut)?))) }
         CutChange::Row { place, row } => Ok(ShelfChange::Row { place, row }),
+        CutChange::Inserted { place, row } => {
+            let spare = spare_for(alloc, old)?;
+            Ok(ShelfChange::Inserted { place, row, spare })
+        }
+        CutChange::Removed { place } => Ok(ShelfChange::Removed { place }),
     }
 }
 
@@ -209,10 +235,18 @@ fn change_shelf(alloc: Global, shelf: &mut Shelf, change: ShelfChange, number: u
             shelf.touched = number;
             put_row(alloc, &mut shelf.cut, place, row);
         }
+        ShelfChange::Inserted { place, row, spare } => {
+            shelf.touched = number;
+            insert_row(alloc, &mut shelf.cut, place, row, spare);
+        }
+        ShelfChange::Removed { place } => {
+            shelf.touched = number;
+            remove_row(alloc, &mut shelf.cut, place);
+        }
     }
 }
 
-// Makes the book the only holder of those cuts into which rows are to be put. Each cut stays the
+// Makes the book the only holder of those cuts of which one row is to change. Each cut stays the
 // same, also without memory.
 fn make_ready(
     alloc: Global,
@@ -240,8 +274,8 @@ fn make_shelf_ready(
     ensures ready { OnOk result (IsReady shelf.new change.now) }
 {
     match change {
-        ShelfChange::Row { .. } => make_own(alloc, &mut shelf.cut),
-        _ => Ok(()),
+        ShelfChange::Untouched | ShelfChange::Touched(_) => Ok(()),
+        _ => make_own(alloc, &mut shelf.cut),
     }
 }
 

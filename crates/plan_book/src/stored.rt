@@ -1,12 +1,15 @@
 //! A section's cut as a book keeps it.
-ghost use Rattle.std.specs.Prelude.{◌≡◌, IfOk, IfSome, OnOk, Some, option_map};
+ghost use Rattle.std.specs.Prelude.{◌≡◌, ◌≤◌, ◌<◌, length, insert, nat_lt, vec_len, vec_capacity, IfOk, IfSome, OnOk, Some, option_map};
+ghost use Rattle.std.specs.Option.{option_copied};
 ghost use Rattle.plan_model.specs.Cut.{IsSoundCut};
+ghost use Rattle.section_cut.specs.Change.{HasPlace, with_row, with_inserted, with_removed};
 ghost use Rattle.plan_book.specs.declared.stored.Stored.TheVariants as stored;
-ghost use Rattle.plan_book.specs.Stored.{cut_in, own_with, IsOwn, IsOwnAt};
+ghost use Rattle.plan_book.specs.Stored.{cut_in, in_own, IsOwn, IsOwnAnd, IsSpareFor, TakesRow};
 
 use plan_model::{Cut, CutRow, MEMBERS, SharedCut};
-use rail_model::OutOfMemory;
+use rail_model::{List, OutOfMemory};
 use std::alloc::Global;
+use std::mem;
 
 // A sound cut that readings may share, or one that nobody else holds, so that it can be changed.
 #[derive(Drop)]
@@ -54,7 +57,7 @@ impl Stored {
 fn share_uses(alloc: Global, cut: &mut Cut)
     ensures { cut.new ≡ cut.old }
 {
-    if cut.rows.len() > MEMBERS {
+    if is_crowded(cut) {
         return;
     }
     for place in 0..cut.rows.len() {
@@ -122,17 +125,108 @@ fn shared_of(alloc: Global, own: Cut) -> Stored
     }
 }
 
-// Puts a row at a place of a cut that nobody else holds. Workers may share it, unless the cut is
-// crowded.
+// Whether a cut is crowded. No worker keeps the rows of one.
+fn is_crowded(cut: &Cut) -> bool
+    ensures { result ≡ nat_lt MEMBERS (length cut.now.rows) }
+{
+    cut.rows.len() > MEMBERS
+}
+
+// A row for a cut. Workers may share its uses, unless the cut is crowded or memory runs out.
+fn row_for(alloc: Global, cut: &Cut, row: CutRow) -> CutRow
+    ensures { result ≡ row }
+{
+    let mut row = row;
+    if !is_crowded(cut) {
+        row.uses.make_shared(alloc);
+    }
+    row
+}
+
+// Puts a row at a place of a cut that nobody else holds.
 pub(crate) fn put_row(alloc: Global, stored: &mut Option<Stored>, place: usize, row: CutRow)
-    requires { IfSome stored.old (IsOwnAt place) }
-    ensures { stored.new ≡ option_map (own_with place row) stored.old }
+    requires { IfSome stored.old (IsOwnAnd (HasPlace place)) }
+    ensures { stored.new ≡ option_map (in_own (with_row place row)) stored.old }
 {
     if let Some(Stored::Own(cut)) = stored {
-        let mut row = row;
-        if cut.rows.len() <= MEMBERS {
-            row.uses.make_shared(alloc);
-        }
+        let row = row_for(alloc, cut, row);
         *cut.rows.get_mut(place) = row;
     }
+}
+
+// Takes out the row at a place of a cut that nobody else holds. Where the cut was crowded until now,
+// workers may share the uses of its other rows from now on.
+pub(crate) fn remove_row(alloc: Global, stored: &mut Option<Stored>, place: usize)
+    requires { IfSome stored.old (IsOwnAnd (HasPlace place)) }
+    ensures { stored.new ≡ option_map (in_own (with_removed place)) stored.old }
+{
+    if let Some(Stored::Own(cut)) = stored {
+        let was_crowded = is_crowded(cut);
+        let _gone = cut.rows.remove(place);
+        if was_crowded {
+            share_uses(alloc, cut);
+        }
+    }
+}
+
+// Memory for a cut's rows, one more, and an eighth beside, so that rows seldom move. No clause says
+// that there is more than for one.
+pub(crate) fn spare_for(alloc: Global, cut: Option<&Cut>) -> Result<Vec<CutRow>, OutOfMemory>
+    ensures { IfOk result (λ spare. IfSome (option_copied cut.entry)
+        (λ c. IsSpareFor (length c.rows) spare)) }
+{
+    let Some(cut) = cut else {
+        return Ok(Vec::new(alloc));
+    };
+    let rows = cut.rows.len();
+    Ok(Vec::with_capacity(alloc, rows + 1 + rows / 8)?)
+}
+
+// Puts a row in at a place of a cut that nobody else holds. The rows move to the spare memory only
+// where their own has no room for one more.
+pub(crate) fn insert_row(
+    alloc: Global,
+    stored: &mut Option<Stored>,
+    place: usize,
+    row: CutRow,
+    spare: Vec<CutRow>,
+)
+    requires { IfSome stored.old (IsOwnAnd (TakesRow place spare)) }
+    ensures { stored.new ≡ option_map (in_own (with_inserted place row)) stored.old }
+{
+    if let Some(Stored::Own(cut)) = stored {
+        let row = row_for(alloc, cut, row);
+        let rows = mem::replace(&mut cut.rows, List::new(alloc)).into_vec();
+        cut.rows = inserted(rows, place, row, spare);
+    }
+}
+
+// Rows with one more at a place.
+fn inserted(rows: Vec<CutRow>, place: usize, row: CutRow, spare: Vec<CutRow>) -> List<CutRow>
+    requires place { place ≤ length rows.items }
+    requires spare { IsSpareFor (length rows.items) spare }
+    ensures { result ≡ insert rows.items place row }
+{
+    let mut rows = with_room(rows, spare);
+    if rows.insert(place, row).is_err() {
+        unreachable!();
+    }
+    List::from_vec(rows)
+}
+
+// Rows with room for one more: where they stand or, if there is none, in the spare memory.
+fn with_room(rows: Vec<CutRow>, spare: Vec<CutRow>) -> Vec<CutRow>
+    requires { IsSpareFor (length rows.items) spare }
+    ensures same { result.items ≡ rows.items }
+    ensures room { vec_len result < vec_capacity result }
+{
+    if rows.len() < rows.capacity() {
+        return rows;
+    }
+    let mut rows = rows;
+    let mut all = spare;
+    if all.append(&mut rows).is_err() {
+        unreachable!();
+    }
+    all
 }
