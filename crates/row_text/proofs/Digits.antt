@@ -1,5 +1,5 @@
 -- How many digits a number has.
-use Rattle.std.proofs.Common.{◌≡◌, ℕ, zero, suc, ◌+◌, ◌*◌, ◌/◌, ◌^◌, ◌<◌, ◌≤◌, length, decimal, max, [], ◌∷◌, ◌%◌, refl, ap, ◌∙◌, arith}
+use Rattle.std.proofs.Common.{◌≡◌, ℕ, zero, suc, ◌+◌, ◌*◌, ◌/◌, ◌^◌, ◌<◌, ◌≤◌, length, decimal, max, refl, ap, ◌∙◌, arith}
 use Rattle.std.proofs.Math.Nat.{pow-suc, pow-le-pow_right}
 use Rattle.std.proofs.Common.{List, ◌++◌, take, drop, sym, append_assoc}
 use Rattle.std.proofs.Math.Seq.{take-append-add, take-append_seam}
@@ -28,9 +28,6 @@ length-decimal-max (suc k) zero small le lt =
     let one = pow-le-pow_right {n = 10} (omega arith) {i = 0} {j = k} (omega arith) in
     absurd (omega (arith, power, one))
 length-decimal-max k (suc n) small le lt = length-decimal k (suc n) small (omega arith) (omega arith)
-
-pub decimal_two : (n : ℕ) → 10 ≤ n → n < 100 → decimal n ≡ (48 + n / 10) ∷ (48 + n % 10) ∷ []
-decimal_two n le lt = rw (decimal_step n le (omega arith), decimal_digit (n / 10) (omega arith)) refl
 
 -- digits that were written to end at a place stand after the bytes before them
 pub take-written : (old new digits : List ℕ) (used start end : ℕ) → used ≤ length old → start + length digits ≡ end → end ≡ used + length digits → take start new ≡ take start old → drop start new ≡ digits ++ drop end old

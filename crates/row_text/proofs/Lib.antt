@@ -15,4 +15,5 @@ pub mod SheetSteps
 pub mod PlainFields
 pub mod PlainReads
 pub mod PlainRows
+pub mod Lanes
 pub mod Adds

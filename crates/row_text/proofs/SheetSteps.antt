@@ -10,7 +10,7 @@ use Rattle.std.proofs.lemmas.List.Folds.{list_all-append}
 use Rattle.std.proofs.lemmas.List.Concat.{flat_map-append}
 use Rattle.csv.specs.Writing.{default_writer, row_body}
 use Rattle.row_text.specs.declared.sheet.Sheet.TheInside.{Inside}
-use Rattle.row_text.specs.SheetRows.{Row, text_of_row, text_of_rows, has_fields}
+use Rattle.row_text.specs.SheetRows.{Row, text_of_row, text_of_rows, has_fields, IsTextOf}
 use Rattle.row_text.specs.Put.{more_text}
 use Rattle.row_text.specs.Sheet.{ended_text, open_text, sheet_rows}
 use Rattle.row_text.specs.SheetText.{HoldsRows, IsSheet}
@@ -30,13 +30,13 @@ used-is bytes ended used le =
     rw (ended-is bytes ended used le, open-is bytes ended used le) (sym (take-append-drop ended (take used bytes)))
 
 -- nothing is written
-pub HoldsRows-none : (sheet : Inside) → sheet.text.items ≡ [] → sheet.ended ≡ 0 → sheet.used ≡ 0 → sheet.has_field ≡ false → HoldsRows sheet [] []
-HoldsRows-none sheet text ended used begun = record {
+pub HoldsRows-none : (sheet : Inside) → sheet.ended ≡ 0 → sheet.used ≡ 0 → sheet.has_field ≡ false → HoldsRows sheet [] []
+HoldsRows-none sheet ended used begun = record {
   order = omega arith;
   room = omega arith;
-  ended = rw (text, ended) refl;
+  ended = rw ended refl;
   each = search rules;
-  body = rw (text, ended, used) refl;
+  body = rw (ended, used) refl;
   begun = begun;
 }
 
@@ -115,16 +115,16 @@ HoldsRows-end old new rows row h some ended has_field room written =
       begun = has_field;
     }
 
--- the rows of another sheet are added to those that were ended
-pub HoldsRows-append : (old other new : Inside) (rows more : List Row) (row : Row) → HoldsRows old rows [] → HoldsRows other more row → new.ended ≡ new.used → new.has_field ≡ old.has_field → new.used ≤ length new.text.items
-    → take new.used new.text.items ≡ ended_text old ++ ended_text other → HoldsRows new (rows ++ more) []
-HoldsRows-append old other new rows more row h more_h ended has_field room written =
+-- rows that have this text are added to those that were ended
+pub HoldsRows-append : (old new : Inside) (text : List ℕ) (rows more : List Row) → HoldsRows old rows [] → IsTextOf text more → new.ended ≡ new.used → new.has_field ≡ old.has_field → new.used ≤ length new.text.items
+    → take new.used new.text.items ≡ ended_text old ++ text → HoldsRows new (rows ++ more) []
+HoldsRows-append old new text rows more h is ended has_field room written =
     let none : new.used - new.used ≡ 0 = omega arith in
     record {
       order = omega arith;
       room = room;
-      ended = rw ended (written ∙ rw (h.ended, more_h.ended) (sym (flat_map-append text_of_row rows more)));
-      each = IsTrue-from (list_all-append has_fields rows more ∙ and_from (list_all has_fields rows) (list_all has_fields more) (IsTrue-true h.each) (IsTrue-true more_h.each));
+      ended = rw ended (written ∙ rw (h.ended, is.written) (sym (flat_map-append text_of_row rows more)));
+      each = IsTrue-from (list_all-append has_fields rows more ∙ and_from (list_all has_fields rows) (list_all has_fields more) (IsTrue-true h.each) (IsTrue-true is.each));
       body = rw (ended, none) refl;
       begun = has_field ∙ h.begun;
     }

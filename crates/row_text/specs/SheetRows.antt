@@ -1,6 +1,6 @@
 -- Rows and their fields, and what a sheet is seen as.
-use Rattle.std.specs.Prelude.{ℕ, List, [], slice_index_or, ◌≡◌, Bool, true, false, ◌∷◌, ◌++◌, take}
-use Rattle.std.specs.List.{flat_map}
+use Rattle.std.specs.Prelude.{ℕ, List, [], slice_index_or, ◌≡◌, Bool, true, false, ◌∷◌, ◌++◌, take, IsTrue}
+use Rattle.std.specs.List.{flat_map, list_all}
 use Rattle.csv.specs.Writing.{default_writer, row_text}
 
 -- a row is its fields, each a list of bytes
@@ -41,3 +41,8 @@ text_of_rows rows = flat_map text_of_row rows
 abbrev pub has_fields : Row → Bool
 has_fields [] = false
 has_fields (first ∷ fields) = true
+
+-- the text of these rows, of which each has a field
+pub record IsTextOf (text : List ℕ) (rows : List Row) : Type 0 where
+  pub written : text ≡ text_of_rows rows
+  pub each : IsTrue (list_all has_fields rows)

@@ -1,7 +1,7 @@
 //! The rows of a text without double quotes, which is cut at its commas and at the ends of its
 //! lines.
 ghost use Rattle.std.specs.Prelude.{◌≡◌, ◌↔◌, ◌==◌, ◌&&◌, ◌∷◌, [], ◌+◌, ◌<◌, ◌≤◌, ◌^◌, length, IsTrue, IfOk, IfSome, OnOk, take};
-ghost use Rattle.row_text.specs.PlainRows.{ends_line, EndsField, EndsLine, HasCut, HasCutAll, TakesByte, OthersAreAboveComma};
+ghost use Rattle.row_text.specs.PlainRows.{ends_line, EndsField, EndsLine, HasCut, HasCutAll, so_far, TakesByte, OthersAreAboveComma, OnesAreCommas};
 ghost use Rattle.row_text.specs.Rows.{rows_of};
 
 use crate::fields::GREATEST_PLACE;
@@ -42,7 +42,7 @@ pub(crate) fn plain_rows(alloc: Global, text: &[u8]) -> Result<Option<RowList<'_
 // follows.
 fn cut_whole(alloc: Global, text: &[u8]) -> Result<Option<CutFields>, OutOfMemory>
     requires { length text.now + 1 < 2 ^ 32 }
-    ensures { IfOk result (λ found. IfSome found (HasCutAll text.now)) }
+    ensures { IfOk result (λ found. IfSome found (λ cut. HasCutAll text.now (so_far cut))) }
 {
     let places = places_for(alloc, text)?;
     let mut cut = CutFields {
@@ -70,8 +70,8 @@ const LANES: usize = 64;
 // Cuts a text. `false`, as where there is a double quote, says nothing.
 fn cut_text(cut: &mut CutFields, text: &[u8]) -> Result<bool, OutOfMemory>
     requires small { length text.now + 1 < 2 ^ 32 }
-    requires fresh { HasCut text.now cut.old 0 }
-    ensures { IfOk result (λ whole. IsTrue whole → HasCutAll text.now cut.new) }
+    requires fresh { HasCut text.now (so_far cut.old) 0 }
+    ensures { IfOk result (λ whole. IsTrue whole → HasCutAll text.now (so_far cut.new)) }
 {
     let mut at = 0;
     while text.len() - at >= LANES {
@@ -94,10 +94,60 @@ fn cut_text(cut: &mut CutFields, text: &[u8]) -> Result<bool, OutOfMemory>
 fn cut_lanes(cut: &mut CutFields, text: &[u8], at: usize) -> Result<bool, OutOfMemory>
     requires small { length text.now + 1 < 2 ^ 32 }
     requires there { at + LANES ≤ length text.now }
-    requires before { HasCut text.now cut.old at }
-    ensures { IfOk result (λ whole. IsTrue whole → HasCut text.now cut.new (at + LANES)) }
+    requires before { HasCut text.now (so_far cut.old) at }
+    ensures { IfOk result (λ whole. IsTrue whole → HasCut text.now (so_far cut.new) (at + LANES)) }
 {
-    let mut rest = possible_ends(text, at);
+    let ends = possible_ends(text, at);
+    if ends == commas(text, at) {
+        end_at_commas(cut, text, at, ends)?;
+        return Ok(true);
+    }
+    take_ends(cut, text, at, ends)
+}
+
+// Ends a field at each comma among the bytes from a place on. What it needs of the text stands in
+// the bits.
+fn end_at_commas(
+    cut: &mut CutFields,
+    text: &[u8],
+    at: usize,
+    commas: u64,
+) -> Result<(), OutOfMemory>
+    requires small { length text.now + 1 < 2 ^ 32 }
+    requires there { at + LANES ≤ length text.now }
+    requires others { OthersAreAboveComma text.now at commas }
+    requires ones { OnesAreCommas text.now at commas }
+    requires before { HasCut text.now (so_far cut.old) at }
+    ensures { OnOk result (HasCut text.now (so_far cut.new) (at + LANES)) }
+{
+    let mut starts = [0; LANES];
+    let mut count = 0;
+    let mut start = cut.start;
+    let mut rest = commas;
+    // How many of the bytes are done: by it the loop is known to end.
+    let mut done = 0;
+    while rest != 0 {
+        starts[count] = start as u32;
+        count += 1;
+        done = rest.trailing_zeros() as usize + 1;
+        start = at + done;
+        rest &= rest - 1;
+    }
+    cut.cuts.extend_from_slice(&starts[..count])?;
+    cut.start = start;
+    Ok(())
+}
+
+// Takes each byte that may end a field, of those from a place on. `false`, as where there is a
+// double quote, says nothing.
+fn take_ends(cut: &mut CutFields, text: &[u8], at: usize, ends: u64) -> Result<bool, OutOfMemory>
+    requires small { length text.now + 1 < 2 ^ 32 }
+    requires there { at + LANES ≤ length text.now }
+    requires others { OthersAreAboveComma text.now at ends }
+    requires before { HasCut text.now (so_far cut.old) at }
+    ensures { IfOk result (λ whole. IsTrue whole → HasCut text.now (so_far cut.new) (at + LANES)) }
+{
+    let mut rest = ends;
     // How many of the bytes are done: by it the loop is known to end.
     let mut done = 0;
     while rest != 0 {
@@ -105,7 +155,7 @@ fn cut_lanes(cut: &mut CutFields, text: &[u8], at: usize) -> Result<bool, OutOfM
         if !take_byte(cut, at + place, text[at + place])? {
             return Ok(false);
         }
-        rest &= !(1 << place);
+        rest &= rest - 1;
         done = place + 1;
     }
     Ok(true)
@@ -121,12 +171,22 @@ fn possible_ends(text: &[u8], at: usize) -> u64
     lanes.simd_lt(u8x64::splat(b',' + 1)).to_bitmask()
 }
 
+// Which of the bytes from a place on are commas, by a bit for each.
+fn commas(text: &[u8], at: usize) -> u64
+    requires { at + LANES ≤ length text.now }
+    ensures { OnesAreCommas text.now at result }
+{
+    u8x64::from_slice(&text[at..])
+        .simd_eq(u8x64::splat(b','))
+        .to_bitmask()
+}
+
 // Takes a byte. `false`, as for a double quote, says nothing.
 #[inline]
 fn take_byte(cut: &mut CutFields, i: usize, byte: u8) -> Result<bool, OutOfMemory>
     requires order { cut.old.start ≤ i }
     requires small { i + 1 < 2 ^ 32 }
-    ensures { IfOk result (λ plain. IsTrue plain → TakesByte cut.old cut.new i byte) }
+    ensures { IfOk result (λ plain. IsTrue plain → TakesByte (so_far cut.old) (so_far cut.new) i byte) }
 {
     // Each byte that ends a field is a comma, or below it in ASCII.
     if byte > b',' {
@@ -145,7 +205,7 @@ fn take_below_comma(cut: &mut CutFields, i: usize, byte: u8) -> Result<bool, Out
     requires order { cut.old.start ≤ i }
     requires small { i + 1 < 2 ^ 32 }
     requires other { byte < 44 }
-    ensures { IfOk result (λ plain. IsTrue plain → TakesByte cut.old cut.new i byte) }
+    ensures { IfOk result (λ plain. IsTrue plain → TakesByte (so_far cut.old) (so_far cut.new) i byte) }
 {
     if ends_line(byte) {
         end_line(cut, i)?;
@@ -167,7 +227,7 @@ fn ends_line(byte: u8) -> bool
 fn end_field(cut: &mut CutFields, i: usize) -> Result<(), OutOfMemory>
     requires order { cut.old.start ≤ i }
     requires small { i + 1 < 2 ^ 32 }
-    ensures { OnOk result (EndsField cut.old cut.new i) }
+    ensures { OnOk result (EndsField (so_far cut.old) (so_far cut.new) i) }
 {
     cut.cuts.push(cut.start as u32)?;
     cut.start = i + 1;
@@ -179,7 +239,7 @@ fn end_field(cut: &mut CutFields, i: usize) -> Result<(), OutOfMemory>
 fn end_line(cut: &mut CutFields, i: usize) -> Result<(), OutOfMemory>
     requires order { cut.old.start ≤ i }
     requires small { i + 1 < 2 ^ 32 }
-    ensures { OnOk result (EndsLine cut.old cut.new i) }
+    ensures { OnOk result (EndsLine (so_far cut.old) (so_far cut.new) i) }
 {
     if is_blank(cut, i) {
         cut.start = i + 1;

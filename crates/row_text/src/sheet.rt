@@ -1,9 +1,9 @@
 //! The text of rows that are written.
-ghost use Rattle.std.specs.Prelude.{◌≡◌, ◌<◌, ◌++◌, [], length, map, decimal, false, OnOk, OnErr};
+ghost use Rattle.std.specs.Prelude.{◌≡◌, ◌<◌, ◌++◌, List, [], length, map, decimal, false, OnOk, OnErr};
 ghost use Rattle.std.specs.Fmt.{signed_decimal};
 ghost use Rattle.csv.specs.Writing.{default_writer, needs_quotes};
 ghost use Rattle.row_text.specs.FieldText.{text_of};
-ghost use Rattle.row_text.specs.SheetRows.{with_field, with_fields, with_row, text_of_rows, IsBeginningOf};
+ghost use Rattle.row_text.specs.SheetRows.{Row, with_field, with_fields, with_row, text_of_rows, IsBeginningOf, IsTextOf};
 
 use crate::fields::Fields;
 use crate::put::{make_room, put_bytes, put_end, put_numbers, put_signed, put_text, put_unsigned};
@@ -45,8 +45,16 @@ impl Sheet {
         ensures rows { result.rows ≡ [] }
         ensures row { result.row ≡ [] }
     {
+        Sheet::with_room(Vec::new(alloc))
+    }
+
+    /// A sheet without rows, in the room of these bytes, which are written over.
+    pub fn with_room(room: Vec<u8>) -> Sheet
+        ensures rows { result.rows ≡ [] }
+        ensures row { result.row ≡ [] }
+    {
         Sheet {
-            text: Vec::new(alloc),
+            text: room,
             ended: 0,
             used: 0,
             has_field: false,
@@ -77,10 +85,21 @@ impl Sheet {
         ensures closed { self.new.row ≡ [] }
         ensures err { OnErr result (self.new.rows ≡ self.old.rows) }
     {
+        self.append_text(&other.text[..other.ended])
+    }
+
+    /// Adds the rows that have this text: rows that were written before, as to another sheet. A row
+    /// that is open is dropped first; where memory runs out, the rows stay as they were.
+    pub fn append_text(&mut self, text: &[u8]) -> Result<(), OutOfMemory>
+        requires { (rows : List Row) × IsTextOf text.now rows }
+        ensures ok { (rows : List Row) → IsTextOf text.now rows
+            → OnOk result (self.new.rows ≡ self.old.rows ++ rows) }
+        ensures closed { self.new.row ≡ [] }
+        ensures err { OnErr result (self.new.rows ≡ self.old.rows) }
+    {
         self.drop_row();
-        let rows = &other.text[..other.ended];
-        make_room(&mut self.text, self.ended, rows.len())?;
-        self.ended = put_bytes(&mut self.text, self.ended, rows);
+        make_room(&mut self.text, self.ended, text.len())?;
+        self.ended = put_bytes(&mut self.text, self.ended, text);
         self.used = self.ended;
         Ok(())
     }
