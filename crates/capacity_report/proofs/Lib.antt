@@ -1,6 +1,8 @@
 mod Examples
 mod PartTexts
 mod PieceTexts
+pub mod LastTrains
+pub mod TextSoFar
 pub mod Rows
 pub mod Timetables
 pub mod Checks

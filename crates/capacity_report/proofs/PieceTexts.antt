@@ -32,24 +32,31 @@ piece_closed pieces piece entries rest journal entry is so_far =
     ∙ so_far
 
 -- the text of entries, and then that of others
-texts_joined : (xs ys : List Entry) → text_of_rows (rows_of_journal (xs ++ ys)) ≡ text_of_rows (rows_of_journal xs) ++ text_of_rows (rows_of_journal ys)
+pub texts_joined : (xs ys : List Entry) → text_of_rows (rows_of_journal (xs ++ ys)) ≡ text_of_rows (rows_of_journal xs) ++ text_of_rows (rows_of_journal ys)
 texts_joined xs ys =
     ap text_of_rows (flat_map-append (λ (e : Entry). act_rows e.act) xs ys)
     ∙ flat_map-append text_of_row (rows_of_journal xs) (rows_of_journal ys)
 
-pub texts_of_pieces : (old new : List Piece) (made : List (Vec ℕ Global)) → AreFilled old new → map (λ p. p.text) new ≡ map Ok made
-    → flat_map (λ (t : Vec ℕ Global). t.items) made ≡ text_of_rows (rows_of_journal (entries_of old))
+-- the bytes of texts, one after the other, and those of the texts of several pieces
+abbrev pub text_of : Vec (Vec ℕ Global) Global → List ℕ
+text_of texts = flat_map (λ t. t.items) texts.items
+
+abbrev pub all_of : List (Vec (Vec ℕ Global) Global) → List ℕ
+all_of = flat_map text_of
+
+pub texts_of_pieces : (old new : List Piece) (made : List (Vec (Vec ℕ Global) Global)) → AreFilled old new → map (λ p. p.texts) new ≡ map Ok made
+    → all_of made ≡ text_of_rows (rows_of_journal (entries_of old))
 texts_of_pieces [] [] [] filled is = refl
 texts_of_pieces [] [] (t ∷ made) filled is = absurd (cc)
 texts_of_pieces [] (n ∷ new) made filled is = absurd (omega (arith, filled.count))
 texts_of_pieces (o ∷ old) [] made filled is = absurd (omega (arith, filled.count))
 texts_of_pieces (o ∷ old) (n ∷ new) [] filled is = absurd (cc)
 texts_of_pieces (o ∷ old) (n ∷ new) (t ∷ made) filled is =
-    let first : n.text ≡ Ok t = cc in
-    let later : map (λ p. p.text) new ≡ map Ok made = cc in
-    let text : t.items ≡ text_of_rows (rows_of_journal o.entries.items) =
-    subst (λ m. IfOk m (λ text. text.items ≡ text_of_rows (rows_of_journal o.entries.items))) first (filled.each 0 o (omega arith)) in
+    let first : n.texts ≡ Ok t = cc in
+    let later : map (λ p. p.texts) new ≡ map Ok made = cc in
+    let text : flat_map (λ (u : Vec ℕ Global). u.items) t.items ≡ text_of_rows (rows_of_journal o.entries.items) =
+    subst (λ m. IfOk m (λ texts. flat_map (λ u. u.items) texts.items ≡ text_of_rows (rows_of_journal o.entries.items))) first (filled.each 0 o (omega arith)) in
     let rest = texts_of_pieces old new made (record { count = omega (arith, filled.count); each = λ i d l. filled.each (suc i) d (omega (arith, l)) }) later in
-    ap (λ xs. xs ++ flat_map (λ (u : Vec ℕ Global). u.items) made) text
+    ap (λ xs. xs ++ all_of made) text
     ∙ ap (λ xs. text_of_rows (rows_of_journal o.entries.items) ++ xs) rest
     ∙ sym (texts_joined o.entries.items (entries_of old))

@@ -6,5 +6,7 @@ pub mod Pairs
 pub mod Published
 pub mod Pieces
 pub mod Shown
+pub mod LastTrains
+pub mod TextSoFar
 pub mod Laws
 pub mod Rows

@@ -37,7 +37,7 @@ pub(crate) fn plan_rows(
 }
 
 // Adds the rows `ordered` and `rate`.
-fn head_rows(
+pub(crate) fn head_rows(
     alloc: Global,
     sheet: &mut Sheet,
     section: &Name,
@@ -107,7 +107,7 @@ fn busiest(plan: &Plan) -> Field<'_>
 }
 
 // Adds the rows of the trains, in the order of their names.
-fn train_rows(sheet: &mut Sheet, plan: &Plan) -> Result<(), OutOfMemory>
+pub(crate) fn train_rows(sheet: &mut Sheet, plan: &Plan) -> Result<(), OutOfMemory>
     requires { IsShown plan.now }
     ensures { Adds result sheet.old sheet.new (rows.train_rows plan.now) }
 {
@@ -120,7 +120,7 @@ fn train_rows(sheet: &mut Sheet, plan: &Plan) -> Result<(), OutOfMemory>
 
 // Adds the row `train,NAME,PLANNED,ENTRY,SHIFT` with its tie. A row that is open is dropped first.
 // Where memory runs out, no row is added.
-fn train_row(sheet: &mut Sheet, plan: &Plan, i: usize) -> Result<(), OutOfMemory>
+pub(crate) fn train_row(sheet: &mut Sheet, plan: &Plan, i: usize) -> Result<(), OutOfMemory>
     requires there { i < length plan.now.placed }
     requires train { IsTrainOf plan.now (slice_index_or plan.now.placed i no_train) }
     ensures { AddsRow result sheet.old sheet.new

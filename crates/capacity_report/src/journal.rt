@@ -35,11 +35,7 @@ pub fn journal_rows(
 }
 
 // Adds the rows of entries.
-pub(crate) fn rows_of_entries(
-    alloc: Global,
-    sheet: &mut Sheet,
-    entries: &[Entry],
-) -> Result<(), OutOfMemory>
+fn rows_of_entries(alloc: Global, sheet: &mut Sheet, entries: &[Entry]) -> Result<(), OutOfMemory>
     requires { All (λ e. PublishesAnswer e.act) entries.now }
     ensures { Adds result sheet.old sheet.new (rows.rows_of_journal entries.now) }
 {
@@ -51,7 +47,7 @@ pub(crate) fn rows_of_entries(
 }
 
 // Adds the rows of what an entry says.
-fn act_rows(alloc: Global, sheet: &mut Sheet, act: &Act) -> Result<(), OutOfMemory>
+pub(crate) fn act_rows(alloc: Global, sheet: &mut Sheet, act: &Act) -> Result<(), OutOfMemory>
     requires { PublishesAnswer act.now }
     ensures { Adds result sheet.old sheet.new (rows.act_rows act.now) }
 {
@@ -203,7 +199,7 @@ fn push_reply(sheet: &mut Sheet, reply: Reply) -> Result<(), OutOfMemory>
 }
 
 // Adds the row `published`, and then the rows of the answer with its trains.
-fn published_rows(
+pub(crate) fn published_rows(
     alloc: Global,
     sheet: &mut Sheet,
     section: &Name,
@@ -218,7 +214,7 @@ fn published_rows(
 }
 
 // Adds the row `published,SECTION,AT`.
-fn published_row(sheet: &mut Sheet, section: &Name, at: u64) -> Result<(), OutOfMemory>
+pub(crate) fn published_row(sheet: &mut Sheet, section: &Name, at: u64) -> Result<(), OutOfMemory>
     ensures { AddsRow result sheet.old sheet.new (rows.published_row section.now at) }
 {
     sheet.write(&[

@@ -6,8 +6,8 @@
 //! `stairs_text` makes the hop beyond each signal once. The runs are then parted among threads, and
 //! each writes the rows of its runs to a sheet of its own. The texts of these sheets are the pieces
 //! of the whole. `headways_text` writes its table in parts in the same way. `journal_text` writes
-//! the entries of a journal in pieces of at least 1,024 rows but for the last, and lets go of those
-//! it has written.
+//! the entries of a journal in a piece for each thread, and lets go of those it has written. A row
+//! of a train that is the same as in the section's last answer is copied from the text of that.
 //!
 //! ```text
 //! let mut sheet = Sheet::new(alloc);
@@ -25,11 +25,13 @@ mod compressed;
 mod headways;
 mod journal;
 mod journal_pieces;
+mod last_trains;
 mod laws;
 mod parts;
 mod rates;
 mod rule;
 mod stairs;
+mod text_so_far;
 mod timetable;
 mod total;
 

@@ -53,7 +53,7 @@ fn start_of(count: usize, parts: usize, i: usize) -> usize
 }
 
 // The text of these pieces in their order, if each could be made.
-pub(crate) fn one_after_another(
+fn one_after_another(
     alloc: Global,
     pieces: Vec<Result<Vec<u8>, OutOfMemory>>,
 ) -> Result<Text, OutOfMemory>

@@ -10,7 +10,7 @@ use Rattle.capacity_report.proofs.journal_pieces.journal_text.Goals as goal
 
 pub fill_all-requires-clause-entries : goal.fill_all-requires-clause-entries
 fill_all-requires-clause-entries g c κs inside =
-    in_pieces (λ e. PublishesAnswer e.act) _ (rw (c.deref_mut.ensures.value, c.in_ok-pieces.ensures.entries) (publish_answers c.args.journal c.requires))
+    in_pieces (λ e. PublishesAnswer e.act) _ (rw (c.deref_mut.ensures.value, c.in_ok-pieces.ensures) (publish_answers c.args.journal c.requires))
 
 pub returns : goal.returns
 returns g c =
@@ -19,8 +19,8 @@ returns g c =
     let long : old.len ≡ length written = omega (arith, c.fill_all.ensures.count) in
     let whole : take old.len (written ++ drop (length written) old.items) ≡ written =
     ap (λ n. take n (written ++ drop (length written) old.items)) long ∙ take-append_seam written (drop (length written) old.items) in
-    IfOk-weaker c.one_after_another.result _ _
+    IfOk-weaker c.joined.result _ _
     (λ text h.
-    h.2 ∙ texts_of_pieces _ written h.0 c.fill_all.ensures (ap (map (λ p. p.text)) (sym whole) ∙ sym c.in_ok-texts_of.ensures ∙ h.1)
-    ∙ ap (λ es. text_of_rows (rows_of_journal es)) (ap entries_of c.deref_mut.ensures.value ∙ c.in_ok-pieces.ensures.entries))
-    c.one_after_another.ensures
+    h.2 ∙ texts_of_pieces _ written h.0 c.fill_all.ensures (ap (map (λ p. p.texts)) (sym whole) ∙ sym c.in_ok-texts_of.ensures ∙ h.1)
+    ∙ ap (λ es. text_of_rows (rows_of_journal es)) (ap entries_of c.deref_mut.ensures.value ∙ c.in_ok-pieces.ensures))
+    c.joined.ensures
