@@ -21,6 +21,7 @@ use std::alloc::Global;
 #[derive(Clone, Copy)]
 enum Case {
     Again,
+    AllCuts,
     Blockings,
     Changes,
     Copies,
@@ -54,6 +55,7 @@ enum Case {
 // Each case, by the first word of its line.
 const CASES: &[(&str, Case)] = &[
     ("?again", Case::Again),
+    ("?all-cuts", Case::AllCuts),
     ("?blockings", Case::Blockings),
     ("?changes", Case::Changes),
     ("?copies", Case::Copies),
@@ -191,6 +193,7 @@ fn write_of_tables(
         Case::LookUps => look_ups::write_look_ups(alloc, text, tables, line),
         Case::Blockings => blockings::write_blockings(alloc, text, tables),
         Case::CutAmong => cuts::write_cut_among(alloc, text, tables),
+        Case::AllCuts => cuts::write_all_cuts(alloc, text, tables),
         Case::Changes => changes::write_changes(alloc, text, tables, edits),
         _ => write_of_section(alloc, text, case, line, tables),
     }

@@ -5,7 +5,7 @@ ghost use Rattle.plan_model.specs.Cut.{IsSoundCut};
 use line_tables::LineTables;
 use plan_model::{Cut, CutRow};
 use rail_model::{Name, OutOfMemory};
-use section_cut::{AllStairways, cut_among, cut_of, stairways};
+use section_cut::{AllStairways, all_cuts, cut_among, cut_of, stairways};
 use small_lines::Text;
 use std::alloc::Global;
 
@@ -78,4 +78,17 @@ fn only_cut(alloc: Global, tables: &LineTables) -> Result<Cut, OutOfMemory>
 {
     let stairs = AllStairways::of(alloc, stairways(alloc, tables)?)?;
     cut_among(alloc, tables, &stairs, 0, 7)
+}
+
+// The cuts of all sections with stamp 7, each after its section's name.
+pub(crate) fn write_all_cuts(alloc: Global, text: &mut Text, tables: &LineTables) {
+    match all_cuts(alloc, tables, 7) {
+        Ok(cuts) => {
+            for cut in cuts.slice() {
+                text.put_line(cut.section.name.bytes());
+                put_cut(text, cut);
+            }
+        }
+        Err(_) => text.lose(),
+    }
 }
