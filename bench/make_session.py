@@ -6,6 +6,7 @@ connections: the same with a connection from each train to the next; planners ch
 disorder: the same where trains overtake, and one comes from the other side, so that few sections have an order.
 wide: 700 trains over 256 blocks, and 64 sections of four blocks with all trains; planners make edits of every kind.
 crowded: 2,048 trains over 256 blocks, and 64 sections of four blocks with all trains, more than are answered.
+trains: the crowded line, where planners drop trains and put others.
 
 Each of 16 planners has 16 tasks, four of them questions. With the word base the scripts are left out. The rows are
 the same at each call."""
@@ -59,6 +60,14 @@ class Line:
 def move(line):
     run, start, legs = line.runs[line.draw(len(line.runs))]
     return "change-run,%s,%d,%s" % (run, start + line.draw(60), legs)
+
+
+def come_or_go(line):
+    """A train is dropped, or one of a new name is put that starts within a minute after it."""
+    run, start, legs = line.runs[line.draw(len(line.runs))]
+    if line.draw(2):
+        return "drop-run," + run.split(",")[0]
+    return "run,z%s,%d,%s" % (run, start + line.draw(60), legs)
 
 
 def connect(line):
@@ -128,6 +137,7 @@ KINDS = {
     "disorder": (disorder, [move]),
     "wide": (wide, [change]),
     "crowded": (crowded, [move]),
+    "trains": (crowded, [come_or_go]),
 }
 
 
