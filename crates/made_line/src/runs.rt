@@ -5,7 +5,7 @@ ghost use Rattle.made_line.specs.Base as base;
 
 use crate::draws::Draws;
 use crate::names::{route_name, run_name};
-use rail_model::{Leg, List, OutOfMemory, Run};
+use rail_model::{Leg, Legs, List, OutOfMemory, Run};
 use std::alloc::Global;
 
 // How many runs there are, and how many legs each has.
@@ -31,7 +31,7 @@ pub(crate) fn run(alloc: Global, draws: &mut Draws, i: u32) -> Result<Run, OutOf
     ensures drawn { OnOk result (draws.new.x ≡ after_draws draws.old.x 65) }
 {
     let length_m = 100 + draws.draw(300);
-    let legs = legs(alloc, draws)?;
+    let legs = Legs::of(alloc, legs(alloc, draws)?)?;
     Ok(Run {
         name: run_name(i),
         route: route_name(),

@@ -35,13 +35,13 @@ fn scripts_over(alloc: Global, runs: &[Run]) -> Result<Scripts, OutOfMemory>
 {
     let mut scripts = Scripts::new(alloc);
     for i in 0..PLANNERS {
-        put_script(alloc, &mut scripts, runs, i + 1)?;
+        put_script(&mut scripts, runs, i + 1)?;
     }
     Ok(scripts)
 }
 
 // Puts the script of a planner after the others.
-fn put_script(alloc: Global, scripts: &mut Scripts, runs: &[Run], p: u32) -> Result<(), OutOfMemory>
+fn put_script(scripts: &mut Scripts, runs: &[Run], p: u32) -> Result<(), OutOfMemory>
     requires last { p ≤ 4 }
     requires count { length runs.now ≡ 300 }
     requires starts { All (λ r. r.start_s < 1000000) runs.now }
@@ -49,25 +49,25 @@ fn put_script(alloc: Global, scripts: &mut Scripts, runs: &[Run], p: u32) -> Res
 {
     scripts.begin()?;
     for k in 0..CHANGES {
-        put_tasks(alloc, scripts, &runs[(60 * p + k) as usize], k)?;
+        put_tasks(scripts, &runs[(60 * p + k) as usize], k)?;
     }
     Ok(())
 }
 
 // Puts two tasks at the end of the last script: a run starts later, and a section is asked for.
-fn put_tasks(alloc: Global, scripts: &mut Scripts, run: &Run, k: u32) -> Result<(), OutOfMemory>
+fn put_tasks(scripts: &mut Scripts, run: &Run, k: u32) -> Result<(), OutOfMemory>
     requires some { 0 < length scripts.old }
     requires start { run.now.start_s < 1000000 }
     ensures { OnOk result (scripts.new ≡ with_task
         (with_task scripts.old (task.Edit (made.change_run run.now))) (made.ask_task k)) }
 {
-    let later = later_run(alloc, run)?;
+    let later = later_run(run)?;
     scripts.push(Task::Edit(Edit::Change(Item::Run(later))))?;
     scripts.push(Task::Ask(section_name(k % 8)))
 }
 
 // A run that starts 30 s later.
-fn later_run(alloc: Global, run: &Run) -> Result<Run, OutOfMemory>
+fn later_run(run: &Run) -> Result<Run, OutOfMemory>
     requires { run.now.start_s < 1000000 }
     ensures { IfOk result (λ later. later ≡ made.later_run run.now) }
 {
@@ -77,6 +77,6 @@ fn later_run(alloc: Global, run: &Run) -> Result<Run, OutOfMemory>
         length_m: run.length_m,
         tail_s: run.tail_s,
         start_s: run.start_s + 30,
-        legs: run.legs.copy(alloc)?,
+        legs: run.legs.copy()?,
     })
 }

@@ -27,7 +27,7 @@ impl Run {
             length_m: self.length_m,
             tail_s: self.tail_s,
             start_s: self.start_s,
-            legs: self.legs.copy(alloc)?,
+            legs: self.legs.copy()?,
         })
     }
 }

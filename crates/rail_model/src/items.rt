@@ -2,7 +2,7 @@
 ghost use Rattle.std.specs.Prelude.{◌≡◌};
 ghost use Rattle.rail_model.specs.Rules.{kind_of_item, name_of_item};
 
-use crate::{Kind, List, Name};
+use crate::{Kind, Legs, List, Name};
 
 /// A stretch of track that one train may block at a time.
 #[derive(Clone, Copy)]
@@ -59,7 +59,7 @@ pub struct Run {
     /// When the head passes the first signal: seconds from the timetable's origin.
     pub start_s: u32,
     /// In the route's order: one for each of its signals, the last without a dwell.
-    pub legs: List<Leg>,
+    pub legs: Legs,
 }
 
 /// A part of the line whose capacity is asked for, with the time window that is looked at.

@@ -18,6 +18,7 @@ mod edit;
 mod form;
 mod items;
 pub mod laws;
+mod legs;
 mod limits;
 mod list;
 mod memory;
@@ -33,6 +34,7 @@ mod tables;
 pub use edit::{Edit, Kind, Rule};
 pub use form::Form;
 pub use items::{Block, Connection, Item, Leg, Route, Run, Section, Signal};
+pub use legs::Legs;
 pub use limits::{
     BLOCKS, CONNECTIONS, GREATEST_LENGTH_M, GREATEST_MOMENT_S, GREATEST_RATE, GREATEST_START_S,
     GREATEST_TIME_S, GREATEST_WINDOW_END_S, PATH_HOPS, ROUTES, RUNS, SECTIONS, SIGNALS,

@@ -9,7 +9,7 @@ use crate::fields::Row;
 use crate::lists::{names_from, run_legs};
 use crate::read_field::{name_at, number_at, rate_at, time_at};
 use crate::unread::Unread;
-use rail_model::{Block, Connection, Item, Kind, Route, Run, Section, Signal};
+use rail_model::{Block, Connection, Item, Kind, Legs, Route, Run, Section, Signal};
 use std::alloc::Global;
 
 // The item of a kind that a row spells, or the first fault of its fields.
@@ -91,7 +91,7 @@ fn run_of(alloc: Global, version: u32, row: &Row<'_>) -> Result<Item, Unread>
     let length_m = number_at(row, 3)?;
     let tail_s = number_at(row, 4)?;
     let start_s = time_at(version, row, 5)?;
-    let legs = run_legs(alloc, version, start_s, row, 6)?;
+    let legs = Legs::of(alloc, run_legs(alloc, version, start_s, row, 6)?)?;
     Ok(Item::Run(Run {
         name,
         route,
