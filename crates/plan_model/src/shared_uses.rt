@@ -5,8 +5,8 @@ ghost use Rattle.plan_model.specs.SharedUses.{uses_in};
 use rail_model::{OutOfMemory, Use};
 use std::alloc::Global;
 use std::marker::Model;
-use std::mem;
 use std::sync::Arc;
+use std::{mem, slice};
 
 /// Uses in order, of one row or of several at one time: that of a section's cut, and the same row
 /// where a worker keeps it. Contracts see their list.
@@ -15,9 +15,11 @@ pub struct SharedUses {
     held: Held,
 }
 
-// How uses are held: by one row alone, with one allocation, or so that several can, with two.
+// How uses are held: one use in the row itself; others by one row alone, with one allocation, or
+// so that several rows can hold them, with two.
 #[derive(Drop)]
 enum Held {
+    One(Use, Global),
     Own(Vec<Use>),
     Shared(Arc<Vec<Use>, Global>),
 }
@@ -37,9 +39,24 @@ impl SharedUses {
     pub fn of(uses: Vec<Use>) -> SharedUses
         ensures { result ≡ uses.items }
     {
-        SharedUses {
-            held: Held::Own(uses),
-        }
+        let held = if uses.len() == 1 {
+            Held::One(uses[0], *uses.allocator())
+        } else {
+            Held::Own(uses)
+        };
+        SharedUses { held }
+    }
+
+    /// A copy of these uses, held by one row alone. One use asks for no memory.
+    pub fn copy_of(alloc: Global, uses: &[Use]) -> Result<SharedUses, OutOfMemory>
+        ensures { IfOk result (λ held. held ≡ uses.now) }
+    {
+        let held = if uses.len() == 1 {
+            Held::One(uses[0], alloc)
+        } else {
+            Held::Own(Vec::from_slice(alloc, uses)?)
+        };
+        Ok(SharedUses { held })
     }
 
     /// Lets several rows hold these uses from now on, where there is memory for it.
@@ -48,15 +65,16 @@ impl SharedUses {
     {
         self.held = match mem::replace(&mut self.held, Held::Own(Vec::new(alloc))) {
             Held::Own(uses) => shared_of(alloc, uses),
-            shared => shared,
+            other => other,
         };
     }
 
-    /// The same uses for one row more. Uses that one row holds alone are copied; others are shared.
+    /// The same uses for one row more. What one row holds alone is copied; all else is shared.
     pub fn share(&self) -> Result<SharedUses, OutOfMemory>
         ensures { IfOk result (λ shared. shared ≡ self.now) }
     {
         let held = match &self.held {
+            Held::One(one, alloc) => Held::One(*one, *alloc),
             Held::Own(uses) => Held::Own(uses.clone()?),
             Held::Shared(uses) => Held::Shared(Arc::try_clone(uses)?),
         };
@@ -71,6 +89,13 @@ impl SharedUses {
         ensures err { OnErr result (self.new ≡ self.old) }
     {
         match &mut self.held {
+            Held::One(first, alloc) => {
+                let mut own = Vec::with_capacity(*alloc, 2)?;
+                own.push_reserved(*first);
+                own.push_reserved(one);
+                self.held = Held::Own(own);
+                Ok(())
+            }
             Held::Own(uses) => put(uses, one),
             Held::Shared(uses) => {
                 let mut own = Vec::clone(uses)?;
@@ -93,6 +118,7 @@ impl SharedUses {
         ensures { result.now ≡ self.now }
     {
         match &self.held {
+            Held::One(one, _) => slice::from_ref(one),
             Held::Own(uses) => uses,
             Held::Shared(uses) => uses,
         }
