@@ -8,8 +8,10 @@ use Rattle.rail_model.specs.declared.stair.Use.{Use}
 use Rattle.rail_model.specs.Tables.{run_at}
 use Rattle.plan_model.specs.declared.cut.CutRow.{CutRow}
 use Rattle.plan_model.specs.Cut.{least, section_uses, entry_of, is_member}
+use Rattle.section_cut.specs.declared.cuts.SectionRows.{SectionRows}
 use Rattle.section_cut.specs.declared.members.Member.{Member}
 use Rattle.section_cut.specs.declared.members.MemberRows.{MemberRows}
+use Rattle.section_cut.specs.Positions.{IsPositions}
 
 -- a run with these uses of the section's blocks is a member
 abbrev pub enters : Section → List Use → Bool
@@ -65,3 +67,8 @@ module _ (tables : Tables) (section : Section) where
   pub record AreMembersTo (stamp n : ℕ) (all : MemberRows) : Type 0 where
     pub rows : all.rows ≡ map (row_on_blocks stamp) (filter (is_member tables section) (take n tables.runs))
     pub of_run : all.of_run.items ≡ map member_at (range_with_len 0 n)
+
+  -- these are such rows, with the positions of the blocks in the section
+  pub record AreSectionRowsTo (stamp n : ℕ) (all : SectionRows) : Type 0 where
+    pub positions : IsPositions tables section all.positions.items
+    pub members : AreMembersTo stamp n all.members

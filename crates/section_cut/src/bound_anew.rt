@@ -102,6 +102,6 @@ pub(crate) fn on_blocks(
         name: row.name,
         stamp,
         entry: row.entry,
-        uses: SharedUses::of(Vec::from_slice(alloc, uses)?),
+        uses: SharedUses::copy_of(alloc, uses)?,
     }))
 }

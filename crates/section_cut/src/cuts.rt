@@ -6,7 +6,7 @@ ghost use Rattle.rail_model.specs.Conflict.{timetable};
 ghost use Rattle.rail_model.specs.Tables.{section_at};
 ghost use Rattle.rail_model.specs.declared.limits.TheConstants.{PATH_HOPS};
 ghost use Rattle.section_cut.specs.Late.{AreStairsFor, AreStairsFrom};
-ghost use Rattle.section_cut.specs.Members.{AreMembersTo};
+ghost use Rattle.section_cut.specs.Members.{AreMembersTo, AreSectionRowsTo};
 ghost use Rattle.section_cut.specs.Members as rows;
 
 use crate::all_stairways::AllStairways;
@@ -18,6 +18,14 @@ use line_tables::LineTables;
 use plan_model::Cut;
 use rail_model::{Name, OutOfMemory, Section};
 use std::alloc::Global;
+
+// The rows of a section's members among the first runs, and the position of each block of the
+// tables in the section, by which the rows of further runs are made.
+#[derive(Drop)]
+pub(crate) struct SectionRows {
+    pub(crate) positions: Vec<u32>,
+    pub(crate) members: MemberRows,
+}
 
 /// The cut of the section of a name, each row with this stamp, and `None` exactly where the section
 /// isn't there. A run is a member where it uses a block of the section and its entry, the least
@@ -74,9 +82,26 @@ fn cut_by(
         ≡ stamped stamp (cuts.section_cut tables.now (section_at tables.now section))) }
     ensures sound { IfOk result IsSoundCut }
 {
-    let mut members = no_members(alloc, stairs.len())?;
-    add_to_section(alloc, tables, section, stairs, 0, stamp, &mut members)?;
-    cut_of_section(alloc, tables, section, members)
+    let mut rows = no_section_rows(alloc, tables, section, stairs.len())?;
+    add_to_section(alloc, tables, section, stairs, 0, stamp, &mut rows)?;
+    cut_of_section(alloc, tables, section, rows.members)
+}
+
+// No rows of the section of a number, and room for its members among so many runs.
+pub(crate) fn no_section_rows(
+    alloc: Global,
+    tables: &LineTables,
+    section: u32,
+    runs: usize,
+) -> Result<SectionRows, OutOfMemory>
+    requires { section < length tables.now.sections }
+    ensures { IfOk result (λ rows. (stamp : ℕ)
+        → AreSectionRowsTo tables.now (section_at tables.now section) stamp 0 rows) }
+{
+    Ok(SectionRows {
+        positions: positions(alloc, tables, section)?,
+        members: no_members(alloc, runs)?,
+    })
 }
 
 // Adds to the rows of a section those of its members among the next runs, whose stairs these are.
@@ -87,24 +112,23 @@ pub(crate) fn add_to_section(
     stairs: &AllStairways,
     from: u32,
     stamp: u64,
-    all: &mut MemberRows,
+    rows: &mut SectionRows,
 ) -> Result<(), OutOfMemory>
     requires there { section < length tables.now.sections }
     requires stairs { AreStairsFrom tables.now (section_at tables.now section) from stairs.now }
-    requires rows { AreMembersTo tables.now (section_at tables.now section) stamp from all.old }
-    ensures { OnOk result (AreMembersTo tables.now (section_at tables.now section) stamp
-        (from + length stairs.now) all.new) }
+    requires rows { AreSectionRowsTo tables.now (section_at tables.now section) stamp from rows.old }
+    ensures { OnOk result (AreSectionRowsTo tables.now (section_at tables.now section) stamp
+        (from + length stairs.now) rows.new) }
 {
     tables.learn_sound();
-    let positions = positions(alloc, tables, section)?;
     let section = tables.section(section);
-    let spans = stairs.spans(alloc, &positions, section.blocks.len())?;
+    let spans = stairs.spans(alloc, &rows.positions, section.blocks.len())?;
     let table = SectionTable {
         section,
-        positions: &positions,
+        positions: &rows.positions,
         spans: &spans,
     };
-    add_members(alloc, tables, table, stairs, from, stamp, all)
+    add_members(alloc, tables, table, stairs, from, stamp, &mut rows.members)
 }
 
 // The cut of the section of a number by its members' rows, which all have one stamp.

@@ -6,21 +6,20 @@ ghost use Rattle.plan_model.specs.Cut as cuts;
 ghost use Rattle.section_cut.specs.LineCuts.{AreRowsTo};
 
 use crate::all_stairways::{AllStairways, stairways_between};
-use crate::cuts::{add_to_section, cut_of_section};
-use crate::members::{MemberRows, no_members};
+use crate::cuts::{SectionRows, add_to_section, cut_of_section, no_section_rows};
 use line_tables::{LineTables, Paths};
 use plan_model::Cut;
 use rail_model::{List, OutOfMemory};
 use std::alloc::Global;
 
 // The stairways of so many runs are made at a time.
-const RUNS_A_PART: usize = 1_024;
+const RUNS_A_PART: usize = 128;
 
 // The rows of the members of each section, in the order of the tables, and their stamp.
 #[derive(Drop)]
 pub(crate) struct RowsOfAll {
     pub(crate) stamp: u64,
-    pub(crate) each: Vec<MemberRows>,
+    pub(crate) each: Vec<SectionRows>,
 }
 
 /// The cuts of all sections, in the order of the tables, each row with this stamp. They are those
@@ -57,8 +56,8 @@ fn no_rows(alloc: Global, tables: &LineTables, stamp: u64) -> Result<RowsOfAll, 
     ensures rows { IfOk result (AreRowsTo tables.now 0) }
 {
     let mut each = Vec::with_capacity(alloc, tables.sections() as usize)?;
-    for _ in 0..tables.sections() {
-        each.push(no_members(alloc, tables.runs() as usize)?)?;
+    for section in 0..tables.sections() {
+        each.push(no_section_rows(alloc, tables, section, tables.runs() as usize)?)?;
     }
     Ok(RowsOfAll { stamp, each })
 }
@@ -101,7 +100,7 @@ fn cuts_of_rows(
     tables.learn_sound();
     let mut made = List::new(alloc);
     for rows in all.each {
-        made.push(cut_of_section(alloc, tables, made.len() as u32, rows)?)?;
+        made.push(cut_of_section(alloc, tables, made.len() as u32, rows.members)?)?;
     }
     Ok(made)
 }

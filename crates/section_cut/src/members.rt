@@ -111,7 +111,7 @@ pub(crate) fn member_row(
     if !enters(section, uses, entry) {
         return Ok(None);
     }
-    let uses = SharedUses::of(Vec::from_slice(alloc, uses)?);
+    let uses = SharedUses::copy_of(alloc, uses)?;
     Ok(Some(CutRow {
         name,
         stamp,

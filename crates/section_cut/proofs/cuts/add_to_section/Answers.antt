@@ -1,6 +1,6 @@
 use Rattle.std.proofs.Common.{◌+◌, ◌≤◌, length, map, sym, subst}
-use Rattle.std.specs.Prelude.{OnOk}
 use Rattle.std.proofs.lemmas.Option.{get_or_from_slice_get}
+use Rattle.std.proofs.lemmas.Result.{on_ok_weaker}
 use Rattle.rail_model.specs.declared.items.Section.{Section}
 use Rattle.rail_model.specs.declared.stair.Stair.{Stair}
 use Rattle.rail_model.specs.declared.limits.TheConstants.{PATH_HOPS}
@@ -16,7 +16,7 @@ pub add_members-requires-clause-positions : goal.add_members-requires-clause-pos
 add_members-requires-clause-positions c =
     let tables = c.args.tables.now in
     let is = get_or_from_slice_get tables.sections c.args.section c.section-section.result.now no_section c.section-section.ensures in
-    rw c.deref-2.ensures.value (subst (λ s. IsPositions tables s c.in_ok-positions.positions.items) is c.in_ok-positions.ensures)
+    rw c.deref-2.ensures.value (subst (λ s. IsPositions tables s c.args.rows.now.positions.items) is c.requires.rows.positions)
 
 pub add_members-requires-clause-spans : goal.add_members-requires-clause-spans
 add_members-requires-clause-spans c =
@@ -40,12 +40,17 @@ invariant_of-table c = record {
 
 pub add_members-requires-clause-rows : goal.add_members-requires-clause-rows
 add_members-requires-clause-rows c =
-    subst (λ s. AreMembersTo c.args.tables.now s c.args.stamp c.args.from c.args.all.now)
+    subst (λ s. AreMembersTo c.args.tables.now s c.args.stamp c.args.from c.args.rows.now.members)
     (get_or_from_slice_get c.args.tables.now.sections c.args.section c.section-section.result.now no_section c.section-section.ensures)
-    c.requires.rows
+    c.requires.rows.members
 
 pub returns : goal.returns
 returns c =
-    subst (λ s. OnOk c.add_members.result (AreMembersTo c.args.tables.now s c.args.stamp (c.args.from + length c.args.stairs.now) c.add_members.new.all))
-    (sym (get_or_from_slice_get c.args.tables.now.sections c.args.section c.section-section.result.now no_section c.section-section.ensures))
+    let count = c.args.from + length c.args.stairs.now in
+    let is_lent = get_or_from_slice_get c.args.tables.now.sections c.args.section c.section-section.result.now no_section c.section-section.ensures in
+    on_ok_weaker c.add_members.result
+    (λ are. record {
+      positions = c.requires.rows.positions;
+      members = subst (λ s. AreMembersTo c.args.tables.now s c.args.stamp count c.add_members.new.all) (sym is_lent) are;
+    })
     c.add_members.ensures

@@ -7,8 +7,8 @@ use Rattle.rail_model.specs.declared.items.Section.{Section}
 use Rattle.rail_model.specs.declared.tables.Tables.{Tables}
 use Rattle.rail_model.specs.Tables.{no_section, section_at}
 use Rattle.plan_model.specs.Cut.{stamped, IsSoundCut, section_cut}
-use Rattle.section_cut.specs.declared.members.MemberRows.{MemberRows}
-use Rattle.section_cut.specs.Members.{AreMembersTo}
+use Rattle.section_cut.specs.declared.cuts.SectionRows.{SectionRows}
+use Rattle.section_cut.specs.Members.{AreMembersTo, AreSectionRowsTo}
 use Rattle.section_cut.proofs.LineCuts.{first_left}
 use Rattle.section_cut.proofs.line_cuts.cuts_of_rows.Goals as goal
 use Rattle.section_cut.proofs.line_cuts.cuts_of_rows.Goals.{After-len}
@@ -21,18 +21,18 @@ module _ (c : After-len) where
   abbrev n : ℕ
   n = length c.loop-rows.made
 
-  abbrev items : List MemberRows
+  abbrev items : List SectionRows
   items = c.args.all.each.items
 
-  first : (n < length items) × ((d : MemberRows) → get_or items n d ≡ c.in-Some.rows) × (into_iter_items c.next.new.self ≡ drop (n + 1) items)
+  first : (n < length items) × ((d : SectionRows) → get_or items n d ≡ c.in-Some.rows) × (into_iter_items c.next.new.self ≡ drop (n + 1) items)
   first = first_left items n c.in-Some.rows (into_iter_items c.next.new.self) (sym c.in-Some.ensures.steps.0 ∙ c.loop-rows.invariant.left)
 
   below : n < length tables.sections
   below = omega (arith, first.0, c.requires.count)
 
-  are : AreMembersTo tables (section_at tables c.len.result) c.args.all.stamp (length tables.runs) c.in-Some.rows
-  are = subst (λ m. AreMembersTo tables (section_at tables m) c.args.all.stamp (length tables.runs) c.in-Some.rows) (sym c.len.ensures.count)
-      (subst (AreMembersTo tables (section_at tables n) c.args.all.stamp (length tables.runs)) (first.1 c.in-Some.rows) (c.requires.each n c.in-Some.rows below))
+  are : AreMembersTo tables (section_at tables c.len.result) c.args.all.stamp (length tables.runs) c.in-Some.rows.members
+  are = subst (λ m. AreMembersTo tables (section_at tables m) c.args.all.stamp (length tables.runs) c.in-Some.rows.members) (sym c.len.ensures.count)
+      (subst (AreSectionRowsTo tables (section_at tables n) c.args.all.stamp (length tables.runs)) (first.1 c.in-Some.rows) (c.requires.each n c.in-Some.rows below)).members
 
 pub overflow_cast-len : goal.overflow_cast-len
 overflow_cast-len c = omega (arith, c.len.ensures.count, below c, c.learn_sound.ensures.sections.most)

@@ -7,5 +7,5 @@ use Rattle.section_cut.proofs.line_cuts.rows_of_all.Given as goal
 abbrev pub invariant-loop-part : goal.invariant-loop-part
 invariant-loop-part l = record {
   stamp : l.all.stamp ≡ l.stamp;
-  rows : AreRowsTo l.tables (min l.runs (l.part * 1024)) l.all;
+  rows : AreRowsTo l.tables (min l.runs (l.part * 128)) l.all;
 }
