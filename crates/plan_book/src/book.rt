@@ -100,7 +100,7 @@ impl Book {
         Ok(Book {
             alloc,
             journal,
-            tables: TwinTables::of(tables),
+            tables: TwinTables::of(alloc, tables)?,
             first: at,
             at,
             passes: 1,
@@ -257,16 +257,16 @@ impl Book {
     }
 
     // The tables once more, for an edit.
-    fn next_tables(&mut self) -> Result<LineTables, OutOfMemory>
+    fn next_tables(&mut self) -> Result<Box<LineTables>, OutOfMemory>
         ensures same { self.new ≡ self.old }
-        ensures tables { IfOk result (λ tables. tables ≡ tables_of self.old) }
+        ensures tables { IfOk result (λ tables. tables.value ≡ tables_of self.old) }
     {
-        self.tables.take_spare()
+        self.tables.take_spare(self.alloc)
     }
 
     // Gives the tables for an edit back, unchanged.
-    fn give_back(&mut self, next: LineTables)
-        requires { next ≡ tables_of self.old }
+    fn give_back(&mut self, next: Box<LineTables>)
+        requires { next.value ≡ tables_of self.old }
         ensures { self.new ≡ self.old }
     {
         self.tables.give_back(next);
@@ -300,12 +300,12 @@ impl Book {
         who: u32,
         planner: u32,
         edit: Edit,
-        next: LineTables,
+        next: Box<LineTables>,
     ) -> Result<u64, OutOfMemory>
         requires issued { who < issued self.old }
         requires may { MayDo self.old planner (tasks.Edit edit) }
         requires rule { rule_of (tables_of self.old) edit ≡ None }
-        requires next { next ≡ rules.after (tables_of self.old) edit }
+        requires next { next.value ≡ rules.after (tables_of self.old) edit }
         ensures { Gives
             (λ found number after. AddsEntry who (acts.Edited planner number edit) found after)
             result self.old self.new }

@@ -4,16 +4,17 @@ ghost use Rattle.rail_model.specs.Rules as rules;
 
 use line_tables::LineTables;
 use rail_model::{Edit, OutOfMemory};
+use std::alloc::Global;
 use std::marker::Model;
 use std::mem;
 
 // Twin tables are a line's tables and, where memory allows, the same tables once more: the spare
 // ones. An edit is tried on the spare ones, so that nothing is copied for it, and nothing lost if
-// it fails. Contracts see the tables.
+// it fails. Both are boxed, so that a turn of the desk moves a small book. Contracts see the tables.
 #[derive(Drop)]
 pub(crate) struct TwinTables {
-    tables: LineTables,
-    spare: Option<LineTables>,
+    tables: Box<LineTables>,
+    spare: Option<Box<LineTables>>,
 }
 
 impl Model for TwinTables {
@@ -22,20 +23,20 @@ impl Model for TwinTables {
 
     ghost Value = { Tables };
 
-    ghost view = { λ t. t.tables };
+    ghost view = { λ t. t.tables.value };
 
-    ghost invariant = { λ t. IfSome t.spare (λ spare. spare ≡ t.tables) };
+    ghost invariant = { λ t. IfSome t.spare (λ spare. spare.value ≡ t.tables.value) };
 }
 
 impl TwinTables {
     // Twin tables of these, without spare ones yet.
-    pub(crate) fn of(tables: LineTables) -> TwinTables
-        ensures { result ≡ tables }
+    pub(crate) fn of(alloc: Global, tables: LineTables) -> Result<TwinTables, OutOfMemory>
+        ensures { IfOk result (λ twin. twin ≡ tables) }
     {
-        TwinTables {
-            tables,
+        Ok(TwinTables {
+            tables: Box::new(alloc, tables)?,
             spare: None,
-        }
+        })
     }
 
     // The tables.
@@ -46,19 +47,19 @@ impl TwinTables {
     }
 
     // The spare tables, or a copy of the tables where there are none.
-    pub(crate) fn take_spare(&mut self) -> Result<LineTables, OutOfMemory>
+    pub(crate) fn take_spare(&mut self, alloc: Global) -> Result<Box<LineTables>, OutOfMemory>
         ensures same { self.new ≡ self.old }
-        ensures spare { IfOk result (λ spare. spare ≡ self.old) }
+        ensures spare { IfOk result (λ spare. spare.value ≡ self.old) }
     {
         match self.spare.take() {
             Some(spare) => Ok(spare),
-            None => self.tables.copy(),
+            None => Ok(Box::new(alloc, self.tables.copy()?)?),
         }
     }
 
     // Gives the spare tables back, unchanged.
-    pub(crate) fn give_back(&mut self, spare: LineTables)
-        requires { spare ≡ self.old }
+    pub(crate) fn give_back(&mut self, spare: Box<LineTables>)
+        requires { spare.value ≡ self.old }
         ensures { self.new ≡ self.old }
     {
         self.spare = Some(spare);
@@ -66,9 +67,9 @@ impl TwinTables {
 
     // Puts the tables after an edit in the place of these, which get the same edit and become the
     // spare ones.
-    pub(crate) fn replace(&mut self, next: LineTables, edit: Edit)
-        requires { next ≡ rules.after self.old edit }
-        ensures { self.new ≡ next }
+    pub(crate) fn replace(&mut self, next: Box<LineTables>, edit: Edit)
+        requires { next.value ≡ rules.after self.old edit }
+        ensures { self.new ≡ next.value }
     {
         let old = mem::replace(&mut self.tables, next);
         self.spare = after_edit(old, edit);
@@ -77,8 +78,8 @@ impl TwinTables {
 
 // The tables after an edit, if there is memory for it and no rule refuses it. `None` says nothing:
 // then there are no spare tables.
-fn after_edit(tables: LineTables, edit: Edit) -> Option<LineTables>
-    ensures { IfSome result (λ after. after ≡ rules.after tables edit) }
+fn after_edit(tables: Box<LineTables>, edit: Edit) -> Option<Box<LineTables>>
+    ensures { IfSome result (λ after. after.value ≡ rules.after tables.value edit) }
 {
     let mut after = tables;
     match after.take(edit) {

@@ -18,7 +18,8 @@ changes_for-requires-clause-cuts c =
 
 pub changes_for-requires-clause-after : goal.changes_for-requires-clause-after
 changes_for-requires-clause-after c =
-    c.requires.next
+    c.deref.ensures
+    ∙ c.requires.next
     ∙ ap (λ t. after t c.args.edit) (ap tables_of (sym c.self.view_is) ∙ sym c.self.invariant.tables_are ∙ sym c.tables.ensures)
 
 pub invariant_of-self : goal.invariant_of-self
@@ -45,10 +46,11 @@ invariant_of-self-2 c =
     let number_is = c.next_number-number.ensures.number ∙ ap (λ n. n + 1) (ap last_number (sym c.self.view_is) ∙ sym c.self.invariant.at_is) in
     let next_is = c.requires.next ∙ ap (λ t. after t c.args.edit) (ap tables_of (sym c.self.view_is) ∙ sym c.self.invariant.tables_are) in
     let changes = c.in_ok-changes.changes in
-    let will = subst (λ t. WillChange t c.args.next number c.changes_for.new.shelves changes) c.tables.ensures c.in_ok-changes.ensures.made in
+    let will = subst (λ n. WillChange b.tables n number c.changes_for.new.shelves changes) c.deref.ensures
+    (subst (λ t. WillChange t c.deref.result.now number c.changes_for.new.shelves changes) c.tables.ensures c.in_ok-changes.ensures.made) in
     rw (c.in_ok-add_edited.ensures.ok, c.replace.ensures)
     (book-accepted b.journal b.tables b.first b.at b.passes c.changes_for.new.shelves c.change_shelves.new.shelves changes b.done.items c.count_task.new.done.items
-    c.args.who c.args.planner c.args.edit number c.args.next wider may may_do number_is next_is will c.change_shelves.ensures c.count_task.ensures)
+    c.args.who c.args.planner c.args.edit number c.args.next.value wider may may_do number_is next_is will c.change_shelves.ensures c.count_task.ensures)
 
 pub count_task-requires-clause-there : goal.count_task-requires-clause-there
 count_task-requires-clause-there c =
