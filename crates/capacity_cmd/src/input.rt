@@ -185,8 +185,7 @@ impl InputSoFar {
     {
         let number = i as u64 + 1;
         if !self.scripts.is_empty() {
-            let found = rows.line(alloc, version, i)?;
-            return self.take_read(planners, number, found);
+            return self.take_spelled(alloc, planners, rows, version, i);
         }
         let row = rows.get(i);
         match row.does() {
@@ -212,11 +211,31 @@ impl InputSoFar {
                 Err(form) => Ok(Some(Cause::Form(form))),
             },
             Ok(Word::Ask) | Ok(Word::Planner) => {
-                let found = rows.line(alloc, version, i)?;
-                self.take_read(planners, number, found)
+                self.take_spelled(alloc, planners, rows, version, i)
             }
             Err(form) => Ok(Some(Cause::Form(form))),
         }
+    }
+
+    // Takes the row at a place as the line that it spells, unless it has a fault. It stands by itself,
+    // so that no room for a line is cleared where a base edit is taken.
+    #[inline(never)]
+    fn take_spelled(
+        &mut self,
+        alloc: Global,
+        planners: usize,
+        rows: &RowList<'_>,
+        version: u32,
+        i: usize,
+    ) -> Result<Option<Cause>, OutOfMemory>
+        requires there { i < length rows.now }
+        requires counted { length rows.now < 2 ^ 64 }
+        requires few { self.old.base.edits ≤ i }
+        ensures { IfOk result (TakesRow
+            planners (i + 1) (read_in version (slice_index_or rows.now i [])) self.old self.new) }
+    {
+        let found = rows.line(alloc, version, i)?;
+        self.take_read(planners, i as u64 + 1, found)
     }
 
     // Takes the line that a row was read as, unless the row has a fault.
