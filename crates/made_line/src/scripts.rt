@@ -77,6 +77,6 @@ fn later_run(run: &Run) -> Result<Run, OutOfMemory>
         length_m: run.length_m,
         tail_s: run.tail_s,
         start_s: run.start_s + 30,
-        legs: run.legs.copy()?,
+        legs: run.legs.clone()?,
     })
 }

@@ -18,7 +18,7 @@ impl Route {
 }
 
 impl Run {
-    fn copy(&self, alloc: Global) -> Result<Run, OutOfMemory>
+    fn copy(&self) -> Result<Run, OutOfMemory>
         ensures { IfOk result (λ other. other ≡ self.now) }
     {
         Ok(Run {
@@ -27,7 +27,7 @@ impl Run {
             length_m: self.length_m,
             tail_s: self.tail_s,
             start_s: self.start_s,
-            legs: self.legs.copy()?,
+            legs: self.legs.clone()?,
         })
     }
 }
@@ -55,7 +55,7 @@ impl Item {
             Item::Block(block) => Ok(Item::Block(*block)),
             Item::Signal(signal) => Ok(Item::Signal(*signal)),
             Item::Route(route) => Ok(Item::Route(route.copy(alloc)?)),
-            Item::Run(run) => Ok(Item::Run(run.copy(alloc)?)),
+            Item::Run(run) => Ok(Item::Run(run.copy()?)),
             Item::Section(section) => Ok(Item::Section(section.copy(alloc)?)),
             Item::Connection(connection) => Ok(Item::Connection(*connection)),
         }
@@ -106,7 +106,7 @@ fn copy_runs(alloc: Global, runs: &[Run]) -> Result<List<Run>, OutOfMemory>
 {
     let mut others = List::new(alloc);
     for run in runs {
-        others.push(run.copy(alloc)?)?;
+        others.push(run.copy()?)?;
     }
     Ok(others)
 }

@@ -32,16 +32,6 @@ impl Legs {
         })
     }
 
-    /// The same legs for one copy more, which asks for no memory. `OutOfMemory` comes where so many
-    /// copies are held that they can't be counted.
-    pub fn copy(&self) -> Result<Legs, OutOfMemory>
-        ensures { IfOk result (λ other. other ≡ self.now) }
-    {
-        Ok(Legs {
-            shared: Arc::try_clone(&self.shared)?,
-        })
-    }
-
     /// How many legs there are.
     pub fn len(&self) -> usize
         ensures count { result ≡ length self.now }
@@ -58,6 +48,8 @@ impl Legs {
     }
 }
 
+/// A clone is the same legs for one copy more, and asks for no memory. It fails where so many copies
+/// are held that they can't be counted.
 impl Clone for Legs {
     ghost is_clone = { λ legs other. other ≡ legs };
 
