@@ -28,4 +28,4 @@ mod walk;
 pub use approach::approach_moment;
 pub use moments::parts;
 pub use motion::{constant_speed_law, reach, reach_down};
-pub use walk::{Blocking, blockings, stair_on, stairs};
+pub use walk::{Blocking, blockings, stair_on, stairs, stairs_in};

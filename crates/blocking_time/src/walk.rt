@@ -1,6 +1,6 @@
 //! The blockings of a whole run, in one walk along its path.
 
-ghost use Rattle.std.specs.Prelude.{◌≡◌, ◌≢◌, ◌≤◌, ◌<◌, ◌+◌, ◌-◌, ◌<ℤ◌, IfOk, map, All, AllPairs, slice_index_or, false};
+ghost use Rattle.std.specs.Prelude.{◌≡◌, ◌≢◌, ◌≤◌, ◌<◌, ◌+◌, ◌-◌, ◌<ℤ◌, [], IfOk, map, All, AllPairs, slice_index_or, false};
 ghost use Rattle.std.specs.List.{range_with_len};
 ghost use Rattle.rail_model.specs.Blocking.{hop as hop_of, hop_count, Fits, stairway as stairway_of, stair_of, use_of};
 ghost use Rattle.blocking_time.specs.Mark.{marks_of, stop_mark};
@@ -64,21 +64,36 @@ pub fn stairs(alloc: Global, path: &Path) -> Result<Stair, OutOfMemory>
     ensures bounded { IfOk result (λ s. All IsUseBounded s.uses) }
     ensures blocks_differ { IfOk result (λ s. AllPairs (λ a b. a ≢ b) (map (λ u. u.block) s.uses)) }
 {
-    let uses = stairway(alloc, path)?;
+    let room = Vec::with_capacity(alloc, path.hops.len())?;
+    let uses = stairway(alloc, path, room)?;
     Ok(Stair {
         run: path.run,
         uses,
     })
 }
 
-// The uses of a run's blocks, in one walk along its path.
-fn stairway(alloc: Global, path: &Path) -> Result<List<Use>, OutOfMemory>
-    requires { Fits path.now }
+/// A run's stair as `stairs` makes it, with its uses in a room that somebody has asked for before.
+pub fn stairs_in(alloc: Global, path: &Path, room: Vec<Use>) -> Result<Stair, OutOfMemory>
+    requires fits { Fits path.now }
+    requires empty { room.items ≡ [] }
+    ensures { IfOk result (λ s. s ≡ stair_of path.now) }
+{
+    let uses = stairway(alloc, path, room)?;
+    Ok(Stair {
+        run: path.run,
+        uses,
+    })
+}
+
+// The uses of a run's blocks, in one walk along its path, put into a room.
+fn stairway(alloc: Global, path: &Path, room: Vec<Use>) -> Result<List<Use>, OutOfMemory>
+    requires fits { Fits path.now }
+    requires empty { room.items ≡ [] }
     ensures { IfOk result (λ uses. uses ≡ stairway_of path.now) }
 {
     let marks = course::marks(alloc, path)?;
     let mut stop = approach::no_stop_yet();
-    let mut uses = Vec::with_capacity(alloc, path.hops.len())?;
+    let mut uses = room;
     for done in 0..path.hops.len() {
         let hop = motion::hop_at(path, done + 1);
         uses.push(use_in(path, &marks, done + 1, hop, stop))?;

@@ -1,4 +1,5 @@
 pub mod Starts
+pub mod Rooms
 pub mod Late
 pub mod Positions
 pub mod Spans

@@ -68,7 +68,8 @@ module _ (tables : Tables) (section : Section) where
     pub rows : all.rows ≡ map (row_on_blocks stamp) (filter (is_member tables section) (take n tables.runs))
     pub of_run : all.of_run.items ≡ map member_at (range_with_len 0 n)
 
-  -- these are such rows, with the positions of the blocks in the section
+  -- these are the rows of the members among the first so many runs, which row is a run's, and the
+  -- positions of the blocks in the section
   pub record AreSectionRowsTo (stamp n : ℕ) (all : SectionRows) : Type 0 where
     pub positions : IsPositions tables section all.positions.items
     pub members : AreMembersTo stamp n all.members

@@ -3,13 +3,14 @@ ghost use Rattle.std.specs.Prelude.{◌≡◌, ◌<◌, ◌≤◌, ◌≤ℤ◌,
 ghost use Rattle.line_tables.specs.Paths.{path_at};
 ghost use Rattle.rail_model.specs.Blocking.{stair_of};
 ghost use Rattle.rail_model.specs.Conflict.{timetable, stair_at};
+ghost use Rattle.section_cut.specs.Rooms.{AreRoomsFor, IsRoomFor};
 ghost use Rattle.section_cut.specs.Spans.{AreSpans};
 ghost use Rattle.section_cut.specs.Starts.{StartsBetween, StartsOutside};
 
 use crate::spans::{BlockLists, BlockRange};
-use blocking_time::stairs;
+use blocking_time::{stairs, stairs_in};
 use line_tables::{LineTables, Paths};
-use rail_model::{List, OutOfMemory, Section, Stair, Use, ask_for_room};
+use rail_model::{List, OutOfMemory, Section, Stair, Use};
 use rayon::current_num_threads;
 use rayon::prelude::*;
 use std::alloc::Global;
@@ -18,11 +19,6 @@ use std::thread::Threads;
 
 // Fewer runs aren't worth a thread of their own.
 const LEAST_RUNS: usize = 64;
-
-// For the stairways of so many runs room is asked for at once, where they are made side by side.
-const RUNS_AT_ONCE: usize = 64;
-
-const ROOM: usize = RUNS_AT_ONCE * 8_192;
 
 /// The stairway of each run, in the order of the runs' names.
 pub fn stairways(alloc: Global, tables: &LineTables) -> Result<List<Stair>, OutOfMemory>
@@ -60,44 +56,61 @@ pub fn stairways_in_parts(
     ensures { IfOk result (λ all. all ≡ timetable tables.now) }
 {
     let paths = tables.paths()?;
-    let runs = tables.runs() as usize;
-    let part = (runs / current_num_threads(rt)).max(LEAST_RUNS);
-    Ok(List::from_vec(stairs_of(rt, alloc, &paths, runs, part)?))
+    let part = (tables.runs() as usize / current_num_threads(rt)).max(LEAST_RUNS);
+    let rooms = rooms_for(alloc, tables)?;
+    Ok(List::from_vec(stairs_in_rooms(rt, alloc, &paths, rooms, part)?))
 }
 
-// The stairways of this many paths, each made on its own, in parts of at least so many.
-fn stairs_of(
+// A run's number, and room for the uses of its stairway.
+#[derive(Drop)]
+pub(crate) struct StairRoom {
+    pub(crate) run: u32,
+    pub(crate) uses: Vec<Use>,
+}
+
+// Room for the stairway of each run. The calling thread asks for all of it, since the system's
+// allocator then takes memory that this thread has let go of.
+fn rooms_for(alloc: Global, tables: &LineTables) -> Result<Vec<StairRoom>, OutOfMemory>
+    ensures { IfOk result (λ rooms. AreRoomsFor (length tables.now.runs) rooms.items) }
+{
+    let mut rooms = Vec::with_capacity(alloc, tables.runs() as usize)?;
+    for run in 0..tables.runs() {
+        let uses = Vec::with_capacity(alloc, tables.run(run).legs.len())?;
+        rooms.push(StairRoom { run, uses })?;
+    }
+    Ok(rooms)
+}
+
+// The stairways of all paths, each made on its own in its room, in parts of at least so many.
+fn stairs_in_rooms(
     rt: &(impl Threads + Sync),
     alloc: Global,
     paths: &Paths<'_>,
-    count: usize,
+    rooms: Vec<StairRoom>,
     part: usize,
 ) -> Result<Vec<Stair>, OutOfMemory>
-    requires count { count ≡ length paths.now }
-    requires most { count < 4294967296 }
+    requires { AreRoomsFor (length paths.now) rooms.items }
     ensures { IfOk result (λ stairs. stairs.items ≡ map stair_of paths.entry.now) }
 {
-    (0..count)
+    rooms
         .into_par_iter()
         .with_min_len(part)
         .map(
-            |run: usize| -> Result<Stair, OutOfMemory>
-                requires { (run < length paths.now) × (run < 4294967296) }
-                ensures { IfOk result (λ stair. stair ≡ stair_of (path_at paths.entry.now run)) }
-            {
-                ask_for_stairs(alloc, run);
-                stair_by(alloc, paths, run as u32)
-            },
+            |room: StairRoom| -> Result<Stair, OutOfMemory>
+                requires { IsRoomFor (length paths.now) room }
+                ensures { IfOk result (λ stair. stair ≡ stair_of (path_at paths.entry.now room.run)) }
+            { stair_in_room(alloc, paths, room) },
         )
         .collect::<Result<Vec<Stair>, OutOfMemory>>(rt, alloc)?
 }
 
-// Asks for room for the stairways of a run and of the next ones, at each run whose number is a
-// multiple of so many: the first runs of a part may come before that.
-fn ask_for_stairs(alloc: Global, run: usize) {
-    if run % RUNS_AT_ONCE == 0 {
-        ask_for_room(alloc, ROOM);
-    }
+// The stairway of a run, in its room.
+fn stair_in_room(alloc: Global, paths: &Paths<'_>, room: StairRoom) -> Result<Stair, OutOfMemory>
+    requires { IsRoomFor (length paths.now) room }
+    ensures { IfOk result (λ stair. stair ≡ stair_of (path_at paths.entry.now room.run)) }
+{
+    let path = paths.path(room.run)?;
+    stairs_in(alloc, &path, room.uses)
 }
 
 // The stairway of the run of a number.

@@ -87,7 +87,8 @@ fn cut_by(
     cut_of_section(alloc, tables, section, rows.members)
 }
 
-// No rows of the section of a number, and room for its members among so many runs.
+// The positions of the blocks in the section of a number, and no rows yet, with room for its members
+// among so many runs.
 pub(crate) fn no_section_rows(
     alloc: Global,
     tables: &LineTables,

@@ -12,7 +12,7 @@ use plan_model::Cut;
 use rail_model::{List, OutOfMemory};
 use std::alloc::Global;
 
-// The stairways of so many runs are made at a time.
+// The stairways of so many runs are made at a time. They take less than a megabyte.
 const RUNS_A_PART: usize = 128;
 
 // The rows of the members of each section, in the order of the tables, and their stamp.

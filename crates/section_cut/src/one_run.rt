@@ -109,7 +109,15 @@ fn row_after_run(
             }
         }
     }
-    row_by_stair(alloc, tables, section, &run.name, stair, number)
+    row_by_stair(
+        alloc,
+        tables,
+        section,
+        &run.name,
+        stair,
+        own.is_some(),
+        number,
+    )
 }
 
 // The row of the run of a stair, if it is a member, where it has the places of as many uses, and only
@@ -131,13 +139,15 @@ fn row_with_times(
 }
 
 // The row in a section of the run of a name, whose stair this is, if it is a member. Where a cheaper
-// test says that the run is no member, no table of positions is made.
+// test says that the run is no member, no table of positions is made. A run that was a member
+// before the edit mostly passes the section after it, so that isn't asked.
 fn row_by_stair(
     alloc: Global,
     tables: &LineTables,
     section: &Section,
     name: &Name,
     stair: &TimedStair,
+    was_member: bool,
     stamp: u64,
 ) -> Result<Option<CutRow>, OutOfMemory>
     requires section { find (λ s. is_same s.name section.now.name) tables.now.sections
@@ -158,7 +168,7 @@ fn row_by_stair(
     if enters_early(tables, section, stair) {
         return Ok(None);
     }
-    if !passes(tables, name, place) {
+    if !was_member && !passes(tables, name, place) {
         return Ok(None);
     }
     row_by_positions(alloc, tables, place, section, stair, stamp)

@@ -17,7 +17,7 @@ pub from_vec-requires : goal.from_vec-requires
 from_vec-requires c =
     let whole : c.loop-done.done ≡ hop_count c.args.path.now = grind arith in
     let count = ap length c.loop-done.invariant.uses ∙ length-map-range_with_len (use_of c.args.path.now) 1 c.loop-done.done in
-    let most : hop_count c.args.path.now ≤ 256 = c.requires.most in
+    let most : hop_count c.args.path.now ≤ 256 = c.requires.fits.most in
     omega arith
 
 pub returns : goal.returns
