@@ -66,7 +66,11 @@ module _ (count parts : ℕ) (some : 0 < parts) where
       let next : i + suc n ≡ i + n + 1 = omega arith in
       omega (arith, rises i n, starts_rise (i + n), ap (start_of count parts) next)
 
-  module _ {A E : Type 0} (rows : ℕ → List Row) (gives : ℕ → ℕ → Result (Vec ℕ A) E → Type 0) (are : GivesTexts gives rows count) where
+  module _ {A B E : Type 0} (rows : ℕ → List Row) (by_room : ℕ → ℕ → Vec ℕ B → Result (Vec ℕ A) E → Type 0) (are : GivesTexts by_room rows count) where
+    -- what a call makes of a part, in some room
+    abbrev gives : ℕ → ℕ → Result (Vec ℕ A) E → Type 0
+    gives first last made = (room : Vec ℕ B) × by_room first last room made
+
     abbrev Made : List (Vec ℕ A) → ℕ → Type 0
     Made made k = (i : ℕ) (d : Vec ℕ A) → i < length made → gives (start_of count parts (k + i)) (start_of count parts (k + i + 1)) (Ok (get_or made i d))
 
@@ -82,9 +86,10 @@ module _ (count parts : ℕ) (some : 0 < parts) where
         let c = start_of count parts (k + 1 + length made) in
         let here : k + 0 ≡ k = omega arith in
         let after : k + 1 + length made ≡ k + length (t ∷ made) = omega arith in
+        let gave : gives a b (Ok t) =
+        subst (λ j. gives (start_of count parts j) (start_of count parts (j + 1)) (Ok t)) here (each 0 t (omega arith)) in
         let first : t.items ≡ text_between rows a b =
-        are a b (Ok t) (starts_rise k) (starts_within (k + 1) (omega arith))
-        (subst (λ j. gives (start_of count parts j) (start_of count parts (j + 1)) (Ok t)) here (each 0 t (omega arith))) in
+        are a b gave.0 (Ok t) (starts_rise k) (starts_within (k + 1) (omega arith)) gave.1 in
         let rest = texts_from made (k + 1) (omega arith) (λ i d l.
         let next : k + suc i ≡ k + 1 + i = omega arith in
         subst (λ j. gives (start_of count parts j) (start_of count parts (j + 1)) (Ok (get_or made i d))) next (each (suc i) d (omega arith))) in
@@ -92,6 +97,11 @@ module _ (count parts : ℕ) (some : 0 < parts) where
         ∙ ap (λ xs. text_between rows a b ++ xs) rest
         ∙ texts_joined rows a b c (starts_rise k) (rises (k + 1) (length made))
         ∙ ap (λ j. text_between rows a (start_of count parts j)) after
+
+    -- what is made from and to numbers that are equal to others
+    pub gave_at : {a b first last : ℕ} (room : Vec ℕ B) (made : Result (Vec ℕ A) E) → a ≡ first → b ≡ last → by_room a b room made → gives first last made
+    gave_at {a} {b} {first} {last} room made begins ends gave =
+        (room, subst (λ n. by_room n last room made) begins (subst (λ n. by_room a n room made) ends gave))
 
     -- the texts of all parts are that of all items
     pub texts_of_all : (made : List (Vec ℕ A)) (pieces : List (Result (Vec ℕ A) E)) → pieces ≡ map Ok made → length pieces ≡ parts

@@ -1,8 +1,9 @@
 -- Texts that are made in parts.
-use Rattle.std.specs.Prelude.{◌≡◌, ℕ, ◌-◌, ◌*◌, ◌/◌, ◌≤◌, List, Result, IfOk}
+use Rattle.std.specs.Prelude.{◌≡◌, ℕ, ◌+◌, ◌-◌, ◌*◌, ◌/◌, ◌<◌, ◌≤◌, List, length, slice_index_or, Result, IfOk}
 use Rattle.std.specs.List.{flat_map, range_with_len}
 use Rattle.std.specs.declared.vec.Vec.{Vec}
 use Rattle.row_text.specs.SheetRows.{Row, text_of_rows}
+use Rattle.capacity_report.specs.declared.parts.Part.{Part}
 
 -- the number of a part's first item, where so many items are in so many parts
 abbrev pub start_of : ℕ → ℕ → ℕ → ℕ
@@ -12,12 +13,22 @@ start_of count parts i = i * count / parts
 abbrev pub text_between : (ℕ → List Row) → ℕ → ℕ → List ℕ
 text_between rows first «end» = text_of_rows (flat_map rows (range_with_len first («end» - first)))
 
--- a call takes any part of the items
-abbrev pub AcceptsParts : (ℕ → ℕ → Type 0) → ℕ → Type 0
-AcceptsParts accepts count = (first «end» : ℕ) → first ≤ «end» → «end» ≤ count → accepts first «end»
+-- one of so many parts of so many items
+pub record IsPart (count parts i : ℕ) (part : Part) : Type 0 where
+  pub first : part.first ≡ start_of count parts i
+  pub last : part.«end» ≡ start_of count parts (i + 1)
+
+-- the first so many of them
+pub record AreParts (count parts some : ℕ) (all : List Part) : Type 0 where
+  pub number : length all ≡ some
+  pub each : (i : ℕ) (d : Part) → i < some → IsPart count parts i (slice_index_or all i d)
+
+-- a call takes any part of the items, and any room
+abbrev pub AcceptsParts : {A : Type 0} → (ℕ → ℕ → Vec ℕ A → Type 0) → ℕ → Type 0
+AcceptsParts {A} accepts count = (first «end» : ℕ) (room : Vec ℕ A) → first ≤ «end» → «end» ≤ count → accepts first «end» room
 
 -- and what it makes of a part is the text of its rows
-abbrev pub GivesTexts : {A E : Type 0} → (ℕ → ℕ → Result (Vec ℕ A) E → Type 0) → (ℕ → List Row) → ℕ → Type 0
-GivesTexts {A} {E} gives rows count =
-    (first «end» : ℕ) (made : Result (Vec ℕ A) E) → first ≤ «end» → «end» ≤ count → gives first «end» made
+abbrev pub GivesTexts : {A B E : Type 0} → (ℕ → ℕ → Vec ℕ A → Result (Vec ℕ B) E → Type 0) → (ℕ → List Row) → ℕ → Type 0
+GivesTexts {A} {B} {E} gives rows count =
+    (first «end» : ℕ) (room : Vec ℕ A) (made : Result (Vec ℕ B) E) → first ≤ «end» → «end» ≤ count → gives first «end» room made
     → IfOk made (λ text. text.items ≡ text_between rows first «end»)

@@ -51,18 +51,18 @@ fn text_by_names(
     requires few { member_count cut.now < 4_294_967_296 }
     ensures { IfOk result (λ text. text ≡ text_of_rows (rows.headway_rows cut.now)) }
 {
-    let text_of = |first: usize, end: usize| -> Result<Vec<u8>, OutOfMemory>
+    let text_of = |first: usize, end: usize, room: Vec<u8>| -> Result<Vec<u8>, OutOfMemory>
         requires { (first ≤ «end») × («end» ≤ member_count cut.now)
             × (member_count cut.now < 4_294_967_296) × (table.now ≡ table_of cut.now)
             × (names.now ≡ pairs.names_of cut.now) }
         ensures { IfOk result (λ text. text.items
             ≡ text_between (rows.rows_from cut.entry.now) first «end») }
-    { text_of_part(alloc, cut, table, names, first, end) };
+    { text_of_part(alloc, cut, table, names, first, end, room) };
     text_in_parts(rt, alloc, cut.rows.len(), LEAST_MEMBERS, &text_of)
 }
 
-// The text of the rows of the headways from the members of a part: those from `first` to before
-// `end`.
+// The text of the rows of the headways from the members of a part, in a room: those from `first` to
+// before `end`.
 fn text_of_part(
     alloc: Global,
     cut: &Cut,
@@ -70,6 +70,7 @@ fn text_of_part(
     names: &[Written],
     first: usize,
     end: usize,
+    room: Vec<u8>,
 ) -> Result<Vec<u8>, OutOfMemory>
     requires first { first ≤ «end» }
     requires there { «end» ≤ member_count cut.now }
@@ -79,7 +80,7 @@ fn text_of_part(
     ensures { IfOk result (λ text. text.items
         ≡ text_between (rows.rows_from cut.now) first «end») }
 {
-    let mut sheet = Sheet::new(alloc);
+    let mut sheet = Sheet::with_room(room);
     for i in first..end {
         rows_from(alloc, &mut sheet, cut, table, names, i)?;
         ask_for_rest(&mut sheet, i + 1 - first, end - 1 - i);

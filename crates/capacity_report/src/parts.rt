@@ -1,34 +1,70 @@
 //! Texts that are made in parts, by as many threads as there are processors.
-ghost use Rattle.std.specs.Prelude.{◌≡◌, ℕ, ◌+◌, ◌<◌, ◌≤◌, List, IfOk, map, Ok};
+ghost use Rattle.std.specs.Prelude.{◌≡◌, ℕ, ◌+◌, ◌<◌, ◌≤◌, List, [], IfOk, map, Ok};
 ghost use Rattle.std.specs.List.{flat_map, range_with_len};
 ghost use Rattle.row_text.specs.SheetRows.{Row, text_of_rows};
-ghost use Rattle.capacity_report.specs.Parts.{start_of, AcceptsParts, GivesTexts};
+ghost use Rattle.capacity_report.specs.Parts.{start_of, AreParts, AcceptsParts, GivesTexts};
 
 use rail_model::OutOfMemory;
 use rayon::current_num_threads;
 use row_text::{Sheet, Text};
 use std::alloc::Global;
-use std::thread::{Threads, map_indices};
+use std::thread::{Threads, map_vec};
+
+// For so many bytes a room is asked for in which a sheet begins.
+const FIRST_BYTES: usize = 64;
+
+// The items of a part, from one number to another, and a room in which the sheet of their text
+// begins.
+#[derive(Drop)]
+pub(crate) struct Part {
+    pub(crate) first: usize,
+    pub(crate) end: usize,
+    pub(crate) room: Vec<u8>,
+}
 
 // The text of the rows of so many items, in their order, where `text_of` makes that of the items
-// from one number to another. There are as many parts as processors, each made by a thread of its
-// own, but no part has fewer than `least` items where there are several.
+// from one number to another, in a room that it is given. There are as many parts as processors,
+// each made by a thread of its own, but no part has fewer than `least` items where there are
+// several. The calling thread asks for the rooms.
 pub(crate) fn text_in_parts<
     R: Threads + Sync,
-    F: Fn(usize, usize) -> Result<Vec<u8>, OutOfMemory> + Sync,
+    F: Fn(usize, usize, Vec<u8>) -> Result<Vec<u8>, OutOfMemory> + Sync,
 >(rt: &R, alloc: Global, count: usize, least: usize, text_of: &F) -> Result<Text, OutOfMemory>
     requires least { 0 < least }
     requires accepts { AcceptsParts (F.pre text_of.now) count }
     ensures { (rows : ℕ → List Row) → GivesTexts (F.post text_of.now) rows count
         → IfOk result (λ text. text ≡ text_of_rows (flat_map rows (range_with_len 0 count))) }
 {
-    let parts = parts_of(rt, count, least);
-    let part = move |i: usize| -> Result<Vec<u8>, OutOfMemory>
-        requires { (i < parts) × AcceptsParts (F.pre text_of.now) count }
-        ensures { F.post text_of.entry.now
-            (start_of count parts i) (start_of count parts (i + 1)) result }
-    { text_of(start_of(count, parts, i), start_of(count, parts, i + 1)) };
-    one_after_another(alloc, map_indices(rt, alloc, parts, &part)?)
+    let parts = parts_from(alloc, count, parts_of(rt, count, least))?;
+    let text_of_part = move |part: Part| -> Result<Vec<u8>, OutOfMemory>
+        requires { F.pre text_of.now part.first part.«end» part.room }
+        ensures { F.post text_of.entry.now part.first part.«end» part.room result }
+    { text_of(part.first, part.end, part.room) };
+    one_after_another(alloc, map_vec(rt, parts, &text_of_part)?)
+}
+
+// So many parts of so many items.
+fn parts_from(alloc: Global, count: usize, parts: usize) -> Result<Vec<Part>, OutOfMemory>
+    requires { 0 < parts }
+    ensures { IfOk result (λ all. AreParts count parts parts all.items) }
+{
+    let mut all = Vec::with_capacity(alloc, parts)?;
+    for i in 0..parts {
+        all.push(Part {
+            first: start_of(count, parts, i),
+            end: start_of(count, parts, i + 1),
+            room: first_room(alloc)?,
+        })?;
+    }
+    Ok(all)
+}
+
+// A room in which a sheet begins. A block of memory that grows stays where the thread's memory is
+// that asked for it first. So the thread that has let go of most asks for it.
+pub(crate) fn first_room(alloc: Global) -> Result<Vec<u8>, OutOfMemory>
+    ensures { IfOk result (λ room. room.items ≡ []) }
+{
+    Ok(Vec::with_capacity(alloc, FIRST_BYTES)?)
 }
 
 // Into how many parts so many items are split.
@@ -67,12 +103,13 @@ fn one_after_another(
     Ok(text)
 }
 
-// After the first item of a part, asks for twice the room that the others would take if they were
-// like it: room that isn't written to takes no memory, and a text that outgrows it must be moved.
+// After the first item of a part, asks for the room that the others would take if they were like
+// it, and a quarter more: a text that outgrows it must be moved.
 pub(crate) fn ask_for_rest(sheet: &mut Sheet, done: usize, left: usize)
     ensures { sheet.new ≡ sheet.old }
 {
     if done == 1 {
-        let _ = sheet.reserve(sheet.bytes().saturating_mul(left).saturating_mul(2));
+        let rest = sheet.bytes().saturating_mul(left);
+        let _ = sheet.reserve(rest.saturating_add(rest / 4));
     }
 }

@@ -50,22 +50,23 @@ fn text_of_paths(
     ensures { IfOk result (λ text. text
         ≡ text_of_rows (flat_map (rows_at names.now paths.now) (range_with_len 0 count))) }
 {
-    let text_of = |first: usize, end: usize| -> Result<Vec<u8>, OutOfMemory>
+    let text_of = |first: usize, end: usize, room: Vec<u8>| -> Result<Vec<u8>, OutOfMemory>
         requires { (first ≤ «end») × («end» < 4_294_967_296) × («end» ≤ length paths.now)
             × AreNamed names.now paths.now }
         ensures { IfOk result (λ text. text.items
             ≡ text_between (rows_at names.entry.now paths.entry.now) first «end») }
-    { text_of_part(alloc, names, paths, first, end) };
+    { text_of_part(alloc, names, paths, first, end, room) };
     text_in_parts(rt, alloc, count, LEAST_RUNS, &text_of)
 }
 
-// The text of the rows of the paths from `first` to before `end`.
+// The text of the rows of the paths from `first` to before `end`, in a room.
 fn text_of_part(
     alloc: Global,
     names: &[Written],
     paths: &Paths<'_>,
     first: usize,
     end: usize,
+    room: Vec<u8>,
 ) -> Result<Vec<u8>, OutOfMemory>
     requires first { first ≤ «end» }
     requires few { «end» < 4_294_967_296 }
@@ -74,7 +75,7 @@ fn text_of_part(
     ensures { IfOk result (λ text. text.items
         ≡ text_between (rows_at names.now paths.now) first «end») }
 {
-    let mut sheet = Sheet::new(alloc);
+    let mut sheet = Sheet::with_room(room);
     for run in first..end {
         let path = paths.path(run as u32)?;
         run_rows(alloc, &mut sheet, names, &path)?;

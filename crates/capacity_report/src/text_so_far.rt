@@ -14,6 +14,7 @@ ghost use Rattle.capacity_report.specs.TextSoFar.{so_far, AreThere, IsThere, Gro
 use crate::compressed::{head_rows, train_rows};
 use crate::journal::{act_rows, published_row, published_rows};
 use crate::last_trains::{LastTrains, are_alike, rows_again, rows_anew};
+use crate::parts::first_room;
 use plan_model::{Act, Answer, Entry, Plan};
 use rail_model::{Name, OutOfMemory};
 use row_text::Sheet;
@@ -22,9 +23,6 @@ use std::mem;
 
 // Of an answer with fewer trains all rows are written anew.
 const LEAST_TRAINS: usize = 64;
-
-// Room with which a sheet begins.
-const FIRST_BYTES: usize = 64;
 
 // About how many bytes a row has besides names of trains. A longer text must be moved.
 const BYTES_A_ROW: usize = 40;
@@ -80,7 +78,7 @@ pub(crate) fn rooms_for(alloc: Global, entries: &[Entry]) -> Vec<Vec<u8>> {
 }
 
 fn add_room(alloc: Global, rooms: &mut Vec<Vec<u8>>) -> Result<(), OutOfMemory> {
-    rooms.push(Vec::with_capacity(alloc, FIRST_BYTES)?)?;
+    rooms.push(first_room(alloc)?)?;
     Ok(())
 }
 

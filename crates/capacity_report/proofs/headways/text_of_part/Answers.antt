@@ -6,7 +6,7 @@ use Rattle.capacity_report.proofs.PartTexts.{rows_none, rows_more}
 use Rattle.capacity_report.proofs.headways.text_of_part.Goals as goal
 
 pub loop-i-init : goal.loop-i-init
-loop-i-init c = c.new-sheet.ensures.rows ∙ rows_none (rows_from c.args.cut.now) c.args.first
+loop-i-init c = c.with_room-sheet.ensures.rows ∙ rows_none (rows_from c.args.cut.now) c.args.first
 
 pub loop-i-preserved : goal.loop-i-preserved
 loop-i-preserved c =

@@ -9,7 +9,7 @@ use Rattle.capacity_report.proofs.PartTexts.{rows_none, rows_more}
 use Rattle.capacity_report.proofs.stairs.text_of_part.Goals as goal
 
 pub loop-run-init : goal.loop-run-init
-loop-run-init c = c.new-sheet.ensures.rows ∙ rows_none (rows_at c.args.names.now c.args.paths.now) c.args.first
+loop-run-init c = c.with_room-sheet.ensures.rows ∙ rows_none (rows_at c.args.names.now c.args.paths.now) c.args.first
 
 pub run_rows-requires-clause-there : goal.run_rows-requires-clause-there
 run_rows-requires-clause-there c =
