@@ -78,6 +78,8 @@ impl BaseSoFar {
         }
     }
 
+    // A put is what most rows do. The others stand by themselves, so that no room of theirs is
+    // cleared for it.
     #[inline]
     fn put(&mut self, row: u64, item: Item) -> Result<(), OutOfMemory>
         requires { self.old.edits < 2 ^ 64 - 1 }
@@ -93,7 +95,7 @@ impl BaseSoFar {
         Ok(())
     }
 
-    #[inline]
+    #[inline(never)]
     fn change(&mut self, row: u64, item: Item) -> Result<(), OutOfMemory>
         requires { self.old.edits < 2 ^ 64 - 1 }
         ensures tables { OnOk result (tables_so_far self.new
@@ -108,7 +110,7 @@ impl BaseSoFar {
         Ok(())
     }
 
-    #[inline]
+    #[inline(never)]
     fn drop_named(&mut self, row: u64, kind: Kind, name: &Name)
         requires { self.old.edits < 2 ^ 64 - 1 }
         ensures tables { tables_so_far self.new

@@ -10,7 +10,8 @@ use std::mem;
 
 // Twin tables are a line's tables and, where memory allows, the same tables once more: the spare
 // ones. An edit is tried on the spare ones, so that nothing is copied for it, and nothing lost if
-// it fails. Both are boxed, so that a turn of the desk moves a small book. Contracts see the tables.
+// it fails. Both are boxed, so that little is moved where a desk takes or gives back the book.
+// Contracts see the tables.
 #[derive(Drop)]
 pub(crate) struct TwinTables {
     tables: Box<LineTables>,

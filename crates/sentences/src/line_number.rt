@@ -20,8 +20,8 @@ pub(crate) fn has_only_rows(input: &[u8], rows: usize) -> bool {
 // How often a byte stands in a text.
 fn count_of(input: &[u8], byte: u8) -> usize {
     let mut count: usize = 0;
-    for lanes in 0..input.len() / LANES {
-        count = count.saturating_add(count_at(input, LANES * lanes, byte));
+    for piece in 0..input.len() / LANES {
+        count = count.saturating_add(count_at(input, LANES * piece, byte));
     }
     for last in input.len() / LANES * LANES..input.len() {
         if input[last] == byte {
