@@ -64,7 +64,7 @@ CASES = [
     ("session-wide", "session 0", "make_session wide", "edits of all kinds on 64 sections of 700 trains and 4 blocks"),
     ("session-crowded", "session 0", "make_session crowded", "64 sections of 2,048 trains"),
     ("session-trains", "session 0", "make_session trains", "the same where trains are dropped and put"),
-    ("session-four", "session 4", "make_session mid", "the first session with four workers"),
+    ("session-four", "session 4", "make_session mid", "`session-mid` with four workers"),
     ("made", "made 12345", None, "a line of its own"),
 ]
 

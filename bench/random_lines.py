@@ -656,7 +656,7 @@ def make_hostile(dice, maker, scripts):
 
 
 def make_great(dice, maker):
-    """The input with changes of all items to what they are already, again and again, so that threads share its reading."""
+    """The input with changes of all items to what they are already, again and again, so that the text is long."""
     spelling = Spelling(dice)
     again = [("change-", kind, name, fields) for kind, items in maker.line.items.items() for name, fields in items.items()]
     rows, more = spelling.rows(maker.line.edits), spelling.rows(again)[spelling.version > 0 :]

@@ -53,7 +53,7 @@ MANY = "".join("block,B%02d,500\nsignal,S%02d,B%02d,500,10,5,0,5\n" % (number, n
 MANY += "route,R" + "".join(",S%02d" % number for number in range(20)) + "\n"
 MANY += "".join("run,N%02d,R,100,10,%d,30%s\n" % (number, 20 * number, ",0,30" * 19) for number in range(68))
 
-# An input that several threads cut, and of which one reads rows while another takes them.
+# A long input without runs, so that nearly all allocations are those of reading.
 WIDE = "".join("block,a-block-%03d,100\n" % number for number in range(256))
 WIDE += "".join("signal,a-signal-at-%03d,a-block-%03d,100,10,5,0,5\n" % (number, number) for number in range(256))
 SIGNALS = "".join(",a-signal-at-%03d" % number for number in range(256))
