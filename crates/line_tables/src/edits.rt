@@ -1,12 +1,13 @@
 //! Edits of the tables.
 ghost use Rattle.std.specs.Prelude.{◌≡◌, Ok, Some, None, OnOk, OnErr, IfOk, IfErr};
 ghost use Rattle.rail_model.specs.declared.edit.Edit.TheVariants as edit;
+ghost use Rattle.rail_model.specs.declared.items.Item.TheVariants as item;
 ghost use Rattle.rail_model.specs.Rules.{rule_of, rule_of_put, rule_of_change, rule_of_drop, after, after_put, after_change, after_drop};
 ghost use Rattle.line_tables.specs.AnswersEdit.{AnswersEdit};
 ghost use Rattle.line_tables.specs.References.{rule_before_put, rule_before_change};
 
 use crate::LineTables;
-use rail_model::{Edit, Item, Kind, Name, OutOfMemory, Rule};
+use rail_model::{Block, Edit, Item, Kind, Name, OutOfMemory, Rule};
 
 impl LineTables {
     /// Makes an edit, or says which rule refuses it: the first that does, in the order of
@@ -51,6 +52,19 @@ impl LineTables {
             return Ok(Err(rule));
         }
         self.add(item)
+    }
+
+    /// Puts a block, as `put` does. A block by itself takes less room than an item of any kind.
+    #[inline]
+    pub fn put_block(&mut self, block: Block) -> Result<Result<(), Rule>, OutOfMemory>
+        ensures { AnswersEdit (rule_of self.old (edit.Put (item.Block block)))
+            (after self.old (edit.Put (item.Block block))) result self.old self.new }
+    {
+        if let Some(rule) = self.rule_of_block(&block) {
+            return Ok(Err(rule));
+        }
+        self.add_block(block)?;
+        Ok(Ok(()))
     }
 
     /// Changes an item, which moves into the tables, as the edit does that changes it.

@@ -1,6 +1,7 @@
 //! Which runs pass a signal, a block and a section, and which blocks a section has: by the keys
 //! that were found once.
 ghost use Rattle.std.specs.Prelude.{◌≡◌, ℕ, ◌<◌, true, length, map, slice_index, All, IfOk};
+ghost use Rattle.std.specs.List.{list_all};
 ghost use Rattle.rail_model.specs.Rules.{has_block, has_signal};
 ghost use Rattle.rail_model.specs.Tables.{block_number, run_at, section_at};
 ghost use Rattle.line_tables.specs.KeySet.{holds};
@@ -13,6 +14,9 @@ use crate::named_table::NamedTable;
 use crate::path::numbers_by_key;
 use rail_model::{Name, OutOfMemory, Run};
 use std::alloc::Global;
+
+// To look a name up takes about as long as to number so many blocks.
+const BLOCKS_A_NAME: usize = 32;
 
 impl LineTables {
     /// For each run, in the order of the runs' names, whether it passes the signal of a name:
@@ -60,7 +64,9 @@ impl LineTables {
         self.route_sets.has_some(blocks, route)
     }
 
-    /// The numbers of the blocks of the section of a number, in its order.
+    /// The numbers of the blocks of the section of a number, in its order. Where the section has few
+    /// of the line's blocks, each is looked up by its name; otherwise all blocks of the line are
+    /// numbered.
     pub fn section_blocks(&self, section: u32) -> Result<Vec<u32>, OutOfMemory>
         requires { section < length self.now.sections }
         ensures { IfOk result (λ blocks. blocks.items
@@ -68,8 +74,23 @@ impl LineTables {
     {
         self.blocks.learn_order();
         let keys = self.sections.nth(section as usize).refs.slice();
+        if keys.len() <= self.blocks.len() / BLOCKS_A_NAME {
+            return self.numbers_of_blocks(self.section(section).blocks.slice());
+        }
         let numbers = numbers_by_key(self.alloc, &self.blocks)?;
         numbers_at(self.alloc, &numbers, keys)
+    }
+
+    // The numbers of the blocks of these names, in their order, each looked up by itself.
+    fn numbers_of_blocks(&self, names: &[Name]) -> Result<Vec<u32>, OutOfMemory>
+        requires { list_all (has_block self.now) names.now ≡ true }
+        ensures { IfOk result (λ numbers. numbers.items ≡ map (block_number self.now) names.now) }
+    {
+        let mut numbers = Vec::with_capacity(self.alloc, names.len())?;
+        for name in names {
+            numbers.push(self.block_number(name).unwrap())?;
+        }
+        Ok(numbers)
     }
 }
 

@@ -1,5 +1,5 @@
 //! Which rule refuses an edit.
-ghost use Rattle.std.specs.Prelude.{◌≡◌, true, false, not, if◌then◌else◌, length, Some, None, is_some, IfOk, IfSome};
+ghost use Rattle.std.specs.Prelude.{◌≡◌, true, false, not, ◌||◌, if◌then◌else◌, length, Some, None, is_some, IfOk, IfSome};
 ghost use Rattle.rail_model.specs.declared.items.Item.TheVariants as item;
 ghost use Rattle.rail_model.specs.declared.edit.Kind.TheVariants as kind;
 ghost use Rattle.rail_model.specs.Tables.{route_named};
@@ -14,8 +14,8 @@ use crate::key_counts::KeyCounts;
 use crate::key_set::repeats;
 use crate::linked::known_keys;
 use rail_model::{
-    BLOCKS, CONNECTIONS, Connection, Item, Kind, Name, OutOfMemory, ROUTES, RUNS, Route, Rule, Run,
-    SECTIONS, SIGNALS, Section, is_within,
+    BLOCKS, Block, CONNECTIONS, Connection, Item, Kind, Name, OutOfMemory, ROUTES, RUNS, Route,
+    Rule, Run, SECTIONS, SIGNALS, Section, is_block_within, is_within,
 };
 
 impl LineTables {
@@ -55,6 +55,22 @@ impl LineTables {
             return Ok(Some(rule));
         }
         self.rule_of_parts(item)
+    }
+
+    // The first rule that refuses to put a block, which refers to nothing.
+    pub(crate) fn rule_of_block(&self, block: &Block) -> Option<Rule>
+        ensures { result ≡ rules.rule_of_put self.now (item.Block block.now) }
+    {
+        if !is_block_within(block) {
+            return Some(Rule::Range);
+        }
+        if self.is_block_taken(&block.name) {
+            return Some(Rule::Twice);
+        }
+        if self.blocks.len() >= BLOCKS {
+            return Some(Rule::Limit);
+        }
+        None
     }
 
     // The rule that refuses to put an item whatever it refers to.
@@ -120,9 +136,7 @@ impl LineTables {
         ensures { result ≡ rules.is_taken self.now item.now }
     {
         match item {
-            Item::Block(block) => {
-                self.has(Kind::Block, &block.name) || self.has(Kind::Connection, &block.name)
-            }
+            Item::Block(block) => self.is_block_taken(&block.name),
             Item::Connection(connection) => {
                 self.has(Kind::Connection, &connection.name)
                     || self.has(Kind::Block, &connection.name)
@@ -131,6 +145,13 @@ impl LineTables {
                 self.has(item.kind(), item.name())
             }
         }
+    }
+
+    // Whether no block of a name may be put.
+    fn is_block_taken(&self, name: &Name) -> bool
+        ensures { result ≡ (rules.has self.now kind.Block name.now || rules.has self.now kind.Connection name.now) }
+    {
+        self.has(Kind::Block, name) || self.has(Kind::Connection, name)
     }
 
     fn is_full(&self, item: &Item) -> bool

@@ -1,5 +1,5 @@
 //! Copies of what holds lists. Each is equal to its original.
-ghost use Rattle.std.specs.Prelude.{◌≡◌, IfOk, take};
+ghost use Rattle.std.specs.Prelude.{◌≡◌, IfOk};
 
 use crate::{
     Block, Connection, Edit, Item, List, OutOfMemory, Route, Run, Section, Signal, Tables,

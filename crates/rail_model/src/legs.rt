@@ -48,8 +48,8 @@ impl Legs {
     }
 }
 
-/// A clone is the same legs for one copy more, and asks for no memory. It fails where so many copies
-/// are held that they can't be counted.
+/// A clone shares the legs, and asks for no memory. It fails where there are so many clones that one
+/// more can't be counted.
 impl Clone for Legs {
     ghost is_clone = { λ legs other. other ≡ legs };
 

@@ -23,7 +23,8 @@ pub fn is_within(item: &Item) -> bool
     }
 }
 
-fn is_block_within(block: &Block) -> bool
+/// Whether the length of a block is within the limits.
+pub fn is_block_within(block: &Block) -> bool
     ensures { result ≡ within.is_block_within block.now }
 {
     is_from_one(block.length_m, GREATEST_LENGTH_M)

@@ -1,18 +1,15 @@
 //! Where blocks stand in a section's list: a table over the numbers of blocks, filled once a
 //! section; and the uses of a stairway by it.
 ghost use Rattle.std.specs.Prelude.{◌≡◌, ◌↔◌, ◌+◌, ◌<◌, ◌≤◌, true, IsTrue, length, map, take, slice_set, All, IfOk, IfSome, OnOk};
-ghost use Rattle.rail_model.specs.Tables.{block_number, section_at};
+ghost use Rattle.rail_model.specs.Tables.{section_at};
 ghost use Rattle.rail_model.specs.declared.limits.TheConstants.{PATH_HOPS};
 ghost use Rattle.section_cut.specs.Positions.{IsPositions, AreSameTo, AreSameFirst, IsUsePlaced, ArePlaced, with_position, uses_in};
 
 use crate::spans::BlockRange;
 use line_tables::LineTables;
 use plan_model::SharedUses;
-use rail_model::{Name, OutOfMemory, Section, Use};
+use rail_model::{OutOfMemory, Section, Use};
 use std::alloc::Global;
-
-// To look a name up takes as long as to number so many blocks.
-const BLOCKS_A_NAME: usize = 32;
 
 // A section, with the position of each block of the tables in it, and the spans of the stairways
 // that are looked at.
@@ -37,7 +34,7 @@ pub(crate) fn positions(
         (λ table. IsPositions tables.now (section_at tables.now section) table.items) }
 {
     tables.learn_sound();
-    let found = numbers_of_blocks(alloc, tables, section)?;
+    let found = tables.section_blocks(section)?;
     let blocks = found.as_slice();
     let mut table = vec![in alloc; blocks.len() as u32; tables.blocks() as usize]?;
     for later in 0..blocks.len() {
@@ -45,46 +42,6 @@ pub(crate) fn positions(
         place(&mut table, blocks[position], position as u32);
     }
     Ok(table)
-}
-
-// The numbers of the blocks of the section of a number, in its order. All blocks of the line are
-// numbered for it, unless these are few beside them.
-fn numbers_of_blocks(
-    alloc: Global,
-    tables: &LineTables,
-    section: u32,
-) -> Result<Vec<u32>, OutOfMemory>
-    requires { section < length tables.now.sections }
-    ensures { IfOk result (λ numbers. numbers.items
-        ≡ map (block_number tables.now) (section_at tables.now section).blocks) }
-{
-    let names = tables.section(section).blocks.slice();
-    if names.len() <= tables.blocks() as usize / BLOCKS_A_NAME {
-        if let Some(numbers) = numbers_of_names(alloc, tables, names)? {
-            return Ok(numbers);
-        }
-    }
-    tables.section_blocks(section)
-}
-
-// The numbers of the blocks of these names, each looked up by itself. `None`, where one isn't
-// there, says nothing.
-fn numbers_of_names(
-    alloc: Global,
-    tables: &LineTables,
-    names: &[Name],
-) -> Result<Option<Vec<u32>>, OutOfMemory>
-    ensures { IfOk result (λ found. IfSome found
-        (λ numbers. numbers.items ≡ map (block_number tables.now) names.now)) }
-{
-    let mut numbers = Vec::with_capacity(alloc, names.len())?;
-    for name in names {
-        let Some(number) = tables.block_number(name) else {
-            return Ok(None);
-        };
-        numbers.push(number)?;
-    }
-    Ok(Some(numbers))
 }
 
 // Writes the position of the block of a number.
