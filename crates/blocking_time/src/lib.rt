@@ -8,7 +8,7 @@
 //! `walk` gives the blockings of all hops at once. It fills a table of marks first, in `course`:
 //! the place of each block's end, and the departure from it. A place is looked for among the
 //! nearest marks, and else by halving. The last stop is carried along. `stair_on` gives the uses of
-//! some blocks alone.
+//! some blocks alone, and `stairs_in` puts the uses into a list that is there.
 //!
 //! ```text
 //! let path = tables.paths()?.path(run)?;

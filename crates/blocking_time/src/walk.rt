@@ -1,6 +1,6 @@
 //! The blockings of a whole run, in one walk along its path.
 
-ghost use Rattle.std.specs.Prelude.{◌≡◌, ◌≢◌, ◌≤◌, ◌<◌, ◌+◌, ◌-◌, ◌<ℤ◌, [], IfOk, map, All, AllPairs, slice_index_or, false};
+ghost use Rattle.std.specs.Prelude.{◌≡◌, ◌≢◌, ◌≤◌, ◌-◌, ◌<ℤ◌, [], IfOk, map, All, AllPairs, slice_index_or, false};
 ghost use Rattle.std.specs.List.{range_with_len};
 ghost use Rattle.rail_model.specs.Blocking.{hop as hop_of, hop_count, Fits, stairway as stairway_of, stair_of, use_of};
 ghost use Rattle.blocking_time.specs.Mark.{marks_of, stop_mark};
@@ -65,14 +65,11 @@ pub fn stairs(alloc: Global, path: &Path) -> Result<Stair, OutOfMemory>
     ensures blocks_differ { IfOk result (λ s. AllPairs (λ a b. a ≢ b) (map (λ u. u.block) s.uses)) }
 {
     let room = Vec::with_capacity(alloc, path.hops.len())?;
-    let uses = stairway(alloc, path, room)?;
-    Ok(Stair {
-        run: path.run,
-        uses,
-    })
+    stairs_in(alloc, path, room)
 }
 
-/// A run's stair as `stairs` makes it, with its uses in a room that somebody has asked for before.
+/// The stair that `stairs` makes, with its uses in `room`, an empty list. Where that has room for a
+/// use of each hop, no memory is asked for them.
 pub fn stairs_in(alloc: Global, path: &Path, room: Vec<Use>) -> Result<Stair, OutOfMemory>
     requires fits { Fits path.now }
     requires empty { room.items ≡ [] }
@@ -85,7 +82,7 @@ pub fn stairs_in(alloc: Global, path: &Path, room: Vec<Use>) -> Result<Stair, Ou
     })
 }
 
-// The uses of a run's blocks, in one walk along its path, put into a room.
+// The uses of a run's blocks, in one walk along its path, put into an empty list.
 fn stairway(alloc: Global, path: &Path, room: Vec<Use>) -> Result<List<Use>, OutOfMemory>
     requires fits { Fits path.now }
     requires empty { room.items ≡ [] }

@@ -1,4 +1,4 @@
--- Rooms in which stairways are made.
+-- Empty lists into which stairways are put.
 use Rattle.std.specs.Prelude.{◌≡◌, ◌<◌, ℕ, List, [], All, map}
 use Rattle.std.specs.List.{range_with_len}
 use Rattle.section_cut.specs.declared.all_stairways.StairRoom.{StairRoom}

@@ -61,11 +61,11 @@ pub fn stairways_in_parts(
     Ok(List::from_vec(stairs_in_rooms(rt, alloc, &paths, rooms, part)?))
 }
 
-// A run's number, and room for the uses of its stairway.
+// A run's number, and an empty list with room for the uses of its stairway.
 #[derive(Drop)]
-pub(crate) struct StairRoom {
-    pub(crate) run: u32,
-    pub(crate) uses: Vec<Use>,
+struct StairRoom {
+    run: u32,
+    uses: Vec<Use>,
 }
 
 // Room for the stairway of each run. The calling thread asks for all of it, since the system's

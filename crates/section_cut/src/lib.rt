@@ -4,11 +4,12 @@
 //! `cut_of` makes one cut from the runs' stairways. A table over the numbers of blocks says where
 //! each stands in the section, so no name is looked up for a use. A run is passed over where all
 //! its uses start before the window or all after it, and of the others only the uses between the
-//! first and the last place in the section are looked at: these places are found once for all
-//! stairways over the same blocks that are made together. Connections come after that: one that
-//! binds adds a use to the rows of its two runs. `cut_among` makes the cuts of many sections from
-//! stairways that are made once, by `stairways` or, side by side, by `stairways_in_parts`.
-//! `all_cuts` makes the cuts of all sections with few stairways at a time, which takes less memory.
+//! first and the last place in the section are looked at. These places are found once for all
+//! stairways over the same blocks that are made together, for up to 16 lists of blocks; stairways
+//! over others are looked at whole. Connections come after that: one that binds adds a use to the
+//! rows of its two runs. `cut_among` makes the cuts of many sections from stairways that are made
+//! once, by `stairways` or, side by side, by `stairways_in_parts`. `all_cuts` makes the cuts of all
+//! sections with few stairways at a time, which takes less memory.
 //!
 //! `cut_change` makes a cut that is kept that of the tables after an edit, with the stamps of its
 //! rows, and tells whether the edit touches the section; `CutChanges` does so for many sections:

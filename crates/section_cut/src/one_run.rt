@@ -109,15 +109,7 @@ fn row_after_run(
             }
         }
     }
-    row_by_stair(
-        alloc,
-        tables,
-        section,
-        &run.name,
-        stair,
-        own.is_some(),
-        number,
-    )
+    row_by_stair(alloc, tables, section, &run.name, stair, own, number)
 }
 
 // The row of the run of a stair, if it is a member, where it has the places of as many uses, and only
@@ -139,15 +131,15 @@ fn row_with_times(
 }
 
 // The row in a section of the run of a name, whose stair this is, if it is a member. Where a cheaper
-// test says that the run is no member, no table of positions is made. A run that was a member
-// before the edit mostly passes the section after it, so that isn't asked.
+// test says that the run is no member, no table of positions is made. Whether the run passes the
+// section is asked only where it was no member before: a member mostly still does.
 fn row_by_stair(
     alloc: Global,
     tables: &LineTables,
     section: &Section,
     name: &Name,
     stair: &TimedStair,
-    was_member: bool,
+    own: Option<&[Use]>,
     stamp: u64,
 ) -> Result<Option<CutRow>, OutOfMemory>
     requires section { find (λ s. is_same s.name section.now.name) tables.now.sections
@@ -168,7 +160,7 @@ fn row_by_stair(
     if enters_early(tables, section, stair) {
         return Ok(None);
     }
-    if !was_member && !passes(tables, name, place) {
+    if own.is_none() && !passes(tables, name, place) {
         return Ok(None);
     }
     row_by_positions(alloc, tables, place, section, stair, stamp)
