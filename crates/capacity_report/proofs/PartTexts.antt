@@ -3,12 +3,13 @@ use Rattle.std.proofs.Common.{◌≡◌, ℕ, zero, suc, ◌+◌, ◌-◌, ◌*�
 use Rattle.std.specs.Prelude.{Result, Ok}
 use Rattle.std.specs.List.{flat_map, range_with_len}
 use Rattle.std.specs.declared.vec.Vec.{Vec}
-use Rattle.std.proofs.lemmas.List.{length-map, get_or-map}
+use Rattle.std.proofs.lemmas.List.{length-map}
 use Rattle.std.proofs.lemmas.List.Concat.{flat_map-append}
 use Rattle.std.proofs.lemmas.Nat.{div-add-mod', div_below, div-mul-add, le-div, mul-le}
 use Rattle.rayon.specs.Shown.{run-append}
 use Rattle.row_text.specs.SheetRows.{Row, text_of_row, text_of_rows}
-use Rattle.capacity_report.specs.Parts.{start_of, text_between, GivesTexts}
+use Rattle.capacity_report.specs.declared.parts.Part.{Part}
+use Rattle.capacity_report.specs.Parts.{start_of, text_between, IsPart, GivesTexts}
 
 -- the rows of the items from a to b, and then to c, are those from a to c
 module _ (rows : ℕ → List Row) where
@@ -66,57 +67,53 @@ module _ (count parts : ℕ) (some : 0 < parts) where
       let next : i + suc n ≡ i + n + 1 = omega arith in
       omega (arith, rises i n, starts_rise (i + n), ap (start_of count parts) next)
 
-  module _ {A B E : Type 0} (rows : ℕ → List Row) (by_room : ℕ → ℕ → Vec ℕ B → Result (Vec ℕ A) E → Type 0) (are : GivesTexts by_room rows count) where
-    -- what a call makes of a part, in some room
-    abbrev gives : ℕ → ℕ → Result (Vec ℕ A) E → Type 0
-    gives first last made = (room : Vec ℕ B) × by_room first last room made
+  -- a part ends where it starts or after it, and not beyond the end
+  pub part_within : (i : ℕ) (part : Part) → i < parts → IsPart count parts i part → (part.first ≤ part.«end») × (part.«end» ≤ count)
+  part_within i part l is = (omega (arith, is.first, is.«end», starts_rise i), omega (arith, is.«end», starts_within (i + 1) (omega arith)))
 
-    abbrev Made : List (Vec ℕ A) → ℕ → Type 0
-    Made made k = (i : ℕ) (d : Vec ℕ A) → i < length made → gives (start_of count parts (k + i)) (start_of count parts (k + i + 1)) (Ok (get_or made i d))
+  module _ {A E : Type 0} (gives : Part → Result (Vec ℕ A) E → Type 0) where
+    -- what a call makes of the part of this number
+    abbrev GivesAt : ℕ → Result (Vec ℕ A) E → Type 0
+    GivesAt i made = (part : Part) × IsPart count parts i part × gives part made
 
-    texts_from : (made : List (Vec ℕ A)) (k : ℕ) → k + length made ≤ parts → Made made k
-        → flat_map (λ (t : Vec ℕ A). t.items) made ≡ text_between rows (start_of count parts k) (start_of count parts (k + length made))
-    texts_from [] k within each =
-        let same : k + 0 ≡ k = omega arith in
-        let none : start_of count parts (k + 0) - start_of count parts k ≡ 0 = omega (arith, ap (start_of count parts) same) in
-        sym (ap (λ n. text_of_rows (flat_map rows (range_with_len (start_of count parts k) n))) none)
-    texts_from (t ∷ made) k within each =
-        let a = start_of count parts k in
-        let b = start_of count parts (k + 1) in
-        let c = start_of count parts (k + 1 + length made) in
-        let here : k + 0 ≡ k = omega arith in
-        let after : k + 1 + length made ≡ k + length (t ∷ made) = omega arith in
-        let gave : gives a b (Ok t) =
-        subst (λ j. gives (start_of count parts j) (start_of count parts (j + 1)) (Ok t)) here (each 0 t (omega arith)) in
-        let first : t.items ≡ text_between rows a b =
-        are a b gave.0 (Ok t) (starts_rise k) (starts_within (k + 1) (omega arith)) gave.1 in
-        let rest = texts_from made (k + 1) (omega arith) (λ i d l.
-        let next : k + suc i ≡ k + 1 + i = omega arith in
-        subst (λ j. gives (start_of count parts j) (start_of count parts (j + 1)) (Ok (get_or made i d))) next (each (suc i) d (omega arith))) in
-        ap (λ xs. xs ++ flat_map (λ (u : Vec ℕ A). u.items) made) first
-        ∙ ap (λ xs. text_between rows a b ++ xs) rest
-        ∙ texts_joined rows a b c (starts_rise k) (rises (k + 1) (length made))
-        ∙ ap (λ j. text_between rows a (start_of count parts j)) after
+    module _ (rows : ℕ → List Row) (are : GivesTexts gives rows count) where
+      -- what is made of the part of this number is its text
+      text_at : (i : ℕ) (t : Vec ℕ A) → i < parts → GivesAt i (Ok t) → t.items ≡ text_between rows (start_of count parts i) (start_of count parts (i + 1))
+      text_at i t l gave =
+          let is = gave.1 in
+          let within = part_within i gave.0 l is in
+          rw (is.first, is.«end») at (are gave.0 (Ok t) within.0 within.1 gave.2)
 
-    -- what is made from and to numbers that are equal to others
-    pub gave_at : {a b first last : ℕ} (room : Vec ℕ B) (made : Result (Vec ℕ A) E) → a ≡ first → b ≡ last → by_room a b room made → gives first last made
-    gave_at {a} {b} {first} {last} room made begins ends gave =
-        (room, subst (λ n. by_room n last room made) begins (subst (λ n. by_room a n room made) ends gave))
+      -- the texts of the parts from number k on, one after the other, are that of their items
+      texts_from : (made : List (Vec ℕ A)) (k : ℕ) → k + length made ≤ parts
+          → ((i j : ℕ) (d : Result (Vec ℕ A) E) → k + i ≡ j → i < length made → GivesAt j (get_or (map Ok made) i d))
+          → flat_map (λ (t : Vec ℕ A). t.items) made ≡ text_between rows (start_of count parts k) (start_of count parts (k + length made))
+      texts_from [] k within each =
+          let same : k + 0 ≡ k = omega arith in
+          let none : start_of count parts (k + 0) - start_of count parts k ≡ 0 = omega (arith, ap (start_of count parts) same) in
+          sym (ap (λ n. text_of_rows (flat_map rows (range_with_len (start_of count parts k) n))) none)
+      texts_from (t ∷ made) k within each =
+          let a = start_of count parts k in
+          let b = start_of count parts (k + 1) in
+          let after : k + 1 + length made ≡ k + length (t ∷ made) = omega arith in
+          let first = text_at k t (omega arith) (each 0 k (Ok t) (omega arith) (omega arith)) in
+          let rest = texts_from made (k + 1) (omega arith) (λ i j d is l. each (suc i) j d (omega arith) (omega arith)) in
+          ap (λ xs. xs ++ flat_map (λ (u : Vec ℕ A). u.items) made) first ∙ ap (λ xs. text_between rows a b ++ xs) rest
+          ∙ texts_joined rows a b (start_of count parts (k + 1 + length made)) (starts_rise k) (rises (k + 1) (length made))
+          ∙ ap (λ j. text_between rows a (start_of count parts j)) after
 
-    -- the texts of all parts are that of all items
-    pub texts_of_all : (made : List (Vec ℕ A)) (pieces : List (Result (Vec ℕ A) E)) → pieces ≡ map Ok made → length pieces ≡ parts
-        → ((i : ℕ) (d : Result (Vec ℕ A) E) → i < parts → gives (start_of count parts i) (start_of count parts (i + 1)) (get_or pieces i d))
-        → flat_map (λ (t : Vec ℕ A). t.items) made ≡ text_of_rows (flat_map rows (range_with_len 0 count))
-    texts_of_all made pieces are_made long each =
-        let many : length made ≡ parts = sym (length-map made _) ∙ sym (ap length are_made) ∙ long in
-        let all : 0 + length made ≡ parts = omega (arith, many) in
-        let last : start_of count parts (0 + length made) ≡ count = ap (start_of count parts) all ∙ start_all in
-        let whole : count - 0 ≡ count = omega arith in
-        texts_from made 0 (omega arith) (λ i d l.
-        let same : i ≡ 0 + i = omega arith in
-        let read = ap (λ rs. get_or rs i (Ok d)) are_made ∙ get_or-map Ok made i d (Ok d) l in
-        subst (λ j. gives (start_of count parts j) (start_of count parts (j + 1)) (Ok (get_or made i d))) same
-        (subst (gives (start_of count parts i) (start_of count parts (i + 1))) read (each i (Ok d) (omega arith))))
-        ∙ ap (λ a. text_between rows a (start_of count parts (0 + length made))) start_none
-        ∙ ap (text_between rows 0) last
-        ∙ ap (λ n. text_of_rows (flat_map rows (range_with_len 0 n))) whole
+      -- the texts of all parts are that of all items
+      pub texts_of_all : (made : List (Vec ℕ A)) (pieces : List (Result (Vec ℕ A) E)) → pieces ≡ map Ok made → length pieces ≡ parts
+          → ((i : ℕ) (d : Result (Vec ℕ A) E) → i < parts → GivesAt i (get_or pieces i d))
+          → flat_map (λ (t : Vec ℕ A). t.items) made ≡ text_of_rows (flat_map rows (range_with_len 0 count))
+      texts_of_all made pieces are_made long each =
+          let many : length made ≡ parts = sym (length-map made _) ∙ sym (ap length are_made) ∙ long in
+          let all : 0 + length made ≡ parts = omega (arith, many) in
+          let last : start_of count parts (0 + length made) ≡ count = ap (start_of count parts) all ∙ start_all in
+          let whole : count - 0 ≡ count = omega arith in
+          texts_from made 0 (omega arith) (λ i j d same l.
+          let here : i ≡ j = omega arith in
+          subst (λ n. GivesAt n (get_or (map Ok made) i d)) here (subst (λ rs. GivesAt i (get_or rs i d)) are_made (each i d (omega arith))))
+          ∙ ap (λ a. text_between rows a (start_of count parts (0 + length made))) start_none
+          ∙ ap (text_between rows 0) last
+          ∙ ap (λ n. text_of_rows (flat_map rows (range_with_len 0 n))) whole

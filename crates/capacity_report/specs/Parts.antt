@@ -16,19 +16,19 @@ text_between rows first «end» = text_of_rows (flat_map rows (range_with_len fi
 -- one of so many parts of so many items
 pub record IsPart (count parts i : ℕ) (part : Part) : Type 0 where
   pub first : part.first ≡ start_of count parts i
-  pub last : part.«end» ≡ start_of count parts (i + 1)
+  pub «end» : part.«end» ≡ start_of count parts (i + 1)
 
 -- the first so many of them
 pub record AreParts (count parts some : ℕ) (all : List Part) : Type 0 where
   pub number : length all ≡ some
   pub each : (i : ℕ) (d : Part) → i < some → IsPart count parts i (slice_index_or all i d)
 
--- a call takes any part of the items, and any room
-abbrev pub AcceptsParts : {A : Type 0} → (ℕ → ℕ → Vec ℕ A → Type 0) → ℕ → Type 0
-AcceptsParts {A} accepts count = (first «end» : ℕ) (room : Vec ℕ A) → first ≤ «end» → «end» ≤ count → accepts first «end» room
+-- a call takes any part of the items, whatever its room
+abbrev pub AcceptsParts : (Part → Type 0) → ℕ → Type 0
+AcceptsParts accepts count = (part : Part) → part.first ≤ part.«end» → part.«end» ≤ count → accepts part
 
 -- and what it makes of a part is the text of its rows
-abbrev pub GivesTexts : {A B E : Type 0} → (ℕ → ℕ → Vec ℕ A → Result (Vec ℕ B) E → Type 0) → (ℕ → List Row) → ℕ → Type 0
-GivesTexts {A} {B} {E} gives rows count =
-    (first «end» : ℕ) (room : Vec ℕ A) (made : Result (Vec ℕ B) E) → first ≤ «end» → «end» ≤ count → gives first «end» room made
-    → IfOk made (λ text. text.items ≡ text_between rows first «end»)
+abbrev pub GivesTexts : {A E : Type 0} → (Part → Result (Vec ℕ A) E → Type 0) → (ℕ → List Row) → ℕ → Type 0
+GivesTexts {A} {E} gives rows count =
+    (part : Part) (made : Result (Vec ℕ A) E) → part.first ≤ part.«end» → part.«end» ≤ count → gives part made
+    → IfOk made (λ text. text.items ≡ text_between rows part.first part.«end»)

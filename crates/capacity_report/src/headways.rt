@@ -10,7 +10,7 @@ ghost use Rattle.capacity_report.specs.Rows as rows;
 ghost use Rattle.capacity_report.specs.Pairs as pairs;
 ghost use Rattle.capacity_report.specs.Parts.{text_between};
 
-use crate::parts::{ask_for_rest, text_in_parts};
+use crate::parts::{Part, ask_for_rest, text_in_parts};
 use headway_table::Headways;
 use plan_model::Cut;
 use rail_model::{Name, OutOfMemory};
@@ -51,39 +51,36 @@ fn text_by_names(
     requires few { member_count cut.now < 4_294_967_296 }
     ensures { IfOk result (λ text. text ≡ text_of_rows (rows.headway_rows cut.now)) }
 {
-    let text_of = |first: usize, end: usize, room: Vec<u8>| -> Result<Vec<u8>, OutOfMemory>
-        requires { (first ≤ «end») × («end» ≤ member_count cut.now)
+    let text_of = |part: Part| -> Result<Vec<u8>, OutOfMemory>
+        requires { (part.first ≤ part.«end») × (part.«end» ≤ member_count cut.now)
             × (member_count cut.now < 4_294_967_296) × (table.now ≡ table_of cut.now)
             × (names.now ≡ pairs.names_of cut.now) }
         ensures { IfOk result (λ text. text.items
-            ≡ text_between (rows.rows_from cut.entry.now) first «end») }
-    { text_of_part(alloc, cut, table, names, first, end, room) };
+            ≡ text_between (rows.rows_from cut.entry.now) part.first part.«end») }
+    { text_of_part(alloc, cut, table, names, part) };
     text_in_parts(rt, alloc, cut.rows.len(), LEAST_MEMBERS, &text_of)
 }
 
-// The text of the rows of the headways from the members of a part, in a room: those from `first` to
-// before `end`.
+// The text of the rows of the headways from the members of a part.
 fn text_of_part(
     alloc: Global,
     cut: &Cut,
     table: &Headways,
     names: &[Written],
-    first: usize,
-    end: usize,
-    room: Vec<u8>,
+    part: Part,
 ) -> Result<Vec<u8>, OutOfMemory>
-    requires first { first ≤ «end» }
-    requires there { «end» ≤ member_count cut.now }
+    requires first { part.first ≤ part.«end» }
+    requires there { part.«end» ≤ member_count cut.now }
     requires few { member_count cut.now < 4_294_967_296 }
     requires table { table.now ≡ table_of cut.now }
     requires names { names.now ≡ pairs.names_of cut.now }
     ensures { IfOk result (λ text. text.items
-        ≡ text_between (rows.rows_from cut.now) first «end») }
+        ≡ text_between (rows.rows_from cut.now) part.first part.«end») }
 {
-    let mut sheet = Sheet::with_room(room);
-    for i in first..end {
+    let mut sheet = Sheet::with_room(part.room);
+    for i in part.first..part.end {
         rows_from(alloc, &mut sheet, cut, table, names, i)?;
-        ask_for_rest(&mut sheet, i + 1 - first, end - 1 - i);
+        ask_for_rest(&mut sheet, i + 1 - part.first, part.end - 1 - i);
     }
     Ok(sheet.into_text())
 }

@@ -1,5 +1,5 @@
 //! Texts that are made in parts, by as many threads as there are processors.
-ghost use Rattle.std.specs.Prelude.{◌≡◌, ℕ, ◌+◌, ◌<◌, ◌≤◌, List, [], IfOk, map, Ok};
+ghost use Rattle.std.specs.Prelude.{◌≡◌, ℕ, ◌<◌, ◌≤◌, List, [], IfOk, map, Ok};
 ghost use Rattle.std.specs.List.{flat_map, range_with_len};
 ghost use Rattle.row_text.specs.SheetRows.{Row, text_of_rows};
 ghost use Rattle.capacity_report.specs.Parts.{start_of, AreParts, AcceptsParts, GivesTexts};
@@ -10,10 +10,10 @@ use row_text::{Sheet, Text};
 use std::alloc::Global;
 use std::thread::{Threads, map_vec};
 
-// For so many bytes a room is asked for in which a sheet begins.
+// Bytes of room with which a sheet begins.
 const FIRST_BYTES: usize = 64;
 
-// The items of a part, from one number to another, and a room in which the sheet of their text
+// The items of a part, from `first` to before `end`, and a room in which the sheet of their text
 // begins.
 #[derive(Drop)]
 pub(crate) struct Part {
@@ -22,25 +22,23 @@ pub(crate) struct Part {
     pub(crate) room: Vec<u8>,
 }
 
-// The text of the rows of so many items, in their order, where `text_of` makes that of the items
-// from one number to another, in a room that it is given. There are as many parts as processors,
-// each made by a thread of its own, but no part has fewer than `least` items where there are
-// several. The calling thread asks for the rooms.
-pub(crate) fn text_in_parts<
-    R: Threads + Sync,
-    F: Fn(usize, usize, Vec<u8>) -> Result<Vec<u8>, OutOfMemory> + Sync,
->(rt: &R, alloc: Global, count: usize, least: usize, text_of: &F) -> Result<Text, OutOfMemory>
+// The text of the rows of so many items, in their order, where `text_of` makes the text of a part.
+// There are as many parts as processors, each made by a thread of its own, but no part has fewer
+// than `least` items where there are several. The calling thread asks for the rooms.
+pub(crate) fn text_in_parts<R: Threads + Sync, F: Fn(Part) -> Result<Vec<u8>, OutOfMemory> + Sync>(
+    rt: &R,
+    alloc: Global,
+    count: usize,
+    least: usize,
+    text_of: &F,
+) -> Result<Text, OutOfMemory>
     requires least { 0 < least }
     requires accepts { AcceptsParts (F.pre text_of.now) count }
     ensures { (rows : ℕ → List Row) → GivesTexts (F.post text_of.now) rows count
         → IfOk result (λ text. text ≡ text_of_rows (flat_map rows (range_with_len 0 count))) }
 {
     let parts = parts_from(alloc, count, parts_of(rt, count, least))?;
-    let text_of_part = move |part: Part| -> Result<Vec<u8>, OutOfMemory>
-        requires { F.pre text_of.now part.first part.«end» part.room }
-        ensures { F.post text_of.entry.now part.first part.«end» part.room result }
-    { text_of(part.first, part.end, part.room) };
-    one_after_another(alloc, map_vec(rt, parts, &text_of_part)?)
+    one_after_another(alloc, map_vec(rt, parts, text_of)?)
 }
 
 // So many parts of so many items.
@@ -59,8 +57,8 @@ fn parts_from(alloc: Global, count: usize, parts: usize) -> Result<Vec<Part>, Ou
     Ok(all)
 }
 
-// A room in which a sheet begins. A block of memory that grows stays where the thread's memory is
-// that asked for it first. So the thread that has let go of most asks for it.
+// An empty list in which a sheet begins. A block of memory that grows stays with the thread that
+// asked for it first. So the calling thread asks: it has given back what reading took.
 pub(crate) fn first_room(alloc: Global) -> Result<Vec<u8>, OutOfMemory>
     ensures { IfOk result (λ room. room.items ≡ []) }
 {

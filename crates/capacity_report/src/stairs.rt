@@ -10,7 +10,7 @@ ghost use Rattle.capacity_report.specs.Rows as rows;
 ghost use Rattle.capacity_report.specs.Blockings.{blocking_row, named_row, rows_by_names, rows_at, names_of, AreNamed};
 ghost use Rattle.capacity_report.specs.Parts.{text_between};
 
-use crate::parts::{ask_for_rest, text_in_parts};
+use crate::parts::{Part, ask_for_rest, text_in_parts};
 use blocking_time::{Blocking, blockings};
 use line_tables::{LineTables, Paths};
 use rail_model::{OutOfMemory, Path};
@@ -50,36 +50,34 @@ fn text_of_paths(
     ensures { IfOk result (λ text. text
         ≡ text_of_rows (flat_map (rows_at names.now paths.now) (range_with_len 0 count))) }
 {
-    let text_of = |first: usize, end: usize, room: Vec<u8>| -> Result<Vec<u8>, OutOfMemory>
-        requires { (first ≤ «end») × («end» < 4_294_967_296) × («end» ≤ length paths.now)
-            × AreNamed names.now paths.now }
+    let text_of = |part: Part| -> Result<Vec<u8>, OutOfMemory>
+        requires { (part.first ≤ part.«end») × (part.«end» < 4_294_967_296)
+            × (part.«end» ≤ length paths.now) × AreNamed names.now paths.now }
         ensures { IfOk result (λ text. text.items
-            ≡ text_between (rows_at names.entry.now paths.entry.now) first «end») }
-    { text_of_part(alloc, names, paths, first, end, room) };
+            ≡ text_between (rows_at names.entry.now paths.entry.now) part.first part.«end») }
+    { text_of_part(alloc, names, paths, part) };
     text_in_parts(rt, alloc, count, LEAST_RUNS, &text_of)
 }
 
-// The text of the rows of the paths from `first` to before `end`, in a room.
+// The text of the rows of the paths of a part.
 fn text_of_part(
     alloc: Global,
     names: &[Written],
     paths: &Paths<'_>,
-    first: usize,
-    end: usize,
-    room: Vec<u8>,
+    part: Part,
 ) -> Result<Vec<u8>, OutOfMemory>
-    requires first { first ≤ «end» }
-    requires few { «end» < 4_294_967_296 }
-    requires count { «end» ≤ length paths.now }
+    requires first { part.first ≤ part.«end» }
+    requires few { part.«end» < 4_294_967_296 }
+    requires count { part.«end» ≤ length paths.now }
     requires named { AreNamed names.now paths.now }
     ensures { IfOk result (λ text. text.items
-        ≡ text_between (rows_at names.now paths.now) first «end») }
+        ≡ text_between (rows_at names.now paths.now) part.first part.«end») }
 {
-    let mut sheet = Sheet::with_room(room);
-    for run in first..end {
+    let mut sheet = Sheet::with_room(part.room);
+    for run in part.first..part.end {
         let path = paths.path(run as u32)?;
         run_rows(alloc, &mut sheet, names, &path)?;
-        ask_for_rest(&mut sheet, run + 1 - first, end - 1 - run);
+        ask_for_rest(&mut sheet, run + 1 - part.first, part.end - 1 - run);
     }
     Ok(sheet.into_text())
 }

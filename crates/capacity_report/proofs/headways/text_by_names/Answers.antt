@@ -7,7 +7,7 @@ use Rattle.capacity_report.specs.Rows.{rows_from}
 use Rattle.capacity_report.proofs.headways.text_by_names.Goals as goal
 
 pub text_in_parts-requires-clause-accepts : goal.text_in_parts-requires-clause-accepts
-text_in_parts-requires-clause-accepts g c κs inside first end room rise within =
+text_in_parts-requires-clause-accepts g c κs inside part rise within =
     (rise, omega (arith, within, c.len.ensures), c.requires.few, c.requires.table, c.requires.names)
 
 pub returns : goal.returns
@@ -15,4 +15,4 @@ returns g c =
     let cut = c.args.cut.now in
     let count : c.len.result ≡ member_count cut = omega (arith, c.len.ensures) in
     subst (λ n. IfOk c.text_in_parts.result (λ text. text ≡ text_of_rows (flat_map (rows_from cut) (range_with_len 0 n)))) count
-    (c.text_in_parts.ensures (rows_from cut) (λ first end room made rise within gave. gave.1))
+    (c.text_in_parts.ensures (rows_from cut) (λ part made rise within gave. gave.1))

@@ -14,7 +14,7 @@ loop-i-preserved c =
     let old = c.loop-i.all.items in
     let more = c.in_ok-push.ensures.items in
     let part : Part = record { first = c.start_of.result; «end» = c.start_of-in-loop-i.result; room = c.in_ok-first_room.field-0 } in
-    let own : IsPart count parts n part = record { first = c.start_of.ensures; last = c.start_of-in-loop-i.ensures } in
+    let own : IsPart count parts n part = record { first = c.start_of.ensures; «end» = c.start_of-in-loop-i.ensures } in
     let long = c.loop-i.invariant.number in
     record {
       number = ap length more ∙ length-append old (part ∷ []) ∙ ap (λ k. k + 1) long;

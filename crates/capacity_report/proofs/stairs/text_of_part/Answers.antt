@@ -9,7 +9,7 @@ use Rattle.capacity_report.proofs.PartTexts.{rows_none, rows_more}
 use Rattle.capacity_report.proofs.stairs.text_of_part.Goals as goal
 
 pub loop-run-init : goal.loop-run-init
-loop-run-init c = c.with_room-sheet.ensures.rows ∙ rows_none (rows_at c.args.names.now c.args.paths.now) c.args.first
+loop-run-init c = c.with_room-sheet.ensures.rows ∙ rows_none (rows_at c.args.names.now c.args.paths.now) c.args.part.first
 
 pub run_rows-requires-clause-there : goal.run_rows-requires-clause-there
 run_rows-requires-clause-there c =
@@ -19,11 +19,11 @@ run_rows-requires-clause-there c =
 pub loop-run-preserved : goal.loop-run-preserved
 loop-run-preserved c =
     let names = c.args.names.now in
-    rows_more (rows_at names c.args.paths.now) c.args.first c.loop-run.run (omega arith) c.loop-run.invariant
+    rows_more (rows_at names c.args.paths.now) c.args.part.first c.loop-run.run (omega arith) c.loop-run.invariant
     (ap (λ (s : SheetRows). s.rows) c.ask_for_rest.ensures ∙ c.in_ok-run_rows.ensures.rows
     ∙ ap (λ (p : Path). c.loop-run.sheet.rows ++ rows_by_names names p) c.in_ok-path.ensures.same)
 
 pub returns : goal.returns
 returns c =
     c.into_text.ensures ∙ ap text_of_rows c.loop-run.invariant
-    ∙ ap (text_between (rows_at c.args.names.now c.args.paths.now) c.args.first) (omega (arith, c.loop-run-test.false))
+    ∙ ap (text_between (rows_at c.args.names.now c.args.paths.now) c.args.part.first) (omega (arith, c.loop-run-test.false))

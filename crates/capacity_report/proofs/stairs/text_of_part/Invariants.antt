@@ -4,4 +4,4 @@ use Rattle.capacity_report.specs.Blockings.{rows_at}
 use Rattle.capacity_report.proofs.stairs.text_of_part.Given as goal
 
 abbrev pub invariant-loop-run : goal.invariant-loop-run
-invariant-loop-run l = l.sheet.rows ≡ flat_map (rows_at l.names l.paths) (range_with_len l.first (l.run - l.first))
+invariant-loop-run l = l.sheet.rows ≡ flat_map (rows_at l.names l.paths) (range_with_len l.part.first (l.run - l.part.first))
