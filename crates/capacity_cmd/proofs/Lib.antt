@@ -1,6 +1,7 @@
 pub mod Outcomes
 pub mod OneOutcome
 pub mod RowCount
+pub mod TextRows
 pub mod Making
 pub mod Cuts
 pub mod Commands

@@ -16,7 +16,7 @@ use Rattle.plan_model.specs.declared.scripts.Task.{Task}
 use Rattle.plan_book.specs.declared.book.TheConstants.{TASKS}
 use Rattle.capacity_cmd.specs.Types.{Cause, Refusal, Accepted, BaseSoFar, InputSoFar, Stopped}
 use Rattle.capacity_cmd.specs.declared.status.Cause.TheVariants as cause
-use Rattle.capacity_cmd.specs.declared.stopped.Stopped.TheVariants.{Refused, OutOfMemory}
+use Rattle.capacity_cmd.specs.Stopped.{Gives}
 use Rattle.capacity_cmd.specs.Input.{Spelling, with_line, Content, accepted_of, refused, spelling_from, tables_from, content_in}
 
 -- what an input gives to a command, or its refusal
@@ -108,8 +108,7 @@ pub record TakesAll (planners rows : ℕ) (whole : Result Content Refusal) (made
 -- how taking rows ends: all are taken, or the first fault is how the whole ends; of a want of memory nothing is said
 abbrev pub TakesRows : {U : Type 0} → ℕ → ℕ → Result Content Refusal → InputSoFar → Result U (Stopped Refusal) → Type 0
 TakesRows planners rows whole made (Ok done) = TakesAll planners rows whole made
-TakesRows planners rows whole made (Err (Refused refusal)) = whole ≡ Err refusal
-TakesRows planners rows whole made (Err OutOfMemory) = Unit {0}
+TakesRows planners rows whole made (Err why) = Gives whole (Err why)
 
 -- ---- the rows before a place
 

@@ -10,6 +10,7 @@ pub mod Ends
 pub mod Stopped
 pub mod OneOutcome
 pub mod InputSoFar
+pub mod TextRows
 pub mod Reply
 pub mod Given
 pub mod Promise

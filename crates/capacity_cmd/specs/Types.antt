@@ -5,6 +5,7 @@ pub use Rattle.capacity_cmd.specs.declared.given_delay.GivenDelay.{GivenDelay}
 pub use Rattle.capacity_cmd.specs.declared.section_heads.Head.{Head}
 pub use Rattle.capacity_cmd.specs.declared.input.BaseSoFar.{BaseSoFar}
 pub use Rattle.capacity_cmd.specs.declared.input.InputSoFar.{InputSoFar}
+pub use Rattle.capacity_cmd.specs.declared.input.TextRows.{TextRows}
 pub use Rattle.capacity_cmd.specs.declared.refusal.Refusal.{Refusal}
 pub use Rattle.capacity_cmd.specs.declared.reply.CallReply.{CallReply}
 pub use Rattle.capacity_cmd.specs.declared.status.Cause.{Cause}

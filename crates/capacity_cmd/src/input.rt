@@ -1,14 +1,16 @@
-//! From the rows of an input to tables and scripts, or to the row at which it is refused.
-ghost use Rattle.std.specs.Prelude.{◌≡◌, ◌+◌, ◌-◌, ◌≤◌, ◌<◌, ◌^◌, length, sum_by, slice_index_or, [], IfOk, OnOk, Ok, Some};
+//! From the text of an input to tables and scripts, or to the row at which it is refused.
+ghost use Rattle.std.specs.Prelude.{◌≡◌, ◌+◌, ◌-◌, ◌≤◌, ◌<◌, ◌^◌, length, sum_by, slice_index_or, [], IfOk, OnOk, Ok};
 ghost use Rattle.plan_book.specs.declared.book.TheConstants.{TASKS};
 ghost use Rattle.rail_model.specs.declared.edit.Edit.TheVariants as edits;
-ghost use Rattle.rail_model.specs.Rules.{no_tables};
+ghost use Rattle.rail_model.specs.declared.items.Item.TheVariants as items;
 ghost use Rattle.row_text.specs.Lines.{read_in};
+ghost use Rattle.row_text.specs.Rows.{rows_of};
 ghost use Rattle.capacity_cmd.specs.Input.{content_of_rows, content_in};
 ghost use Rattle.capacity_cmd.specs.InputSoFar.{accepted_in, tables_so_far, accepted_so_far};
-ghost use Rattle.capacity_cmd.specs.InputSoFar.{after_one_more, IsWithin, IsNothing};
+ghost use Rattle.capacity_cmd.specs.InputSoFar.{after_one_more, IsWithin, HasTaken};
 ghost use Rattle.capacity_cmd.specs.InputSoFar.{TakesLine, TakesRow, TakesRows};
 ghost use Rattle.capacity_cmd.specs.InputSoFar.{refusal_of, IsFormFault};
+ghost use Rattle.capacity_cmd.specs.TextRows.{BeginsWith, AreLeft, AreRowsOf, TakesPiece};
 ghost use Rattle.capacity_cmd.specs.Stopped.{Gives};
 
 use crate::Cause;
@@ -18,21 +20,51 @@ use crate::script_rows::ScriptRows;
 use crate::stopped::Stopped;
 use line_tables::LineTables;
 use plan_model::Task;
-use rail_model::{Edit, Form, Item, Kind, Name, OutOfMemory, Rule};
-use row_text::{Line, RowList, Unread, Word};
+use rail_model::{Block, Edit, Form, Item, Kind, Name, OutOfMemory, Rule};
+use row_text::{Line, RowList, Unread, Word, is_plain, piece_end, rows};
 use std::alloc::Global;
 
-// What rows give to a command that takes the scripts of so many planners, or the row at which they
-// are refused.
-pub(crate) fn accepted_of_rows(
+// Shorter texts are read at once.
+const LONG_BYTES: usize = 1_048_576;
+
+// What a text gives to a command that takes the scripts of so many planners, or the row at which it
+// is refused. A long text that is plain, and whose first piece has a row, is cut into fields piece
+// by piece, so that the places of all its fields need not be kept.
+pub(crate) fn accepted_of_text(
     alloc: Global,
     planners: usize,
-    rows: &RowList<'_>,
+    text: &[u8],
 ) -> Result<Accepted, Stopped<Refusal>>
-    ensures same { Gives (accepted_in (content_of_rows planners rows.now)) result }
-    ensures within { IfOk result (IsWithin planners (length rows.now)) }
+    requires { length text.now < 2 ^ 63 }
+    ensures same { Gives (accepted_in (content_of_rows planners (rows_of text.now))) result }
+    ensures within { IfOk result (IsWithin planners (length (rows_of text.now))) }
 {
-    let version = match rows.version() {
+    if text.len() >= LONG_BYTES && is_plain(text) {
+        let end = piece_end(text, 0);
+        let first = rows(alloc, &text[..end])?;
+        if !first.is_empty() {
+            return accepted_after(alloc, planners, text, &first, end);
+        }
+    }
+    let all = rows(alloc, text)?;
+    accepted_after(alloc, planners, text, &all, text.len())
+}
+
+// What a text gives whose rows begin with these, which end at a place. Those after it are read in
+// pieces.
+fn accepted_after(
+    alloc: Global,
+    planners: usize,
+    text: &[u8],
+    first: &RowList<'_>,
+    end: usize,
+) -> Result<Accepted, Stopped<Refusal>>
+    requires small { length text.now < 2 ^ 63 }
+    requires first { BeginsWith text.now first.now «end» }
+    ensures same { Gives (accepted_in (content_of_rows planners (rows_of text.now))) result }
+    ensures within { IfOk result (IsWithin planners (length (rows_of text.now))) }
+{
+    let version = match first.version() {
         Ok(version) => version,
         Err(form) => return Err(Stopped::Refused(Refusal {
             row: 1,
@@ -47,8 +79,22 @@ pub(crate) fn accepted_of_rows(
         },
         scripts: ScriptRows::new(alloc),
     };
-    so_far.take_rows(alloc, planners, rows, version)?;
+    let piece = TextRows {
+        text,
+        rows: first,
+        before: 0,
+    };
+    so_far.take_rows(alloc, planners, version, piece, first.first_line())?;
+    so_far.take_pieces(alloc, planners, version, text, end, first.len())?;
     so_far.end()
+}
+
+// Some rows of a text, after `before` others. The text stands here for contracts alone.
+#[derive(Clone, Copy)]
+struct TextRows<'a> {
+    text: &'a [u8],
+    rows: &'a RowList<'a>,
+    before: usize,
 }
 
 // The tables after the base edits of some rows, how many these are, and the first of the rows whose
@@ -78,8 +124,6 @@ impl BaseSoFar {
         }
     }
 
-    // A put is what most rows do. The others stand by themselves, so that no room of theirs is
-    // cleared for it.
     #[inline]
     fn put(&mut self, row: u64, item: Item) -> Result<(), OutOfMemory>
         requires { self.old.edits < 2 ^ 64 - 1 }
@@ -95,7 +139,22 @@ impl BaseSoFar {
         Ok(())
     }
 
-    #[inline(never)]
+    #[inline]
+    fn put_block(&mut self, row: u64, block: Block) -> Result<(), OutOfMemory>
+        requires { self.old.edits < 2 ^ 64 - 1 }
+        ensures tables { OnOk result (tables_so_far self.new
+            ≡ after_one_more row (tables_so_far self.old) (edits.Put (items.Block block))) }
+        ensures edits { OnOk result (self.new.edits ≡ self.old.edits + 1) }
+    {
+        self.edits += 1;
+        if self.refused.is_none() {
+            let answer = self.tables.put_block(block)?;
+            self.refused = refusal_of(row, answer);
+        }
+        Ok(())
+    }
+
+    #[inline]
     fn change(&mut self, row: u64, item: Item) -> Result<(), OutOfMemory>
         requires { self.old.edits < 2 ^ 64 - 1 }
         ensures tables { OnOk result (tables_so_far self.new
@@ -110,7 +169,7 @@ impl BaseSoFar {
         Ok(())
     }
 
-    #[inline(never)]
+    #[inline]
     fn drop_named(&mut self, row: u64, kind: Kind, name: &Name)
         requires { self.old.edits < 2 ^ 64 - 1 }
         ensures tables { tables_so_far self.new
@@ -146,22 +205,61 @@ struct InputSoFar {
 }
 
 impl InputSoFar {
-    // Takes all rows, up to the first that has a fault, each as soon as it is read.
+    // Takes the rows of a text from a place on, piece by piece, up to the first that has a fault.
+    fn take_pieces(
+        &mut self,
+        alloc: Global,
+        planners: usize,
+        version: u32,
+        text: &[u8],
+        from: usize,
+        before: usize,
+    ) -> Result<(), Stopped<Refusal>>
+        requires small { length text.now < 2 ^ 63 }
+        requires left { AreLeft text.now from before }
+        requires so_far { HasTaken planners version (rows_of text.now) self.old before }
+        ensures { TakesRows planners (length (rows_of text.now))
+            (content_in planners (Ok version) (rows_of text.now)) self.new result }
+    {
+        let mut from = from;
+        let mut before = before;
+        while from < text.len() {
+            let end = piece_end(text, from);
+            let found = rows(alloc, &text[from..end])?;
+            let piece = TextRows {
+                text,
+                rows: &found,
+                before,
+            };
+            self.take_rows(alloc, planners, version, piece, 0)?;
+            before += found.len();
+            from = end;
+        }
+        Ok(())
+    }
+
+    // Takes some rows of a text from one of them on, up to the first that has a fault, each as soon
+    // as it is read.
     fn take_rows(
         &mut self,
         alloc: Global,
         planners: usize,
-        rows: &RowList<'_>,
         version: u32,
+        piece: TextRows<'_>,
+        start: usize,
     ) -> Result<(), Stopped<Refusal>>
-        requires { IsNothing self.old }
-        ensures { TakesRows
-            planners (length rows.now) (content_in planners (Ok version) rows.now) self.new result }
+        requires small { length piece.text.now < 2 ^ 63 }
+        requires piece { AreRowsOf piece }
+        requires start { start ≤ length piece.rows.now }
+        requires so_far { HasTaken planners version (rows_of piece.text.now) self.old
+            (piece.before + start) }
+        ensures { TakesPiece planners version (rows_of piece.entry.text.now)
+            (piece.entry.before + length piece.entry.rows.now) self.new result }
     {
-        for i in rows.first_line()..rows.len() {
-            if let Some(cause) = self.take_row(alloc, planners, rows, version, i)? {
+        for i in start..piece.rows.len() {
+            if let Some(cause) = self.take_row(alloc, planners, version, piece, i)? {
                 return Err(Stopped::Refused(Refusal {
-                    row: i as u64 + 1,
+                    row: (piece.before + i) as u64 + 1,
                     cause,
                 }));
             }
@@ -169,28 +267,35 @@ impl InputSoFar {
         Ok(())
     }
 
-    // Takes the row at a place, unless it has a fault. A base edit is taken in parts, so that no line
-    // is made and moved for it.
+    // Takes the row at a place of a piece, unless it has a fault. A base edit is taken in parts, so
+    // that no line is made and moved for it.
     fn take_row(
         &mut self,
         alloc: Global,
         planners: usize,
-        rows: &RowList<'_>,
         version: u32,
+        piece: TextRows<'_>,
         i: usize,
     ) -> Result<Option<Cause>, OutOfMemory>
-        requires there { i < length rows.now }
-        requires counted { length rows.now < 2 ^ 64 }
-        requires few { self.old.base.edits ≤ i }
-        ensures { IfOk result (TakesRow
-            planners (i + 1) (read_in version (slice_index_or rows.now i [])) self.old self.new) }
+        requires there { i < length piece.rows.now }
+        requires counted { piece.before + i < 2 ^ 63 }
+        requires few { self.old.base.edits ≤ piece.before + i }
+        ensures { IfOk result (TakesRow planners (piece.entry.before + i + 1)
+            (read_in version (slice_index_or piece.entry.rows.now i [])) self.old self.new) }
     {
-        let number = i as u64 + 1;
+        let number = (piece.before + i) as u64 + 1;
         if !self.scripts.is_empty() {
-            return self.take_spelled(alloc, planners, rows, version, i);
+            return self.take_spelled(alloc, planners, version, piece, i);
         }
-        let row = rows.get(i);
+        let row = piece.rows.get(i);
         match row.does() {
+            Ok(Word::Put(Kind::Block)) => match row.block() {
+                Ok(block) => {
+                    self.base.put_block(number, block)?;
+                    Ok(None)
+                }
+                Err(form) => Ok(Some(Cause::Form(form))),
+            },
             Ok(Word::Put(kind)) => match row.item(alloc, version, kind) {
                 Ok(item) => {
                     self.base.put(number, item)?;
@@ -213,31 +318,31 @@ impl InputSoFar {
                 Err(form) => Ok(Some(Cause::Form(form))),
             },
             Ok(Word::Ask) | Ok(Word::Planner) => {
-                self.take_spelled(alloc, planners, rows, version, i)
+                self.take_spelled(alloc, planners, version, piece, i)
             }
             Err(form) => Ok(Some(Cause::Form(form))),
         }
     }
 
-    // Takes the row at a place as the line that it spells, unless it has a fault. It stands by itself,
-    // so that no room for a line is cleared where a base edit is taken.
+    // Takes the row at a place of a piece as the line that it spells, unless it has a fault. This
+    // stands by itself, so that no room for a line is cleared where a base edit is taken.
     #[inline(never)]
     fn take_spelled(
         &mut self,
         alloc: Global,
         planners: usize,
-        rows: &RowList<'_>,
         version: u32,
+        piece: TextRows<'_>,
         i: usize,
     ) -> Result<Option<Cause>, OutOfMemory>
-        requires there { i < length rows.now }
-        requires counted { length rows.now < 2 ^ 64 }
-        requires few { self.old.base.edits ≤ i }
-        ensures { IfOk result (TakesRow
-            planners (i + 1) (read_in version (slice_index_or rows.now i [])) self.old self.new) }
+        requires there { i < length piece.rows.now }
+        requires counted { piece.before + i < 2 ^ 63 }
+        requires few { self.old.base.edits ≤ piece.before + i }
+        ensures { IfOk result (TakesRow planners (piece.entry.before + i + 1)
+            (read_in version (slice_index_or piece.entry.rows.now i [])) self.old self.new) }
     {
-        let found = rows.line(alloc, version, i)?;
-        self.take_read(planners, i as u64 + 1, found)
+        let found = piece.rows.line(alloc, version, i)?;
+        self.take_read(planners, (piece.before + i) as u64 + 1, found)
     }
 
     // Takes the line that a row was read as, unless the row has a fault.

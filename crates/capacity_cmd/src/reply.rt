@@ -14,7 +14,7 @@ ghost use Rattle.capacity_cmd.specs.Reply.{Says, IsCallReply};
 ghost use Rattle.capacity_cmd.specs.Given.{GivesOrRefuses};
 
 use crate::accepted::Accepted;
-use crate::input::accepted_of_rows;
+use crate::input::accepted_of_text;
 use crate::limit::INPUT_BYTES;
 use crate::made::made_text;
 use crate::refusal::Refusal;
@@ -26,7 +26,7 @@ use capacity_report::rule_text;
 use plan_book::TASKS;
 use rail_model::{Form, OutOfMemory};
 use rail_outside::Gate;
-use row_text::{RowList, Sheet, Text, rows};
+use row_text::{Sheet, Text, rows};
 use sentences::{Fault, told_of_row};
 use std::alloc::Global;
 use std::sync::Wait;
@@ -49,12 +49,11 @@ pub(crate) fn given_or_reply(
     requires { length input.now ≤ INPUT_BYTES }
     ensures { IfOk result (GivesOrRefuses command.now (EndsOn command.now input.now)) }
 {
-    let rows = rows(alloc, input)?;
     let planners = command.planners();
-    match accepted_of_rows(alloc, planners, &rows) {
+    match accepted_of_text(alloc, planners, input) {
         Ok(given) => Ok(Ok(given)),
         Err(Stopped::Refused(refused)) => {
-            let reply = refusal_told(alloc, input, &rows, planners, refused, told)?;
+            let reply = refusal_told(alloc, input, planners, refused, told)?;
             Ok(Err(reply))
         }
         Err(Stopped::OutOfMemory) => Err(OutOfMemory),
@@ -65,7 +64,6 @@ pub(crate) fn given_or_reply(
 fn refusal_told(
     alloc: Global,
     input: &[u8],
-    rows: &RowList<'_>,
     planners: usize,
     refused: Refusal,
     told: &mut Told,
@@ -74,7 +72,10 @@ fn refusal_told(
     ensures told { (told.new ≡ told.old) ⊎ IsOfRow refused.row told.new }
 {
     if let Some(fault) = fault_of(planners, refused.cause) {
-        *told = told_of_row(alloc, input, rows, refused.row, fault);
+        // Without memory for its rows the refusal stands, and nothing is told of it.
+        if let Ok(all) = rows(alloc, input) {
+            *told = told_of_row(alloc, input, &all, refused.row, fault);
+        }
     }
     refusal(alloc, refused.row, refused.cause)
 }

@@ -17,3 +17,4 @@ pub mod PlainReads
 pub mod PlainRows
 pub mod Lanes
 pub mod Adds
+pub mod TextPieces

@@ -12,3 +12,4 @@ pub mod Sheet
 pub mod SheetText
 pub mod Put
 pub mod PlainRows
+pub mod TextPieces

@@ -1,5 +1,7 @@
 //! The items that rows put and change.
-ghost use Rattle.std.specs.Prelude.{◌<◌, length, IsTrue};
+ghost use Rattle.std.specs.Prelude.{◌≡◌, ◌<◌, length, IsTrue};
+ghost use Rattle.std.specs.Result.{result_map_both};
+ghost use Rattle.rail_model.specs.declared.items.Item.TheVariants as item;
 ghost use Rattle.rail_model.specs.declared.edit.Kind.TheVariants as kind;
 ghost use Rattle.row_text.specs.Words.{kind_shape, allows};
 ghost use Rattle.row_text.specs.Lines.{item_in};
@@ -9,7 +11,7 @@ use crate::fields::Row;
 use crate::lists::{names_from, run_legs};
 use crate::read_field::{name_at, number_at, rate_at, time_at};
 use crate::unread::Unread;
-use rail_model::{Block, Connection, Item, Kind, Legs, Route, Run, Section, Signal};
+use rail_model::{Block, Connection, Form, Item, Kind, Legs, Route, Run, Section, Signal};
 use std::alloc::Global;
 
 // The item of a kind that a row spells, or the first fault of its fields.
@@ -23,7 +25,7 @@ pub(crate) fn item_of(
     ensures { Reads result (item_in version kind row.now) }
 {
     match kind {
-        Kind::Block => block_of(row),
+        Kind::Block => Ok(Item::Block(block_of(row)?)),
         Kind::Signal => signal_of(row),
         Kind::Route => route_of(alloc, row),
         Kind::Run => run_of(alloc, version, row),
@@ -33,14 +35,14 @@ pub(crate) fn item_of(
 }
 
 // block,NAME,LENGTH
-#[inline(never)]
-fn block_of(row: &Row<'_>) -> Result<Item, Unread>
+#[inline]
+pub(crate) fn block_of(row: &Row<'_>) -> Result<Block, Form>
     requires { 2 < length row.now }
-    ensures { Reads result (item_in 1 kind.Block row.now) }
+    ensures { item_in 1 kind.Block row.now ≡ result_map_both item.Block (λ fault. fault) result }
 {
     let name = name_at(row, 1)?;
     let length_m = number_at(row, 2)?;
-    Ok(Item::Block(Block { name, length_m }))
+    Ok(Block { name, length_m })
 }
 
 // signal,NAME,BLOCK,APPROACH,WATCH,FORM,OVERLAP,RELEASE

@@ -3,7 +3,8 @@
 //!
 //! A text without double quotes is cut at its commas and line ends, in one pass over its bytes. Its
 //! rows lie in the text itself. Any other text, and one that may begin with a byte order mark, is
-//! read by a `csv` reader, which copies the fields. By the contract both give the rows of CSV.
+//! read by a `csv` reader, which copies the fields. By the contract both give the rows of CSV. A text
+//! that is `is_plain` may also be read piece by piece, each up to its `piece_end`.
 //!
 //! Rows that are written go to a `Sheet`. A `Text` is a text in pieces, so that the sheets of
 //! several threads need not be copied into one.
@@ -36,6 +37,7 @@ mod read_field;
 mod row_list;
 mod sheet;
 mod text;
+mod text_pieces;
 mod time_text;
 mod unread;
 mod word;
@@ -50,6 +52,7 @@ pub use read_field::{HOUR_DIGITS, NUMBER_DIGITS, number};
 pub use row_list::{RowList, rows};
 pub use sheet::Sheet;
 pub use text::Text;
+pub use text_pieces::{is_plain, piece_end};
 pub use time_text::GREATEST_CLOCK_S;
 pub use unread::Unread;
 pub use word::{Word, word_of};

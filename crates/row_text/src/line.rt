@@ -1,16 +1,19 @@
 //! Rows to lines.
 ghost use Rattle.std.specs.Prelude.{◌≡◌, ℕ, ◌<◌, length, IfOk, IsTrue};
+ghost use Rattle.std.specs.Result.{result_map_both};
+ghost use Rattle.rail_model.specs.declared.edit.Kind.TheVariants as kind;
+ghost use Rattle.rail_model.specs.declared.items.Item.TheVariants as item;
 ghost use Rattle.row_text.specs.Words as words;
 ghost use Rattle.row_text.specs.Lines as lines;
 ghost use Rattle.row_text.specs.SheetRows.{field};
 ghost use Rattle.row_text.specs.Reads.{Reads, SpellsBy};
 
 use crate::fields::{Fields, Row};
-use crate::item_row::item_of;
+use crate::item_row::{block_of, item_of};
 use crate::read_field::{name_at, number_at};
 use crate::unread::Unread;
 use crate::word::{Word, word_of};
-use rail_model::{Edit, Form, Item, Kind, Name, OutOfMemory};
+use rail_model::{Block, Edit, Form, Item, Kind, Name, OutOfMemory};
 use std::alloc::Global;
 
 /// What a row of a planner's text says.
@@ -91,6 +94,17 @@ impl<'a> Row<'a> {
         ensures { Reads result (lines.item_in version kind self.now) }
     {
         item_of(alloc, version, kind, self)
+    }
+
+    /// The block that the row puts or changes, or the first fault of its fields, as `item` says it.
+    /// A block by itself takes less room than an item of any kind.
+    #[inline]
+    pub fn block(&self) -> Result<Block, Form>
+        requires { 2 < length self.now }
+        ensures { (version : ℕ) → lines.item_in version kind.Block self.now
+            ≡ result_map_both item.Block (λ fault. fault) result }
+    {
+        block_of(self)
     }
 
     /// The name that the row drops or asks for, or the fault of its field.

@@ -58,7 +58,7 @@ fn cut_whole(alloc: Global, text: &[u8]) -> Result<Option<CutFields>, OutOfMemor
 }
 
 // Whether a text starts with the first byte of a byte order mark.
-fn starts_with_mark(text: &[u8]) -> bool
+pub(crate) fn starts_with_mark(text: &[u8]) -> bool
     ensures { IsTrue result ↔ (take 1 text.now ≡ 0xEF ∷ []) }
 {
     !text.is_empty() && text[0] == 0xEF
@@ -216,7 +216,7 @@ fn take_below_comma(cut: &mut CutFields, i: usize, byte: u8) -> Result<bool, Out
 
 // Whether a byte ends a line.
 #[inline]
-fn ends_line(byte: u8) -> bool
+pub(crate) fn ends_line(byte: u8) -> bool
     ensures { result ≡ ends_line byte }
 {
     byte == b'\r' || byte == b'\n'

@@ -1,4 +1,4 @@
-use Rattle.std.proofs.Common.{ℕ, Err, sym, ap, ◌∙◌}
+use Rattle.std.proofs.Common.{ℕ, Err, refl, sym, ap, ◌∙◌}
 use Rattle.row_text.specs.Rows.{rows_of}
 use Rattle.capacity_cmd.specs.Input.{content_of_rows}
 use Rattle.capacity_cmd.specs.InputSoFar.{accepted_in}
@@ -10,22 +10,20 @@ pub returns-in-Ok : goal.returns-in-Ok
 returns-in-Ok c =
     let input = c.args.input.now in
     let made = ap (λ (n : ℕ). accepted_in (content_of_rows n (rows_of input))) (sym c.planners-planners.ensures)
-    ∙ ap (λ rows. accepted_in (content_of_rows c.planners-planners.result rows)) (sym c.in_ok-rows.ensures)
-    ∙ (rw c.in-Ok.is at c.accepted_of_rows.ensures.same) in
+    ∙ (rw c.in-Ok.is at c.accepted_of_text.ensures.same) in
     record {
-      within = within_limits c.args.command.now c.planners-planners.result input _ c.in-Ok.given c.planners-planners.ensures c.in_ok-rows.ensures
-          c.requires (rw c.in-Ok.is at c.accepted_of_rows.ensures.within);
+      within = within_limits c.args.command.now c.planners-planners.result input (rows_of input) c.in-Ok.given c.planners-planners.ensures refl
+          c.requires (rw c.in-Ok.is at c.accepted_of_text.ensures.within);
       ends = λ outcome ends. ends_on_accepted c.args.command.now input c.in-Ok.given outcome c.requires made ends;
     }
 
-pub returns-in-Err-Refused : goal.returns-in-Err-Refused
-returns-in-Err-Refused c =
+pub returns-in_ok-reply-in-Err-Refused : goal.returns-in_ok-reply-in-Err-Refused
+returns-in_ok-reply-in-Err-Refused c =
     let input = c.args.input.now in
     let arm = c.in-Err-Refused in
     let refused = arm.refused in
     let made = ap (λ (n : ℕ). accepted_in (content_of_rows n (rows_of input))) (sym c.planners-planners.ensures)
-    ∙ ap (λ rows. accepted_in (content_of_rows c.planners-planners.result rows)) (sym c.in_ok-rows.ensures)
-    ∙ (rw (arm.is ∙ ap Err arm.field-0-is) at c.accepted_of_rows.ensures.same) in
+    ∙ (rw (arm.is ∙ ap Err arm.field-0-is) at c.accepted_of_text.ensures.same) in
     record {
       outcome = Refuses refused.row refused.cause;
       ends = ends_refused c.args.command.now input refused c.requires made;

@@ -1,8 +1,5 @@
 use Rattle.row_text.proofs.item_row.item_of.Goals as goal
 
-pub returns-in-Block : goal.returns-in-Block
-returns-in-Block c = rw c.in-Block.is c.block_of.ensures
-
 pub returns-in-Signal : goal.returns-in-Signal
 returns-in-Signal c = rw c.in-Signal.is c.signal_of.ensures
 

@@ -1,28 +1,49 @@
-use Rattle.std.proofs.Common.{◌≡◌, ◌+◌, [], get_or, length, refl, ◌∙◌, rules}
+use Rattle.std.proofs.Common.{◌≡◌, ◌+◌, [], get_or, length, Some, Err, refl, sym, subst, ◌∙◌, rules}
 use Rattle.rail_model.specs.declared.edit.Edit.TheVariants as edits
+use Rattle.rail_model.specs.declared.items.Item.TheVariants as items
+use Rattle.capacity_cmd.specs.declared.status.Cause.TheVariants as cause
+use Rattle.capacity_cmd.specs.InputSoFar.{TakesRow}
 use Rattle.row_text.specs.Lines.{read_in}
 use Rattle.capacity_cmd.proofs.Making.{base_row_taken}
 use Rattle.capacity_cmd.proofs.input.InputSoFar.take_row.Goals as goal
 
-pub returns-in_ok-put-in-Ok : goal.returns-in_ok-put-in-Ok
-returns-in_ok-put-in-Ok c =
+pub returns-in_ok-put-in-Ok-item : goal.returns-in_ok-put-in-Ok-item
+returns-in_ok-put-in-Ok-item c =
     let none : length c.args.self.now.scripts ≡ 0 = search rules in
-    base_row_taken c.args.planners (c.args.i + 1) (read_in c.args.version (get_or c.args.rows.now c.args.i [])) (edits.Put c.in-Ok.item)
-    c.args.self.now c.put.new.self (rw (← c.get-row.ensures) (c.in-Ok-Put.ensures.line c.args.version ∙ rw (c.in-Ok-Put.field-0-is, c.in-Ok.ensures) refl)) none
-    c.in_ok-put-in-Ok.ensures.tables c.in_ok-put-in-Ok.ensures.edits
+    base_row_taken c.args.planners ((c.args.piece.before + c.args.i) + 1) (read_in c.args.version (get_or c.args.piece.rows.now c.args.i [])) (edits.Put c.in-Ok-item.item)
+    c.args.self.now c.put.new.self (rw (← c.get-row.ensures) (c.in-Ok-Put.ensures.line c.args.version ∙ rw (c.in-Ok-Put.field-0-is, c.in-Ok-item.ensures) refl)) none
+    c.in_ok-put-in-Ok-item.ensures.tables c.in_ok-put-in-Ok-item.ensures.edits
 
-pub returns-in_ok-change-in-Ok-item : goal.returns-in_ok-change-in-Ok-item
-returns-in_ok-change-in-Ok-item c =
+pub returns-in_ok-change-in-Ok-item-2 : goal.returns-in_ok-change-in-Ok-item-2
+returns-in_ok-change-in-Ok-item-2 c =
     let none : length c.args.self.now.scripts ≡ 0 = search rules in
-    base_row_taken c.args.planners (c.args.i + 1) (read_in c.args.version (get_or c.args.rows.now c.args.i [])) (edits.Change c.in-Ok-item.item)
+    base_row_taken c.args.planners ((c.args.piece.before + c.args.i) + 1) (read_in c.args.version (get_or c.args.piece.rows.now c.args.i [])) (edits.Change c.in-Ok-item-2.item)
     c.args.self.now c.change.new.self
-    (rw (← c.get-row.ensures) (c.in-Ok-Change.ensures.line c.args.version ∙ rw (c.in-Ok-Change.field-0-is, c.in-Ok-item.ensures) refl)) none
-    c.in_ok-change-in-Ok-item.ensures.tables c.in_ok-change-in-Ok-item.ensures.edits
+    (rw (← c.get-row.ensures) (c.in-Ok-Change.ensures.line c.args.version ∙ rw (c.in-Ok-Change.field-0-is, c.in-Ok-item-2.ensures) refl)) none
+    c.in_ok-change-in-Ok-item-2.ensures.tables c.in_ok-change-in-Ok-item-2.ensures.edits
 
 pub returns-in-Ok-name : goal.returns-in-Ok-name
 returns-in-Ok-name c =
     let none : length c.args.self.now.scripts ≡ 0 = search rules in
-    base_row_taken c.args.planners (c.args.i + 1) (read_in c.args.version (get_or c.args.rows.now c.args.i [])) (edits.Drop c.in-Ok-Drop.kind c.in-Ok-name.name)
+    base_row_taken c.args.planners ((c.args.piece.before + c.args.i) + 1) (read_in c.args.version (get_or c.args.piece.rows.now c.args.i [])) (edits.Drop c.in-Ok-Drop.kind c.in-Ok-name.name)
     c.args.self.now c.drop_named.new.self
     (rw (← c.get-row.ensures) (c.in-Ok-Drop.ensures.line c.args.version ∙ rw (c.in-Ok-Drop.field-0-is, ← c.in-Ok-name.ensures) refl)) none
     c.drop_named.ensures.tables c.drop_named.ensures.edits
+
+pub returns-in_ok-put_block-in-Ok : goal.returns-in_ok-put_block-in-Ok
+returns-in_ok-put_block-in-Ok c =
+    let none : length c.args.self.now.scripts ≡ 0 = search rules in
+    let arm = c.in-Ok-Put-Block in
+    base_row_taken c.args.planners (c.args.piece.before + c.args.i + 1) (read_in c.args.version (get_or c.args.piece.rows.now c.args.i []))
+    (edits.Put (items.Block c.in-Ok.block)) c.args.self.now c.put_block.new.self
+    (rw (← c.get-row.ensures) (arm.ensures.line c.args.version ∙ rw (arm.field-0-is, arm.field-0-0-is, c.in-Ok.ensures c.args.version) refl)) none
+    c.in_ok-put_block-in-Ok.ensures.tables c.in_ok-put_block-in-Ok.ensures.edits
+
+pub returns-in-Err-block : goal.returns-in-Err-block
+returns-in-Err-block c =
+    let arm = c.in-Ok-Put-Block in
+    let row = get_or c.args.piece.rows.now c.args.i [] in
+    let fault : read_in c.args.version row ≡ Err c.in-Err-block.form =
+    rw (← c.get-row.ensures) (arm.ensures.line c.args.version ∙ rw (arm.field-0-is, arm.field-0-0-is, c.in-Err-block.ensures c.args.version) refl) in
+    subst (λ read. TakesRow c.args.planners (c.args.piece.before + c.args.i + 1) read c.args.self.now c.args.self.now (Some (cause.Form c.in-Err-block.form)))
+    (sym fault) refl

@@ -1,0 +1,78 @@
+-- A text without double quotes that is read in pieces gives the rows of the whole text.
+use Rattle.std.proofs.Common.{◌≡◌, ◌≢◌, ℕ, ◌+◌, ◌-◌, ◌<◌, ◌≤◌, ◌==◌, true, List, [], ◌∷◌, ◌++◌, length, get_or, take, drop, slice_range, refl, ap, sym, ◌∙◌, subst, inl, inr, arith}
+use Rattle.std.proofs.lemmas.Bool.{cases_Bool}
+use Rattle.std.proofs.lemmas.List.{append-nil, drop_all, drop_more, drop-drop, get_or-drop, length-drop, take-append-drop, take-take, take_more, take_rest}
+use Rattle.std.proofs.lemmas.List.Elements.{All-drop, All-nil, All-take}
+use Rattle.row_text.specs.PlainRows.{cut_rows, ends_line, with_line, is_blank}
+use Rattle.row_text.specs.Rows.{rows_of}
+use Rattle.row_text.specs.SheetRows.{Row}
+use Rattle.row_text.specs.TextPieces.{HasNoMark, IsPieceEnd, IsPlain}
+use Rattle.row_text.proofs.PlainReads.{cut-byte, cut-comma, cut-line, cut-none, rows_of-plain, strip_bom-none}
+
+-- the rows of a plain text are cut from it
+rows-cut : (text : List ℕ) → IsPlain text → rows_of text ≡ cut_rows [] [] text
+rows-cut text plain = rows_of-plain text plain.no_quote (strip_bom-none text plain.no_mark)
+
+-- no text
+pub plain-nil : IsPlain []
+plain-nil = record { no_quote = All-nil (λ byte. byte ≢ 34); no_mark = λ e. cc e }
+
+pub rows_of-nil : rows_of [] ≡ []
+rows_of-nil = rows-cut [] plain-nil ∙ cut-none [] []
+
+-- the row of a line stands before the others
+with_line-append : (fields : Row) (field : List ℕ) (rows more : List Row) → with_line fields field (rows ++ more) ≡ with_line fields field rows ++ more
+with_line-append fields field rows more =
+    elim (cases_Bool (is_blank fields field)) [ inl t ↦ rw t refl | inr f ↦ rw f refl ]
+
+-- the end of a line parts the rows before it from those after it
+cut-parts : (fields : Row) (field before : List ℕ) (c : ℕ) (rest : List ℕ) → ends_line c ≡ true
+    → cut_rows fields field (before ++ c ∷ rest) ≡ cut_rows fields field (before ++ c ∷ []) ++ cut_rows [] [] rest
+cut-parts fields field [] c rest line =
+    rw (cut-line fields field c rest line, cut-line fields field c [] line, cut-none [] []) (with_line-append fields field [] (cut_rows [] [] rest))
+cut-parts fields field (b ∷ before) c rest line =
+    elim (cases_Bool (ends_line b)) [
+      | inl t ↦ rw (cut-line fields field b (before ++ c ∷ rest) t, cut-line fields field b (before ++ c ∷ []) t, cut-parts [] [] before c rest line)
+          (with_line-append fields field (cut_rows [] [] (before ++ c ∷ [])) (cut_rows [] [] rest))
+      | inr f ↦ elim (cases_Bool (b == 44)) [
+        | inl t ↦ rw (cut-comma fields field b (before ++ c ∷ rest) t, cut-comma fields field b (before ++ c ∷ []) t) (cut-parts (fields ++ field ∷ []) [] before c rest line)
+        | inr g ↦ rw (cut-byte fields field b (before ++ c ∷ rest) g f, cut-byte fields field b (before ++ c ∷ []) g f) (cut-parts fields (field ++ b ∷ []) before c rest line)
+      ]
+    ]
+
+-- the first bytes of a plain text are plain
+pub plain-take : (n : ℕ) (text : List ℕ) → IsPlain text → 0 < n → IsPlain (take n text)
+plain-take n text plain some =
+    record { no_quote = All-take (λ byte. byte ≢ 34) n text plain.no_quote; no_mark = λ e. plain.no_mark (sym (take-take 1 n text (omega arith)) ∙ e) }
+
+-- where a line ends, the rows of a plain text are those of the bytes up to there and those of the rest
+line-pieces : (text : List ℕ) (n : ℕ) → IsPlain text → n < length text → ends_line (get_or text n 0) ≡ true → HasNoMark (drop (n + 1) text)
+    → (rows_of text ≡ rows_of (take (n + 1) text) ++ rows_of (drop (n + 1) text)) × IsPlain (drop (n + 1) text)
+line-pieces text n plain there line no_mark =
+    let rest : IsPlain (drop (n + 1) text) = record { no_quote = All-drop (λ byte. byte ≢ 34) (n + 1) text plain.no_quote; no_mark = no_mark } in
+    let c = get_or text n 0 in
+    let whole : cut_rows [] [] text ≡ cut_rows [] [] (take n text ++ c ∷ drop (n + 1) text) =
+    ap (cut_rows [] []) (sym (take-append-drop n text) ∙ ap (λ more. take n text ++ more) (drop_more text n 0 there)) in
+    let first : rows_of (take (n + 1) text) ≡ cut_rows [] [] (take n text ++ c ∷ []) =
+    rows-cut (take (n + 1) text) (plain-take (n + 1) text plain (omega arith)) ∙ ap (cut_rows [] []) (take_more text n 0 there) in (
+      rw (first, rows-cut (drop (n + 1) text) rest) (rows-cut text plain ∙ whole ∙ cut-parts [] [] (take n text) c (drop (n + 1) text) line),
+      rest,
+    )
+
+pub pieces : (text : List ℕ) (from end : ℕ) → IsPlain (drop from text) → from < end → end ≤ length text → IsPieceEnd text end
+    → (rows_of (drop from text) ≡ rows_of (slice_range text from end) ++ rows_of (drop end text)) × IsPlain (drop end text)
+pieces text from end plain some within ends =
+    elim ends [
+      | inl whole ↦
+          let none : drop end text ≡ [] = drop_all end text (omega arith) in
+          rw (none, rows_of-nil, append-nil (rows_of (slice_range text from end)), whole, take_rest text from) (refl, plain-nil)
+      | inr start ↦
+          let n : ℕ = end - from - 1 in
+          let long : n + 1 ≡ end - from = omega arith in
+          let last : from + n ≡ end - 1 = omega arith in
+          let past : from + (n + 1) ≡ end = omega arith in
+          let rest : drop (n + 1) (drop from text) ≡ drop end text = drop-drop (n + 1) from text ∙ ap (λ place. drop place text) past in
+          let line : ends_line (get_or (drop from text) n 0) ≡ true = rw (get_or-drop from text n 0, last) start.line in
+          let its = line-pieces (drop from text) n plain (omega (arith, length-drop from text)) line (subst HasNoMark (sym rest) start.no_mark) in
+          rw (rest, long) at its
+    ]
