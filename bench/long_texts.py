@@ -1,10 +1,10 @@
 #!/usr/bin/env python3
 """Runs two programs on the same long texts: bench/long_texts.py PROGRAM PLAIN [COUNT [SEED]]
 
-PLAIN is a program of the same commands. COUNT texts are made, 100 if it isn't given, of 1 to 17 MB: one of bench/make_line.py,
-make_hard.py or make_session.py, with one or two things changed that matter to a text that is read piece by piece: line ends,
-blank lines, bytes of a byte order mark, double quotes, a version row, a row that is refused, very long rows. The two texts on
-standard output have to be the same, byte for byte, and the two statuses.
+PLAIN is a program of the same commands. COUNT texts are made, 100 if it isn't given, mostly of 1.4 to 17 MB: one of
+bench/make_line.py, make_hard.py or make_session.py, with one or two things changed that matter to a text that is read piece by
+piece: line ends, blank lines, bytes of a byte order mark, double quotes, a version row, a row that is refused, very long rows.
+The two texts on standard output have to be the same, byte for byte, and the two statuses.
 
 Prints each difference with what was changed, then how often each status came, and ends with status 1 where there was one.
 """
