@@ -1,5 +1,5 @@
 -- The rows of a text that are read piece by piece.
-use Rattle.std.proofs.Common.{◌≡◌, ◌⊎◌, ℕ, ◌+◌, ◌<◌, ◌≤◌, Bool, true, false, List, [], ◌∷◌, ◌++◌, ◌-◌, get_or, take, drop, length, refl, sym, ap, subst, ◌∙◌, Result, Ok, Err, inl, inr, arith, length-append, zero-add}
+use Rattle.std.proofs.Common.{◌≡◌, ◌⊎◌, ℕ, ◌+◌, ◌<◌, ◌≤◌, ◌^◌, Bool, true, false, List, [], ◌∷◌, ◌++◌, ◌-◌, get_or, take, drop, length, refl, sym, ap, subst, ◌∙◌, Result, Ok, Err, inl, inr, arith, length-append, zero-add}
 use Rattle.std.proofs.lemmas.Bool.{cases_Bool}
 use Rattle.std.proofs.lemmas.List.{append-nil, length-drop, get_or-drop, get_or_append_left, drop-drop, drop_at, drop_all}
 use Rattle.row_text.specs.SheetRows.{Row}
@@ -14,8 +14,9 @@ use Rattle.capacity_cmd.specs.declared.stopped.Stopped.TheVariants.{Refused, Out
 use Rattle.capacity_cmd.specs.Stopped.{Gives}
 use Rattle.capacity_cmd.specs.Input.{content_in, content_of_rows}
 use Rattle.capacity_cmd.specs.InputSoFar.{accepted_in}
-use Rattle.row_text.specs.TextPieces.{IsPlain, IsPieceEnd}
-use Rattle.row_text.proofs.TextPieces.{pieces, rows_of-nil}
+use Rattle.row_text.specs.TextPieces.{IsPlain}
+use Rattle.row_text.proofs.TextPieces.{plain-nil, rows_of-nil}
+use Rattle.capacity_cmd.proofs.RowCount.{row_count}
 use Rattle.capacity_cmd.specs.TextRows.{AreLeft, BeginsWith, AreRowsOf}
 
 module _ (all piece rest : List Row) (before : ℕ) (rows : drop before all ≡ piece ++ rest) where
@@ -35,18 +36,21 @@ pub row_counted : (piece : TextRows) → AreRowsOf piece → (i : ℕ) → i < l
 row_counted piece are i below =
     omega (arith, piece_within (rows_of piece.text.now) piece.rows.now are.rest piece.before are.rows are.few, below)
 
--- a piece of what is left of a text, and what is left after it
-module _ (text : List ℕ) (from end before : ℕ) (piece : List Row) (left : AreLeft text from before) (some : from < end) (within : end ≤ length text) (ends : IsPieceEnd text end) (is : piece ≡ rows_of (slice_range text from end)) where
-  next : (rows_of (drop from text) ≡ rows_of (slice_range text from end) ++ rows_of (drop end text)) × IsPlain (drop end text)
-  next = pieces text from end (left.plain (omega (arith, some, within))) some within ends
+-- so its number can be counted
+pub row_small : (piece : TextRows) → AreRowsOf piece → (i : ℕ) → i < length piece.rows.now → length piece.text.now < 2 ^ 63 → piece.before + i < 2 ^ 63
+row_small piece are i below small = omega (arith, row_counted piece are i below, row_count piece.text.now, small)
 
+-- a piece of what is left of a text, and what is left after it
+module _ (text : List ℕ) (from end before : ℕ) (piece : List Row) (left : AreLeft text from before) (within : end ≤ length text)
+    (parts : rows_of (drop from text) ≡ rows_of (slice_range text from end) ++ rows_of (drop end text)) (plain : IsPlain (drop end text))
+    (is : piece ≡ rows_of (slice_range text from end)) where
   pub piece_rows : drop before (rows_of text) ≡ piece ++ rows_of (drop end text)
-  piece_rows = left.rows ∙ next.0 ∙ ap (λ (rows : List Row). rows ++ rows_of (drop end text)) (sym is)
+  piece_rows = left.rows ∙ parts ∙ ap (λ (rows : List Row). rows ++ rows_of (drop end text)) (sym is)
 
   pub left_after : AreLeft text end (before + length piece)
   left_after = record {
     within = within;
-    plain = λ more. next.1;
+    plain = plain;
     rows = after_piece (rows_of text) piece (rows_of (drop end text)) before piece_rows;
     few = piece_within (rows_of text) piece (rows_of (drop end text)) before piece_rows left.few;
   }
@@ -56,16 +60,16 @@ some_rows is_empty [] not none = absurd (let both : true ≡ false = sym (none r
 some_rows is_empty (row ∷ rows) not none = omega arith
 
 -- a text begins with the rows of its first piece, and with all its rows
-pub begins_with_piece : (text : List ℕ) (end : ℕ) (first : List Row) → IsPlain text → 0 < end → end ≤ length text → IsPieceEnd text end
-    → first ≡ rows_of (take end text) → 0 < length first → BeginsWith text first end
-begins_with_piece text end first plain some within ends read rows =
+pub begins_with_piece : (text : List ℕ) (end : ℕ) (first : List Row) → end ≤ length text → rows_of text ≡ rows_of (slice_range text 0 end) ++ rows_of (drop end text)
+    → IsPlain (drop end text) → first ≡ rows_of (take end text) → 0 < length first → BeginsWith text first end
+begins_with_piece text end first within parts plain read some =
     let whole : end ≡ end - 0 = omega arith in
     let is : first ≡ rows_of (slice_range text 0 end) = read ∙ ap (λ n. rows_of (take n text)) whole in
-    let all : AreLeft text 0 0 = record { within = omega arith; plain = λ more. plain; rows = refl; few = omega arith } in
     record {
-      rows = piece_rows text 0 end 0 first all some within ends is;
-      left = subst (AreLeft text end) (zero-add (length first)) (left_after text 0 end 0 first all some within ends is);
-      some = inl rows;
+      rows = parts ∙ ap (λ (rows : List Row). rows ++ rows_of (drop end text)) (sym is);
+      within = within;
+      plain = plain;
+      some = inl some;
     }
 
 some_or_none : (rows : List Row) → (0 < length rows) ⊎ (rows ≡ [])
@@ -74,15 +78,11 @@ some_or_none (row ∷ rows) = inl (omega arith)
 
 pub begins_with_all : (text : List ℕ) (all : List Row) → all ≡ rows_of text → BeginsWith text all (length text)
 begins_with_all text all is =
-    let rest : rows_of (drop (length text) text) ≡ [] = ap rows_of (drop_all (length text) text (omega arith)) ∙ rows_of-nil in
+    let none : drop (length text) text ≡ [] = drop_all (length text) text (omega arith) in
     subst (λ (rows : List Row). BeginsWith text rows (length text)) (sym is) (record {
-      rows = rw (rest, append-nil (rows_of text)) refl;
-      left = record {
-        within = omega arith;
-        plain = λ more. absurd (omega (arith, more));
-        rows = drop_all (length (rows_of text)) (rows_of text) (omega arith) ∙ sym rest;
-        few = omega arith;
-      };
+      rows = rw (none, rows_of-nil, append-nil (rows_of text)) refl;
+      within = omega arith;
+      plain = rw none plain-nil;
       some = some_or_none (rows_of text);
     })
 
@@ -97,6 +97,17 @@ module _ (text : List ℕ) (first : List Row) (end : ℕ) (begins : BeginsWith t
   same_head =
       ap (λ (rs : List Row). get_or rs 0 []) begins.rows
       ∙ head_of first (rows_of (drop end text)) (elim begins.some [ inl some ↦ inl some | inr none ↦ inr (sym begins.rows ∙ none) ])
+
+  -- the others are left
+  pub left_of_first : AreLeft text end (length first)
+  left_of_first =
+      let all : drop 0 (rows_of text) ≡ first ++ rows_of (drop end text) = begins.rows in
+      record {
+        within = begins.within;
+        plain = begins.plain;
+        rows = subst (λ n. drop n (rows_of text) ≡ rows_of (drop end text)) (zero-add (length first)) (after_piece (rows_of text) first (rows_of (drop end text)) 0 all);
+        few = subst (λ n. n ≤ length (rows_of text)) (zero-add (length first)) (piece_within (rows_of text) first (rows_of (drop end text)) 0 all (omega arith));
+      }
 
   pub same_version : version_of (rows_of text) ≡ version_of first
   same_version = rw same_head refl

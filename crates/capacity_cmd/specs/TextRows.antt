@@ -8,17 +8,18 @@ use Rattle.capacity_cmd.specs.Input.{content_in}
 use Rattle.capacity_cmd.specs.Stopped.{Gives}
 use Rattle.capacity_cmd.specs.InputSoFar.{HasTaken}
 
--- so many rows of a text stand before a place, from which on the text is plain or at its end
+-- so many rows of a text stand before a place, from which on the text is plain
 pub record AreLeft (text : List ℕ) (from before : ℕ) : Type 0 where
   pub within : from ≤ length text
-  pub plain : from < length text → IsPlain (drop from text)
+  pub plain : IsPlain (drop from text)
   pub rows : drop before (rows_of text) ≡ rows_of (drop from text)
   pub few : before ≤ length (rows_of text)
 
--- the rows of a text begin with these, which end at a place; there is one, or the text has none
+-- the rows of a text begin with these, which end at a place, from which on it is plain; there is one, or the text has none
 pub record BeginsWith (text : List ℕ) (first : List Row) (end : ℕ) : Type 0 where
   pub rows : rows_of text ≡ first ++ rows_of (drop end text)
-  pub left : AreLeft text end (length first)
+  pub within : end ≤ length text
+  pub plain : IsPlain (drop end text)
   pub some : (0 < length first) ⊎ (rows_of text ≡ [])
 
 -- the rows of a piece come right after so many of its text, and then others

@@ -1,12 +1,12 @@
 -- A text without double quotes that is read in pieces gives the rows of the whole text.
-use Rattle.std.proofs.Common.{◌≡◌, ◌≢◌, ℕ, ◌+◌, ◌-◌, ◌<◌, ◌≤◌, ◌==◌, true, List, [], ◌∷◌, ◌++◌, length, get_or, take, drop, slice_range, refl, ap, sym, ◌∙◌, subst, inl, inr, arith}
+use Rattle.std.proofs.Common.{◌≡◌, ◌≢◌, ℕ, ◌+◌, ◌-◌, ◌<◌, ◌≤◌, ◌==◌, true, false, List, [], ◌∷◌, ◌++◌, length, IsTrue, get_or, take, drop, slice_range, refl, ap, sym, ◌∙◌, subst, inl, inr, arith}
 use Rattle.std.proofs.lemmas.Bool.{cases_Bool}
 use Rattle.std.proofs.lemmas.List.{append-nil, drop_all, drop_more, drop-drop, get_or-drop, length-drop, take-append-drop, take-take, take_more, take_rest}
 use Rattle.std.proofs.lemmas.List.Elements.{All-drop, All-nil, All-take}
 use Rattle.row_text.specs.PlainRows.{cut_rows, ends_line, with_line, is_blank}
 use Rattle.row_text.specs.Rows.{rows_of}
 use Rattle.row_text.specs.SheetRows.{Row}
-use Rattle.row_text.specs.TextPieces.{HasNoMark, IsPieceEnd, IsPlain}
+use Rattle.row_text.specs.TextPieces.{HasNoMark, IsPlain}
 use Rattle.row_text.proofs.PlainReads.{cut-byte, cut-comma, cut-line, cut-none, rows_of-plain, strip_bom-none}
 
 -- the rows of a plain text are cut from it
@@ -59,20 +59,26 @@ line-pieces text n plain there line no_mark =
       rest,
     )
 
-pub pieces : (text : List ℕ) (from end : ℕ) → IsPlain (drop from text) → from < end → end ≤ length text → IsPieceEnd text end
-    → (rows_of (drop from text) ≡ rows_of (slice_range text from end) ++ rows_of (drop end text)) × IsPlain (drop end text)
-pieces text from end plain some within ends =
-    elim ends [
-      | inl whole ↦
-          let none : drop end text ≡ [] = drop_all end text (omega arith) in
-          rw (none, rows_of-nil, append-nil (rows_of (slice_range text from end)), whole, take_rest text from) (refl, plain-nil)
-      | inr start ↦
-          let n : ℕ = end - from - 1 in
-          let long : n + 1 ≡ end - from = omega arith in
-          let last : from + n ≡ end - 1 = omega arith in
-          let past : from + (n + 1) ≡ end = omega arith in
-          let rest : drop (n + 1) (drop from text) ≡ drop end text = drop-drop (n + 1) from text ∙ ap (λ place. drop place text) past in
-          let line : ends_line (get_or (drop from text) n 0) ≡ true = rw (get_or-drop from text n 0, last) start.line in
-          let its = line-pieces (drop from text) n plain (omega (arith, length-drop from text)) line (subst HasNoMark (sym rest) start.no_mark) in
-          rw (rest, long) at its
-    ]
+-- how a piece of a text from a place to another parts its rows
+abbrev pub Parts : List ℕ → ℕ → ℕ → Type 0
+Parts text from end = (rows_of (drop from text) ≡ rows_of (slice_range text from end) ++ rows_of (drop end text)) × IsPlain (drop end text)
+
+-- a piece that ends where a line ends
+pub parts-line : (text : List ℕ) (from i : ℕ) → IsPlain (drop from text) → from ≤ i → i < length text → true ≡ ends_line (get_or text i 0)
+    → (take 1 (slice_range text (i + 1) (length text)) ≡ 0xEF ∷ [] → IsTrue false) → Parts text from (i + 1)
+parts-line text from i plain after there line no_mark =
+    let n : ℕ = i - from in
+    let long : n + 1 ≡ i + 1 - from = omega (arith, after) in
+    let at : from + n ≡ i = omega (arith, after) in
+    let past : from + (n + 1) ≡ i + 1 = omega (arith, after) in
+    let rest : drop (n + 1) (drop from text) ≡ drop (i + 1) text = drop-drop (n + 1) from text ∙ ap (λ place. drop place text) past in
+    let ends : ends_line (get_or (drop from text) n 0) ≡ true = rw (get_or-drop from text n 0, at) (sym line) in
+    let free : HasNoMark (drop (n + 1) (drop from text)) = subst HasNoMark (take_rest text (i + 1) ∙ sym rest) (λ e. cc (no_mark e)) in
+    let its = line-pieces (drop from text) n plain (omega (arith, length-drop from text)) ends free in
+    rw (rest, long) at its
+
+-- the last piece
+pub parts-all : (text : List ℕ) (from : ℕ) → Parts text from (length text)
+parts-all text from =
+    let none : drop (length text) text ≡ [] = drop_all (length text) text (omega arith) in
+    rw (none, rows_of-nil, append-nil (rows_of (slice_range text from (length text))), take_rest text from) (refl, plain-nil)

@@ -1,6 +1,7 @@
 //! Pieces of a text that can be read one after the other.
-ghost use Rattle.std.specs.Prelude.{◌<◌, ◌≤◌, ◌↔◌, length, IsTrue};
-ghost use Rattle.row_text.specs.TextPieces.{IsPlain, IsPieceEnd};
+ghost use Rattle.std.specs.Prelude.{◌≡◌, ◌<◌, ◌≤◌, ◌↔◌, ◌++◌, length, drop, slice_range, IsTrue};
+ghost use Rattle.row_text.specs.Rows.{rows_of};
+ghost use Rattle.row_text.specs.TextPieces.{IsPlain};
 
 use crate::plain_rows::{ends_line, starts_with_mark};
 
@@ -17,11 +18,14 @@ pub fn is_plain(text: &[u8]) -> bool
 
 /// The end of the piece of a plain text that starts at a place: the place after the first line end
 /// at least 262,144 bytes on, after which no byte 0xEF stands, or the end of the text. The rows of
-/// what is left are those of the piece and then those after it.
+/// what is left are those of the piece and then those after it. No clause says how long it is.
 pub fn piece_end(text: &[u8], from: usize) -> usize
-    requires { from < length text.now }
+    requires there { from < length text.now }
+    requires plain { IsPlain (drop from text.now) }
     ensures within { (from < result) × (result ≤ length text.now) }
-    ensures end { IsPieceEnd text.now result }
+    ensures rows { rows_of (drop from text.now)
+        ≡ rows_of (slice_range text.now from result) ++ rows_of (drop result text.now) }
+    ensures rest { IsPlain (drop result text.now) }
 {
     if text.len() - from <= PIECE_BYTES {
         return text.len();

@@ -5,13 +5,16 @@ use Rattle.row_text.specs.Rows.{rows_of}
 use Rattle.capacity_cmd.specs.Input.{content_of_rows, content_in}
 use Rattle.capacity_cmd.specs.InputSoFar.{accepted_in, HasTaken}
 use Rattle.capacity_cmd.proofs.Making.{all_given, all_within, taken_none}
-use Rattle.capacity_cmd.proofs.TextRows.{same_version, same_first_line, first_line_within, stopped}
+use Rattle.capacity_cmd.proofs.TextRows.{left_of_first, same_version, same_first_line, first_line_within, stopped}
 use Rattle.capacity_cmd.proofs.input.accepted_after.Goals as goal
 
 pub take_rows-requires-clause-piece : goal.take_rows-requires-clause-piece
 take_rows-requires-clause-piece c =
     let first = c.requires.first in
     record { rest = rows_of (drop c.args.«end» c.args.text.now); rows = first.rows; few = omega arith }
+
+pub take_pieces-requires-clause-left : goal.take_pieces-requires-clause-left
+take_pieces-requires-clause-left c = rw c.len.ensures (left_of_first c.args.text.now c.args.first.now c.args.«end» c.requires.first)
 
 pub take_rows-requires-clause-start : goal.take_rows-requires-clause-start
 take_rows-requires-clause-start c = rw c.first_line.ensures (first_line_within c.args.first.now)

@@ -13,7 +13,7 @@ take_rows-requires-clause-piece c =
     let ends = c.piece_end-end.ensures in
     record {
       rest = rows_of (drop c.piece_end-end.result c.args.text.now);
-      rows = piece_rows c.args.text.now c.loop-from.from c.piece_end-end.result c.loop-from.before c.in_ok-found.found left ends.within.0 ends.within.1 ends.«end» c.in_ok-found.ensures;
+      rows = piece_rows c.args.text.now c.loop-from.from c.piece_end-end.result c.loop-from.before c.in_ok-found.found left ends.within.1 ends.rows ends.rest c.in_ok-found.ensures;
       few = left.few;
     }
 
@@ -21,7 +21,7 @@ pub overflow_add-before : goal.overflow_add-before
 overflow_add-before c =
     let left = c.loop-from.invariant.left in
     let ends = c.piece_end-end.ensures in
-    let after = left_after c.args.text.now c.loop-from.from c.piece_end-end.result c.loop-from.before c.in_ok-found.found left ends.within.0 ends.within.1 ends.«end» c.in_ok-found.ensures in
+    let after = left_after c.args.text.now c.loop-from.from c.piece_end-end.result c.loop-from.before c.in_ok-found.found left ends.within.1 ends.rows ends.rest c.in_ok-found.ensures in
     omega (arith, after.few, c.len-before.ensures, row_count c.args.text.now, c.requires.small)
 
 pub loop-from-preserved : goal.loop-from-preserved
@@ -29,7 +29,7 @@ loop-from-preserved c =
     let left = c.loop-from.invariant.left in
     let ends = c.piece_end-end.ensures in
     rw c.len-before.ensures (record {
-      left = left_after c.args.text.now c.loop-from.from c.piece_end-end.result c.loop-from.before c.in_ok-found.found left ends.within.0 ends.within.1 ends.«end» c.in_ok-found.ensures;
+      left = left_after c.args.text.now c.loop-from.from c.piece_end-end.result c.loop-from.before c.in_ok-found.found left ends.within.1 ends.rows ends.rest c.in_ok-found.ensures;
       taken = c.in_ok-take_rows.ensures;
     })
 

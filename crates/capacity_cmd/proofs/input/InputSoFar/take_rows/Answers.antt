@@ -3,15 +3,14 @@ use Rattle.row_text.specs.Lines.{read_in}
 use Rattle.row_text.specs.Rows.{rows_of}
 use Rattle.capacity_cmd.specs.InputSoFar.{TakesRow, HasTaken}
 use Rattle.capacity_cmd.proofs.Making.{few_edits, taken_more, not_taken}
-use Rattle.capacity_cmd.proofs.RowCount.{row_count}
-use Rattle.capacity_cmd.proofs.TextRows.{row_at, row_counted}
+use Rattle.capacity_cmd.proofs.TextRows.{row_at, row_counted, row_small}
 use Rattle.capacity_cmd.proofs.input.InputSoFar.take_rows.Goals as goal
 
 pub take_row-requires-clause-counted : goal.take_row-requires-clause-counted
 take_row-requires-clause-counted c =
     let piece = c.args.piece in
     let below : c.loop-i.i < length piece.rows.now = rw (← c.len-i-end.ensures) c.loop-i-test.true in
-    omega (arith, row_counted piece c.requires.piece c.loop-i.i below, row_count piece.text.now, c.requires.small)
+    omega (arith, row_small piece c.requires.piece c.loop-i.i below c.requires.small)
 
 pub take_row-requires-clause-few : goal.take_row-requires-clause-few
 take_row-requires-clause-few c =
@@ -21,13 +20,13 @@ pub overflow_add-result : goal.overflow_add-result
 overflow_add-result c =
     let piece = c.args.piece in
     let below : c.loop-i.i < length piece.rows.now = rw (← c.len-i-end.ensures) c.loop-i-test.true in
-    omega (arith, row_counted piece c.requires.piece c.loop-i.i below, row_count piece.text.now, c.requires.small)
+    omega (arith, row_small piece c.requires.piece c.loop-i.i below c.requires.small)
 
 pub overflow_add-result-in-Some : goal.overflow_add-result-in-Some
 overflow_add-result-in-Some c =
     let piece = c.args.piece in
     let below : c.loop-i.i < length piece.rows.now = rw (← c.len-i-end.ensures) c.loop-i-test.true in
-    omega (arith, row_counted piece c.requires.piece c.loop-i.i below, row_count piece.text.now, c.requires.small)
+    omega (arith, row_small piece c.requires.piece c.loop-i.i below c.requires.small)
 
 pub loop-i-preserved : goal.loop-i-preserved
 loop-i-preserved c =
