@@ -26,7 +26,7 @@ use capacity_report::rule_text;
 use plan_book::TASKS;
 use rail_model::{Form, OutOfMemory};
 use rail_outside::Gate;
-use row_text::{Sheet, Text, rows};
+use row_text::{Sheet, Text};
 use sentences::{Fault, told_of_row};
 use std::alloc::Global;
 use std::sync::Wait;
@@ -72,10 +72,7 @@ fn refusal_told(
     ensures told { (told.new ≡ told.old) ⊎ IsOfRow refused.row told.new }
 {
     if let Some(fault) = fault_of(planners, refused.cause) {
-        // Without memory for its rows the refusal stands, and nothing is told of it.
-        if let Ok(all) = rows(alloc, input) {
-            *told = told_of_row(alloc, input, &all, refused.row, fault);
-        }
+        *told = told_of_row(alloc, input, refused.row, fault);
     }
     refusal(alloc, refused.row, refused.cause)
 }

@@ -18,7 +18,7 @@ pub(crate) fn form_sentence(text: &mut String, row: &RowAt<'_>, form: Form) -> A
 
 // Why the first field is no word of a row.
 fn kind_sentence(text: &mut String, row: &RowAt<'_>) -> Added {
-    let header = if row.place == 0 { HEADER } else { "" };
+    let header = if row.is_first { HEADER } else { "" };
     let word = row.field(0);
     tell(text, word_fault(word), &[Field(word), Text(header)])
 }

@@ -10,11 +10,13 @@
 //! rows above it make. Deciding on the sentence then takes no memory, and ends in one call of `tell`,
 //! which alone writes.
 //!
-//! A refused row is looked at again, with the rows above it, until the field or the item is found
-//! that makes the fault. That costs as much as reading the rows once more, and happens once a call.
+//! A refused row is looked at again, until the field or the item is found that makes the fault. Where
+//! the sentence may speak of other rows, all rows are cut once more. Else only this row and the first
+//! are, since the first may say the version. All are also cut where the text has double quotes, or
+//! where the refused row starts with the byte 0xEF.
 //!
 //! ```text
-//! let told = told_of_row(alloc, input, &rows, 3, Fault::Rule(Rule::Twice));
+//! let told = told_of_row(alloc, input, 3, Fault::Rule(Rule::Twice));
 //! eprintln!(rt; "{}", told.text())?;
 //! ```
 #![tactic(auto)]
@@ -23,11 +25,11 @@ mod clashes;
 mod column;
 mod form_sentence;
 mod found;
-mod line_number;
 mod member_sentence;
 mod notes;
 mod piece;
 mod row_at;
+mod row_place;
 mod row_sentence;
 mod rule_sentence;
 mod said;

@@ -4,17 +4,20 @@ use crate::said::Said;
 use rail_model::{Kind, Name, Tables};
 use row_text::{RowList, Word, number, word_of};
 
-// A refused row among the rows of its input, with what was read of it for the sentence.
+// A refused row, with what was read of it for the sentence. It stands among the rows of its input,
+// or may stand alone where the sentence speaks of no other.
 #[derive(Clone, Copy)]
 pub(crate) struct RowAt<'a> {
     pub(crate) rows: &'a RowList<'a>,
     // In which the rows are read: 1 or 2.
     pub(crate) version: u32,
-    // From 0.
+    // From 0, among these rows.
     pub(crate) place: usize,
+    // Whether it is the first row of the input.
+    pub(crate) is_first: bool,
     // What its first fields say.
     pub(crate) said: &'a [Said],
-    // What the rows above it make, where a rule refuses it.
+    // What the rows above it make, where the sentence may name what stands there.
     pub(crate) tables: &'a Tables,
 }
 

@@ -5,15 +5,15 @@ ghost use Rattle.sentences.specs.Told.{IsOfRow, of_row};
 
 use crate::Told;
 use crate::form_sentence::form_sentence;
-use crate::line_number::{has_only_rows, line_of};
 use crate::piece::Added;
 use crate::row_at::RowAt;
+use crate::row_place::{RowPlace, line_at, place_of_row};
 use crate::rule_sentence::rule_sentence;
 use crate::said::said_by;
 use crate::script_sentence::script_sentence;
 use crate::standing::tables_above;
 use rail_model::{Form, OutOfMemory, Rule};
-use row_text::RowList;
+use row_text::{RowList, rows};
 use std::alloc::Global;
 
 /// Why a row is refused: for its form, by a rule, or since it may not stand at its place in an
@@ -27,35 +27,23 @@ pub enum Fault {
 
 /// The sentence about the row of a number, counted from 1, at which an input is refused. No clause
 /// says what follows the number, nor that anything is told: without memory nothing is.
-pub fn told_of_row(
-    alloc: Global,
-    input: &[u8],
-    rows: &RowList<'_>,
-    number: u64,
-    fault: Fault,
-) -> Told
+pub fn told_of_row(alloc: Global, input: &[u8], number: u64, fault: Fault) -> Told
     ensures { IsOfRow number result }
 {
-    let line = if has_only_rows(input, rows.len()) {
-        None
-    } else {
-        line_of(input, number)
-    };
-    Told::of(row_text(alloc, rows, number, line, fault))
+    Told::of(row_text(alloc, input, number, fault))
 }
 
-fn row_text(
-    alloc: Global,
-    rows: &RowList<'_>,
-    number: u64,
-    line: Option<u64>,
-    fault: Fault,
-) -> Result<String, OutOfMemory>
+fn row_text(alloc: Global, input: &[u8], number: u64, fault: Fault) -> Result<String, OutOfMemory>
     ensures { IfOk result (λ text. IsOfRow number (string_bytes text)) }
 {
-    let why = row_sentence(alloc, rows, number, fault)?;
-    match line {
-        Some(line) if line != number => in_line(alloc, number, line, &why),
+    let place = if input.contains(&b'"') {
+        None
+    } else {
+        place_of_row(input, number)
+    };
+    let why = why_text(alloc, input, number, place, fault)?;
+    match place {
+        Some(at) if at.line != number => in_line(alloc, number, at.line, &why),
         _ => in_row(alloc, number, &why),
     }
 }
@@ -73,37 +61,109 @@ fn in_row(alloc: Global, number: u64, why: &String) -> Result<String, OutOfMemor
     Ok(format!(in alloc; "row {number}: {why}")?)
 }
 
-// Reads all that a sentence on a row's fault may need, and writes it.
-fn row_sentence(
+// Reads all that a sentence on a row's fault may need, and writes it. Where it speaks of this row
+// alone, and this row can be cut alone, no other is cut but the first, which may say the version.
+fn why_text(
     alloc: Global,
-    rows: &RowList<'_>,
+    input: &[u8],
+    number: u64,
+    place: Option<RowPlace>,
+    fault: Fault,
+) -> Result<String, OutOfMemory> {
+    if speaks_of_others(fault) {
+        return why_among_all(alloc, input, number, fault);
+    }
+    match place {
+        Some(at) if can_be_cut_alone(line_at(input, at.start)) => {
+            let row = rows(alloc, line_at(input, at.start))?;
+            row_sentence(
+                alloc,
+                &row,
+                version_of(alloc, input)?,
+                0,
+                number == 1,
+                fault,
+            )
+        }
+        _ => why_among_all(alloc, input, number, fault),
+    }
+}
+
+// Whether the sentence on a fault may speak of other rows than the one that is refused. No sentence
+// on a form may: it gets the row alone.
+fn speaks_of_others(fault: Fault) -> bool {
+    match fault {
+        Fault::Form(_) => false,
+        Fault::Rule(rule) => names_others(rule),
+        Fault::Script { .. } => true,
+    }
+}
+
+// Whether the sentence on a rule may name what stands above the row: the rows there are then read
+// once more.
+fn names_others(rule: Rule) -> bool {
+    rule != Rule::Range && rule != Rule::Limit
+}
+
+// Whether a line is surely the same row where it is cut alone: it doesn't start as a byte order mark
+// does, which would be left out at the start of a text.
+fn can_be_cut_alone(line: &[u8]) -> bool {
+    !line.starts_with(b"\xef".as_slice())
+}
+
+// The version in which the rows of a text without double quotes are read.
+fn version_of(alloc: Global, input: &[u8]) -> Result<u32, OutOfMemory> {
+    match place_of_row(input, 1) {
+        Some(first) if can_be_cut_alone(line_at(input, first.start)) => {
+            Ok(
+                rows(alloc, line_at(input, first.start))?
+                    .version()
+                    .unwrap_or(1),
+            )
+        }
+        _ => Ok(1),
+    }
+}
+
+// The sentence on a fault of the row of a number, with all rows of the input.
+fn why_among_all(
+    alloc: Global,
+    input: &[u8],
     number: u64,
     fault: Fault,
 ) -> Result<String, OutOfMemory> {
+    let all = rows(alloc, input)?;
+    let version = all.version().unwrap_or(1);
     let place = number.saturating_sub(1) as usize;
-    let version = rows.version().unwrap_or(1);
+    row_sentence(alloc, &all, version, place, number == 1, fault)
+}
+
+// The sentence on a fault of the row at a place among some rows, which are read in a version.
+fn row_sentence(
+    alloc: Global,
+    rows: &RowList<'_>,
+    version: u32,
+    place: usize,
+    is_first: bool,
+    fault: Fault,
+) -> Result<String, OutOfMemory> {
     let said = said_by(alloc, rows, place)?;
-    let above = if names_others(fault) { place } else { 0 };
+    let above = match fault {
+        Fault::Rule(rule) if names_others(rule) => place,
+        _ => 0,
+    };
     let tables = tables_above(alloc, rows, version, above)?;
     let row = RowAt {
         rows,
         version,
         place,
+        is_first,
         said: &said,
         tables: &tables,
     };
     let mut text = String::new(alloc);
     fault_sentence(&mut text, &row, fault)?;
     Ok(text)
-}
-
-// Whether the sentence on a fault may name what stands above the row: the rows there are then read
-// once more.
-fn names_others(fault: Fault) -> bool {
-    match fault {
-        Fault::Rule(rule) => rule != Rule::Range && rule != Rule::Limit,
-        Fault::Form(_) | Fault::Script { .. } => false,
-    }
 }
 
 fn fault_sentence(text: &mut String, row: &RowAt<'_>, fault: Fault) -> Added {
