@@ -2,11 +2,11 @@
 """Measures two programs beside each other: bench/beside.py PROGRAM PLAIN [CASE ..] [--only counts | --only walls] ..
 
 PLAIN is a program of the same commands. Prints a table in Markdown, a row for each case: how many times PLAIN's the program's
-instructions, peak memory and wall time are. Below 1.00 the program needs less. --figures keeps the figures themselves.
+instructions, peak memory, page faults and wall time are. Below 1.00 the program needs less. --figures keeps the figures themselves.
 Where the texts differ, but for those of threads, the case says so and the script ends with status 1.
 
-- Instructions are callgrind's, of the whole program, reading and writing included; the peak is GNU time's. These are the
-  counts. They don't depend on what else the machine does, so --jobs N measures N cases at once.
+- Instructions are callgrind's, of the whole program, reading and writing included; the peak and the page faults are GNU time's.
+  These are the counts. They don't depend on what else the machine does, so --jobs N measures N cases at once.
 - Wall times are those of one processor and of all. The two programs take turns, and the least of 9 calls counts, of three
   where these take long. They want a quiet machine, for some five minutes.
 
@@ -96,12 +96,14 @@ def instructions(program, words, given):
     return int(re.search(r"refs:\s+([\d,]+)", said).group(1).replace(",", ""))
 
 
-def peak(program, words, given):
-    """By GNU time: a child of this script would count the script's own memory."""
+def memory(program, words, given):
+    """The peak in bytes and the page faults, by GNU time: a child of this script would count the script's own memory."""
     if shutil.which("time") is None:
-        return None
-    # (what the program tells stands before the figure)
-    return min(int(call(["time", "-q", "-f", "%M"], program, words, given)[2].splitlines()[-1]) for _ in range(3)) * 1024
+        return None, None
+    # (what the program tells stands before the figures)
+    lines = [call(["time", "-q", "-f", "%M %R"], program, words, given)[2].splitlines()[-1] for _ in range(3)]
+    peaks, faults = zip(*((int(kib) * 1024, int(count)) for kib, count in map(str.split, lines)))
+    return min(peaks), min(faults)
 
 
 def walls(programs, words, given, processors):
@@ -120,10 +122,12 @@ def counts_of(programs, case, given):
     """Figures of a case that don't depend on the load, each of both programs."""
     words = case[1]
     ends = [call([], program, words, given)[:2] for program in programs]
+    peaks, faults = zip(*(memory(program, words, given) for program in programs))
     return {
         "same": ends[0] == ends[1] or ends[0][0] == ends[1][0] and words == "session 4",
         "instructions": [instructions(program, words, given) for program in programs],
-        "peak": [peak(program, words, given) for program in programs],
+        "peak": peaks,
+        "faults": faults,
     }
 
 
@@ -147,7 +151,7 @@ def row(case, figures):
     told = [] if words.split()[0] == name.split("-")[0] else ["`%s`" % words]
     cells = [
         "%s: %s" % (name, ", ".join([*told, about])),
-        *(cell(figures, figure) for figure in ("instructions", "peak", "one", "all")),
+        *(cell(figures, figure) for figure in ("instructions", "peak", "faults", "one", "all")),
     ]
     return "| %s |%s" % (" | ".join(cells), "" if figures.get("same", True) else " THE TEXTS DIFFER")
 
@@ -155,7 +159,7 @@ def row(case, figures):
 def table(cases, known):
     processors = [figures["processors"] for figures in known.values() if "processors" in figures]
     every = "%d processors" % max(processors) if processors else "all processors"
-    heads = ["Case", "Instructions", "Peak memory", "Wall time, one processor", "Wall time, " + every]
+    heads = ["Case", "Instructions", "Peak memory", "Page faults", "Wall time, one processor", "Wall time, " + every]
     return ["| %s |" % " | ".join(heads), "|---" * len(heads) + "|"] + [row(case, known.get(case[0], {})) for case in cases]
 
 
