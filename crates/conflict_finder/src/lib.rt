@@ -1,7 +1,7 @@
 //! The conflicts of a timetable: which runs block one block at one time, and from when until when.
 //!
 //! The blocks are taken in parts of consecutive numbers, side by side by threads where there are
-//! many runs. The blockings of a part are laid out by block, in one list for each. Runs are taken
+//! many uses. The blockings of a part are laid out by block, in one list for each. Runs are taken
 //! in the order in which they enter the line, so a list is nearly in the order of its starts. Each
 //! blocking is moved back to its place where that is near, and else the list is sorted.
 //!

@@ -20,8 +20,8 @@ use rayon::prelude::*;
 use std::alloc::Global;
 use std::thread::Threads;
 
-// The uses of fewer runs aren't worth a thread.
-const LEAST_RUNS: usize = 64;
+// Fewer uses aren't worth a thread.
+const LEAST_USES: usize = 16_384;
 
 // Fewer lists aren't worth a part of their own.
 const LEAST_LISTS: usize = 8;
@@ -43,16 +43,25 @@ pub(crate) fn found_in_parts(
         AreFoundInParts (run_uses_in_turn stairs.now starts.now) found.items) }
 {
     let room = room_for(alloc, stairs)?;
-    let threads = threads_for(rt, starts.len());
+    let threads = threads_for(rt, uses_of(&room));
     found_by_threads(rt, alloc, stairs, starts, &room, threads)
 }
 
-// By how many threads the uses of so many runs are swept. Only where they are many is the system
-// asked for the number of processors, since that reads a file.
-fn threads_for(rt: &impl Threads, runs: usize) -> usize
+// How many uses there are in all lists.
+fn uses_of(room: &[u32]) -> usize {
+    let mut uses: usize = 0;
+    for count in room {
+        uses = uses.saturating_add(*count as usize);
+    }
+    uses
+}
+
+// By how many threads so many uses are swept. Only where they are many is the system asked for the
+// number of processors, since that reads a file.
+fn threads_for(rt: &impl Threads, uses: usize) -> usize
     ensures { 0 < result }
 {
-    if runs < LEAST_RUNS {
+    if uses < LEAST_USES {
         1
     } else {
         current_num_threads(rt)

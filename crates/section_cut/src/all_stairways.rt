@@ -17,8 +17,8 @@ use std::alloc::Global;
 use std::marker::Model;
 use std::thread::Threads;
 
-// Fewer runs aren't worth a thread of their own.
-const LEAST_RUNS: usize = 64;
+// Fewer uses of blocks aren't worth a thread of their own.
+const LEAST_USES: usize = 16_384;
 
 /// The stairway of each run, in the order of the runs' names.
 pub fn stairways(alloc: Global, tables: &LineTables) -> Result<List<Stair>, OutOfMemory>
@@ -56,8 +56,8 @@ pub fn stairways_in_parts(
     ensures { IfOk result (λ all. all ≡ timetable tables.now) }
 {
     let paths = tables.paths()?;
-    let part = (tables.runs() as usize / current_num_threads(rt)).max(LEAST_RUNS);
     let rooms = rooms_for(alloc, tables)?;
+    let part = runs_a_part(rt, &rooms);
     Ok(List::from_vec(stairs_in_rooms(rt, alloc, &paths, rooms, part)?))
 }
 
@@ -79,6 +79,19 @@ fn rooms_for(alloc: Global, tables: &LineTables) -> Result<Vec<StairRoom>, OutOf
         rooms.push(StairRoom { run, uses })?;
     }
     Ok(rooms)
+}
+
+// How many runs are a part at least: all, unless there are uses enough for two threads.
+fn runs_a_part(rt: &impl Threads, rooms: &[StairRoom]) -> usize {
+    let mut uses: usize = 0;
+    for room in rooms {
+        uses = uses.saturating_add(room.uses.capacity());
+    }
+    let most = uses / LEAST_USES;
+    if most < 2 {
+        return rooms.len();
+    }
+    rooms.len() / current_num_threads(rt).min(most)
 }
 
 // The stairways of all paths, each made on its own in its room, in parts of at least so many.
