@@ -1,6 +1,6 @@
-//! Which runs pass a signal, a block and a section, and which blocks a section has: by the keys
-//! that were found once.
-ghost use Rattle.std.specs.Prelude.{◌≡◌, ℕ, ◌<◌, true, length, map, slice_index, All, IfOk};
+//! Which runs pass a signal, a block and a section, and which blocks a section has. What each route
+//! and section names was looked up when it was put or changed, and its keys are kept.
+ghost use Rattle.std.specs.Prelude.{◌≡◌, ◌<◌, true, length, map, slice_index, All, IfOk};
 ghost use Rattle.std.specs.List.{list_all};
 ghost use Rattle.rail_model.specs.Rules.{has_block, has_signal};
 ghost use Rattle.rail_model.specs.Tables.{block_number, run_at, section_at};

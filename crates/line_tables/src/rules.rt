@@ -1,5 +1,5 @@
 //! Which rule refuses an edit.
-ghost use Rattle.std.specs.Prelude.{◌≡◌, true, false, not, ◌||◌, if◌then◌else◌, length, Some, None, is_some, IfOk, IfSome};
+ghost use Rattle.std.specs.Prelude.{◌≡◌, true, false, not, if◌then◌else◌, length, Some, None, is_some, IfOk, IfSome};
 ghost use Rattle.rail_model.specs.declared.items.Item.TheVariants as item;
 ghost use Rattle.rail_model.specs.declared.edit.Kind.TheVariants as kind;
 ghost use Rattle.rail_model.specs.Tables.{route_named};
@@ -64,7 +64,7 @@ impl LineTables {
         if !is_block_within(block) {
             return Some(Rule::Range);
         }
-        if self.is_block_taken(&block.name) {
+        if self.is_block_taken(block) {
             return Some(Rule::Twice);
         }
         if self.blocks.len() >= BLOCKS {
@@ -136,7 +136,7 @@ impl LineTables {
         ensures { result ≡ rules.is_taken self.now item.now }
     {
         match item {
-            Item::Block(block) => self.is_block_taken(&block.name),
+            Item::Block(block) => self.is_block_taken(block),
             Item::Connection(connection) => {
                 self.has(Kind::Connection, &connection.name)
                     || self.has(Kind::Block, &connection.name)
@@ -147,11 +147,11 @@ impl LineTables {
         }
     }
 
-    // Whether no block of a name may be put.
-    fn is_block_taken(&self, name: &Name) -> bool
-        ensures { result ≡ (rules.has self.now kind.Block name.now || rules.has self.now kind.Connection name.now) }
+    // Whether a block or a connection has the block's name.
+    fn is_block_taken(&self, block: &Block) -> bool
+        ensures { result ≡ rules.is_taken self.now (item.Block block.now) }
     {
-        self.has(Kind::Block, name) || self.has(Kind::Connection, name)
+        self.has(Kind::Block, &block.name) || self.has(Kind::Connection, &block.name)
     }
 
     fn is_full(&self, item: &Item) -> bool

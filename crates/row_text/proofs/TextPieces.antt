@@ -59,7 +59,7 @@ line-pieces text n plain there line no_mark =
       rest,
     )
 
--- how a piece of a text from a place to another parts its rows
+-- the rows of what is left of a text are those of a piece and then those of the rest, which is plain
 abbrev pub Parts : List ℕ → ℕ → ℕ → Type 0
 Parts text from end = (rows_of (drop from text) ≡ rows_of (slice_range text from end) ++ rows_of (drop end text)) × IsPlain (drop end text)
 

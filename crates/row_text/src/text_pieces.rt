@@ -16,9 +16,10 @@ pub fn is_plain(text: &[u8]) -> bool
     !starts_with_mark(text) && !text.contains(&b'"')
 }
 
-/// The end of the piece of a plain text that starts at a place: the place after the first line end
-/// at least 262,144 bytes on, after which no byte 0xEF stands, or the end of the text. The rows of
-/// what is left are those of the piece and then those after it. No clause says how long it is.
+/// The end of the piece that starts at a place, from which on a text is plain: the place after the
+/// first line end at least 262,144 bytes on, after which no byte 0xEF stands, or the end of the
+/// text. The rows of what is left are those of the piece and then those after it. No clause says
+/// where the piece ends.
 pub fn piece_end(text: &[u8], from: usize) -> usize
     requires there { from < length text.now }
     requires plain { IsPlain (drop from text.now) }
