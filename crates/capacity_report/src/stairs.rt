@@ -18,8 +18,8 @@ use row_text::{Sheet, Text, Written};
 use std::alloc::Global;
 use std::thread::Threads;
 
-// Fewer runs aren't worth a thread of their own.
-const LEAST_RUNS: usize = 64;
+// Fewer rows aren't worth a thread of their own.
+const LEAST_ROWS: usize = 4_096;
 
 /// The text of the rows of all runs, in the order of their names: one row for each block of the
 /// run's path, in the order of the path. It is made in parts, by at most as many threads
@@ -33,18 +33,34 @@ pub fn stairs_text(
 {
     let names = block_names(alloc, tables)?;
     let paths = tables.paths()?;
-    text_of_paths(rt, alloc, &names, &paths, tables.runs() as usize)
+    let least = runs_a_part(tables);
+    text_of_paths(rt, alloc, &names, &paths, tables.runs() as usize, least)
 }
 
-// The text of the rows of the paths of so many runs.
+// How many runs a part has at least: so many have rows enough for a thread, if each has the mean
+// number. A run has a row for each of its legs. No clause says so.
+fn runs_a_part(tables: &LineTables) -> usize
+    ensures { 0 < result }
+{
+    let mut rows: usize = 0;
+    for run in 0..tables.runs() {
+        rows = rows.saturating_add(tables.run(run).legs.len());
+    }
+    let mean = rows / (tables.runs() as usize).max(1);
+    (LEAST_ROWS / mean.max(1)).max(1)
+}
+
+// The text of the rows of the paths of so many runs, in parts of at least so many.
 fn text_of_paths(
     rt: &(impl Threads + Sync),
     alloc: Global,
     names: &[Written],
     paths: &Paths<'_>,
     count: usize,
+    least: usize,
 ) -> Result<Text, OutOfMemory>
     requires few { count < 4_294_967_296 }
+    requires least { 0 < least }
     requires count { count ≤ length paths.now }
     requires named { AreNamed names.now paths.now }
     ensures { IfOk result (λ text. text
@@ -56,7 +72,7 @@ fn text_of_paths(
         ensures { IfOk result (λ text. text.items
             ≡ text_between (rows_at names.entry.now paths.entry.now) part.first part.«end») }
     { text_of_part(alloc, names, paths, part) };
-    text_in_parts(rt, alloc, count, LEAST_RUNS, &text_of)
+    text_in_parts(rt, alloc, count, least, &text_of)
 }
 
 // The text of the rows of the paths of a part.
