@@ -89,7 +89,7 @@ fn text_of_part(
 fn member_names(alloc: Global, cut: &Cut) -> Result<Vec<Written>, OutOfMemory>
     ensures { IfOk result (λ names. names.items ≡ pairs.names_of cut.now) }
 {
-    let mut names = Vec::new(alloc);
+    let mut names = Vec::with_capacity(alloc, cut.rows.len())?;
     for row in cut.rows.slice() {
         names.push(Written::new(alloc, row.name.bytes())?)?;
     }

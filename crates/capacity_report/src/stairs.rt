@@ -102,7 +102,7 @@ fn text_of_part(
 fn block_names(alloc: Global, tables: &LineTables) -> Result<Vec<Written>, OutOfMemory>
     ensures { IfOk result (λ names. names.items ≡ names_of tables.now) }
 {
-    let mut names = Vec::new(alloc);
+    let mut names = Vec::with_capacity(alloc, tables.blocks() as usize)?;
     for block in 0..tables.blocks() {
         names.push(Written::new(alloc, tables.block(block).name.bytes())?)?;
     }

@@ -116,7 +116,7 @@ fn raised(number: i32, place: &Ending, j: usize) -> i32
 fn headways_of(alloc: Global, greatest: &[i32], i: usize) -> Result<List<Option<i64>>, OutOfMemory>
     ensures { IfOk result (λ row. row ≡ numbers.headways_of greatest.now i (length greatest.now)) }
 {
-    let mut row = List::new(alloc);
+    let mut row = List::with_capacity(alloc, greatest.len())?;
     for (j, number) in greatest.iter().enumerate() {
         row.push(headway_to(*number, i == j))?;
     }

@@ -29,7 +29,7 @@ fn free(alloc: Global, places: usize, trains: usize) -> Result<Vec<List<i32>>, O
     requires { trains < 2 ^ 63 }
     ensures { IfOk result (λ table. table.items ≡ replicate places (replicate trains FREE)) }
 {
-    let mut table = Vec::new(alloc);
+    let mut table = Vec::with_capacity(alloc, places)?;
     for _ in 0..places {
         table.push(List::from_vec(Vec::from_elem(alloc, FREE, trains)?))?;
     }

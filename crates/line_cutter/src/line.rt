@@ -92,7 +92,7 @@ impl<'a> LineToCut<'a> {
 fn one_ways(alloc: Global, rows: &[CutRow]) -> Result<Vec<bool>, OutOfMemory>
     ensures { IfOk result (λ ways. AreOneWay rows.now ways.items) }
 {
-    let mut ways = Vec::new(alloc);
+    let mut ways = Vec::with_capacity(alloc, rows.len())?;
     for row in rows {
         ways.push(is_one_way(row.uses.slice()))?;
     }

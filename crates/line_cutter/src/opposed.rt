@@ -125,7 +125,7 @@ fn precedes_somewhere(cut: &SoundCut, i: u32, j: u32) -> bool
 fn ranges_of(alloc: Global, rows: &[CutRow]) -> Result<Vec<StartRange>, OutOfMemory>
     ensures { IfOk result (λ ranges. AreStartRanges rows.now ranges.items) }
 {
-    let mut ranges = Vec::new(alloc);
+    let mut ranges = Vec::with_capacity(alloc, rows.len())?;
     for row in rows {
         ranges.push(range_of(row.uses.slice()))?;
     }

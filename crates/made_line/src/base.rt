@@ -16,12 +16,15 @@ const SECTIONS: u32 = 8;
 
 const SECTION_BLOCKS: u32 = 8;
 
+// A signal for each block, and one route.
+const EDITS: usize = (2 * BLOCKS + 1 + RUNS + SECTIONS) as usize;
+
 // The edits that put all items, blocks first.
 pub(crate) fn base_edits(alloc: Global, n: u32) -> Result<List<Edit>, OutOfMemory>
     ensures { IfOk result (λ edits. edits ≡ base.base_edits n) }
 {
     let mut draws = Draws::from(n);
-    let mut edits = List::new(alloc);
+    let mut edits = List::with_capacity(alloc, EDITS)?;
     put_blocks(&mut edits, &mut draws)?;
     put_signals(&mut edits)?;
     edits.push(Edit::Put(Item::Route(route(alloc)?)))?;
@@ -79,7 +82,7 @@ fn signal(i: u32) -> Signal
 fn route(alloc: Global) -> Result<Route, OutOfMemory>
     ensures { IfOk result (λ route. route ≡ base.made_route) }
 {
-    let mut signals = List::new(alloc);
+    let mut signals = List::with_capacity(alloc, BLOCKS as usize)?;
     for i in 0..BLOCKS {
         signals.push(signal_name(i))?;
     }
@@ -126,7 +129,7 @@ fn section_blocks(alloc: Global, j: u32) -> Result<List<Name>, OutOfMemory>
     requires { j < 8 }
     ensures { IfOk result (λ blocks. blocks ≡ base.block_names (8 * j) 8) }
 {
-    let mut blocks = List::new(alloc);
+    let mut blocks = List::with_capacity(alloc, SECTION_BLOCKS as usize)?;
     for k in 0..SECTION_BLOCKS {
         blocks.push(block_name(SECTION_BLOCKS * j + k))?;
     }

@@ -17,7 +17,7 @@ const LEGS: u32 = 64;
 pub(crate) fn runs(alloc: Global, draws: &mut Draws) -> Result<List<Run>, OutOfMemory>
     ensures { IfOk result (λ runs. runs ≡ base.first_runs draws.old.x 300) }
 {
-    let mut runs = List::new(alloc);
+    let mut runs = List::with_capacity(alloc, RUNS as usize)?;
     for i in 0..RUNS {
         runs.push(run(alloc, draws, i)?)?;
     }
@@ -47,7 +47,7 @@ fn legs(alloc: Global, draws: &mut Draws) -> Result<List<Leg>, OutOfMemory>
     ensures made { IfOk result (λ legs. legs ≡ base.first_legs draws.old.x 64) }
     ensures drawn { OnOk result (draws.new.x ≡ after_draws draws.old.x 64) }
 {
-    let mut legs = List::new(alloc);
+    let mut legs = List::with_capacity(alloc, LEGS as usize)?;
     for _ in 0..LEGS {
         legs.push(leg(draws))?;
     }

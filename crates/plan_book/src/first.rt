@@ -20,7 +20,7 @@ pub(crate) fn first_shelves(
 ) -> Result<List<Shelf>, OutOfMemory>
     ensures { IfOk result (firsts.AreFirst tables.now at) }
 {
-    let mut shelves = List::new(alloc);
+    let mut shelves = List::with_capacity(alloc, tables.sections() as usize)?;
     for cut in all_cuts(alloc, tables, at)?.into_vec() {
         shelves.push(first_shelf(alloc, cut, at)?)?;
     }

@@ -36,7 +36,7 @@ impl Cut {
 fn copy_rows(alloc: Global, rows: &[CutRow]) -> Result<List<CutRow>, OutOfMemory>
     ensures { IfOk result (λ others. others ≡ rows.now) }
 {
-    let mut others = List::new(alloc);
+    let mut others = List::with_capacity(alloc, rows.len())?;
     for row in rows {
         others.push(row.copy()?)?;
     }

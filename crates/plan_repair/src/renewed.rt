@@ -100,7 +100,7 @@ fn renewed_in_place<R: Rows>(
     ensures reading { TakesAtMost (sum_by (uses_to_take rows.old) (R.shown reading.old).cut.rows)
         (R.shown reading.old) (R.shown reading.new) }
 {
-    let mut origin = Vec::new(alloc);
+    let mut origin = Vec::with_capacity(alloc, reading.count() as usize)?;
     for i in 0..reading.count() {
         let name = reading.name(i);
         if !has_name(rows, i as usize, &name) {

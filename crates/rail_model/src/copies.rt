@@ -94,7 +94,7 @@ impl Tables {
 fn copy_routes(alloc: Global, routes: &[Route]) -> Result<List<Route>, OutOfMemory>
     ensures { IfOk result (λ others. others ≡ routes.now) }
 {
-    let mut others = List::new(alloc);
+    let mut others = List::with_capacity(alloc, routes.len())?;
     for route in routes {
         others.push(route.copy(alloc)?)?;
     }
@@ -104,7 +104,7 @@ fn copy_routes(alloc: Global, routes: &[Route]) -> Result<List<Route>, OutOfMemo
 fn copy_runs(alloc: Global, runs: &[Run]) -> Result<List<Run>, OutOfMemory>
     ensures { IfOk result (λ others. others ≡ runs.now) }
 {
-    let mut others = List::new(alloc);
+    let mut others = List::with_capacity(alloc, runs.len())?;
     for run in runs {
         others.push(run.copy()?)?;
     }
@@ -114,7 +114,7 @@ fn copy_runs(alloc: Global, runs: &[Run]) -> Result<List<Run>, OutOfMemory>
 fn copy_sections(alloc: Global, sections: &[Section]) -> Result<List<Section>, OutOfMemory>
     ensures { IfOk result (λ others. others ≡ sections.now) }
 {
-    let mut others = List::new(alloc);
+    let mut others = List::with_capacity(alloc, sections.len())?;
     for section in sections {
         others.push(section.copy(alloc)?)?;
     }

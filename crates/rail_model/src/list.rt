@@ -44,6 +44,15 @@ impl<T> List<T> {
         }
     }
 
+    /// An empty list with room for so many items: until it has more, a push asks for no memory.
+    pub fn with_capacity(alloc: Global, room: usize) -> Result<Self, OutOfMemory>
+        ensures { IfOk result (λ list. list ≡ []) }
+    {
+        Ok(List {
+            items: Vec::with_capacity(alloc, room)?,
+        })
+    }
+
     /// The items of a vector, in their order.
     pub fn from_vec(items: Vec<T>) -> Self
         requires { length items.items < 2 ^ 63 }

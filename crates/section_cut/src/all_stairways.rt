@@ -39,7 +39,7 @@ pub(crate) fn stairways_between(
     requires part { from ≤ to }
     ensures { IfOk result (λ all. all ≡ drop from (take to (map stair_of paths.now))) }
 {
-    let mut all = List::new(alloc);
+    let mut all = List::with_capacity(alloc, (to - from) as usize)?;
     for run in from..to {
         all.push(stair_by(alloc, paths, run)?)?;
     }
@@ -81,7 +81,8 @@ fn rooms_for(alloc: Global, tables: &LineTables) -> Result<Vec<StairRoom>, OutOf
     Ok(rooms)
 }
 
-// How many runs are a part at least: all, unless there are uses enough for two threads.
+// How many runs are a part at least: all, unless there are uses enough for two threads. No clause
+// says so.
 fn runs_a_part(rt: &impl Threads, rooms: &[StairRoom]) -> usize {
     let mut uses: usize = 0;
     for room in rooms {
@@ -204,6 +205,18 @@ impl AllStairways {
         ensures { result ≡ true → StartsOutside section.now (stair_at self.now n).uses }
     {
         is_outside(self.starts[n], section)
+    }
+
+    // How many stairways don't pass a section's window by: no more runs are members. No clause says
+    // so, since it is for room alone.
+    pub(crate) fn candidates(&self, section: &Section) -> usize {
+        let mut count: usize = 0;
+        for starts in &self.starts {
+            if !is_outside(*starts, section) {
+                count = count.saturating_add(1);
+            }
+        }
+        count
     }
 
     // The spans of the stairways in a section of so many blocks, by a table of positions.

@@ -82,18 +82,20 @@ fn cut_by(
         ≡ stamped stamp (cuts.section_cut tables.now (section_at tables.now section))) }
     ensures sound { IfOk result IsSoundCut }
 {
-    let mut rows = no_section_rows(alloc, tables, section, stairs.len())?;
+    let members = stairs.candidates(tables.section(section));
+    let mut rows = no_section_rows(alloc, tables, section, stairs.len(), members)?;
     add_to_section(alloc, tables, section, stairs, 0, stamp, &mut rows)?;
     cut_of_section(alloc, tables, section, rows.members)
 }
 
-// The positions of the blocks in the section of a number, and no rows yet, with room for its members
-// among so many runs.
+// The positions of the blocks in the section of a number, and no rows yet, with room for so many
+// members among so many runs.
 pub(crate) fn no_section_rows(
     alloc: Global,
     tables: &LineTables,
     section: u32,
     runs: usize,
+    members: usize,
 ) -> Result<SectionRows, OutOfMemory>
     requires { section < length tables.now.sections }
     ensures { IfOk result (λ rows. (stamp : ℕ)
@@ -101,7 +103,7 @@ pub(crate) fn no_section_rows(
 {
     Ok(SectionRows {
         positions: positions(alloc, tables, section)?,
-        members: no_members(alloc, runs)?,
+        members: no_members(alloc, runs, members)?,
     })
 }
 

@@ -23,7 +23,7 @@ pub(crate) fn stairways_to(
     let to_s = tables.section(section).to_s;
     let paths = tables.paths()?;
     let lead = paths.most_lead();
-    let mut all = List::new(alloc);
+    let mut all = List::with_capacity(alloc, tables.runs() as usize)?;
     for run in 0..tables.runs() {
         all.push(stair_to(alloc, tables, &paths, run, to_s, lead)?)?;
     }

@@ -57,7 +57,7 @@ fn no_rows(alloc: Global, tables: &LineTables, stamp: u64) -> Result<RowsOfAll, 
 {
     let mut each = Vec::with_capacity(alloc, tables.sections() as usize)?;
     for section in 0..tables.sections() {
-        each.push(no_section_rows(alloc, tables, section, tables.runs() as usize)?)?;
+        each.push(no_section_rows(alloc, tables, section, tables.runs() as usize, 0)?)?;
     }
     Ok(RowsOfAll { stamp, each })
 }
@@ -98,7 +98,7 @@ fn cuts_of_rows(
     ensures sound { IfOk result (λ made. All IsSoundCut made) }
 {
     tables.learn_sound();
-    let mut made = List::new(alloc);
+    let mut made = List::with_capacity(alloc, tables.sections() as usize)?;
     for rows in all.each {
         made.push(cut_of_section(alloc, tables, made.len() as u32, rows.members)?)?;
     }

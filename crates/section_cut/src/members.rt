@@ -31,13 +31,17 @@ pub(crate) struct MemberRows {
     pub(crate) of_run: Vec<Option<Member>>,
 }
 
-// No rows, and room for the members among so many runs.
-pub(crate) fn no_members(alloc: Global, runs: usize) -> Result<MemberRows, OutOfMemory>
+// No rows, and room for so many members among so many runs.
+pub(crate) fn no_members(
+    alloc: Global,
+    runs: usize,
+    members: usize,
+) -> Result<MemberRows, OutOfMemory>
     ensures rows { IfOk result (λ all. all.rows ≡ []) }
     ensures of_run { IfOk result (λ all. all.of_run.items ≡ []) }
 {
     Ok(MemberRows {
-        rows: List::new(alloc),
+        rows: List::with_capacity(alloc, members)?,
         of_run: Vec::with_capacity(alloc, runs)?,
     })
 }

@@ -5,7 +5,7 @@ use Rattle.made_line.proofs.Lists.{no_legs, first_legs-more}
 use Rattle.made_line.proofs.runs.legs.Goals as goal
 
 pub loop-init : goal.loop-init
-loop-init c = record { legs = c.new-legs.ensures ∙ sym (no_legs _); drawn = sym (after_none _) }
+loop-init c = record { legs = c.in_ok-legs.ensures ∙ sym (no_legs _); drawn = sym (after_none _) }
 
 pub loop-preserved : goal.loop-preserved
 loop-preserved c = record {

@@ -4,7 +4,7 @@ use Rattle.made_line.proofs.Lists.{no_runs, first_runs-more}
 use Rattle.made_line.proofs.runs.runs.Goals as goal
 
 pub loop-i-init : goal.loop-i-init
-loop-i-init c = record { runs = c.new-runs.ensures ∙ sym (no_runs _); drawn = sym (after_none _) }
+loop-i-init c = record { runs = c.in_ok-runs.ensures ∙ sym (no_runs _); drawn = sym (after_none _) }
 
 pub loop-i-preserved : goal.loop-i-preserved
 loop-i-preserved c = record {

@@ -22,8 +22,8 @@ loop-cut-init c =
     let f = shelf_of_cut c.args.at in
     let cuts = c.into_iter-cut-iterator.ensures.into_iter_gives.0 ∙ c.into_vec-cut-items.ensures in
     record {
-      same = ap (λ ss. ss ++ map f (into_iter_items c.into_iter-cut-iterator.result)) c.new-shelves.ensures ∙ ap (map f) (cuts ∙ c.in_ok-all_cuts.ensures.same);
-      sound = rw c.new-shelves.ensures (λ k d l. absurd (omega (arith, l)));
+      same = ap (λ ss. ss ++ map f (into_iter_items c.into_iter-cut-iterator.result)) c.in_ok-shelves.ensures ∙ ap (map f) (cuts ∙ c.in_ok-all_cuts.ensures.same);
+      sound = rw c.in_ok-shelves.ensures (λ k d l. absurd (omega (arith, l)));
       left = subst (All IsSoundCut) (sym cuts) c.in_ok-all_cuts.ensures.sound;
       long = search rules;
     }

@@ -8,7 +8,7 @@ use Rattle.plan_repair.proofs.renewed.renewed_in_place.Goals as goal
 
 pub loop-i-init : goal.loop-i-init
 loop-i-init g c =
-    let none = c.new-origin.ensures.items in
+    let none = c.in_ok-origin.ensures.items in
     record {
       number = ap length none;
       count = refl;
