@@ -157,6 +157,11 @@ base_row_taken planners row read e made base is none tables edits =
     subst (λ r. TakesRow planners row r made (record made { base = base }) None) (sym is)
     (base_taken planners row e made base none tables edits)
 
+-- a row that can't be read
+pub faulty_row_taken : (planners row : ℕ) (read : Result Line Form) (form : Form) (made : InputSoFar) → read ≡ Err form
+    → TakesRow planners row read made made (Some (cause.Form form))
+faulty_row_taken planners row read form made is = subst (λ r. TakesRow planners row r made made (Some (cause.Form form))) (sym is) refl
+
 -- ---- how far a spelling grows by one line
 
 record Grows (planners : ℕ) (s next : Spelling) : Type 0 where

@@ -20,7 +20,7 @@ use crate::script_rows::ScriptRows;
 use crate::stopped::Stopped;
 use line_tables::LineTables;
 use plan_model::Task;
-use rail_model::{Block, Edit, Form, Item, Kind, Name, OutOfMemory, Rule};
+use rail_model::{Block, Edit, Form, Item, Kind, Name, OutOfMemory, Rule, Signal};
 use row_text::{Line, RowList, Unread, Word, is_plain, piece_end, rows};
 use std::alloc::Global;
 
@@ -170,6 +170,21 @@ impl BaseSoFar {
     }
 
     #[inline]
+    fn change_signal(&mut self, row: u64, signal: Signal) -> Result<(), OutOfMemory>
+        requires { self.old.edits < 2 ^ 64 - 1 }
+        ensures tables { OnOk result (tables_so_far self.new
+            ≡ after_one_more row (tables_so_far self.old) (edits.Change (items.Signal signal))) }
+        ensures edits { OnOk result (self.new.edits ≡ self.old.edits + 1) }
+    {
+        self.edits += 1;
+        if self.refused.is_none() {
+            let answer = self.tables.change_signal(signal)?;
+            self.refused = refusal_of(row, answer);
+        }
+        Ok(())
+    }
+
+    #[inline]
     fn drop_named(&mut self, row: u64, kind: Kind, name: &Name)
         requires { self.old.edits < 2 ^ 64 - 1 }
         ensures tables { tables_so_far self.new
@@ -302,6 +317,13 @@ impl InputSoFar {
                     Ok(None)
                 }
                 Err(why) => form_fault(why),
+            },
+            Ok(Word::Change(Kind::Signal)) => match row.signal() {
+                Ok(signal) => {
+                    self.base.change_signal(number, signal)?;
+                    Ok(None)
+                }
+                Err(form) => Ok(Some(Cause::Form(form))),
             },
             Ok(Word::Change(kind)) => match row.item(alloc, version, kind) {
                 Ok(item) => {

@@ -7,7 +7,7 @@ ghost use Rattle.line_tables.specs.AnswersEdit.{AnswersEdit};
 ghost use Rattle.line_tables.specs.References.{rule_before_put, rule_before_change};
 
 use crate::LineTables;
-use rail_model::{Block, Edit, Item, Kind, Name, OutOfMemory, Rule};
+use rail_model::{Block, Edit, Item, Kind, Name, OutOfMemory, Rule, Signal, is_signal_within};
 
 impl LineTables {
     /// Makes an edit, or says which rule refuses it: the first that does, in the order of
@@ -80,6 +80,19 @@ impl LineTables {
         self.replace(item)
     }
 
+    /// Changes a signal, as `change` does. A signal by itself takes less room than an item of any
+    /// kind.
+    #[inline]
+    pub fn change_signal(&mut self, signal: Signal) -> Result<Result<(), Rule>, OutOfMemory>
+        ensures { AnswersEdit (rule_of self.old (edit.Change (item.Signal signal)))
+            (after self.old (edit.Change (item.Signal signal))) result self.old self.new }
+    {
+        if !is_signal_within(&signal) {
+            return Ok(Err(Rule::Range));
+        }
+        self.replace_signal(signal)
+    }
+
     /// Drops the item of a kind and a name, as the edit does that drops it.
     pub fn drop_named(&mut self, kind: Kind, name: &Name) -> Result<(), Rule>
         ensures { AnswersEdit (rule_of self.old (edit.Drop kind name.now))
@@ -115,8 +128,8 @@ impl LineTables {
     {
         match item {
             Item::Block(block) => self.replace_block(block),
-            Item::Signal(signal) => return self.change_signal(signal),
-            Item::Route(route) => return self.change_route(&route),
+            Item::Signal(signal) => return self.replace_signal(signal),
+            Item::Route(route) => return self.replace_route(&route),
             Item::Run(run) => self.replace_run(run)?,
             Item::Section(section) => self.replace_section(section)?,
             Item::Connection(connection) => self.replace_connection(connection)?,

@@ -34,7 +34,7 @@ impl LineTables {
     // Puts a signal in the place of the one of its name, or tells the rule by which its name or its
     // block refuses it. Both are looked up once: for the rules, for its entry, for the counts and
     // for the sets.
-    pub(crate) fn change_signal(&mut self, signal: Signal) -> Result<Result<(), Rule>, OutOfMemory>
+    pub(crate) fn replace_signal(&mut self, signal: Signal) -> Result<Result<(), Rule>, OutOfMemory>
         requires { is_within (item.Signal signal) ≡ true }
         ensures { AnswersEdit (rule_of_change self.old (item.Signal signal)) (after_change self.old (item.Signal signal))
             result self.old self.new }
@@ -60,7 +60,7 @@ impl LineTables {
     // Puts a route in the place of the one of its name, or tells the rule by which its name, what
     // it refers to or the runs on it refuse it. Its signals are looked up once: for the rules, for
     // its entry, for the counts and for the sets.
-    pub(crate) fn change_route(&mut self, route: &Route) -> Result<Result<(), Rule>, OutOfMemory>
+    pub(crate) fn replace_route(&mut self, route: &Route) -> Result<Result<(), Rule>, OutOfMemory>
         requires { is_within (item.Route route.now) ≡ true }
         ensures { AnswersEdit (rule_of_change self.old (item.Route route.now))
             (after_change self.old (item.Route route.now)) result self.old self.new }

@@ -45,7 +45,7 @@ pub use name::{BadName, NAME_BYTES, Name, same_names};
 pub use named::Named;
 pub use names::Names;
 pub use path::{Hop, Path};
-pub use range::{is_block_within, is_within};
+pub use range::{is_block_within, is_signal_within, is_within};
 pub use room::ask_for_room;
 pub use stair::{Stair, Use};
 pub use tables::Tables;

@@ -30,7 +30,8 @@ pub fn is_block_within(block: &Block) -> bool
     is_from_one(block.length_m, GREATEST_LENGTH_M)
 }
 
-fn is_signal_within(signal: &Signal) -> bool
+/// Whether the numbers of a signal are within the limits.
+pub fn is_signal_within(signal: &Signal) -> bool
     ensures { result ≡ within.is_signal_within signal.now }
 {
     signal.approach_m <= GREATEST_LENGTH_M

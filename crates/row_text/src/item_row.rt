@@ -26,7 +26,7 @@ pub(crate) fn item_of(
 {
     match kind {
         Kind::Block => Ok(Item::Block(block_of(row)?)),
-        Kind::Signal => signal_of(row),
+        Kind::Signal => Ok(Item::Signal(signal_of(row)?)),
         Kind::Route => route_of(alloc, row),
         Kind::Run => run_of(alloc, version, row),
         Kind::Section => section_of(alloc, version, row),
@@ -46,10 +46,10 @@ pub(crate) fn block_of(row: &Row<'_>) -> Result<Block, Form>
 }
 
 // signal,NAME,BLOCK,APPROACH,WATCH,FORM,OVERLAP,RELEASE
-#[inline(never)]
-fn signal_of(row: &Row<'_>) -> Result<Item, Unread>
+#[inline]
+pub(crate) fn signal_of(row: &Row<'_>) -> Result<Signal, Form>
     requires { 7 < length row.now }
-    ensures { Reads result (item_in 1 kind.Signal row.now) }
+    ensures { item_in 1 kind.Signal row.now ≡ result_map_both item.Signal (λ fault. fault) result }
 {
     let name = name_at(row, 1)?;
     let block = name_at(row, 2)?;
@@ -58,7 +58,7 @@ fn signal_of(row: &Row<'_>) -> Result<Item, Unread>
     let form_s = number_at(row, 5)?;
     let overlap_m = number_at(row, 6)?;
     let release_s = number_at(row, 7)?;
-    Ok(Item::Signal(Signal {
+    Ok(Signal {
         name,
         block,
         approach_m,
@@ -66,7 +66,7 @@ fn signal_of(row: &Row<'_>) -> Result<Item, Unread>
         form_s,
         overlap_m,
         release_s,
-    }))
+    })
 }
 
 // route,NAME,SIGNAL_1,..,SIGNAL_n

@@ -9,11 +9,11 @@ ghost use Rattle.row_text.specs.SheetRows.{field};
 ghost use Rattle.row_text.specs.Reads.{Reads, SpellsBy};
 
 use crate::fields::{Fields, Row};
-use crate::item_row::{block_of, item_of};
+use crate::item_row::{block_of, item_of, signal_of};
 use crate::read_field::{name_at, number_at};
 use crate::unread::Unread;
 use crate::word::{Word, word_of};
-use rail_model::{Block, Edit, Form, Item, Kind, Name, OutOfMemory};
+use rail_model::{Block, Edit, Form, Item, Kind, Name, OutOfMemory, Signal};
 use std::alloc::Global;
 
 /// What a row of a planner's text says.
@@ -105,6 +105,17 @@ impl<'a> Row<'a> {
             ≡ result_map_both item.Block (λ fault. fault) result }
     {
         block_of(self)
+    }
+
+    /// The signal that the row puts or changes, or the first fault of its fields, as `item` says it.
+    /// A signal by itself takes less room than an item of any kind.
+    #[inline]
+    pub fn signal(&self) -> Result<Signal, Form>
+        requires { 7 < length self.now }
+        ensures { (version : ℕ) → lines.item_in version kind.Signal self.now
+            ≡ result_map_both item.Signal (λ fault. fault) result }
+    {
+        signal_of(self)
     }
 
     /// The name that the row drops or asks for, or the fault of its field.

@@ -1,8 +1,5 @@
 use Rattle.row_text.proofs.item_row.item_of.Goals as goal
 
-pub returns-in-Signal : goal.returns-in-Signal
-returns-in-Signal c = rw c.in-Signal.is c.signal_of.ensures
-
 pub returns-in-Route : goal.returns-in-Route
 returns-in-Route c = rw c.in-Route.is c.route_of.ensures
 

@@ -1,10 +1,8 @@
-use Rattle.std.proofs.Common.{◌≡◌, ◌+◌, [], get_or, length, Some, Err, refl, sym, subst, ◌∙◌, rules}
+use Rattle.std.proofs.Common.{◌≡◌, ◌+◌, [], get_or, length, refl, ◌∙◌, rules}
 use Rattle.rail_model.specs.declared.edit.Edit.TheVariants as edits
 use Rattle.rail_model.specs.declared.items.Item.TheVariants as items
-use Rattle.capacity_cmd.specs.declared.status.Cause.TheVariants as cause
-use Rattle.capacity_cmd.specs.InputSoFar.{TakesRow}
 use Rattle.row_text.specs.Lines.{read_in}
-use Rattle.capacity_cmd.proofs.Making.{base_row_taken}
+use Rattle.capacity_cmd.proofs.Making.{base_row_taken, faulty_row_taken}
 use Rattle.capacity_cmd.proofs.input.InputSoFar.take_row.Goals as goal
 
 pub returns-in_ok-put-in-Ok-item : goal.returns-in_ok-put-in-Ok-item
@@ -42,8 +40,20 @@ returns-in_ok-put_block-in-Ok c =
 pub returns-in-Err-block : goal.returns-in-Err-block
 returns-in-Err-block c =
     let arm = c.in-Ok-Put-Block in
-    let row = get_or c.args.piece.rows.now c.args.i [] in
-    let fault : read_in c.args.version row ≡ Err c.in-Err-block.form =
-    rw (← c.get-row.ensures) (arm.ensures.line c.args.version ∙ rw (arm.field-0-is, arm.field-0-0-is, c.in-Err-block.ensures c.args.version) refl) in
-    subst (λ read. TakesRow c.args.planners (c.args.piece.before + c.args.i + 1) read c.args.self.now c.args.self.now (Some (cause.Form c.in-Err-block.form)))
-    (sym fault) refl
+    faulty_row_taken c.args.planners (c.args.piece.before + c.args.i + 1) (read_in c.args.version (get_or c.args.piece.rows.now c.args.i [])) c.in-Err-block.form c.args.self.now
+    (rw (← c.get-row.ensures) (arm.ensures.line c.args.version ∙ rw (arm.field-0-is, arm.field-0-0-is, c.in-Err-block.ensures c.args.version) refl))
+
+pub returns-in_ok-change_signal-in-Ok-signal : goal.returns-in_ok-change_signal-in-Ok-signal
+returns-in_ok-change_signal-in-Ok-signal c =
+    let none : length c.args.self.now.scripts ≡ 0 = search rules in
+    let arm = c.in-Ok-Change-Signal in
+    base_row_taken c.args.planners (c.args.piece.before + c.args.i + 1) (read_in c.args.version (get_or c.args.piece.rows.now c.args.i []))
+    (edits.Change (items.Signal c.in-Ok-signal.signal)) c.args.self.now c.change_signal.new.self
+    (rw (← c.get-row.ensures) (arm.ensures.line c.args.version ∙ rw (arm.field-0-is, arm.field-0-0-is, c.in-Ok-signal.ensures c.args.version) refl)) none
+    c.in_ok-change_signal-in-Ok-signal.ensures.tables c.in_ok-change_signal-in-Ok-signal.ensures.edits
+
+pub returns-in-Err-signal : goal.returns-in-Err-signal
+returns-in-Err-signal c =
+    let arm = c.in-Ok-Change-Signal in
+    faulty_row_taken c.args.planners (c.args.piece.before + c.args.i + 1) (read_in c.args.version (get_or c.args.piece.rows.now c.args.i [])) c.in-Err-signal.form c.args.self.now
+    (rw (← c.get-row.ensures) (arm.ensures.line c.args.version ∙ rw (arm.field-0-is, arm.field-0-0-is, c.in-Err-signal.ensures c.args.version) refl))

@@ -27,7 +27,7 @@ use Rattle.line_tables.proofs.RulesOfChange.{refused_signal, refused_block, refu
 use Rattle.line_tables.proofs.KeptLine.{kept_table, names_after_change, joined_with_signals}
 use Rattle.line_tables.proofs.JoinedSignals.{signal_change}
 use Rattle.line_tables.proofs.Labels.{block_name, signal_name}
-use Rattle.line_tables.proofs.line_tables.LineTables.change_signal.Goals as goal
+use Rattle.line_tables.proofs.line_tables.LineTables.replace_signal.Goals as goal
 
 abbrev answer : Bool → Option Rule
 answer twice = if twice then Some Twice else None

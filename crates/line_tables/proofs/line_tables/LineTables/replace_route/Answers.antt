@@ -29,7 +29,7 @@ use Rattle.line_tables.proofs.JoinedRoutes.{routes_stay, route_change}
 use Rattle.line_tables.proofs.KeptRoutes.{under_with_names}
 use Rattle.line_tables.proofs.KeptLine.{kept, kept_table, kept_key, kept_under, kept_references, of_kept, route_changed_in, joined_with_routes}
 use Rattle.line_tables.proofs.Labels.{signal_name, route_name, kept_name}
-use Rattle.line_tables.proofs.line_tables.LineTables.change_route.Goals as goal
+use Rattle.line_tables.proofs.line_tables.LineTables.replace_route.Goals as goal
 
 has_route_by : (t : WholeTables) (n : List ℕ) → has_route (tables_of t) n ≡ is_some (key_of route_name t.routes n)
 has_route_by t n =
