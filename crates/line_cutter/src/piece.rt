@@ -63,7 +63,7 @@ fn piece_rows(
     ensures { IfOk result (λ some. some
         ≡ map (pieces.piece_row a b) (filter (pieces.uses_piece a b) rows.now)) }
 {
-    let mut some = List::with_capacity(alloc, rows.len())?;
+    let mut some = List::new(alloc);
     for k in 0..rows.len() {
         add_row(alloc, &mut some, &rows[k], one_way[k], a, b)?;
     }
