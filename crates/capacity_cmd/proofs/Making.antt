@@ -162,6 +162,11 @@ pub faulty_row_taken : (planners row : ℕ) (read : Result Line Form) (form : Fo
     → TakesRow planners row read made made (Some (cause.Form form))
 faulty_row_taken planners row read form made is = subst (λ r. TakesRow planners row r made made (Some (cause.Form form))) (sym is) refl
 
+-- a row that spells a line is taken as the line is
+pub spelled_row_taken : {E : Type 0} (planners row : ℕ) (read spelled : Result Line Form) (made more : InputSoFar) (told : Result (Option Cause) E)
+    → read ≡ spelled → IfOk told (TakesRow planners row spelled made more) → IfOk told (TakesRow planners row read made more)
+spelled_row_taken planners row read spelled made more told is = subst (λ r. IfOk told (TakesRow planners row r made more)) (sym is)
+
 -- ---- how far a spelling grows by one line
 
 record Grows (planners : ℕ) (s next : Spelling) : Type 0 where

@@ -1,10 +1,13 @@
 //! From the text of an input to tables and scripts, or to the row at which it is refused.
-ghost use Rattle.std.specs.Prelude.{◌≡◌, ◌+◌, ◌-◌, ◌≤◌, ◌<◌, ◌^◌, length, sum_by, slice_index_or, [], IfOk, OnOk, Ok};
+ghost use Rattle.std.specs.Prelude.{◌≡◌, ℕ, ◌+◌, ◌-◌, ◌≤◌, ◌<◌, ◌^◌, IsTrue, length, sum_by, slice_index_or, [], IfOk, OnOk, Ok};
 ghost use Rattle.plan_book.specs.declared.book.TheConstants.{TASKS};
 ghost use Rattle.rail_model.specs.declared.edit.Edit.TheVariants as edits;
 ghost use Rattle.rail_model.specs.declared.items.Item.TheVariants as items;
-ghost use Rattle.row_text.specs.Lines.{read_in};
+ghost use Rattle.rail_model.specs.declared.edit.Kind.TheVariants as kind;
+ghost use Rattle.row_text.specs.Lines.{read_in, line_of};
 ghost use Rattle.row_text.specs.Rows.{rows_of};
+ghost use Rattle.row_text.specs.Words.{allows, kind_shape};
+ghost use Rattle.row_text.specs.declared.word.Word.TheVariants as word;
 ghost use Rattle.capacity_cmd.specs.Input.{content_of_rows, content_in};
 ghost use Rattle.capacity_cmd.specs.InputSoFar.{accepted_in, tables_so_far, accepted_so_far};
 ghost use Rattle.capacity_cmd.specs.InputSoFar.{after_one_more, IsWithin, HasTaken};
@@ -21,7 +24,7 @@ use crate::stopped::Stopped;
 use line_tables::LineTables;
 use plan_model::Task;
 use rail_model::{Block, Edit, Form, Item, Kind, Name, OutOfMemory, Rule, Signal};
-use row_text::{Line, RowList, Unread, Word, is_plain, piece_end, rows};
+use row_text::{Line, Row, RowList, Unread, Word, is_plain, piece_end, rows};
 use std::alloc::Global;
 
 // Shorter texts are read at once.
@@ -283,7 +286,8 @@ impl InputSoFar {
     }
 
     // Takes the row at a place of a piece, unless it has a fault. A base edit is taken in parts, so
-    // that no line is made and moved for it.
+    // that no line is made and moved for it. Each way to take a row stands by itself, since the room
+    // of its items is cleared where it begins.
     fn take_row(
         &mut self,
         alloc: Global,
@@ -304,41 +308,11 @@ impl InputSoFar {
         }
         let row = piece.rows.get(i);
         match row.does() {
-            Ok(Word::Put(Kind::Block)) => match row.block() {
-                Ok(block) => {
-                    self.base.put_block(number, block)?;
-                    Ok(None)
-                }
-                Err(form) => Ok(Some(Cause::Form(form))),
-            },
-            Ok(Word::Put(kind)) => match row.item(alloc, version, kind) {
-                Ok(item) => {
-                    self.base.put(number, item)?;
-                    Ok(None)
-                }
-                Err(why) => form_fault(why),
-            },
-            Ok(Word::Change(Kind::Signal)) => match row.signal() {
-                Ok(signal) => {
-                    self.base.change_signal(number, signal)?;
-                    Ok(None)
-                }
-                Err(form) => Ok(Some(Cause::Form(form))),
-            },
-            Ok(Word::Change(kind)) => match row.item(alloc, version, kind) {
-                Ok(item) => {
-                    self.base.change(number, item)?;
-                    Ok(None)
-                }
-                Err(why) => form_fault(why),
-            },
-            Ok(Word::Drop(kind)) => match row.name() {
-                Ok(name) => {
-                    self.base.drop_named(number, kind, &name);
-                    Ok(None)
-                }
-                Err(form) => Ok(Some(Cause::Form(form))),
-            },
+            Ok(Word::Put(Kind::Block)) => self.put_block_of(number, &row),
+            Ok(Word::Put(kind)) => self.put_item_of(alloc, version, number, kind, &row),
+            Ok(Word::Change(Kind::Signal)) => self.change_signal_of(number, &row),
+            Ok(Word::Change(kind)) => self.change_item_of(alloc, version, number, kind, &row),
+            Ok(Word::Drop(kind)) => self.drop_of(number, kind, &row),
             Ok(Word::Ask) | Ok(Word::Planner) => {
                 self.take_spelled(alloc, planners, version, piece, i)
             }
@@ -346,8 +320,111 @@ impl InputSoFar {
         }
     }
 
-    // Takes the row at a place of a piece as the line that it spells, unless it has a fault. This
-    // stands by itself, so that no room for a line is cleared where a base edit is taken.
+    #[inline(never)]
+    fn put_block_of(&mut self, number: u64, row: &Row<'_>) -> Result<Option<Cause>, OutOfMemory>
+        requires none { length self.old.scripts ≡ 0 }
+        requires few { self.old.base.edits < 2 ^ 64 - 1 }
+        requires long { 2 < length row.now }
+        ensures { (planners version : ℕ) → IfOk result (TakesRow planners number
+            (line_of version (word.Put kind.Block) row.now) self.old self.new) }
+    {
+        match row.block() {
+            Ok(block) => {
+                self.base.put_block(number, block)?;
+                Ok(None)
+            }
+            Err(form) => Ok(Some(Cause::Form(form))),
+        }
+    }
+
+    #[inline(never)]
+    fn put_item_of(
+        &mut self,
+        alloc: Global,
+        version: u32,
+        number: u64,
+        kind: Kind,
+        row: &Row<'_>,
+    ) -> Result<Option<Cause>, OutOfMemory>
+        requires none { length self.old.scripts ≡ 0 }
+        requires few { self.old.base.edits < 2 ^ 64 - 1 }
+        requires long { IsTrue (allows (kind_shape kind) (length row.now)) }
+        ensures { (planners : ℕ) → IfOk result (TakesRow planners number
+            (line_of version (word.Put kind) row.now) self.old self.new) }
+    {
+        match row.item(alloc, version, kind) {
+            Ok(item) => {
+                self.base.put(number, item)?;
+                Ok(None)
+            }
+            Err(why) => form_fault(why),
+        }
+    }
+
+    #[inline(never)]
+    fn change_signal_of(&mut self, number: u64, row: &Row<'_>) -> Result<Option<Cause>, OutOfMemory>
+        requires none { length self.old.scripts ≡ 0 }
+        requires few { self.old.base.edits < 2 ^ 64 - 1 }
+        requires long { 7 < length row.now }
+        ensures { (planners version : ℕ) → IfOk result (TakesRow planners number
+            (line_of version (word.Change kind.Signal) row.now) self.old self.new) }
+    {
+        match row.signal() {
+            Ok(signal) => {
+                self.base.change_signal(number, signal)?;
+                Ok(None)
+            }
+            Err(form) => Ok(Some(Cause::Form(form))),
+        }
+    }
+
+    #[inline(never)]
+    fn change_item_of(
+        &mut self,
+        alloc: Global,
+        version: u32,
+        number: u64,
+        kind: Kind,
+        row: &Row<'_>,
+    ) -> Result<Option<Cause>, OutOfMemory>
+        requires none { length self.old.scripts ≡ 0 }
+        requires few { self.old.base.edits < 2 ^ 64 - 1 }
+        requires long { IsTrue (allows (kind_shape kind) (length row.now)) }
+        ensures { (planners : ℕ) → IfOk result (TakesRow planners number
+            (line_of version (word.Change kind) row.now) self.old self.new) }
+    {
+        match row.item(alloc, version, kind) {
+            Ok(item) => {
+                self.base.change(number, item)?;
+                Ok(None)
+            }
+            Err(why) => form_fault(why),
+        }
+    }
+
+    #[inline(never)]
+    fn drop_of(
+        &mut self,
+        number: u64,
+        kind: Kind,
+        row: &Row<'_>,
+    ) -> Result<Option<Cause>, OutOfMemory>
+        requires none { length self.old.scripts ≡ 0 }
+        requires few { self.old.base.edits < 2 ^ 64 - 1 }
+        requires long { 1 < length row.now }
+        ensures { (planners version : ℕ) → IfOk result (TakesRow planners number
+            (line_of version (word.Drop kind) row.now) self.old self.new) }
+    {
+        match row.name() {
+            Ok(name) => {
+                self.base.drop_named(number, kind, &name);
+                Ok(None)
+            }
+            Err(form) => Ok(Some(Cause::Form(form))),
+        }
+    }
+
+    // Takes the row at a place of a piece as the line that it spells, unless it has a fault.
     #[inline(never)]
     fn take_spelled(
         &mut self,
