@@ -1,5 +1,5 @@
 -- A report, to which the head of one more section's answer comes.
-use Rattle.std.proofs.Common.{◌≡◌, ℕ, zero, suc, ◌+◌, ◌<◌, ◌≤◌, List, [], ◌∷◌, ◌++◌, length, take, sym, ap, ◌∙◌, subst, append_assoc, arith}
+use Rattle.std.proofs.Common.{◌≡◌, ℕ, zero, suc, ◌+◌, ◌<◌, ◌≤◌, List, [], ◌∷◌, ◌++◌, length, take, refl, sym, ap, ◌∙◌, subst, append_assoc, arith}
 use Rattle.std.proofs.lemmas.List.{take_all, take_more, length-take-le}
 use Rattle.std.proofs.lemmas.List.Concat.{flat_map-append}
 use Rattle.rail_model.specs.declared.tables.Tables.{Tables}
@@ -14,7 +14,7 @@ use Rattle.capacity_report.specs.Answers.{answer_rows, AreAnswers, heads, report
 use Rattle.capacity_report.specs.Rows.{rows_of_journal}
 use Rattle.capacity_report.proofs.Reports.{total_more, heads_more, answers_more, answers_count}
 use Rattle.capacity_cmd.specs.Ends.{IsReportText, IsJournalWith, IsJournalText}
-use Rattle.capacity_cmd.specs.Heads.{AddsReport, AddsHead, HasHeads}
+use Rattle.capacity_cmd.specs.Heads.{AddsReport, AddsHead, HasHeads, IsTextOfHeads}
 
 -- the heads of the first sections, and that of the next
 pub heads_added : (tables : Tables) (count : ℕ) (before rows more : List Row) (total greater : Total) → count < length tables.sections → HasHeads tables count before rows total → AddsHead tables (section_at tables count) rows more total greater → HasHeads tables (count + 1) before more greater
@@ -64,6 +64,15 @@ report_written tables before whole text none adds written = (
   adds.1,
   written ∙ ap text_of_rows (adds.2 ∙ ap (λ (r : List Row). r ++ report_rows tables.sections adds.0) none),
 )
+
+-- the text of the heads of all sections and that of the total are the report
+pub heads_reported : (tables : Tables) (first last text : List ℕ) (total : Total) → IsTextOfHeads tables (length tables.sections) first total
+    → last ≡ text_of_rows (total_row total ∷ []) → text ≡ first ++ last → IsReportText tables text
+heads_reported tables first last text total had is joined =
+    let whole = had.rows ++ total_row total ∷ [] in
+    report_written tables [] whole text refl (report_added tables [] had.rows whole total had.heads refl)
+    (joined ∙ ap (λ t. t ++ last) had.written ∙ ap (λ t. text_of_rows had.rows ++ t) is
+    ∙ sym (flat_map-append text_of_row had.rows (total_row total ∷ [])))
 
 -- after the text of a session's journal the report of the tables at its end makes the text of the session
 pub journal_written : (journal seen : List Entry) (end_tables : Tables) (first last text : List ℕ)

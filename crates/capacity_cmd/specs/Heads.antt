@@ -1,9 +1,9 @@
 -- The text of `report` while the heads of its sections' answers are added, one after the other or each on a sheet of its own.
-use Rattle.std.specs.Prelude.{◌≡◌, ℕ, ◌-◌, ◌/◌, ◌%◌, ◌==◌, if◌then◌else◌, List, ◌++◌, take, ◌<◌, [], length, slice_index_or}
+use Rattle.std.specs.Prelude.{◌≡◌, ℕ, ◌-◌, ◌/◌, ◌%◌, ◌==◌, if◌then◌else◌, List, ◌++◌, take, ◌<◌, ◌≤◌, [], length, slice_index_or}
 use Rattle.rail_model.specs.declared.items.Section.{Section}
 use Rattle.rail_model.specs.declared.tables.Tables.{Tables}
 use Rattle.rail_model.specs.Tables.{section_at}
-use Rattle.row_text.specs.SheetRows.{Row}
+use Rattle.row_text.specs.SheetRows.{Row, text_of_rows}
 use Rattle.plan_model.specs.declared.answer.Answer.{Answer}
 use Rattle.plan_model.specs.Cut.{section_cut}
 use Rattle.plan_model.specs.Answer.{IsAnswer}
@@ -46,7 +46,14 @@ in_turn count turn = folded count (folded count turn)
 abbrev pub IsHeadInTurn : Tables → ℕ → Head → Type 0
 IsHeadInTurn tables turn = IsHead tables (section_at tables (in_turn (length tables.sections) turn))
 
--- the head of each section's answer alone, in the order in which the sections are taken
-pub record AreHeads (tables : Tables) (heads : List Head) : Type 0 where
+-- in the order in which the sections are taken, the head of each section's answer alone, but for the sections before this number
+pub record AreHeads (tables : Tables) (from : ℕ) (heads : List Head) : Type 0 where
   pub count : length heads ≡ length tables.sections
-  pub each : (n : ℕ) (d : Head) → n < length tables.sections → IsHeadInTurn tables n (slice_index_or heads n d)
+  pub each : (n : ℕ) (d : Head) → n < length tables.sections → from ≤ in_turn (length tables.sections) n
+      → IsHeadInTurn tables n (slice_index_or heads n d)
+
+-- a text is the heads of the first sections' answers, and the total is theirs
+pub record IsTextOfHeads (tables : Tables) (count : ℕ) (text : List ℕ) (total : Total) : Type 0 where
+  pub rows : List Row
+  pub heads : HasHeads tables count [] rows total
+  pub written : text ≡ text_of_rows rows

@@ -10,7 +10,7 @@ ghost use Rattle.capacity_cmd.specs.Heads.{AddsReport, HasHeads, AddsHead, AreHe
 ghost use Rattle.capacity_cmd.specs.Published.{HaveAnswers};
 
 use crate::compress::answer_of;
-use crate::section_heads::{Head, heads_of, join_heads};
+use crate::section_heads::{Head, heads_of, take_heads};
 use capacity_report::{Detail, Tally, answer_rows, total_row};
 use line_tables::LineTables;
 use plan_model::Answer;
@@ -30,19 +30,21 @@ pub(crate) fn report_text(
 {
     let stairs = AllStairways::of(alloc, stairways_in_parts(rt, alloc, tables)?)?;
     let heads = heads_of(rt, alloc, tables, &stairs)?;
-    text_of_heads(alloc, tables, &heads)
+    text_of_heads(alloc, tables, heads)
 }
 
 // The text of the heads and their total.
-fn text_of_heads(alloc: Global, tables: &LineTables, heads: &[Head]) -> Result<Text, OutOfMemory>
-    requires { AreHeads tables.now heads.now }
+fn text_of_heads(alloc: Global, tables: &LineTables, heads: Vec<Head>) -> Result<Text, OutOfMemory>
+    requires { AreHeads tables.now 0 heads.items }
     ensures { IfOk result (IsReportText tables.now) }
 {
-    let mut sheet = Sheet::new(alloc);
+    let mut text = Text::new(alloc);
     let mut tally = Tally::new();
-    join_heads(&mut sheet, &mut tally, tables, heads)?;
-    total_row(&mut sheet, &tally)?;
-    Text::of(sheet.into_text())
+    take_heads(alloc, &mut text, &mut tally, tables, heads)?;
+    let mut last = Sheet::new(alloc);
+    total_row(&mut last, &tally)?;
+    text.push(last.into_text())?;
+    Ok(text)
 }
 
 // Adds the heads of the answers of all sections, which are there, and their total to a sheet.

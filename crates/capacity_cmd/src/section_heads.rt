@@ -1,10 +1,10 @@
-//! The heads of the sections' answers, which are made side by side and then written one after the
+//! The heads of the sections' answers, which are made side by side and then put one after the
 //! other.
-ghost use Rattle.std.specs.Prelude.{◌≡◌, ◌<◌, [], length, IfOk, OnOk};
+ghost use Rattle.std.specs.Prelude.{◌≡◌, ◌+◌, ◌<◌, [], length, IfOk, OnOk};
 ghost use Rattle.rail_model.specs.Tables.{section_at};
 ghost use Rattle.rail_model.specs.Conflict.{timetable};
 ghost use Rattle.capacity_report.specs.Answers.{total_of};
-ghost use Rattle.capacity_cmd.specs.Heads.{HasHeads, IsHead, IsHeadInTurn, AreHeads};
+ghost use Rattle.capacity_cmd.specs.Heads.{IsHead, IsHeadInTurn, AreHeads, IsTextOfHeads};
 ghost use Rattle.capacity_cmd.specs.Heads.{folded, in_turn};
 
 use crate::report::{add_head, answer_among};
@@ -13,9 +13,10 @@ use line_tables::LineTables;
 use rail_model::{OutOfMemory, ask_for_room};
 use rayon::current_num_threads;
 use rayon::prelude::*;
-use row_text::Sheet;
+use row_text::{Sheet, Text};
 use section_cut::AllStairways;
 use std::alloc::Global;
+use std::mem;
 use std::thread::Threads;
 
 // Room that is asked for at once for each section: its cut is made.
@@ -24,8 +25,21 @@ const ROOM: usize = 4 * 1_048_576;
 // The head of one section's answer on a sheet of its own, and the total of this answer alone.
 #[derive(Drop)]
 pub(crate) struct Head {
-    pub(crate) sheet: Sheet,
-    pub(crate) tally: Tally,
+    sheet: Sheet,
+    tally: Tally,
+}
+
+impl Head {
+    // No rows, and the total of no answer.
+    fn blank(alloc: Global) -> Head
+        ensures rows { result.sheet.rows ≡ [] }
+        ensures tally { result.tally ≡ total_of [] }
+    {
+        Head {
+            sheet: Sheet::new(alloc),
+            tally: Tally::new(),
+        }
+    }
 }
 
 // The head of each section's answer, in the order in which they are taken. There are fewer than
@@ -41,7 +55,7 @@ pub(crate) fn heads_of(
     stairs: &AllStairways,
 ) -> Result<Vec<Head>, OutOfMemory>
     requires { stairs.now ≡ timetable tables.now }
-    ensures { IfOk result (λ heads. AreHeads tables.now heads.items) }
+    ensures { IfOk result (λ heads. AreHeads tables.now 0 heads.items) }
 {
     let count = tables.sections() as usize;
     (0..count)
@@ -73,10 +87,7 @@ fn head_of(
     ensures { IfOk result (IsHead tables.now (section_at tables.now number)) }
 {
     let answer = answer_among(alloc, tables, stairs, number)?;
-    let mut head = Head {
-        sheet: Sheet::new(alloc),
-        tally: Tally::new(),
-    };
+    let mut head = Head::blank(alloc);
     add_head(
         alloc,
         &mut head.sheet,
@@ -88,33 +99,39 @@ fn head_of(
     Ok(head)
 }
 
-// Adds the heads of all sections, one after the other, and counts their answers.
-pub(crate) fn join_heads(
-    sheet: &mut Sheet,
+// Adds the heads of all sections to a text, each as a piece of it, and counts their answers.
+pub(crate) fn take_heads(
+    alloc: Global,
+    text: &mut Text,
     tally: &mut Tally,
     tables: &LineTables,
-    heads: &[Head],
+    heads: Vec<Head>,
 ) -> Result<(), OutOfMemory>
-    requires heads { AreHeads tables.now heads.now }
+    requires heads { AreHeads tables.now 0 heads.items }
+    requires text { text.old ≡ [] }
     requires tally { tally.old ≡ total_of [] }
-    ensures { OnOk result (HasHeads
-        tables.now (length tables.now.sections) sheet.old.rows sheet.new.rows tally.new) }
+    ensures { OnOk result (IsTextOfHeads
+        tables.now (length tables.now.sections) text.new tally.new) }
 {
+    let mut heads = heads;
     for number in 0..tables.sections() {
-        let head = head_at(tables, heads, number);
-        sheet.append(&head.sheet)?;
-        tally.join(&head.tally);
+        let Head { sheet, tally: own } = take_head(alloc, tables, &mut heads, number);
+        tally.join(&own);
+        text.push(sheet.into_text())?;
     }
     Ok(())
 }
 
-// The head of a section, by its number, among the heads in the order in which they were made.
-fn head_at<'a>(tables: &LineTables, heads: &'a [Head], number: u32) -> &'a Head
-    requires heads { AreHeads tables.now heads.now }
+// Takes the head of a section, by its number, out of the heads in the order in which they were
+// made.
+fn take_head(alloc: Global, tables: &LineTables, heads: &mut [Head], number: u32) -> Head
+    requires heads { AreHeads tables.now number heads.old }
     requires there { number < length tables.now.sections }
-    ensures { IsHead tables.now (section_at tables.now number) result.now }
+    ensures head { IsHead tables.now (section_at tables.now number) result }
+    ensures left { AreHeads tables.now (number + 1) heads.new }
 {
-    &heads[turn_of(tables.sections(), number) as usize]
+    let turn = turn_of(tables.sections(), number) as usize;
+    mem::replace(&mut heads[turn], Head::blank(alloc))
 }
 
 // The number of the item that comes at a turn, from 0, where so many are taken from both ends in

@@ -78,16 +78,6 @@ impl Sheet {
         self.ended
     }
 
-    /// Adds the rows of another sheet. A row that is open is dropped first; where memory runs out,
-    /// the rows stay as they were.
-    pub fn append(&mut self, other: &Sheet) -> Result<(), OutOfMemory>
-        ensures ok { OnOk result (self.new.rows ≡ self.old.rows ++ other.now.rows) }
-        ensures closed { self.new.row ≡ [] }
-        ensures err { OnErr result (self.new.rows ≡ self.old.rows) }
-    {
-        self.append_text(&other.text[..other.ended])
-    }
-
     /// Adds the rows that have this text: rows that were written before, as to another sheet. A row
     /// that is open is dropped first; where memory runs out, the rows stay as they were.
     pub fn append_text(&mut self, text: &[u8]) -> Result<(), OutOfMemory>
