@@ -1,6 +1,7 @@
 mod Examples
 mod EditExamples
 mod NameTests
+mod Filled
 pub mod Numbers
 pub mod Lists
 pub mod Collected

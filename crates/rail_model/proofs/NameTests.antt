@@ -26,7 +26,7 @@ is_name_byte-from_IsNameByte : (b : ℕ) → IsNameByte b → is_name_byte b ≡
 is_name_byte-from_IsNameByte b h = both_true (le-leb 32 b h.0) (grind (arith, nat_tests, h.1))
 
 -- printable bytes of ASCII are plain text
-abbrev is_printable_byte : ℕ → Bool
+abbrev pub is_printable_byte : ℕ → Bool
 is_printable_byte b = nat_le 32 b && nat_lt b 127
 
 printable_is_plain : (b : ℕ) → is_printable_byte b ≡ true → (is_name_byte b ≡ true) × (b < 128)

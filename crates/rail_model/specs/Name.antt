@@ -1,5 +1,5 @@
 -- Names of blocks, signals, routes, runs, sections and connections.
-use Rattle.std.specs.Prelude.{◌≡◌, ◌≢◌, ℕ, ◌<◌, ◌≤◌, Bool, false, not, ◌==◌, ◌&&◌, ◌||◌, nat_lt, nat_le, if◌then◌else◌, Option, Some, None, List, [], ◌∷◌, length, All, AllPairs}
+use Rattle.std.specs.Prelude.{◌≡◌, ◌≢◌, ℕ, ◌<◌, ◌≤◌, Bool, true, false, not, ◌==◌, ◌&&◌, ◌||◌, nat_lt, nat_le, if◌then◌else◌, Option, Some, None, List, [], ◌∷◌, ◌++◌, ◌-◌, length, replicate, All, AllPairs}
 use Rattle.std.specs.List.{list_any, list_all}
 use Rattle.std.specs.Cmp.Lexicographic.{slice_cmp}
 use Rattle.std.specs.Ordering.{nat_cmp, is_lt}
@@ -45,6 +45,11 @@ is_name_byte b = nat_le 32 b && not (b == 127)
 abbrev pub is_name : List ℕ → Bool
 is_name bytes =
     nat_lt 0 (length bytes) && nat_le (length bytes) NAME_BYTES && list_all is_name_byte bytes && is_utf8 bytes
+
+-- the bytes are a name, and the room has them with zeros behind
+pub record IsFilled (bytes room : List ℕ) : Type 0 where
+  pub named : is_name bytes ≡ true
+  pub filled : room ≡ bytes ++ replicate (NAME_BYTES - length bytes) 0
 
 -- the name that the bytes are, if they are one
 abbrev pub name_of : List ℕ → Option (List ℕ)

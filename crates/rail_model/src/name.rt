@@ -1,5 +1,5 @@
 //! Names of blocks, signals, routes, runs, sections and connections.
-ghost use Rattle.std.specs.Prelude.{◌≡◌, ◌↔◌, IsOk, IfOk, nat_eq, Some};
+ghost use Rattle.std.specs.Prelude.{◌≡◌, ◌↔◌, IsOk, IfOk, OnOk, OnErr, nat_eq, Some, None, true};
 ghost use Rattle.std.specs.Ordering.{nat_cmp};
 ghost use Rattle.std.specs.Cmp.Lexicographic.{slice_cmp, pointwise, nat_list_eq_equiv, nat_list_cmp_total, texts_ties, texts_po};
 ghost use Rattle.std.specs.Cmp;
@@ -65,6 +65,24 @@ impl Name {
         })
     }
 
+    /// Makes this the name with these bytes. `BadName` comes exactly where they are no name, and then
+    /// the name stays. A name of a list is so made where it stands.
+    #[inline]
+    pub fn set(&mut self, bytes: &[u8]) -> Result<(), BadName>
+        ensures ok { OnOk result (name_of bytes.now ≡ Some self.new) }
+        ensures err { OnErr result (name_of bytes.now ≡ None) }
+        ensures kept { OnErr result (self.new ≡ self.old) }
+    {
+        let old = *self;
+        if fill(&mut self.bytes, bytes) {
+            self.len = bytes.len();
+            return Ok(());
+        }
+        *self = old;
+        *self = Name::read(bytes)?;
+        Ok(())
+    }
+
     /// The name's bytes.
     pub fn bytes(&self) -> &[u8]
         ensures same { result.now ≡ self.now }
@@ -84,7 +102,7 @@ impl Name {
 ghost use Rattle.std.specs.Prelude.{IsTrue, ◌≤◌, ◌-◌, ◌++◌, ◌&&◌, nat_le, nat_lt, length, replicate};
 ghost use Rattle.std.specs.List.{list_all};
 ghost use Rattle.std.specs.Str.{is_utf8};
-ghost use Rattle.rail_model.specs.Name.{IsName, is_name, is_name_byte};
+ghost use Rattle.rail_model.specs.Name.{IsName, is_name, is_name_byte, IsFilled};
 
 // Whether the bytes are a name.
 fn is_name(bytes: &[u8]) -> bool
@@ -118,6 +136,25 @@ fn is_text(bytes: &[u8]) -> bool
     ensures { result ≡ is_utf8 bytes.now }
 {
     str::from_utf8(bytes).is_ok()
+}
+
+// Copies the bytes of a name to its room, if all are printable ones of ASCII, and fills it up with
+// zeros. `false` says nothing, nor what is in the room then.
+fn fill(room: &mut [u8; 64], bytes: &[u8]) -> bool
+    ensures { result ≡ true → IsFilled bytes.now room.new }
+{
+    if bytes.is_empty() || bytes.len() > NAME_BYTES {
+        return false;
+    }
+    *room = [0u8; 64];
+    for i in 0..bytes.len() {
+        let byte = bytes[i];
+        if byte < 32 || byte >= 127 {
+            return false;
+        }
+        room[i] = byte;
+    }
+    true
 }
 
 // The bytes, filled up with zeros to the room of a name.

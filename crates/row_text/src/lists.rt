@@ -1,5 +1,6 @@
 //! The fields that stand at the end of a row: names, or the times of a run.
-ghost use Rattle.std.specs.Prelude.{◌≡◌, ◌+◌, ◌<◌, ◌≤◌, ◌^◌, length, drop, IfOk};
+ghost use Rattle.std.specs.Prelude.{◌≡◌, ℕ, ◌+◌, ◌<◌, ◌≤◌, ◌^◌, List, [], ◌∷◌, ◌++◌, length, drop, vec_len, vec_capacity, IfOk, IfErr, OnOk, Ok, Err};
+ghost use Rattle.row_text.specs.SheetRows.{field};
 ghost use Rattle.row_text.specs.Reads.{Reads};
 ghost use Rattle.row_text.specs.Words.{name_in, time_in};
 ghost use Rattle.row_text.specs.Lines as lines;
@@ -17,10 +18,34 @@ pub(crate) fn names_from(alloc: Global, row: &Row<'_>, from: usize) -> Result<Li
     ensures { Reads result (lines.read_each name_in (drop from row.now)) }
 {
     let mut names = Vec::with_capacity(alloc, row.len() - from)?;
-    for i in from..row.len() {
-        names.push_reserved(name_at(row, i)?);
+    if from < row.len() {
+        let first = name_at(row, from)?;
+        for i in from..row.len() {
+            push_name(&mut names, &first, row, i)?;
+        }
     }
     Ok(List::from_vec(names))
+}
+
+// Adds the name in the field at `i`. It is made where it stands: first another name is put there. One
+// that is made elsewhere would be moved as soon as its bytes are written, which takes longer than
+// to write them.
+#[inline]
+fn push_name(names: &mut Vec<Name>, other: &Name, row: &Row<'_>, i: usize) -> Result<(), Form>
+    requires there { i < length row.now }
+    requires room { vec_len names.old < vec_capacity names.old }
+    ensures ok { OnOk result ((name : List ℕ) × (name_in (field row.now i) ≡ Ok name)
+        × (names.new.items ≡ names.old.items ++ name ∷ [])) }
+    ensures len { OnOk result (vec_len names.new ≡ vec_len names.old + 1) }
+    ensures capacity { OnOk result (vec_capacity names.new ≡ vec_capacity names.old) }
+    ensures err { IfErr result (λ form. name_in (field row.now i) ≡ Err form) }
+{
+    let at = names.len();
+    names.push_reserved(*other);
+    match names[at].set(row.get(i)) {
+        Ok(()) => Ok(()),
+        Err(_) => Err(Form::BadName),
+    }
 }
 
 // The legs of a run, of the times in the fields from one on.
