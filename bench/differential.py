@@ -179,7 +179,7 @@ def difference_of_journals(pair, call, texts, counts):
     base, scripts = csv_rows(call.base), [csv_rows(script) for script in call.scripts]
     reports, kinds = [], collections.Counter()
     for program, own in zip(reversed(pair.programs), rows):
-        reader = sessions.Reader(program, base, scripts, int(call.words[1]), own, kinds)
+        reader = sessions.Reader(sessions.Timetable(program, base), scripts, int(call.words[1]), own, kinds)
         try:
             reader.read()
         except (sessions.Wrong, LookupError, ValueError) as wrong:

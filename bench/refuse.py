@@ -1,202 +1,204 @@
 #!/usr/bin/env python3
-"""Refuses each allocation, start of a thread, read and write of calls of the program in turn: bench/refuse.py [PROGRAM]
+"""Refuses allocations, starts of threads, reads and writes of calls of the program: bench/refuse.py [PROGRAM] [--busy N] ..
 
-Builds the program unless it is given, and bench/refuse.c, which is preloaded into it. Each call is made once with ample
-memory, and then with its first, second, .. allocation refused, one a run. A run has to end with status 5 and nothing
-written, or as the call ends with ample memory: with its status and its whole text. Prints how many allocations the call
-makes, how many runs ended in each way, and the most blocks of memory that a run didn't give back. Calls whose threads
-make a number of allocations that differs from run to run go on past the greatest number that was seen, several times.
-Where the start of a thread is refused, the call has to end as ever; where a read fails, with status 3 and nothing
-written; where a write fails, with status 4 and what was written before it. A word that isn't UTF-8 has to end the call with
-status 2 and nothing written. Ends with status 1 where a run ended otherwise.
+Builds the program unless it is given, and bench/refuse.c, which is preloaded into it. The calls are those of
+bench/refuse_cases.py; --only WORDS makes those that begin so: --only session, --only 'session 16, 3 planners'. Each is made
+with ample memory first. Then its first, second, .. allocation is refused, one a run, and so are each start of a thread and
+all, each read, and each write. Calls whose threads make a number of allocations that differs from run to run go on past the
+greatest number that was seen, several times. With --seconds S or --runs N, calls and what is refused are drawn instead, from
+--seed on, for so long or so many: also two allocations, two threads, or an allocation beside a thread, a read or a write.
+
+--busy N makes N runs at a time. A run that isn't over after --limit seconds is told as a hang and killed. All else has to end
+
+- with status 5 and nothing written, if an allocation was refused before a write was;
+- with status 3 and nothing written, if a read was refused;
+- with status 4 and what was written before it, if a write was refused;
+- or, if no read or write was, as the call ends with ample memory: with its status and its whole text,
+
+and has to give back all blocks of memory, but for as many as are left with ample memory. A call without workers has one text,
+and a session with workers and one planner four, worked out by hand. With more planners the reader of bench/sessions.py reads
+each text, to its last row: the passes, each planner's tasks once and in their order, the number of each edit or the rule
+that refuses it, the rows of each published answer against those of `compress` at the edit that it names and with no later
+edit of that section before it, each reply by the state at its place, all sections answered in the end, and the report. For
+this the program is called with ample memory, so that its answers are right isn't looked at here. Of a text that a write cut
+off whole rows are read. Not looked at: which legal journals come, what stands on standard error, and runs that a signal
+would disturb.
+
+A word that isn't UTF-8 has to end a call with status 2 and nothing written. Ends with status 1 where a run hung or ended
+otherwise. The last line tells how many runs ended in each way.
 """
+import argparse
+import collections
 import os
 import pathlib
+import random
 import subprocess
 import sys
 import tempfile
+import time
 
-TOP = pathlib.Path(__file__).resolve().parent.parent
+from refuse_cases import CASES, LINE, TOP
+from refuse_runs import HANG, WAYS, WHOLE, WRONG, Call, Crowd, is_met
+
 PROGRAM = TOP / "crates" / "capacity" / "out" / "capacity"
 ROUNDS = 5  # of calls on threads
-PIECE = 10  # the least bytes of a read or a write, where they are refused
-PIECES = 100  # the input and the text have at most about so many pieces, where these are longer
+MORE = 20  # allocations beyond the most that were seen of calls on threads
+NEAR = 8  # how far from one another two refused allocations mostly are
 
-LINE = (TOP / "examples" / "two-blocks.csv").read_text()
-TASKS = "planner,1\nchange-run,T2,R,100,10,100,60,0,60\nask,S\n"
-ORDERED = "ordered,S,2,300,B\nrate,S,1/12,8.34,133/1200,11.09,within\n"
-TRAINS = "train,T1,85,0,-85,start\ntrain,T2,%d,150,%d,after,T1,B\n"
-EARLIER = "published,S,8\n" + ORDERED + TRAINS % (385, -235)
-EDITED = "edited,1,9,change-run,T2,R,100,10,100,60,0,60\n"
-LATER = "published,S,9\n" + ORDERED + TRAINS % (85, 65)
-TOTAL = ORDERED + "total,1,1,1,0,0,0\n"
-
-
-def races(workers):
-    """The texts of a session on the tasks, with two workers or more."""
-    opened = "opened,8,1,1\n" + "".join("entered,%d\n" % (number + 1) for number in range(workers + 1))
-    middles = [
-        EARLIER + EDITED + LATER + "asked,1,S,ready,9\n",
-        EDITED + LATER + "asked,1,S,ready,9\n",
-        EARLIER + EDITED + "asked,1,S,stale,8,9\n" + LATER,
-        EDITED + "asked,1,S,not-yet\n" + LATER,
-    ]
-    return [opened + middle + TOTAL for middle in middles]
+# What is drawn to be refused in one run, and how often.
+DRAWS = {
+    ("memory",): 6,
+    ("memory", "memory"): 6,
+    ("memory", "thread"): 4,
+    ("thread",): 1,
+    ("thread", "thread"): 1,
+    ("read",): 1,
+    ("write",): 1,
+    ("memory", "read"): 1,
+    ("memory", "write"): 1,
+}
 
 
-# A line on which several threads make the texts: runs, members and sections enough for two parts each.
-RUNS = "".join("run,N%03d,R,100,10,%d,60,0,60\n" % (number, 600 + 300 * number) for number in range(126))
-LONG = LINE + RUNS + "section,Z,0,86400,0,A,B\n"
-
-# A line whose conflicts several threads find.
-MANY = "".join("block,B%02d,500\nsignal,S%02d,B%02d,500,10,5,0,5\n" % (number, number, number) for number in range(20))
-MANY += "route,R" + "".join(",S%02d" % number for number in range(20)) + "\n"
-MANY += "".join("run,N%02d,R,100,10,%d,30%s\n" % (number, 20 * number, ",0,30" * 19) for number in range(68))
-
-# A long input without runs, so that nearly all allocations are those of reading.
-WIDE = "".join("block,a-block-%03d,100\n" % number for number in range(256))
-WIDE += "".join("signal,a-signal-at-%03d,a-block-%03d,100,10,5,0,5\n" % (number, number) for number in range(256))
-SIGNALS = "".join(",a-signal-at-%03d" % number for number in range(256))
-WIDE += "".join("route,a-route-%03d%s\n" % (number, SIGNALS) for number in range(140))
-
-# The words of a call, its input, and its texts where threads make one of several.
-CALLS = [
-    ("stairs", LINE, None),
-    ("check", LINE, None),
-    ("compress S", LINE, None),
-    ("headways S", LINE, None),
-    ("report", LINE, None),
-    ("cut S", LINE, None),
-    ("cycle S", LINE, None),
-    ("delays S T1 200", LINE, None),
-    ("fill S T2", LINE, None),
-    ("session 0", LINE + TASKS, None),
-    ("session 1", LINE, None),
-    ("session 2", LINE + TASKS, races(2)),
-    ("session 16", LINE + TASKS, races(16)),
-    ("stairs", LONG, None),
-    ("check", MANY, None),
-    ("headways Z", LONG, None),
-    ("report", LONG, None),
-    ("check", WIDE, None),
-    ("check", WIDE + "drop-block,a-block-000\n", None),
-    ("stairs", LINE + "drop-block,A\n", None),
-    ("compress X", LINE, None),
-    ("fill S T9", LINE, None),
-]
+# ---- each in turn
 
 
-class Runs:
-    """Runs of one call."""
+def refuse_each(crowd, call):
+    for _ in range(ROUNDS if call.is_raced() else 1):
+        ways, for_nothing = collections.Counter(), set()
 
-    def __init__(self, folder, program, words, given, texts):
-        self.folder, self.program, self.words, self.given = folder, program, words.split(), given.encode()
-        self.told = folder / "told"
-        whole = self.run()
-        self.status, self.texts = whole[0], [text.encode() for text in texts or []] or [whole[1]]
-        self.piece = max(PIECE, len(self.given) // PIECES, len(whole[1]) // PIECES)
-        self.is_raced = texts is not None
-        self.allocations, self.threads, _, _, self.blocks = whole[2]
-        if not self.is_whole(*whole[:2]):
-            sys.exit("%s: another text than one of those that it may have" % words)
+        def heard(refused, way, ended):
+            ways[way] += 1
+            if way == WHOLE and is_met(refused, ended.told, "memory"):
+                for_nothing.update(refused["memory"])
 
-    def run(self, **refused):
-        """A run's status, its text, and the allocations, threads, reads, writes and blocks that were told of it."""
-        env = {"LD_PRELOAD": str(self.folder / "refuse.so"), "REFUSED_TOLD": str(self.told)}
-        env.update(("REFUSED_" + what.upper(), str(number)) for what, number in refused.items())
-        ended = subprocess.run([self.program, *self.words], input=self.given, capture_output=True, env=env, timeout=60)
-        return ended.returncode, ended.stdout, [int(word) for word in self.told.read_text().split()]
-
-    def is_whole(self, status, text):
-        return status == self.status and text in self.texts
-
-    def refuse_memory(self):
-        """How many runs were without memory, which allocations were refused for nothing, and what went wrong."""
-        without, for_nothing, wrong, number = 0, set(), [], 0
-        while number < self.allocations + (20 if self.is_raced else 0):
-            number += 1
-            status, text, told = self.run(memory=number)
-            self.allocations, self.blocks = max(self.allocations, told[0]), max(self.blocks, told[4])
-            if status == 5 and not text:
-                without += 1
-            elif not self.is_whole(status, text):
-                wrong.append("allocation %d: status %d, %d bytes" % (number, status, len(text)))
-            elif told[0] >= number:
-                for_nothing.add(number)
-        return without, for_nothing, wrong
-
-    def refuse_threads(self):
-        wrong = []
-        for thread in [str(number + 1) for number in range(self.threads)] + ["all"] * (self.threads > 0):
-            status, text, told = self.run(thread=thread)
-            self.blocks = max(self.blocks, told[4])
-            if not self.is_whole(status, text):
-                wrong.append("thread %s: status %d, %d bytes" % (thread, status, len(text)))
-        return wrong
-
-    def refuse_calls(self, what, place, status):
-        """How many reads or writes a run makes, and what went wrong where one of them failed."""
-        wrong, made, least = [], self.run(piece=self.piece)[2][place], 0
-        for number in range(1, made + 2):
-            ended, text, told = self.run(piece=self.piece, **{what: number})
-            # (a write ends with a piece of the text, so it may be shorter)
-            most = self.piece * (number - 1) if what == "write" else 0
-            is_begun = least <= len(text) <= most and any(whole.startswith(text) for whole in self.texts)
-            least = len(text) + 1 if what == "write" else 0
-            if not (ended == status and is_begun if number <= told[place] else self.is_whole(ended, text)):
-                wrong.append("%s %d: status %d, %d bytes" % (what, number, ended, len(text)))
-        return made, wrong
+        crowd.go(all_allocations(call), heard)
+        print("%s: %d allocations, status %d with ample memory" % (call.case.name(), call.most["memory"], call.status))
+        print("    %d runs without memory, %d as with ample memory%s" % (ways[WAYS[5]], len(for_nothing), spans(for_nothing)))
+    threads = call.most["thread"]
+    crowd.go((call, {"thread": [number]}) for number in [*range(1, threads + 1), *["all"] * (threads > 0)])
+    crowd.go((call, {"read": [number]}) for number in range(1, call.most["read"] + 2))
+    lengths = {}
+    writes = ((call, {"write": [number]}) for number in range(1, call.most["write"] + 2))
+    crowd.go(writes, lambda refused, way, ended: lengths.update({refused["write"][0]: len(ended.text)} if way == WAYS[4] else {}))
+    crowd.counts[WRONG] += tell_lengths([lengths[number] for number in sorted(lengths)])
+    counted = threads, call.most["read"], call.most["write"], call.blocks
+    print("    %d threads, each refused once, and all; %d reads and %d writes, each refused once; %d blocks left with ample memory" % counted, flush=True)
 
 
-def build(folder, program):
-    shim = ["cc", "-O1", "-shared", "-fPIC", "-o", str(folder / "refuse.so"), str(TOP / "bench" / "refuse.c"), "-ldl"]
-    subprocess.run(shim, check=True)
-    if program == PROGRAM:
-        run = ["rt", "run", "--", "check"]
-        built = subprocess.run(run, cwd=TOP / "crates" / "capacity", input=LINE.encode(), capture_output=True)
-        if built.returncode != 0:
-            sys.exit(built.stderr.decode())
+def all_allocations(call):
+    number = 0
+    while number < call.most["memory"] + MORE * call.is_raced():
+        number += 1
+        yield call, {"memory": [number]}
 
 
-def refuse_word(program):
-    ended = subprocess.run([program, "compress", b"\xff"], input=LINE.encode(), capture_output=True, timeout=60)
-    print("a word that isn't UTF-8: status %d" % ended.returncode)
-    return [] if (ended.returncode, ended.stdout) == (2, b"") else ["status %d" % ended.returncode]
-
-
-def refuse_all(folder, program):
-    all_wrong = tell_wrong(refuse_word(program))
-    for words, given, texts in CALLS:
-        runs = Runs(folder, program, words, given, texts)
-        for _ in range(ROUNDS if runs.is_raced else 1):
-            without, for_nothing, wrong = runs.refuse_memory()
-            print("%s: %d allocations, status %d with ample memory" % (words, runs.allocations, runs.status))
-            print("    %d runs without memory, %d as with ample memory%s" % (without, len(for_nothing), spans(for_nothing)))
-            all_wrong += tell_wrong(wrong)
-        all_wrong += tell_wrong(runs.refuse_threads())
-        print("    %d threads, each refused once, and all; %d blocks not given back at most" % (runs.threads, runs.blocks))
-        reads, wrong_reads = runs.refuse_calls("read", 2, 3)
-        writes, wrong_writes = runs.refuse_calls("write", 3, 4)
-        all_wrong += tell_wrong(wrong_reads + wrong_writes)
-        print("    %d reads and %d writes, each refused once" % (reads, writes))
-    return all_wrong
+def tell_lengths(lengths):
+    """How many runs whose second, third, .. write was refused wrote no more than the one before; tells so."""
+    wrong = sum(later <= earlier for earlier, later in zip(lengths, lengths[1:]))
+    if wrong:
+        print("    WRONG: in %d of %d runs a write that was refused came no later than that of the run before" % (wrong, len(lengths)))
+    return wrong
 
 
 def spans(numbers):
     return " (%s)" % ", ".join(str(number) for number in sorted(numbers)) if 0 < len(numbers) < 20 else ""
 
 
-def tell_wrong(wrong):
-    for line in wrong:
-        print("    WRONG: " + line)
-    return len(wrong)
+# ---- drawn runs
+
+
+def drawn(dice, call):
+    """What is refused in a drawn run of a call."""
+    kinds = dice.choices(list(DRAWS), list(DRAWS.values()))[0]
+    refused = {}
+    for kind in kinds if call.most["thread"] else [kind for kind in kinds if kind != "thread"] or ["memory"]:
+        refused.setdefault(kind, []).append(drawn_number(dice, call, kind, refused.get(kind)))
+    is_all = call.most["thread"] + 1 in refused.get("thread", [])
+    return {**refused, "thread": ["all"]} if is_all else refused
+
+
+def drawn_number(dice, call, kind, before):
+    """At most one more than there are, or some more where their number differs from run to run."""
+    if kind == "memory" and before and dice.random() < 0.7:
+        return before[0] + dice.randint(1, NEAR)
+    return dice.randint(1, call.most[kind] + (MORE if kind == "memory" and call.is_raced() else 1))
+
+
+def drawn_runs(options, calls):
+    dice = random.Random(options.seed)
+    end = float("inf") if options.seconds is None else time.monotonic() + options.seconds
+    number = 0
+    while time.monotonic() < end and number != options.runs:
+        number += 1
+        call = dice.choice(calls)
+        yield call, drawn(dice, call)
+
+
+# ---- all
+
+
+def refuse_word(program):
+    ended = subprocess.run([program, "compress", b"\xff"], input=LINE.encode(), capture_output=True, timeout=60)
+    is_right = (ended.returncode, ended.stdout) == (2, b"")
+    print("%sa word that isn't UTF-8: status %d" % ("" if is_right else "WRONG: ", ended.returncode))
+    return not is_right
+
+
+def build(folder, program):
+    shim = folder / "refuse.so"
+    subprocess.run(["cc", "-O1", "-shared", "-fPIC", "-o", str(shim), str(TOP / "bench" / "refuse.c"), "-ldl"], check=True)
+    if program is None:
+        run = ["rt", "run", "--", "check"]
+        built = subprocess.run(run, cwd=TOP / "crates" / "capacity", input=LINE.encode(), capture_output=True)
+        if built.returncode != 0:
+            sys.exit(built.stderr.decode())
+    return shim
+
+
+def options_of(words):
+    parser = argparse.ArgumentParser(description=__doc__, formatter_class=argparse.RawDescriptionHelpFormatter)
+    parser.add_argument("program", nargs="?", type=lambda path: pathlib.Path(os.path.abspath(path)))
+    parser.add_argument("--busy", type=int, default=1, metavar="N")
+    parser.add_argument("--limit", type=float, default=20, metavar="SECONDS")
+    parser.add_argument("--only", default="", metavar="WORDS")
+    parser.add_argument("--seconds", type=float)
+    parser.add_argument("--runs", type=int)
+    parser.add_argument("--seed", type=int, default=1)
+    options = parser.parse_args(words)
+    if options.busy < 1 or options.limit <= 0:
+        parser.error("--busy is at least 1, and --limit more than 0")
+    if not chosen(options.only):
+        parser.error("no call begins with " + options.only)
+    return options
+
+
+def chosen(only):
+    """The calls whose name begins with these words."""
+    wanted = only.replace(",", " ,").split()
+    return [case for case in CASES if case.name().replace(",", " ,").split()[: len(wanted)] == wanted]
+
+
+def refuse_all(folder, options):
+    shim, program = build(folder, options.program), options.program or PROGRAM
+    crowd, is_wrong = Crowd(program, shim, options), False
+    calls = [Call(case, folder / ("input-%d" % number), crowd.slots[0]) for number, case in enumerate(chosen(options.only))]
+    crowd.go((call, {}) for call in calls)
+    if options.seconds is None and options.runs is None:
+        is_wrong = refuse_word(program)
+        for call in calls:
+            refuse_each(crowd, call)
+    else:
+        crowd.go(drawn_runs(options, calls))
+    read = sum(call.judge.count() for call in calls if call.is_raced() and not call.case.texts)
+    print("{:,} different texts of sessions with more than one planner were read".format(read))
+    print(crowd.line())
+    return is_wrong or crowd.counts[HANG] + crowd.counts[WRONG] > 0
 
 
 def main():
-    program = pathlib.Path(os.path.abspath(sys.argv[1])) if len(sys.argv) > 1 else PROGRAM
+    options = options_of(sys.argv[1:])
     with tempfile.TemporaryDirectory() as folder:
-        build(pathlib.Path(folder), program)
-        sys.exit(1 if refuse_all(pathlib.Path(folder), program) else 0)
+        sys.exit(1 if refuse_all(pathlib.Path(folder), options) else 0)
 
 
 if __name__ == "__main__":

@@ -93,6 +93,7 @@ class Timetable:
         for row in stairs or call(program, ["stairs"], rows)[1]:
             self.stairs[row[1]].append((row[2], int(row[3]), int(row[4])))
         self.cuts = {name: self.cut(fields) for name, fields in self.items["section"].items()}
+        self.after, self.texts = {}, {}
 
     def cut(self, section):
         start, end, blocks = int(section[1]), int(section[2]), section[4:]
@@ -117,11 +118,19 @@ class Timetable:
 
     def edited(self, row):
         """The timetable after a row, or the rule for which it is refused."""
-        status, text = call(self.program, ["stairs"], self.rows + [row])
-        return text[0][2] if status == 1 else Timetable(self.program, self.rows + [row], text)
+        if row not in self.after:
+            status, text = call(self.program, ["stairs"], self.rows + [row])
+            self.after[row] = text[0][2] if status == 1 else Timetable(self.program, self.rows + [row], text)
+        return self.after[row]
+
+    def text(self, *words):
+        """The rows of a command for the timetable."""
+        if words not in self.texts:
+            self.texts[words] = call(self.program, words, self.rows)[1]
+        return self.texts[words]
 
     def answer(self, section):
-        rows = call(self.program, ["compress", section], self.rows)[1]
+        rows = self.text("compress", section)
         places = [place for place, row in enumerate(rows) if row[0] == "critical"]
         return rows[: places[0]] if places else rows
 
@@ -133,23 +142,27 @@ class Wrong(Exception):
     pass
 
 
+class Early(Wrong):
+    """All is right up to where the text ends, but it isn't all."""
+
+
 def expect(found, wanted):
     if found != wanted:
         raise Wrong("%r in place of %r" % (found, wanted))
 
 
 class Reader:
-    def __init__(self, program, base, scripts, workers, rows, counts):
+    def __init__(self, opened, scripts, workers, rows, counts):
         self.rows, self.place, self.counts = rows, 0, counts
-        self.times = {len(base): Timetable(program, base)}
-        self.first = self.last = len(base)
+        self.first = self.last = len(opened.rows)
+        self.times = {self.first: opened}
         self.left = [list(script) for script in scripts]
         self.published, self.touched = {}, {}
         self.workers = workers
 
     def take(self):
         if self.place == len(self.rows):
-            raise Wrong("the text ends early")
+            raise Early("the text ends early")
         self.place += 1
         return self.rows[self.place - 1]
 
@@ -174,9 +187,14 @@ class Reader:
             row = self.take()
             self.counts[row[0]] += 1
             kinds[row[0]](row)
+        if self.place == len(self.rows):
+            raise Early("the text ends before the report")
         expect(self.left, [[] for _ in self.left])
         expect([section for section in self.now().cuts if not self.is_current(section)], [])
-        expect(self.rows[self.place :], call(self.now().program, ["report"], self.now().rows)[1])
+        left, report = self.rows[self.place :], self.now().text("report")
+        if len(left) < len(report) and left == report[: len(left)]:
+            raise Early("the report ends early")
+        expect(left, report)
 
     def edit(self, row):
         task = self.task(row[1])
@@ -227,7 +245,7 @@ def one_session(program, dice, counts):
     status, rows = call(program, ["session", str(workers)], given)
     try:
         expect(status, 0)
-        Reader(program, base, scripts, workers, rows, counts).read()
+        Reader(Timetable(program, base), scripts, workers, rows, counts).read()
     except Wrong as wrong:
         print("\n".join(given), *(",".join(row) for row in rows), sep="\n")
         sys.exit("session %d: %s" % (workers, wrong))

@@ -49,7 +49,7 @@ def job(given):
         try:
             rows, status, used = session(program, lines)
             sessions.expect(status, 0)
-            sessions.Reader(program, base, scripts, WORKERS, rows, counts).read()
+            sessions.Reader(sessions.Timetable(program, base), scripts, WORKERS, rows, counts).read()
         except Exception as wrong:
             return "\n".join([*lines, *(",".join(row) for row in rows), repr(wrong)]), number, counts, most, again
         tenth = min(TENTHS - 1, int(TENTHS * (time.monotonic() - begun) / seconds))
