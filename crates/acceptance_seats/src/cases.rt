@@ -4,6 +4,7 @@ use crate::drawn_edits::write_drawn;
 use crate::races::write_race;
 use crate::repairs::write_repairs;
 use crate::scripts::write_script;
+use crate::shortage::write_shortage;
 use crate::takings::write_takings;
 use crate::turns::write_turns;
 use small_lines::{Text, number_of, parts_of};
@@ -38,6 +39,7 @@ fn write_case<R: AllocGlobal + Threads + Wait + Sync>(rt: &R, text: &mut Text, l
         b"script" => write_script(rt, alloc, text, rest),
         b"turns" => write_turns(rt, alloc, text),
         b"race" => write_race(rt, alloc, text, rest),
+        b"shortage" => write_shortage(rt, alloc, text, rest),
         _ => text.put(b"unknown"),
     }
     text.put(b"\n");

@@ -12,6 +12,7 @@
 //! script ROW              the script of a planner, step by step: `scripts.rt`
 //! turns                   who has the turn at a desk over a book: `turns.rt`
 //! race after-reading ROW  a worker beside a planner: `races.rt`
+//! shortage ROW            a planner is refused memory before a worker sleeps: `shortage.rt`
 //! ```
 //!
 //! For each case its line is written again, and then what came of it.
@@ -21,9 +22,11 @@ mod boards;
 mod books;
 mod cases;
 mod drawn_edits;
+mod hoard;
 mod races;
 mod repairs;
 mod scripts;
+mod shortage;
 mod takings;
 mod telling;
 mod turns;

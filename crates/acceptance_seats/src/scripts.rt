@@ -34,7 +34,8 @@ fn book_with(alloc: Global, text: &mut Text, edit: Edit) -> Result<Option<Book>,
     Ok(Some(Book::start(alloc, tables, 8, scripts)?))
 }
 
-fn script_of(alloc: Global, edit: Edit) -> Result<Scripts, OutOfMemory>
+// The script of one planner, whose only task is an edit.
+pub(crate) fn script_of(alloc: Global, edit: Edit) -> Result<Scripts, OutOfMemory>
     ensures { IfOk result (λ scripts. scripts ≡ (task.Edit edit ∷ []) ∷ []) }
 {
     let mut scripts = Scripts::new(alloc);

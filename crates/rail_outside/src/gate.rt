@@ -6,6 +6,9 @@ use std::sync::Wait;
 pub enum Point {
     /// A planner is about to make its next step: an edit, a question, or none where it has ended.
     BeforeEdit,
+    /// A worker has looked whether memory is short, and is about to make its next turn, after which
+    /// it may sleep.
+    AfterLook,
     /// A worker has read what it works on.
     AfterReading,
     /// An answer is about to be published.

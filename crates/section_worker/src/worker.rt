@@ -82,6 +82,13 @@ impl Worker {
         }
     }
 
+    /// The worker's actor at the gate.
+    pub fn actor(&self) -> u32
+        ensures { result ≡ self.now.actor }
+    {
+        self.actor
+    }
+
     /// One turn: reads the next section of the share, works out its answer between two calls of the
     /// board, and publishes it, unless a later edit touches the section or it is current already.
     /// Where the share is current nothing is read. The gate is passed after a reading and before

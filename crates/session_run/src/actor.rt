@@ -5,7 +5,7 @@ ghost use Rattle.session_run.specs.Actors as roles;
 ghost use Rattle.session_run.specs.Actors.{IsAtWork};
 ghost use Rattle.session_run.specs.Acting.{has_ended, rests, IsSameAccess, IsWorking, WorksOn};
 
-use crate::signals::Signals;
+use crate::signals::{Signals, Watch};
 use plan_model::{Board, Stepped};
 use rail_model::OutOfMemory;
 use rail_outside::{Gate, Point};
@@ -30,29 +30,44 @@ pub(crate) struct Actor<'a> {
 }
 
 impl<'a> Actor<'a> {
-    // Works until it has ended, or until memory is short, here or elsewhere.
+    // Works until it has ended, or until memory is short, here or elsewhere; and leaves.
     pub(crate) fn work<R: Wait, G: Gate>(&mut self, rt: &R, gate: &G, signals: &Signals)
         requires { IsWorking self.old }
         ensures { WorksOn self.old self.new }
     {
+        let found_short = self.work_on(rt, gate, signals).is_err();
+        signals.leave(found_short);
+    }
+
+    // Makes steps or turns until it has ended, or memory is short elsewhere.
+    fn work_on<R: Wait, G: Gate>(
+        &mut self,
+        rt: &R,
+        gate: &G,
+        signals: &Signals,
+    ) -> Result<(), OutOfMemory>
+        requires { IsWorking self.old }
+        ensures { WorksOn self.old self.new }
+    {
         for _ in rt.forever() {
-            if self.ended || signals.is_short() {
-                return;
+            if self.ended {
+                return Ok(());
             }
-            if self.go_on(rt, gate, signals).is_err() {
-                signals.tell_short();
-                return;
-            }
+            let Some(watch) = signals.watch() else {
+                return Ok(());
+            };
+            self.go_on(rt, gate, signals, watch)?;
         }
         unreachable!()
     }
 
-    // Makes one step or turn.
+    // Makes one step or turn. Only a worker waits on the watch.
     fn go_on<R: Wait, G: Gate>(
         &mut self,
         rt: &R,
         gate: &G,
         signals: &Signals,
+        watch: Watch<'_>,
     ) -> Result<(), OutOfMemory>
         requires working { IsWorking self.old }
         requires ended { self.old.ended ≡ false }
@@ -64,7 +79,7 @@ impl<'a> Actor<'a> {
                 Ok(())
             }
             Duty::Worker(worker) => {
-                self.ended = turn(rt, gate, signals, &mut self.seat, worker)?;
+                self.ended = turn(rt, gate, watch, &mut self.seat, worker)?;
                 Ok(())
             }
         }
@@ -103,7 +118,7 @@ fn has_ended(stepped: &Stepped) -> bool
 fn turn<R: Wait, B: Board, G: Gate>(
     rt: &R,
     gate: &G,
-    signals: &Signals,
+    watch: Watch<'_>,
     board: &mut B,
     worker: &mut Worker,
 ) -> Result<bool, OutOfMemory>
@@ -118,20 +133,20 @@ fn turn<R: Wait, B: Board, G: Gate>(
     ensures err { OnErr result
         (IsAtWork (roles.Worker worker.old.share worker.old.of) false (B.access board.new)) }
 {
-    let count = signals.count();
+    gate.pass(rt, worker.actor(), Point::AfterLook);
     let turned = worker.turn(rt, board, gate)?;
-    Ok(rests(rt, signals, count, &turned))
+    Ok(rests(rt, watch, &turned))
 }
 
 // Whether a worker has nothing left to do after a turn. Where it is idle and tasks are left, it
 // waits first.
-fn rests<R: Wait>(rt: &R, signals: &Signals, count: u32, turned: &Turned) -> bool
+fn rests<R: Wait>(rt: &R, watch: Watch<'_>, turned: &Turned) -> bool
     ensures { result ≡ rests turned.now }
 {
     match turned {
         Turned::Idle { left } => {
             if *left > 0 {
-                signals.wait(rt, count);
+                watch.wait(rt);
             }
             *left == 0
         }

@@ -67,7 +67,8 @@ pub fn session<R: Threads + Wait + Sync, G: Gate>(
 // The actors at their seats, each with its own of the new passes. The last is planner 1, before it
 // come the other planners and then the workers. Where no thread can be made, the calls of
 // `for_each_mut` run one after the other from the last place to the first; so planners, who wait
-// for nobody, come before the workers, who wait for planners.
+// for nobody, come before the workers, who wait for planners (step `start` of the model in
+// `bench/waits`).
 fn seated<'a>(
     alloc: Global,
     desk: &'a Desk<Book>,

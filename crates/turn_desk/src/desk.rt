@@ -114,6 +114,9 @@ impl<V: Kept> Desk<V> {
         ensures steps { pass.new.steps ≡ pass.old.steps + (pass.new.tries - pass.old.tries) }
         ensures word { pass.new.word ≡ 1 }
     {
+        // A try that finds the turn taken is a look, and the sleep asks for the word that it found: who
+        // gives the turn back after the look has stored another, or wakes one that sleeps (steps `try`
+        // and `park` of the model in `bench/waits`).
         for _ in rt.forever() {
             if let Ok(turn) = self.try_take(pass) {
                 return turn;

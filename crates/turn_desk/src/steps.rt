@@ -36,7 +36,8 @@ pub(crate) fn try_turn<V: Kept>(shared: &Shared<V>, seat: &mut TableSeat<V>) -> 
     shared.exchange(seat, 0, None)
 }
 
-// Gives the turn back with this value, and wakes one that waits.
+// Gives the turn back with this value, and wakes one that sleeps; he tries again, and wakes one when
+// he gives it back (step `give` of the model in `bench/waits`).
 pub(crate) fn give_back<V: Kept>(shared: &Shared<V>, seat: &mut TableSeat<V>, number: u32, value: V)
     requires table { (seat.old.table_id ≡ shared.now.table_id) × IsSmall shared.now.table_id }
     requires holds { (seat.old.me.0.holds ≡ true) × (seat.old.me.1 ≡ (0, None) ∷ []) }

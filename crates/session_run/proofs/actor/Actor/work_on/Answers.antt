@@ -1,5 +1,5 @@
 use Rattle.session_run.proofs.Acting.{same_work, works_again}
-use Rattle.session_run.proofs.actor.Actor.work.Goals as goal
+use Rattle.session_run.proofs.actor.Actor.work_on.Goals as goal
 
 pub loop-init : goal.loop-init
 loop-init g c = same_work c.args.self.now c.requires
