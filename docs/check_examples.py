@@ -253,4 +253,5 @@ def main():
     return 1 if checker.differences else 0
 
 
-sys.exit(main())
+if __name__ == "__main__":
+    sys.exit(main())
